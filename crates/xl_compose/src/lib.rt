@@ -1,0 +1,2 @@
+//! The picture of a document.
+#![tactic(auto)]

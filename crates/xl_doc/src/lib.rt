@@ -1,0 +1,2 @@
+//! Documents: layers, groups, masks, channels and the selection.
+#![tactic(auto)]

@@ -1,0 +1,34 @@
+ghost use Rattle.std.specs.Prelude.{◌≡◌, ◌++◌, OnOk, OnErr};
+ghost use Rattle.std.specs.Int.{w32, to_be_bytes};
+ghost use Rattle.spec_fields.specs.Field.{word_at, int_at};
+
+use crate::refusal::refused;
+use spec_fields::{Kind, ReadRefused};
+use std::alloc::AllocError;
+
+/// The word at an offset. Truncated there, where fewer than four bytes are left.
+pub fn u32_at(bytes: &[u8], at: usize) -> Result<u32, ReadRefused>
+    ensures { result ≡ word_at bytes.now at }
+{
+    if at > bytes.len() || bytes.len() - at < 4 {
+        return Err(refused(Kind::Truncated, at));
+    }
+    let part = &bytes[at..at + 4];
+    Ok(u32::from_be_bytes([part[0], part[1], part[2], part[3]]))
+}
+
+/// The signed word at an offset. Truncated there, where fewer than four bytes are left.
+pub fn i32_at(bytes: &[u8], at: usize) -> Result<i32, ReadRefused>
+    ensures { result ≡ int_at bytes.now at }
+{
+    let word = u32_at(bytes, at)?;
+    Ok(word.cast_signed())
+}
+
+/// Appends a word.
+pub fn put_u32(out: &mut Vec<u8>, value: u32) -> Result<(), AllocError>
+    ensures ok { OnOk result (out.new.items ≡ out.old.items ++ to_be_bytes w32 value) }
+    ensures err { OnErr result (out.new.items ≡ out.old.items) }
+{
+    out.extend_from_slice(&value.to_be_bytes())
+}

@@ -1,0 +1,2 @@
+//! A plane of pixels in a file: its hierarchy, its level in use and its tiles.
+#![tactic(auto)]

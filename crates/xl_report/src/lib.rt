@@ -1,0 +1,2 @@
+//! What is told of a document: its picture as a PAM.
+#![tactic(auto)]

@@ -1,0 +1,2 @@
+//! Planes of bytes in run-length codes.
+#![tactic(auto)]

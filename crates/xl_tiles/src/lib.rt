@@ -1,0 +1,2 @@
+//! Planes of pixels.
+#![tactic(auto)]

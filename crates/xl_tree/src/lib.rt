@@ -1,0 +1,2 @@
+//! An ordered forest of nodes with ids, kept in one vector.
+#![tactic(auto)]
