@@ -1,2 +1,19 @@
 //! The arithmetic of pixels: sixteen blend modes, and one row of pixels laid over another.
 #![tactic(auto)]
+
+mod bytes;
+mod codes;
+mod colours;
+mod count;
+mod fades;
+mod pixels;
+mod rows;
+
+pub use bytes::mul;
+pub use codes::{code_of, mode_of};
+pub use colours::blend;
+pub use count::Steps;
+pub use fades::{fade_row, fade_row_by};
+pub use pixels::over;
+pub use rows::over_row;
+pub use spec_blend::{Mode, Pixel};

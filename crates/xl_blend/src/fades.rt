@@ -1,0 +1,35 @@
+//! Rows of pixels with a part of their alpha.
+ghost use Rattle.std.specs.Prelude.{◌≡◌, length};
+ghost use Rattle.xl_blend.specs.Rows.{faded, faded_row, faded_row_by};
+
+use crate::bytes::mul;
+use spec_blend::Pixel;
+
+fn fade(pixel: Pixel, part: u8) -> Pixel
+    ensures { result ≡ faded part pixel }
+{
+    let a = mul(u32::from(pixel.a), u32::from(part));
+    Pixel {
+        a: a as u8,
+        ..pixel
+    }
+}
+
+/// The same part, of 255, of each pixel's alpha.
+pub fn fade_row(row: &mut [Pixel], part: u8)
+    ensures { row.new ≡ faded_row part row.old }
+{
+    for pixel in row {
+        *pixel = fade(*pixel, part);
+    }
+}
+
+/// A part, of 255, of its own of each pixel's alpha.
+pub fn fade_row_by(row: &mut [Pixel], parts: &[u8])
+    requires { length row.old ≡ length parts.now }
+    ensures { row.new ≡ faded_row_by parts.now row.old }
+{
+    for i in 0..row.len() {
+        row[i] = fade(row[i], parts[i]);
+    }
+}
