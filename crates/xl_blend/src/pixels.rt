@@ -53,15 +53,21 @@ pub fn over_blended(mode: Mode, below: Pixel, above: Pixel) -> Pixel
     }
 }
 
+/// A pixel laid over another in a mode.
+pub fn over_pixel(mode: Mode, below: Pixel, above: Pixel) -> Pixel
+    ensures { result ≡ laid_over mode below above }
+{
+    match mode {
+        Mode::Normal => over_normal(below, above),
+        _ => over_blended(mode, below, above),
+    }
+}
+
 /// A pixel laid over another, which is one step.
-#[inline]
 pub fn over<L: Ledger>(mode: Mode, below: Pixel, above: Pixel, steps: &mut Steps<L>) -> Pixel
     ensures pixel { result ≡ laid_over mode below above }
     ensures cost { steps.new ≡ steps.old + 1 }
 {
     steps.add(1);
-    match mode {
-        Mode::Normal => over_normal(below, above),
-        _ => over_blended(mode, below, above),
-    }
+    over_pixel(mode, below, above)
 }

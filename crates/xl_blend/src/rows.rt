@@ -3,18 +3,9 @@ ghost use Rattle.std.specs.Prelude.{◌≡◌, ◌+◌, length};
 ghost use Rattle.xl_blend.specs.Rows.{over_rows};
 
 use crate::count::Steps;
-use crate::pixels::{over_blended, over_normal};
+use crate::pixels::over_pixel;
 use spec_blend::{Mode, Pixel};
 use std::sync::ledger::Ledger;
-
-fn normal_row(below: &mut [Pixel], above: &[Pixel])
-    requires { length below.old ≡ length above.now }
-    ensures { below.new ≡ over_rows Mode.Normal below.old above.now }
-{
-    for i in 0..below.len() {
-        below[i] = over_normal(below[i], above[i]);
-    }
-}
 
 /// Each pixel of a row laid over the pixel below it, which is one step a pixel.
 pub fn over_row<L: Ledger>(mode: Mode, below: &mut [Pixel], above: &[Pixel], steps: &mut Steps<L>)
@@ -23,8 +14,7 @@ pub fn over_row<L: Ledger>(mode: Mode, below: &mut [Pixel], above: &[Pixel], ste
     ensures cost { steps.new ≡ steps.old + length below.old }
 {
     steps.add(below.len() as u64);
-    match mode {
-        Mode::Normal => normal_row(below, above),
-        _ => normal_row(below, above),
+    for i in 0..below.len() {
+        below[i] = over_pixel(mode, below[i], above[i]);
     }
 }
