@@ -1,0 +1,24 @@
+ghost use Rattle.std.specs.Prelude.{◌≡◌, ◌<◌, ◌≤◌, ℕ, List, Option, length, take, IfOk, OnErr};
+ghost use Rattle.xl_ports.specs.Faults.{HasCause};
+ghost use Rattle.xl_ports.specs.Source.{led_by, IsEnded};
+
+use crate::failed::Failed;
+
+/// Bytes that come from outside.
+pub trait Source {
+    /// The bytes not yet given, where they are told.
+    ghost left: { Self → Option (List ℕ) };
+
+    /// How often it has failed. It never falls.
+    ghost faults: { Self → ℕ };
+
+    /// Gives the next bytes in the first places of the buffer, and answers how many.
+    ///
+    /// None, where some were asked for, means the end. Behind those that were given the buffer holds anything.
+    fn read(&mut self, buf: &mut [u8]) -> Result<usize, Failed>
+        ensures within { IfOk result (λ k. k ≤ length buf.old) }
+        ensures given { IfOk result (λ k. left self.old ≡ led_by (take k buf.new) (left self.new)) }
+        ensures end { IfOk result (λ k. k ≡ 0 → 0 < length buf.old → IsEnded (left self.old)) }
+        ensures as_before { OnErr result (left self.new ≡ left self.old) }
+        ensures cause { HasCause (faults self.old) (faults self.new) result };
+}
