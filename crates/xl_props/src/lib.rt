@@ -1,2 +1,22 @@
 //! Lists of properties: what is interpreted, and what is kept as it was read.
+//!
+//! `read_props` reads a list from an offset of a file up to its end. It answers the values that the owner of the list interprets
+//! (`Known`), the other properties in their order (`PropList`), and where in the file they stand (`Places`).
 #![tactic(auto)]
+
+mod answer;
+mod byte_list;
+mod colour_list;
+mod kept_list;
+mod offset_list;
+mod path_list;
+mod read;
+
+pub use answer::{Known, Places, Props};
+pub use byte_list::Bytes;
+pub use colour_list::ColourMap;
+pub use kept_list::{Kept, PropList};
+pub use offset_list::Offsets;
+pub use path_list::Path;
+pub use read::read_props;
+pub use spec_document::Owner;

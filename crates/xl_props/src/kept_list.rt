@@ -1,0 +1,66 @@
+ghost use Rattle.std.specs.Prelude.{◌≡◌, [], ◌∷◌, ◌++◌, length, OnOk, OnErr};
+
+use crate::byte_list::Bytes;
+use std::alloc::{AllocError, Global};
+use std::marker::Model;
+
+/// A property that is kept as it was read.
+#[derive(Debug, Drop)]
+pub struct Kept {
+    pub kind: u32,
+    pub payload: Bytes,
+}
+
+impl Model for Kept {
+    ghost use Rattle.spec_document.specs.Document as doc;
+
+    ghost Value = { doc.Kept };
+
+    ghost view = { λ k. record { kind = k.kind; payload = k.payload } };
+}
+
+/// Properties that are kept, in their order.
+#[derive(Debug, Drop)]
+pub struct PropList {
+    items: Vec<Kept>,
+}
+
+impl Model for PropList {
+    ghost use Rattle.std.specs.Prelude.{List};
+    ghost use Rattle.spec_document.specs.Document as doc;
+
+    ghost Value = { List doc.Kept };
+
+    ghost view = { λ l. l.items.items };
+}
+
+impl PropList {
+    pub fn new(alloc: Global) -> Self
+        ensures { result ≡ [] }
+    {
+        PropList {
+            items: Vec::new(alloc),
+        }
+    }
+
+    pub fn len(&self) -> usize
+        ensures { result ≡ length self.now }
+    {
+        self.items.len()
+    }
+
+    pub fn as_slice(&self) -> &[Kept]
+        ensures { result.now ≡ self.now }
+    {
+        self.items.as_slice()
+    }
+
+    /// Appends a property.
+    pub fn push(&mut self, item: Kept) -> Result<(), AllocError>
+        ensures ok { OnOk result (self.new ≡ self.old ++ item ∷ []) }
+        ensures err { OnErr result (self.new ≡ self.old) }
+    {
+        self.items.push(item)?;
+        Ok(())
+    }
+}
