@@ -1,2 +1,9 @@
 //! Rectangles of pixels, and the grid of 64 by 64 tiles.
 #![tactic(auto)]
+
+mod rects;
+mod tiling;
+
+pub use rects::meet;
+pub use spec_grid::{Rect, TileAt};
+pub use tiling::{MAX_SIDE, TILE_SIDE, grid, tile_rect};
