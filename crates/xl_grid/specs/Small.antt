@@ -1,5 +1,5 @@
 -- Rectangles whose coordinates and sides are far from the ends of their types.
-use Rattle.std.specs.Prelude.{ℕ, ◌^◌, ◌≤◌, ℤ, pos, negsuc, ◌≤ℤ◌}
+use Rattle.std.specs.Prelude.{◌^◌, ◌≤◌, ℤ, pos, negsuc, ◌≤ℤ◌}
 use Rattle.spec_grid.specs.declared.Rect.{Rect}
 
 -- within 2^20 of zero

@@ -21,7 +21,11 @@ fn count_between(first: i32, last: i32) -> u32
     requires last { IsEnd last }
     ensures { result ≡ rect.part_above_0 (last -ℤ first) }
 {
-    if first < last { (last - first) as u32 } else { 0 }
+    if first < last {
+        (last - first) as u32
+    } else {
+        0
+    }
 }
 
 // The later of two first places.

@@ -1,2 +1,8 @@
-//! A plane of pixels in a file: its hierarchy, its level in use and its tiles.
+//! A plane of pixels in a file: a hierarchy, its level in use, and the tiles.
 #![tactic(auto)]
+
+mod reading;
+
+pub use reading::read_hierarchy;
+pub use xl_fields::ReadRefusedOrMemory;
+pub use xl_tiles::Plane;

@@ -1,4 +1,4 @@
-use Rattle.std.proofs.Common.{◌≡◌, ℤ, to_z, of_z, w32, arith, rules}
+use Rattle.std.proofs.Common.{◌≡◌, ℤ, to_z, of_z, w32, arith}
 use Rattle.std.proofs.lemmas.Int.{ints}
 use Rattle.xl_grid.specs.Small.{IsNear, IsEnd}
 use Rattle.xl_grid.proofs.rects.meet.Goals as goal

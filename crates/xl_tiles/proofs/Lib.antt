@@ -1,0 +1,4 @@
+pub mod AlikeRows
+pub mod Places
+pub mod RowsOfPart
+pub mod WrittenRows

@@ -1,0 +1,4 @@
+pub mod Alike
+pub mod Part
+pub mod Sized
+pub mod Written
