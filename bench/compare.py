@@ -8,7 +8,8 @@ folder `files`. Where it has an EXPECTED.tsv, that says what each file must give
 reader does. With --mutants, N damaged copies of the smaller files are tried as well, against the reference reader.
 
 EXPECTED.tsv has a head line, and then for each file, between tabs: its name, the exit status, the SHA-256 and the
-length of what `render` prints, and the file's structure as `xcf_reference.py --tree` prints it, or the refusal.
+length of what `render` prints, and the file's structure as `xcf_reference.py --tree` prints it, or the refusal, or `-`
+where it is not told.
 The exit status is 1 where something disagrees.
 """
 
@@ -87,8 +88,9 @@ def compare_row(tally, name, path, row, program):
     def told(status, printed):
         return "status %d, %s of %d bytes" % (status, digest(printed), len(printed))
     tally.compare(name, "reference", wanted, told(*by_reference(data)))
-    tree = b"".join(output(data, tree=True)[1]).decode("ascii").strip()
-    tally.compare(name, "structure", row[4], tree)
+    if row[4] != "-":
+        tree = b"".join(output(data, tree=True)[1]).decode("ascii").strip()
+        tally.compare(name, "structure", row[4], tree)
     if program != "-":
         tally.compare(name, "program", wanted, told(*by_program(program, path)))
 
