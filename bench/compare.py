@@ -120,7 +120,9 @@ def damaged(data, draw):
 
 def compare_mutants(tally, paths, program, count, draw):
     """Damaged copies of small files; one that disagrees is kept and its path is told."""
-    sources = [read_file(path) for path in paths if os.path.getsize(path) <= SMALL]
+    sources = [read_file(path) for path in paths if 0 < os.path.getsize(path) <= SMALL]
+    if not sources:
+        sys.exit("no file of at most %d bytes to damage" % SMALL)
     statuses = {}
     for number in range(count):
         data = damaged(draw.choice(sources), draw)

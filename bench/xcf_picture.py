@@ -3,6 +3,7 @@
 A pixel is one number: red, then green, blue and alpha from the lowest byte up. A row is a list of them.
 """
 
+import functools
 import sys
 from array import array
 
@@ -49,32 +50,40 @@ def blend(mode, i, m):
     return min(255, max(0, VALUES[mode](i, m)))
 
 
-def mean(above, below, part, whole):
-    return (2 * (above * part + below * (whole - part)) + whole) // (2 * whole)
-
-
-def split(pixel):
-    return pixel & 255, pixel >> 8 & 255, pixel >> 16 & 255, pixel >> 24
-
-
-def join(colours, alpha):
-    return colours[0] | colours[1] << 8 | colours[2] << 16 | alpha << 24
+@functools.lru_cache(maxsize=None)
+def blended(mode):
+    """The values of a mode for all pairs of bytes, the one below first."""
+    return bytes(blend(mode, i, m) for i in range(256) for m in range(256))
 
 
 def over(mode, below, above):
     """One pixel laid over another."""
-    *lower, lower_alpha = split(below)
-    *upper, upper_alpha = split(above)
     if mode == 0:
-        alpha = upper_alpha + mul(lower_alpha, 255 - upper_alpha)
-        if alpha == 0:
-            return 0
-        return join([mean(u, l, upper_alpha, alpha) for u, l in zip(upper, lower)], alpha)
-    part = min(upper_alpha, lower_alpha)
+        return over_normal(below, above)
+    part, alpha = above >> 24, below >> 24
+    if alpha < part:
+        part = alpha
     if part == 0:
         return below
-    whole = lower_alpha + mul(255 - lower_alpha, part)
-    return join([mean(blend(mode, l, u), l, part, whole) for u, l in zip(upper, lower)], lower_alpha)
+    whole, table = alpha + MUL[256 * (255 - alpha) + part], blended(mode)
+    rest, twice, result = whole - part, 2 * whole, alpha << 24
+    for shift in (0, 8, 16):
+        lower = below >> shift & 255
+        upper = table[lower << 8 | above >> shift & 255]
+        result |= (2 * (upper * part + lower * rest) + whole) // twice << shift
+    return result
+
+
+def over_normal(below, above):
+    part = above >> 24
+    alpha = part + MUL[256 * (below >> 24) + 255 - part]
+    if alpha == 0:
+        return 0
+    rest, twice, result = alpha - part, 2 * alpha, alpha << 24
+    for shift in (0, 8, 16):
+        upper, lower = above >> shift & 255, below >> shift & 255
+        result |= (2 * (upper * part + lower * rest) + alpha) // twice << shift
+    return result
 
 
 class Over(dict):
