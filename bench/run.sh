@@ -1,0 +1,94 @@
+#!/bin/sh
+# Times `BIN render` and the same work by other programs, where they are installed, on two large files.
+#
+#     bench/run.sh BIN [FOLDER]
+#
+# BIN is the proved program (`rt run` leaves it in crates/xcfedit/out/xcfedit). FOLDER takes the files, about 320 MB,
+# and keeps them for the next run; without it a temporary one is used and removed. The best of RUNS runs counts (3).
+set -eu
+
+here=$(cd "$(dirname "$0")" && pwd)
+if [ $# -lt 1 ] || [ ! -x "$1" ]; then
+    sed -n '2,8s/^# \{0,1\}//p' "$0"
+    exit 2
+fi
+bin=$(cd "$(dirname "$1")" && pwd)/$(basename "$1")
+runs=${RUNS:-3}
+if [ $# -gt 1 ]; then
+    mkdir -p "$2"
+    folder=$(cd "$2" && pwd)
+else
+    folder=$(mktemp -d)
+    trap 'rm -rf "$folder"' EXIT
+fi
+
+# made NAME SCRIPT: the file or folder, unless it is there
+made() {
+    [ -e "$folder/$1" ] || { echo "making $1" >&2; python3 "$here/$2" "$folder/$1"; }
+}
+
+# best NAME TOOL WORDS..: a line with the seconds and the peak memory of the fastest of the runs
+best() {
+    file=$1 tool=$2
+    shift 2
+    i=0
+    : > "$folder/times"
+    while [ "$i" -lt "$runs" ]; do
+        /usr/bin/time -f '%e %M' -o "$folder/one" "$@" > /dev/null 2> "$folder/errors" || {
+            printf '%-12s %-14s failed: %s\n' "$file" "$tool" "$(head -n 1 "$folder/errors")"
+            return 0
+        }
+        cat "$folder/one" >> "$folder/times"
+        i=$((i + 1))
+    done
+    sort -n "$folder/times" | head -n 1 | awk -v file="$file" -v tool="$tool" \
+        '{ printf "%-12s %-14s %8.2f s %8.0f MB\n", file, tool, $1, $2 / 1024 }'
+}
+
+# has NAME TEXT: whether a program is there, and tells this of its version
+has() {
+    command -v "$1" > /dev/null 2>&1 && "$1" --version 2> /dev/null | grep -qi "$2"
+}
+
+# checked FILE: the picture is the one that the reference reader found
+checked() {
+    wanted=$(awk -v file="$1" '$1 == file { print $2 }' "$here/digests.txt")
+    got=$("$bin" render "$folder/$1" | sha256sum | cut -d ' ' -f 1)
+    [ "$wanted" = "$got" ] || { echo "$1: the picture is not that of the reference reader"; exit 1; }
+}
+
+gimp_words() {
+    echo "(let* ((image (car (gimp-file-load RUN-NONINTERACTIVE \"$1\" \"$1\")))) (gimp-image-merge-visible-layers image CLIP-TO-IMAGE) (gimp-quit 0))"
+}
+
+made plain.xcf make_plain.py
+made layers.xcf make_layers.py
+made cases make_cases.py
+
+for file in plain.xcf layers.xcf; do
+    checked "$file"
+    best "$file" xcfedit "$bin" render "$folder/$file"
+    if has magick "^version: imagemagick"; then
+        best "$file" magick magick "$folder/$file" -background none -flatten pam:/dev/null
+    elif has convert "^version: imagemagick"; then
+        best "$file" convert convert "$folder/$file" -background none -flatten pam:/dev/null
+    fi
+    for gimp in gimp-console gimp-console-2.10 gimp-console-3.0; do
+        if has "$gimp" "image manipulation program version"; then
+            best "$file" "$gimp" "$gimp" --no-interface --no-data --no-fonts -b "$(gimp_words "$folder/$file")"
+            break
+        fi
+    done
+    if has krita "^krita [0-9]"; then
+        best "$file" krita env QT_QPA_PLATFORM=offscreen krita --export --export-filename "$folder/krita.ppm" "$folder/$file"
+    fi
+done
+
+# a file of one pixel, a hundred times: what a start and an end cost
+/usr/bin/time -f '%e' -o "$folder/one" sh -c '
+    i=0
+    while [ "$i" -lt 100 ]; do
+        "$0" render "$1" > /dev/null
+        i=$((i + 1))
+    done' "$bin" "$folder/cases/files/one.xcf"
+awk '{ printf "%-12s %-14s %8.2f ms each\n", "one.xcf", "xcfedit", 10 * $1 }' "$folder/one"
