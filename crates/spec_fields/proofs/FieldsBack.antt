@@ -14,6 +14,10 @@ use Rattle.spec_fields.proofs.Fields.{has_rest, has_from}
 use Rattle.spec_fields.proofs.Back.{bind_back, wants_back}
 use Rattle.spec_fields.proofs.All.{all_take, all_drop, all_at}
 
+-- one value was read
+pub one_read : {A : Type 0} (x y : A) → ◌≡◌ {A = Read A} (Ok x) (Ok y) → x ≡ y
+one_read x y e = cc
+
 -- it was there
 pub given_back : {A B : Type 0} (found : Option A) (refused : ReadRefused) (rest : A → Read B) (y : B)
     → (given found refused >>= rest) ≡ Ok y → (x : A) × (found ≡ Some x) × (rest x ≡ Ok y)
