@@ -1,0 +1,125 @@
+-- The channels that were read stand in the file.
+use Rattle.std.proofs.Common.{◌≡◌, ℕ, zero, suc, ◌+◌, ◌*◌, ◌^◌, ◌≤◌, Bool, true, false, cond, ◌||◌, not, List, [], ◌∷◌, length, nat_lt, refl, subst, arith}
+use Rattle.std.specs.Prelude.{Ok, Option, Some, None, is_none, nat_le, ◌==◌}
+use Rattle.std.proofs.lemmas.Bool.{leb-true, ltb-true, eqb-true, eqb-false}
+use Rattle.spec_document.specs.declared.Owner.TheVariants as owners
+use Rattle.spec_document.specs.Document.{Document, Channel, area, all_kept}
+use Rattle.spec_document.specs.Limits.{AreBytes}
+use Rattle.spec_fields.specs.declared.Kind.TheVariants.{ChannelSize, TwoSelections, BadHierarchy, TooLarge, TooMany}
+use Rattle.spec_fields.specs.Reading.{Read, ◌>>=◌, fault}
+use Rattle.spec_fields.specs.Field.{name_at, HasWord}
+use Rattle.spec_fields.proofs.Back.{bind_back, wants_back}
+use Rattle.spec_fields.proofs.FieldsBack.{one_read, word_first, unless_back, choice_back, name_has}
+use Rattle.spec_props.specs.Meaning.{is_selection, kept_of}
+use Rattle.spec_props.specs.Reading.{properties_at}
+use Rattle.spec_props.proofs.ListedBack.{properties_have}
+use Rattle.spec_hierarchy.specs.Reading.{same_word_at, pointer_at, hierarchy_at}
+use Rattle.spec_hierarchy.proofs.PlanesBack.{same_word_has, pointer_has, plane_has}
+use Rattle.spec_file.specs.Placing.{place_of, passes}
+use Rattle.spec_file.specs.Channels.{with_channel, channel_at, channels_at}
+use Rattle.spec_file.specs.Holds.{AddsChannel, AddChannels}
+use Rattle.spec_file.proofs.SumsBack.{passes_back}
+use Rattle.spec_file.proofs.NodesAre.{IsWithin}
+use Rattle.spec_file.proofs.ChannelsAre.{what_adds}
+
+-- a channel is added, and the document is within the limits again
+record IsChannel (file : List ℕ) (at : ℕ) (old new : Document) : Type 0 where
+  adds : AddsChannel file at old new
+  within : IsWithin new
+  few : length new.channels ≤ 64
+
+is_free : (b : Bool) (s : Option Channel) → (not b || is_none s) ≡ true → b ≡ true → s ≡ None
+is_free true None e t = refl
+is_free true (Some s) e t = cc
+is_free false s e t = cc
+
+room_left : (b : Bool) (n : ℕ) → (b || nat_lt n 64) ≡ true → n ≤ 64 → n + cond b 0 1 ≤ 64
+room_left true n e h = omega (arith, h)
+room_left false n e h = omega (arith, ltb-true n 64 e)
+
+at_most : (x y n : ℕ) → x ≡ y → y ≤ n → x ≤ n
+at_most x y n e h = omega (arith, e, h)
+
+channel_back : (file : List ℕ) (at place : ℕ) (old new : Document) → AreBytes file → IsWithin old → length old.channels ≤ 64 → channel_at file at place old ≡ Ok new → IsChannel file at old new
+unfolding channel_at
+channel_back file at place old new all w few e =
+    let a = bind_back (same_word_at file at old.width ChannelSize) _ new e in
+    let b = bind_back (same_word_at file (at + 4) old.height ChannelSize) _ new a.2 in
+    let text = bind_back (name_at file (at + 8)) _ new b.2 in
+    let props = bind_back (properties_at file owners.Channel text.0.next) _ new text.2 in
+    let c = unless_back (passes owners.Channel (all_kept old) props.0.list) _ new props.2 in
+    let hierarchy = bind_back (pointer_at file (props.0.end + 8) BadHierarchy) _ new c.1 in
+    let selection = is_selection props.0.list in
+    let d = wants_back (not selection || is_none old.selection) (fault TwoSelections (place_of 4 props.0.list)) _ new hierarchy.2 in
+    let f = wants_back (selection || nat_lt (length old.channels) 64) (fault TooMany place) _ new d.1 in
+    let g = wants_back (nat_le (area old + old.width * old.height) (2 ^ 28)) (fault TooLarge at) _ new f.1 in
+    let plane = bind_back (hierarchy_at file hierarchy.0 old.width old.height 1 old.compression) _ new g.1 in
+    let m : Channel = record { name = text.0.name; kept = kept_of owners.Channel props.0.list; plane = plane.0 } in
+    let is : with_channel old selection m ≡ new = one_read (with_channel old selection m) new plane.2 in
+    let pointer = pointer_has file (props.0.end + 8) hierarchy.0 BadHierarchy hierarchy.1 in
+    let q = plane_has file hierarchy.0 old.width old.height 1 old.compression plane.0 all plane.1 in
+    let first = is_free selection old.selection d.0 in
+    let grow = what_adds old selection m first in
+    let kept = passes_back owners.Channel (all_kept old) props.0.list w.kept c.0 in
+    subst (IsChannel file at old) is (record {
+      adds = record {
+        width = same_word_has file at old.width ChannelSize a.1;
+        height = same_word_has file (at + 4) old.height ChannelSize b.1;
+        text = text.0;
+        has_name = name_has file (at + 8) text.0 text.1;
+        props = props.0;
+        has_props = properties_have file owners.Channel text.0.next props.0 props.1;
+        hierarchy = hierarchy.0;
+        has_hierarchy = pointer.word;
+        some_hierarchy = pointer.some;
+        plane = plane.0;
+        plane_is = q.is;
+        has_plane = q.has;
+        first = first;
+        adds = refl;
+      };
+      within = record {
+        area = at_most _ _ (2 ^ 28) grow.area (leb-true (area old + old.width * old.height) (2 ^ 28) g.0);
+        kept = at_most _ _ (2 ^ 28) grow.kept kept;
+      };
+      few = at_most _ _ 64 grow.count (room_left selection (length old.channels) f.0 few);
+    })
+
+pub record HasChannels (file : List ℕ) (at : ℕ) (old new : Document) : Type 0 where
+  pub pointers : List ℕ
+  pub add : AddChannels file at pointers old new
+  pub within : IsWithin new
+  pub few : length new.channels ≤ 64
+
+channels_by : (room : ℕ) (file : List ℕ) (at pointer : ℕ) (old new : Document) → AreBytes file → IsWithin old → length old.channels ≤ 64 → HasWord file at pointer
+    → ((mid : Document) → IsWithin mid → length mid.channels ≤ 64 → channels_at room file (at + 4) mid ≡ Ok new → HasChannels file (at + 4) mid new)
+    → (b : Bool) → (pointer == 0) ≡ b
+    → ((pointer == 0) ≡ true → ◌≡◌ {A = Read Document} (Ok old) (Ok new))
+    → ((pointer == 0) ≡ false → (channel_at file pointer at old >>= (λ changed. channels_at room file (at + 4) changed)) ≡ Ok new)
+    → HasChannels file at old new
+channels_by room file at pointer old new all w few word more true t ended goes_on =
+    subst (HasChannels file at old) (one_read old new (ended t)) (record {
+      pointers = [];
+      add = (subst (λ n. HasWord file at n) (eqb-true pointer 0 t) word, refl);
+      within = w;
+      few = few;
+    })
+channels_by room file at pointer old new all w few word more false t ended goes_on =
+    let mid = bind_back (channel_at file pointer at old) _ new (goes_on t) in
+    let channel = channel_back file pointer at old mid.0 all w few mid.1 in
+    let rest = more mid.0 channel.within channel.few mid.2 in
+    record {
+      pointers = pointer ∷ rest.pointers;
+      add = (word, omega (arith, eqb-false pointer 0 t), (mid.0, channel.adds, rest.add));
+      within = rest.within;
+      few = rest.few;
+    }
+
+pub channels_back : (room : ℕ) (file : List ℕ) (at : ℕ) (old new : Document) → AreBytes file → IsWithin old → length old.channels ≤ 64 → channels_at room file at old ≡ Ok new
+    → HasChannels file at old new
+unfolding channels_at
+channels_back zero file at old new all w few e = cc
+channels_back (suc room) file at old new all w few e =
+    let a = word_first file at _ new e in
+    let c = choice_back (a.0 == 0) _ _ new a.2 in
+    channels_by room file at a.0 old new all w few a.1 (λ mid within less rest. channels_back room file (at + 4) mid new all within less rest) (a.0 == 0) refl c.0 c.1

@@ -1,0 +1,279 @@
+-- The layers and groups that were read stand in the file.
+use Rattle.std.proofs.Common.{◌≡◌, ℕ, zero, suc, ◌+◌, ◌*◌, ◌^◌, ◌<◌, ◌≤◌, Bool, true, false, ◌&&◌, not, List, [], ◌∷◌, length, nat_lt, refl, sym, ◌∙◌, ap, subst, arith}
+use Rattle.std.specs.Prelude.{Ok, Option, Some, None, nat_le, ◌==◌, MatchBool}
+use Rattle.std.proofs.lemmas.Bool.{leb-true, ltb-true, eqb-true, eqb-false}
+use Rattle.spec_forest.specs.Forest.{none, leaf, group, size}
+use Rattle.spec_forest.specs.Changes.{put_last}
+use Rattle.spec_document.specs.declared.Owner.TheVariants as owners
+use Rattle.spec_document.specs.Document.{Document, Nodes, Channel, base_code, base_of_kind, bytes_of_kind, mask_area, channel_kept, area, all_kept, kept_bytes}
+use Rattle.spec_document.specs.Limits.{AreBytes}
+use Rattle.spec_fields.specs.declared.Kind.TheVariants.{BadSize, LayerType, MaskSize, GroupMask, GroupInIndexed, BadPath, BadHierarchy, TooLarge, TooMany}
+use Rattle.spec_fields.specs.Reading.{Read, ◌>>=◌, fault}
+use Rattle.spec_fields.specs.Field.{name_at, HasWord}
+use Rattle.spec_fields.proofs.Back.{bind_back, wants_back}
+use Rattle.spec_fields.proofs.FieldsBack.{one_read, word_first, given_back, unless_back, choice_back, name_has}
+use Rattle.spec_props.specs.Meaning.{is_group, kept_of}
+use Rattle.spec_props.specs.Reading.{properties_at}
+use Rattle.spec_props.proofs.ListedBack.{properties_have}
+use Rattle.spec_hierarchy.specs.Reading.{same_word_at, pointer_at, hierarchy_at}
+use Rattle.spec_hierarchy.proofs.PlanesBack.{same_word_has, pointer_has, plane_has}
+use Rattle.spec_file.specs.Header.{is_indexed, is_side}
+use Rattle.spec_file.specs.Placing.{path_to, place_of, passes}
+use Rattle.spec_file.specs.Layers.{Head, Upto, hierarchy_place, mask_place, head_at, placed, path_of, group_of, group_in, mask_at, layer_of, layer_in, node_at, nodes_at}
+use Rattle.spec_file.specs.Holds.{HasHead, HasMaskIfAny, Places, AddsGroup, AddsLayer, AddsNode, AddNodes}
+use Rattle.spec_file.proofs.SumsBack.{passes_back}
+use Rattle.spec_file.proofs.NodesAre.{IsWithin, places_area, places_kept}
+use Rattle.spec_file.proofs.HeaderBack.{both_hold, side_back}
+
+placed_back : (old : Document) (h : Head) (branch : Nodes) (new : Document) → placed old h branch ≡ Ok new → Places old h branch new
+unfolding placed
+placed_back old h branch new e =
+    let a = given_back (put_last (path_to h.props.list) branch old.nodes) (fault BadPath (place_of 30 h.props.list)) _ new e in
+    let is : record old { nodes = a.0 } ≡ new = cc in
+    (a.0, a.1, sym is)
+
+path_back : (old : Document) (h : Head) → path_of old h ≡ Ok tt → length (path_to h.props.list) < 8
+unfolding path_of
+path_back old h e =
+    let a = wants_back (nat_lt (length (path_to h.props.list)) 8) (fault BadPath (place_of 30 h.props.list)) _ tt e in
+    ltb-true (length (path_to h.props.list)) 8 a.0
+
+-- the record stands at the offset, its list passes no limit, and no group stands in an indexed image
+record IsHead (file : List ℕ) (at : ℕ) (d : Document) (h : Head) : Type 0 where
+  stands : HasHead file at d h
+  kept : all_kept d + kept_bytes (kept_of owners.Layer h.props.list) ≤ 2 ^ 28
+  groups : not (is_indexed d.base && is_group h.props.list) ≡ true
+
+head_back : (file : List ℕ) (at : ℕ) (d : Document) (h : Head) → IsWithin d → head_at file at d ≡ Ok h → IsHead file at d h
+unfolding head_at
+head_back file at d h w e =
+    let width = word_first file at _ h e in
+    let height = word_first file (at + 4) _ h width.2 in
+    let kind = word_first file (at + 8) _ h height.2 in
+    let a = wants_back (nat_le kind.0 5 && base_of_kind kind.0 == base_code d.base) (fault LayerType (at + 8)) _ h kind.2 in
+    let text = bind_back (name_at file (at + 12)) _ h a.1 in
+    let props = bind_back (properties_at file owners.Layer text.0.next) _ h text.2 in
+    let b = unless_back (passes owners.Layer (all_kept d) props.0.list) _ h props.2 in
+    let c = wants_back (not (is_indexed d.base && is_group props.0.list)) (fault GroupInIndexed (place_of 29 props.0.list)) _ h b.1 in
+    let hierarchy = word_first file (props.0.end + 8) _ h c.1 in
+    let mask = word_first file (props.0.end + 12) _ h hierarchy.2 in
+    let both = both_hold (nat_le kind.0 5) (base_of_kind kind.0 == base_code d.base) a.0 in
+    let g : Head = record { at = at; width = width.0; height = height.0; kind = kind.0; text = text.0; props = props.0; hierarchy = hierarchy.0; mask = mask.0 } in
+    let is : g ≡ h = one_read g h mask.2 in
+    subst (IsHead file at d) is (record {
+      stands = record {
+        at_is = refl;
+        width = width.1;
+        height = height.1;
+        kind = kind.1;
+        kind_is = leb-true kind.0 5 both.0;
+        base = eqb-true (base_of_kind kind.0) (base_code d.base) both.1;
+        name = name_has file (at + 12) text.0 text.1;
+        props = properties_have file owners.Layer text.0.next props.0 props.1;
+        hierarchy = hierarchy.1;
+        mask = mask.1;
+      };
+      kept = passes_back owners.Layer (all_kept d) props.0.list w.kept b.0;
+      groups = c.0;
+    })
+
+-- a node is added, and the document is within the limits again
+record IsGroup (old : Document) (h : Head) (new : Document) : Type 0 where
+  adds : AddsGroup old h new
+  within : IsWithin new
+
+group_back : (old : Document) (h : Head) (new : Document) → is_indexed old.base ≡ false → all_kept old + kept_bytes (kept_of owners.Layer h.props.list) ≤ 2 ^ 28
+    → group_in old h ≡ Ok new → IsGroup old h new
+unfolding group_in
+group_back old h new base kept e =
+    let branch : Nodes = group (1 + size old.nodes) (group_of h) none none in
+    let a = wants_back (h.mask == 0) (fault GroupMask (mask_place h)) _ new e in
+    let b = wants_back (nat_le (area old + old.width * old.height) (2 ^ 28)) (fault TooLarge h.at) _ new a.1 in
+    let places = placed_back old h branch new b.1 in
+    record {
+      adds = record { base = base; mask = eqb-true h.mask 0 a.0; places = places };
+      within = record {
+        area = omega (arith, places_area old h branch new places, leb-true (area old + old.width * old.height) (2 ^ 28) b.0);
+        kept = omega (arith, places_kept old h branch new places, kept);
+      };
+    }
+
+-- the mask stands in the file, and with it the layer is within the limits
+record IsMask (file : List ℕ) (old : Document) (h : Head) (mask : Option Channel) : Type 0 where
+  has : HasMaskIfAny file h.mask h.width h.height old.compression mask
+  area_fits : area old + (h.width * h.height + mask_area mask) ≤ 2 ^ 28
+  kept_fits : all_kept old + (kept_bytes (kept_of owners.Layer h.props.list) + channel_kept mask) ≤ 2 ^ 28
+
+mask_back : (file : List ℕ) (old : Document) (h : Head) (mask : Option Channel) → AreBytes file → area old + h.width * h.height ≤ 2 ^ 28
+    → all_kept old + kept_bytes (kept_of owners.Layer h.props.list) ≤ 2 ^ 28 → mask_at file old h ≡ Ok mask → IsMask file old h mask
+unfolding mask_at
+mask_back file old h mask all area_fits kept_fits e = by (h.mask == 0) refl
+  where
+    by : (b : Bool) → (h.mask == 0) ≡ b → IsMask file old h mask
+    by true t =
+        let a = (choice_back (h.mask == 0) _ _ mask e).0 t in
+        let is : None ≡ mask = cc in
+        subst (IsMask file old h) is (record { has = eqb-true h.mask 0 t; area_fits = omega (arith, area_fits); kept_fits = omega (arith, kept_fits) })
+    by false t =
+        let kept = all_kept old + kept_bytes (kept_of owners.Layer h.props.list) in
+        let a = bind_back (same_word_at file h.mask h.width MaskSize) _ mask ((choice_back (h.mask == 0) _ _ mask e).1 t) in
+        let b = bind_back (same_word_at file (h.mask + 4) h.height MaskSize) _ mask a.2 in
+        let text = bind_back (name_at file (h.mask + 8)) _ mask b.2 in
+        let props = bind_back (properties_at file owners.Mask text.0.next) _ mask text.2 in
+        let c = unless_back (passes owners.Mask kept props.0.list) _ mask props.2 in
+        let hierarchy = bind_back (pointer_at file (props.0.end + 8) BadHierarchy) _ mask c.1 in
+        let d = wants_back (nat_le (area old + 2 * (h.width * h.height)) (2 ^ 28)) (fault TooLarge h.mask) _ mask hierarchy.2 in
+        let plane = bind_back (hierarchy_at file hierarchy.0 h.width h.height 1 old.compression) _ mask d.1 in
+        let m : Channel = record { name = text.0.name; kept = kept_of owners.Mask props.0.list; plane = plane.0 } in
+        let is : Some m ≡ mask = one_read (Some m) mask plane.2 in
+        let pointer = pointer_has file (props.0.end + 8) hierarchy.0 BadHierarchy hierarchy.1 in
+        let q = plane_has file hierarchy.0 h.width h.height 1 old.compression plane.0 all plane.1 in
+        let same : plane.0.width * plane.0.height ≡ h.width * h.height = λ i. q.is.width_is i * q.is.height_is i in
+        subst (IsMask file old h) is (record {
+          has = (
+            omega (arith, eqb-false h.mask 0 t),
+            record {
+              width_is = same_word_has file h.mask h.width MaskSize a.1;
+              height_is = same_word_has file (h.mask + 4) h.height MaskSize b.1;
+              text = text.0;
+              has_name = name_has file (h.mask + 8) text.0 text.1;
+              name = refl;
+              props = props.0;
+              has_props = properties_have file owners.Mask text.0.next props.0 props.1;
+              kept = refl;
+              hierarchy = hierarchy.0;
+              has_hierarchy = pointer.word;
+              some_hierarchy = pointer.some;
+              plane = q.has;
+              plane_is = q.is;
+            },
+          );
+          area_fits = omega (arith, leb-true (area old + 2 * (h.width * h.height)) (2 ^ 28) d.0, same);
+          kept_fits = omega (arith, passes_back owners.Mask kept props.0.list kept_fits c.0);
+        })
+
+record IsLayer (file : List ℕ) (old : Document) (h : Head) (new : Document) : Type 0 where
+  adds : AddsLayer file old h new
+  within : IsWithin new
+
+layer_back : (file : List ℕ) (old : Document) (h : Head) (new : Document) → AreBytes file → all_kept old + kept_bytes (kept_of owners.Layer h.props.list) ≤ 2 ^ 28
+    → layer_in file old h ≡ Ok new → IsLayer file old h new
+unfolding layer_in
+layer_back file old h new all kept e =
+    let a = wants_back (is_side h.width) (fault BadSize h.at) _ new e in
+    let b = wants_back (is_side h.height) (fault BadSize (h.at + 4)) _ new a.1 in
+    let c = wants_back (nat_le (area old + h.width * h.height) (2 ^ 28)) (fault TooLarge h.at) _ new b.1 in
+    let d = wants_back (nat_lt 0 h.hierarchy) (fault BadHierarchy (hierarchy_place h)) _ new c.1 in
+    let plane = bind_back (hierarchy_at file h.hierarchy h.width h.height (bytes_of_kind h.kind) old.compression) _ new d.1 in
+    let mask = bind_back (mask_at file old h) _ new plane.2 in
+    let branch : Nodes = leaf (1 + size old.nodes) (layer_of h plane.0 mask.0) none in
+    let places = placed_back old h branch new mask.2 in
+    let q = plane_has file h.hierarchy h.width h.height (bytes_of_kind h.kind) old.compression plane.0 all plane.1 in
+    let same : plane.0.width * plane.0.height ≡ h.width * h.height = λ i. q.is.width_is i * q.is.height_is i in
+    let m = mask_back file old h mask.0 all (leb-true (area old + h.width * h.height) (2 ^ 28) c.0) kept mask.1 in
+    record {
+      adds = record {
+        width = side_back h.width a.0;
+        height = side_back h.height b.0;
+        plane = plane.0;
+        plane_is = q.is;
+        some_hierarchy = ltb-true 0 h.hierarchy d.0;
+        has_plane = q.has;
+        mask = mask.0;
+        has_mask = m.has;
+        places = places;
+      };
+      within = record {
+        area = omega (arith, places_area old h branch new places, same, m.area_fits);
+        kept = omega (arith, places_kept old h branch new places, m.kept_fits);
+      };
+    }
+
+-- a node is added, the document is within the limits again, and the channels stay
+record IsNode (file : List ℕ) (at : ℕ) (old new : Document) : Type 0 where
+  adds : AddsNode file at old new
+  within : IsWithin new
+  channels : new.channels ≡ old.channels
+
+not_indexed : (indexed grouped : Bool) → grouped ≡ true → not (indexed && grouped) ≡ true → indexed ≡ false
+not_indexed true grouped g e = cc
+not_indexed false grouped g e = refl
+
+node_by : (file : List ℕ) (at : ℕ) (old new : Document) (h : Head) → AreBytes file → IsHead file at old h → length (path_to h.props.list) < 8
+    → (b : Bool) → is_group h.props.list ≡ b → (is_group h.props.list ≡ true → group_in old h ≡ Ok new) → (is_group h.props.list ≡ false → layer_in file old h ≡ Ok new)
+    → IsNode file at old new
+node_by file at old new h all head short true t grouped layered =
+    let g = group_back old h new (not_indexed (is_indexed old.base) (is_group h.props.list) t head.groups) head.kept (grouped t) in
+    record {
+      adds = record { head = h; has_head = head.stands; short_path = short; adds = subst (λ b. MatchBool b (AddsGroup old h new) (AddsLayer file old h new)) (sym t) g.adds };
+      within = g.within;
+      channels = ap (λ d. d.channels) g.adds.places.2;
+    }
+node_by file at old new h all head short false t grouped layered =
+    let l = layer_back file old h new all head.kept (layered t) in
+    record {
+      adds = record { head = h; has_head = head.stands; short_path = short; adds = subst (λ b. MatchBool b (AddsGroup old h new) (AddsLayer file old h new)) (sym t) l.adds };
+      within = l.within;
+      channels = ap (λ d. d.channels) l.adds.places.2;
+    }
+
+node_back : (file : List ℕ) (at : ℕ) (old new : Document) → AreBytes file → IsWithin old → node_at file at old ≡ Ok new → IsNode file at old new
+unfolding node_at
+node_back file at old new all w e =
+    let h = bind_back (head_at file at old) _ new e in
+    let path = bind_back (path_of old h.0) _ new h.2 in
+    let c = choice_back (is_group h.0.props.list) _ _ new path.2 in
+    node_by file at old new h.0 all (head_back file at old h.0 w h.1) (path_back old h.0 path.1) (is_group h.0.props.list) refl c.0 c.1
+
+pub record HasNodes (room : ℕ) (file : List ℕ) (at : ℕ) (old : Document) (upto : Upto) : Type 0 where
+  pub pointers : List ℕ
+  pub few : length pointers ≤ room
+  pub add : AddNodes file at pointers old upto.document
+  pub next : upto.next ≡ at + 4 + 4 * length pointers
+  pub within : IsWithin upto.document
+  pub channels : upto.document.channels ≡ old.channels
+
+-- the zero word behind the pointers
+no_nodes : (room : ℕ) (file : List ℕ) (at pointer : ℕ) (old : Document) (upto : Upto) → HasWord file at pointer → pointer ≡ 0 → IsWithin old
+    → record { document = old; next = at + 4 } ≡ upto → HasNodes room file at old upto
+no_nodes room file at pointer old upto word zero_is w is =
+    subst (HasNodes room file at old) is (record {
+      pointers = [];
+      few = omega arith;
+      add = (subst (λ n. HasWord file at n) zero_is word, refl);
+      next = omega arith;
+      within = w;
+      channels = refl;
+    })
+
+nodes_by : (room : ℕ) (file : List ℕ) (at pointer : ℕ) (old : Document) (upto : Upto) → AreBytes file → IsWithin old → HasWord file at pointer
+    → ((mid : Document) → IsWithin mid → nodes_at room file (at + 4) mid ≡ Ok upto → HasNodes room file (at + 4) mid upto)
+    → (b : Bool) → (pointer == 0) ≡ b
+    → ((pointer == 0) ≡ true → ◌≡◌ {A = Read Upto} (Ok (record { document = old; next = at + 4 })) (Ok upto))
+    → ((pointer == 0) ≡ false → (node_at file pointer old >>= (λ changed. nodes_at room file (at + 4) changed)) ≡ Ok upto)
+    → HasNodes (suc room) file at old upto
+nodes_by room file at pointer old upto all w word more true t ended goes_on =
+    no_nodes (suc room) file at pointer old upto word (eqb-true pointer 0 t) w (one_read (record { document = old; next = at + 4 }) upto (ended t))
+nodes_by room file at pointer old upto all w word more false t ended goes_on =
+    let mid = bind_back (node_at file pointer old) _ upto (goes_on t) in
+    let node = node_back file pointer old mid.0 all w mid.1 in
+    let rest = more mid.0 node.within mid.2 in
+    record {
+      pointers = pointer ∷ rest.pointers;
+      few = omega (arith, rest.few);
+      add = (word, omega (arith, eqb-false pointer 0 t), (mid.0, node.adds, rest.add));
+      next = omega (arith, rest.next);
+      within = rest.within;
+      channels = rest.channels ∙ node.channels;
+    }
+
+pub nodes_back : (room : ℕ) (file : List ℕ) (at : ℕ) (old : Document) (upto : Upto) → AreBytes file → IsWithin old → nodes_at room file at old ≡ Ok upto → HasNodes room file at old upto
+unfolding nodes_at
+nodes_back zero file at old upto all w e =
+    let a = word_first file at _ upto e in
+    let b = wants_back (a.0 == 0) (fault TooMany at) _ upto a.2 in
+    no_nodes zero file at a.0 old upto a.1 (eqb-true a.0 0 b.0) w (one_read (record { document = old; next = at + 4 }) upto b.1)
+nodes_back (suc room) file at old upto all w e =
+    let a = word_first file at _ upto e in
+    let c = choice_back (a.0 == 0) _ _ upto a.2 in
+    nodes_by room file at a.0 old upto all w a.1 (λ mid within rest. nodes_back room file (at + 4) mid upto all within rest) (a.0 == 0) refl c.0 c.1
