@@ -9,6 +9,7 @@ mod failed;
 pub mod fakes;
 mod loading;
 mod reading;
+mod room;
 mod shelf;
 mod sink;
 mod source;
