@@ -1,6 +1,6 @@
 -- What the fakes in memory show.
-use Rattle.std.specs.Prelude.{◌≡◌, ℕ, ◌+◌, min, List, [], ◌∷◌, Option, Some, None, MatchOption, Bool, if◌then◌else◌, Contains}
-use Rattle.std.specs.List.{find}
+use Rattle.std.specs.Prelude.{ℕ, ◌+◌, min, List, [], ◌∷◌, Option, Some, None, option_map, Bool, if◌then◌else◌, Contains, map, String, Vec, string_bytes}
+use Rattle.std.specs.declared.alloc.Global.{Global}
 use Rattle.std.specs.Str.{bytes_eq}
 use Rattle.xl_ports.specs.Faults.{last_count}
 use Rattle.xl_ports.specs.Shelf.{Content, absent, file}
@@ -51,15 +51,24 @@ pub record ShelfState : Type 0 where
   pub starved : ℕ
   pub calls : Calls
 
+-- the names and the bytes of files that are handed in
+abbrev pub entries : List (String Global × Vec ℕ Global) → List (List ℕ × List ℕ)
+entries files = map (λ f. (string_bytes f.0, f.1.items)) files
+
 -- the bytes of the first file of a name
 abbrev pub bytes_of : (name : List ℕ) → List (List ℕ × List ℕ) → Option (List ℕ)
 bytes_of name [] = None
 bytes_of name (f ∷ fs) = if bytes_eq f.0 name then Some f.1 else bytes_of name fs
 
+-- no file, or a file of these bytes
+abbrev pub content_of : Option (List ℕ) → Content
+content_of None = absent
+content_of (Some bytes) = file bytes
+
 -- what a name stands for
 abbrev pub content_in : List (List ℕ × List ℕ) → (name : List ℕ) → Content
-content_in files name = found (bytes_of name files)
-  where
-    found : Option (List ℕ) → Content
-    found None = absent
-    found (Some bytes) = file bytes
+content_in files name = content_of (bytes_of name files)
+
+-- what the selected name stands for
+abbrev pub shown : ShelfState → Option Content
+shown s = option_map (content_in s.files) s.selected

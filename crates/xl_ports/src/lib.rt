@@ -13,6 +13,8 @@ mod room;
 mod shelf;
 mod sink;
 mod source;
+#[cfg(test)]
+mod tests;
 mod writing;
 
 pub use failed::{Failed, FailedOrMemory};

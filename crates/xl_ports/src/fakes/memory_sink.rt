@@ -80,6 +80,10 @@ impl Sink for MemorySink {
         if starved {
             self.starved = self.starved.saturating_add(1);
         }
-        if failed || starved { Err(Failed) } else { Ok(taken) }
+        if failed || starved {
+            Err(Failed)
+        } else {
+            Ok(taken)
+        }
     }
 }
