@@ -1,8 +1,7 @@
 -- Pieces that are written one after another.
-use Rattle.std.proofs.Common.{◌≡◌, ℕ, ◌+◌, ◌-◌, ◌≤◌, List, [], ◌∷◌, ◌++◌, length, take, drop, Option, Some, None, refl, sym, ◌∙◌, ap, subst, arith, append_assoc, length-append}
+use Rattle.std.proofs.Common.{◌≡◌, ℕ, ◌+◌, ◌-◌, List, [], ◌++◌, length, take, drop, Option, Some, None, refl, sym, ◌∙◌, ap, subst, arith, append_assoc, length-append}
 use Rattle.std.proofs.lemmas.List.{append-nil, take-append-le, take_all, length-drop}
 use Rattle.std.proofs.Math.Seq.{take-append-add, take-add}
-use Rattle.xl_ports.specs.Faults.{Rose}
 use Rattle.xl_ports.specs.Sink.{appended, WritesAll, WritesPart}
 
 -- nothing more

@@ -1,3 +1,4 @@
+pub mod Fakes
 pub mod Faults
 pub mod Shelf
 pub mod Sink

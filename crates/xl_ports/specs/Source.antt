@@ -1,5 +1,5 @@
 -- What a source has left.
-use Rattle.std.specs.Prelude.{◌≡◌, ℕ, ◌≤◌, List, [], ◌++◌, length, take, Option, option_map, IfSome}
+use Rattle.std.specs.Prelude.{◌≡◌, ℕ, List, [], ◌++◌, Option, option_map, IfSome}
 
 -- these bytes, and then what is left, where that is told
 abbrev pub led_by : (bytes : List ℕ) → (left : Option (List ℕ)) → Option (List ℕ)

@@ -9,9 +9,12 @@ mod failed;
 pub mod fakes;
 mod loading;
 mod reading;
+mod room;
 mod shelf;
 mod sink;
 mod source;
+#[cfg(test)]
+mod tests;
 mod writing;
 
 pub use failed::{Failed, FailedOrMemory};
