@@ -1,5 +1,5 @@
 -- The layers and groups that a tree of nodes stands for.
-use Rattle.std.specs.Prelude.{ℕ, true, pos, [], None}
+use Rattle.std.specs.Prelude.{ℕ, Bool, true, false, pos, [], None}
 use Rattle.spec_blend.specs.declared.Mode.TheVariants.{Normal}
 use Rattle.spec_forest.specs.Forest.{Forest, none, leaf, group}
 use Rattle.spec_document.specs.Document as doc
@@ -11,6 +11,10 @@ use Rattle.xl_doc.specs.declared.node.Body.TheVariants.{Leaf, Group}
 -- a layer without pixels; no node of a document stands for it
 abbrev pub no_sheet : Sheet
 no_sheet = record { kind = 0; x = pos 0; y = pos 0; plane = record { width = 0; height = 0; bpp = 0; bytes = [] }; mask = None; apply_mask = true }
+
+abbrev pub is_group_body : Body → Bool
+is_group_body (Leaf sheet) = false
+is_group_body Group = true
 
 abbrev pub sheet_of : Body → Sheet
 sheet_of (Leaf sheet) = sheet

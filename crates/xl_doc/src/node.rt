@@ -20,3 +20,19 @@ pub enum Body {
     Leaf(Layer),
     Group,
 }
+
+impl Shown for Node {
+    ghost use Rattle.xl_doc.specs.Nodes.{is_group_body};
+
+    ghost shown = { λ n. n.visible };
+
+    ghost is_group = { λ n. is_group_body n.body };
+
+    fn shown(&self) -> bool {
+        self.visible
+    }
+
+    fn is_group(&self) -> bool {
+        matches!(&self.body, Body::Group)
+    }
+}
