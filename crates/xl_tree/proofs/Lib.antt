@@ -1,0 +1,3 @@
+pub mod Flat
+pub mod Below
+pub mod Taken

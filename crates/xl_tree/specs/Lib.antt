@@ -1,0 +1,3 @@
+pub mod Flat
+pub mod Parts
+pub mod Kept

@@ -1,0 +1,23 @@
+ghost use Rattle.std.specs.Prelude.{◌≡◌};
+ghost use Rattle.xl_tree.specs.Flat.{below};
+
+/// A node at its level. The entries that follow at a deeper level are those below it.
+#[derive(Drop)]
+pub struct Entry<N> {
+    pub id: u32,
+    pub level: u32,
+    pub group: bool,
+    pub node: N,
+}
+
+/// How many entries at the front are deeper than a level.
+pub fn deeper<N>(entries: &[Entry<N>], level: u32) -> usize
+    ensures { result ≡ below level entries.now }
+{
+    for (at, entry) in entries.iter().enumerate() {
+        if entry.level <= level {
+            return at;
+        }
+    }
+    entries.len()
+}
