@@ -261,6 +261,9 @@ def blending():
     case("nothing-over-half", rgba(0, (200, 0), (100, 128)), rgba1(100, 100, 100, 128))
 
 
+SUBJECTS = (headers, names, properties, units, colour_maps, layers, groups, masks_and_channels, codes, blending)
+
+
 def pam(width, pixels):
     height = len(pixels) // (4 * width)
     return b"P7\nWIDTH %d\nHEIGHT %d\nDEPTH 4\nMAXVAL 255\nTUPLTYPE RGB_ALPHA\nENDHDR\n" % (width, height) + pixels
@@ -271,7 +274,7 @@ def main():
         sys.exit(__doc__)
     files = os.path.join(sys.argv[1], "files")
     os.makedirs(files, exist_ok=True)
-    for make in (headers, names, properties, units, colour_maps, layers, groups, masks_and_channels, codes, blending):
+    for make in SUBJECTS:
         make()
     lines = ["file\tstatus\trender sha256\trender length\tinfo or refusal"]
     for name, data, expected in CASES:
