@@ -8,9 +8,12 @@ mod answer;
 mod byte_list;
 mod colour_list;
 mod kept_list;
+mod numbers;
 mod offset_list;
 mod path_list;
+mod payload;
 mod read;
+mod unit;
 
 pub use answer::{Known, Places, Props};
 pub use byte_list::Bytes;
