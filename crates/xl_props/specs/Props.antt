@@ -13,6 +13,10 @@ use Rattle.xl_props.specs.declared.answer.Places.{Places}
 use Rattle.xl_props.specs.declared.answer.Props.{Props}
 use Rattle.xl_props.specs.Known.{part_of}
 
+-- a property of these bytes
+abbrev pub property : (at kind : ℕ) → List ℕ → Property
+property at kind payload = record { at = at; kind = kind; payload = payload }
+
 -- the value that the last property of a kind gives, if there is one
 abbrev pub if_any : {A : Type 0} → (kind : ℕ) → (Property → A) → List Property → Option A
 if_any kind value ps = option_map value (last_of kind ps)

@@ -13,7 +13,9 @@ mod offset_list;
 mod path_list;
 mod payload;
 mod read;
+mod rules;
 mod unit;
+mod words;
 
 pub use answer::{Known, Places, Props};
 pub use byte_list::Bytes;
