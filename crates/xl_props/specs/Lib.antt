@@ -1,2 +1,4 @@
 pub mod Known
 pub mod Props
+pub mod Checked
+pub mod After

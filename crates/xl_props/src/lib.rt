@@ -15,6 +15,7 @@ mod payload;
 mod read;
 mod rules;
 mod unit;
+mod values;
 mod words;
 
 pub use answer::{Known, Places, Props};

@@ -1,0 +1,16 @@
+-- A property that reading found right.
+use Rattle.std.specs.Prelude.{◌≡◌, ◌≢◌, ◌^◌, ◌<◌, ◌≤◌, length, true, None}
+use Rattle.spec_document.specs.declared.Owner.{Owner}
+use Rattle.spec_document.specs.Limits.{AreBytes}
+use Rattle.spec_props.specs.Meaning.{Property}
+use Rattle.spec_props.specs.Rules.{rule_of}
+use Rattle.spec_props.specs.Reading.{is_colour_map}
+use Rattle.spec_props.specs.Holds.{IsColourMap}
+
+pub record IsChecked (owner : Owner) (p : Property) : Type 0 where
+  pub kind : p.kind < 2 ^ 32
+  pub not_end : p.kind ≢ 0
+  pub bytes : AreBytes p.payload
+  pub short : length p.payload ≤ 2 ^ 24
+  pub colours : is_colour_map owner p.kind ≡ true → IsColourMap p
+  pub rules : rule_of owner p ≡ None
