@@ -13,4 +13,5 @@ pub record IsChecked (owner : Owner) (p : Property) : Type 0 where
   pub bytes : AreBytes p.payload
   pub short : length p.payload ≤ 2 ^ 24
   pub colours : is_colour_map owner p.kind ≡ true → IsColourMap p
-  pub rules : rule_of owner p ≡ None
+  -- wherever it stands
+  pub rules : rule_of owner (record p { at = 0 }) ≡ None
