@@ -2,3 +2,4 @@ pub mod Known
 pub mod Props
 pub mod Checked
 pub mod After
+pub mod Next

@@ -13,6 +13,7 @@ mod numbers;
 mod offset_list;
 mod path_list;
 mod payload;
+mod property;
 mod read;
 mod rules;
 mod so_far;

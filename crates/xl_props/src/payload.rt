@@ -1,7 +1,8 @@
-ghost use Rattle.std.specs.Prelude.{◌≡◌, ◌+◌, ◌^◌, ◌≤◌, length, false, IfOk};
-ghost use Rattle.spec_document.specs.Limits.{is_unit, interprets};
+ghost use Rattle.std.specs.Prelude.{◌≡◌, ◌+◌, ◌^◌, ◌≤◌, length, true, IfOk};
+ghost use Rattle.spec_document.specs.Limits.{is_unit};
 ghost use Rattle.spec_props.specs.Unit.{true_length};
 ghost use Rattle.spec_props.specs.Reading.{is_colour_map, payload_length_at};
+ghost use Rattle.xl_props.specs.Checked.{IsMapLength};
 
 use crate::numbers::{COLOUR_MAP, USER_UNIT};
 use crate::unit::unit_len;
@@ -48,7 +49,8 @@ pub fn payload_len(bytes: &[u8], owner: Owner, kind: u32, at: usize) -> Result<u
     requires place { at + 4 ≤ length bytes.now }
     ensures read { result ≡ payload_length_at bytes.now owner kind at }
     ensures fits { IfOk result (λ n. at + 8 + n ≤ length bytes.now) }
-    ensures few { IfOk result (λ n. interprets owner kind ≡ false → n ≤ 2 ^ 24) }
+    ensures few { IfOk result (λ n. n ≤ 2 ^ 24) }
+    ensures colours { IfOk result (λ n. is_colour_map owner kind ≡ true → IsMapLength bytes.now (at + 8) n) }
 {
     let n = u32_at(bytes, at + 4)?;
     if is_map(owner, kind) {

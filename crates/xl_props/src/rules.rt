@@ -26,7 +26,8 @@ fn has_length(at: usize, kind: u32, payload: &[u8], n: usize) -> Result<(), Read
 fn check_mode(at: usize, kind: u32, payload: &[u8]) -> Result<(), ReadRefused>
     requires place { at ≤ 2 ^ 32 }
     requires word { length payload.now ≡ 4 }
-    ensures { result ≡ unless (mode_rule (property at kind payload.now)) }
+    ensures exact { result ≡ unless (mode_rule (property at kind payload.now)) }
+    ensures anywhere { OnOk result (mode_rule (property 0 kind payload.now) ≡ None) }
 {
     let code = word(payload, 0);
     match mode_of(code) {
@@ -49,7 +50,8 @@ pub fn is_in_range(offset: i32) -> bool
 fn check_offsets(at: usize, kind: u32, payload: &[u8]) -> Result<(), ReadRefused>
     requires place { at ≤ 2 ^ 32 }
     requires words { length payload.now ≡ 8 }
-    ensures { result ≡ unless (offsets_rule (property at kind payload.now)) }
+    ensures exact { result ≡ unless (offsets_rule (property at kind payload.now)) }
+    ensures anywhere { OnOk result (offsets_rule (property 0 kind payload.now) ≡ None) }
 {
     if !is_in_range(int(payload, 0)) {
         return Err(refused(Kind::OffsetRange, at + 8));
@@ -61,7 +63,8 @@ fn check_offsets(at: usize, kind: u32, payload: &[u8]) -> Result<(), ReadRefused
 }
 
 fn check_path(at: usize, kind: u32, payload: &[u8]) -> Result<(), ReadRefused>
-    ensures { result ≡ unless (path_rule (property at kind payload.now)) }
+    ensures exact { result ≡ unless (path_rule (property at kind payload.now)) }
+    ensures anywhere { OnOk result (path_rule (property 0 kind payload.now) ≡ None) }
 {
     if payload.is_empty() || payload.len() % 4 != 0 {
         return Err(refused(Kind::BadProperty, at));
@@ -71,7 +74,8 @@ fn check_path(at: usize, kind: u32, payload: &[u8]) -> Result<(), ReadRefused>
 
 fn check_layer(at: usize, kind: u32, payload: &[u8]) -> Result<(), ReadRefused>
     requires place { at ≤ 2 ^ 32 }
-    ensures { result ≡ unless (layer_rule (property at kind payload.now)) }
+    ensures exact { result ≡ unless (layer_rule (property at kind payload.now)) }
+    ensures anywhere { OnOk result (layer_rule (property 0 kind payload.now) ≡ None) }
 {
     match kind {
         FLOATING_SELECTION => Err(refused(Kind::FloatingSelection, at)),
@@ -95,7 +99,8 @@ fn check_layer(at: usize, kind: u32, payload: &[u8]) -> Result<(), ReadRefused>
 fn check_compression(at: usize, kind: u32, payload: &[u8]) -> Result<(), ReadRefused>
     requires place { at ≤ 2 ^ 32 }
     requires number { kind ≡ 17 }
-    ensures { result ≡ unless (image_rule (property at kind payload.now)) }
+    ensures exact { result ≡ unless (image_rule (property at kind payload.now)) }
+    ensures anywhere { OnOk result (image_rule (property 0 kind payload.now) ≡ None) }
 {
     has_length(at, kind, payload, 1)?;
     let code = payload[0];
@@ -111,7 +116,8 @@ fn check_compression(at: usize, kind: u32, payload: &[u8]) -> Result<(), ReadRef
 
 fn check_image(at: usize, kind: u32, payload: &[u8]) -> Result<(), ReadRefused>
     requires place { at ≤ 2 ^ 32 }
-    ensures { result ≡ unless (image_rule (property at kind payload.now)) }
+    ensures exact { result ≡ unless (image_rule (property at kind payload.now)) }
+    ensures anywhere { OnOk result (image_rule (property 0 kind payload.now) ≡ None) }
 {
     if kind == COMPRESSION {
         return check_compression(at, kind, payload);
@@ -124,7 +130,8 @@ fn check_image(at: usize, kind: u32, payload: &[u8]) -> Result<(), ReadRefused>
 }
 
 fn check_channel(at: usize, kind: u32, payload: &[u8]) -> Result<(), ReadRefused>
-    ensures { result ≡ unless (channel_rule (property at kind payload.now)) }
+    ensures exact { result ≡ unless (channel_rule (property at kind payload.now)) }
+    ensures anywhere { OnOk result (channel_rule (property 0 kind payload.now) ≡ None) }
 {
     if kind == SELECTION {
         return has_length(at, kind, payload, 0);
@@ -140,7 +147,8 @@ pub fn check_rules(
     payload: &[u8],
 ) -> Result<(), ReadRefused>
     requires place { at ≤ 2 ^ 32 }
-    ensures { result ≡ unless (rule_of owner (property at kind payload.now)) }
+    ensures exact { result ≡ unless (rule_of owner (property at kind payload.now)) }
+    ensures anywhere { OnOk result (rule_of owner (property 0 kind payload.now) ≡ None) }
 {
     match owner {
         Owner::Image => check_image(at, kind, payload),
