@@ -1,16 +1,16 @@
 -- What a list says with one more property at its end.
-use Rattle.std.proofs.Common.{◌≡◌, ℕ, ◌+◌, Bool, true, false, cond, not, List, [], ◌∷◌, ◌++◌, length, map, filter, reverse, refl, sym, ap, ◌∙◌}
-use Rattle.std.specs.Prelude.{◌==◌, Option, Some, None, option_map, unwrap_or, is_some, find}
-use Rattle.std.proofs.lemmas.List.{reverse-append, map-append}
+use Rattle.std.proofs.Common.{◌≡◌, ℕ, ◌+◌, Bool, true, false, cond, not, List, [], ◌∷◌, ◌++◌, map, filter, refl, sym, ap, ◌∙◌}
+use Rattle.std.specs.Prelude.{◌==◌, Option, Some, option_map, unwrap_or, is_some, find}
+use Rattle.std.proofs.lemmas.List.{reverse-append, map-append, append-nil}
 use Rattle.std.proofs.lemmas.List.Elements.{filter-append}
 use Rattle.spec_document.specs.declared.Owner.{Owner}
 use Rattle.spec_document.specs.declared.Owner.TheVariants.{Image, Layer, Channel, Mask}
 use Rattle.spec_document.specs.Limits.{interprets}
-use Rattle.spec_props.specs.Meaning.{Property, last_of, has, is_set, colours_in, path_words, kept_of}
+use Rattle.spec_props.specs.Meaning.{Property, last_of, has, is_set, colours_in, path_words}
 use Rattle.spec_props.specs.Reading.{Properties}
 use Rattle.xl_props.specs.Known.{unknown}
-use Rattle.xl_props.specs.Props.{if_any, known_of, place_of, kept_places, places_of, props_of, compression_in, opacity_in, mode_in, offsets_in}
-use Rattle.xl_props.specs.After.{newer, marked, known_after, newer_place, places_after, longer, as_kept, end_after, props_after}
+use Rattle.xl_props.specs.Props.{if_any, known_of, place_of, props_of, compression_in, opacity_in, mode_in, offsets_in}
+use Rattle.xl_props.specs.After.{newer, marked, known_after, newer_place, longer, as_kept, end_after, props_after}
 
 -- the last of a kind is the new one, or else the one before
 last_more : (kind : ℕ) (ps : List Property) (p : Property) → last_of kind (ps ++ p ∷ []) ≡ cond (p.kind == kind) (Some p) (last_of kind ps)

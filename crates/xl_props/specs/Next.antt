@@ -24,3 +24,8 @@ GoesOn kept file owner at (Ok (Some p)) =
     ≡ with_first (property at p.0 p.1.now) (list_at room (kept_after owner p.0 kept) file owner (at + 8 + length p.1.now))
 GoesOn kept file owner at (Ok None) = (room : ℕ) → list_at (suc room) kept file owner at ≡ Ok (record { list = []; end = at })
 GoesOn kept file owner at (Err e) = (room : ℕ) → list_at (suc room) kept file owner at ≡ Err e
+
+-- behind as many properties as a list has at most
+abbrev pub EndsFull : (file : List ℕ) → (at : ℕ) → Result (Unit {0}) ReadRefused → Type 0
+EndsFull file at (Ok done) = (kept : ℕ) (owner : Owner) → list_at 0 kept file owner at ≡ Ok (record { list = []; end = at })
+EndsFull file at (Err e) = (kept : ℕ) (owner : Owner) → list_at 0 kept file owner at ≡ Err e

@@ -6,7 +6,8 @@ ghost use Rattle.xl_props.specs.After.{known_after};
 
 use crate::answer::Known;
 use crate::numbers::{
-    APPLY_MASK, COLOUR_MAP, COMPRESSION, GROUP_ITEM, ITEM_PATH, MODE, OFFSETS, OPACITY, SELECTION, VISIBLE,
+    APPLY_MASK, COLOUR_MAP, COMPRESSION, GROUP_ITEM, ITEM_PATH, MODE, OFFSETS, OPACITY, SELECTION,
+    VISIBLE,
 };
 use crate::values::{colours_of, flag_of, mode_in_payload, offsets_of, opacity_of, path_of};
 use spec_document::Owner;

@@ -1,4 +1,4 @@
-ghost use Rattle.std.specs.Prelude.{◌≡◌, ◌≢◌, ◌+◌, ◌^◌, ◌≤◌, ◌||◌, nat_lt, length, IfOk, IfSome, IfNone};
+ghost use Rattle.std.specs.Prelude.{◌≡◌, ◌≢◌, ◌+◌, ◌^◌, ◌≤◌, ◌||◌, nat_lt, true, length, IfOk, IfSome, IfNone};
 ghost use Rattle.spec_document.specs.Limits.{interprets};
 ghost use Rattle.xl_props.specs.Props.{property};
 ghost use Rattle.xl_props.specs.Checked.{IsChecked};
@@ -13,12 +13,7 @@ use xl_fields::{Kind, ReadRefused, refused, u32_at};
 
 /// The payload of the property at an offset, or its first fault.
 #[tactic(auto, unfolding(spec_props::specs::Reading::property_at))]
-fn payload_at(
-    bytes: &[u8],
-    owner: Owner,
-    kind: u32,
-    at: usize,
-) -> Result<&[u8], ReadRefused>
+fn payload_at(bytes: &[u8], owner: Owner, kind: u32, at: usize) -> Result<&[u8], ReadRefused>
     requires file { length bytes.now ≤ 2 ^ 31 }
     requires place { at + 4 ≤ length bytes.now }
     requires not_end { kind ≢ 0 }
@@ -49,6 +44,7 @@ pub fn next_property(
 ) -> Result<Option<(u32, &[u8])>, ReadRefused>
     requires file { length bytes.now ≤ 2 ^ 31 }
     ensures goes_on { GoesOn kept bytes.now owner at result }
+    ensures room { IfOk result (λ next. IfSome next (λ p. (interprets owner p.0 || nat_lt 0 kept) ≡ true)) }
     ensures end { IfOk result (λ next. IfNone next (at + 8 ≤ length bytes.now)) }
     ensures fits { IfOk result (λ next. IfSome next (λ p. at + 8 + length p.1.now ≤ length bytes.now)) }
     ensures checked { IfOk result (λ next. IfSome next (λ p. IsChecked owner (property 0 p.0 p.1.now))) }

@@ -4,8 +4,8 @@ ghost use Rattle.spec_props.specs.Rules.{of_length, is_offset, mode_rule, offset
 ghost use Rattle.xl_props.specs.Props.{property};
 
 use crate::numbers::{
-    APPLY_MASK, COMPRESSION, FLOATING_SELECTION, GROUP_ITEM, ITEM_PATH, MODE, OFFSETS, OPACITY, SELECTION,
-    USER_UNIT, VISIBLE,
+    APPLY_MASK, COMPRESSION, FLOATING_SELECTION, GROUP_ITEM, ITEM_PATH, MODE, OFFSETS, OPACITY,
+    SELECTION, USER_UNIT, VISIBLE,
 };
 use crate::words::{int, word};
 use spec_document::Owner;
@@ -140,12 +140,7 @@ fn check_channel(at: usize, kind: u32, payload: &[u8]) -> Result<(), ReadRefused
 }
 
 /// The rules of the property of a kind whose type word stands at an offset.
-pub fn check_rules(
-    at: usize,
-    owner: Owner,
-    kind: u32,
-    payload: &[u8],
-) -> Result<(), ReadRefused>
+pub fn check_rules(at: usize, owner: Owner, kind: u32, payload: &[u8]) -> Result<(), ReadRefused>
     requires place { at ≤ 2 ^ 32 }
     ensures exact { result ≡ unless (rule_of owner (property at kind payload.now)) }
     ensures anywhere { OnOk result (rule_of owner (property 0 kind payload.now) ≡ None) }

@@ -10,8 +10,8 @@ use crate::byte_list::Bytes;
 use crate::kept_list::{Kept, PropList};
 use crate::learn::learn;
 use crate::numbers::{
-    APPLY_MASK, COLOUR_MAP, COMPRESSION, FLOATING_SELECTION, GROUP_ITEM, ITEM_PATH, MODE, OFFSETS, OPACITY,
-    SELECTION, VISIBLE,
+    APPLY_MASK, COLOUR_MAP, COMPRESSION, FLOATING_SELECTION, GROUP_ITEM, ITEM_PATH, MODE, OFFSETS,
+    OPACITY, SELECTION, VISIBLE,
 };
 use crate::offset_list::Offsets;
 use spec_document::Owner;
