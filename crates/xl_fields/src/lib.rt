@@ -3,10 +3,12 @@
 //! All words are big-endian. An offset counts bytes from the start of the file.
 #![tactic(auto)]
 
+mod kind;
 mod name;
 mod refusal;
 mod word;
 
+pub use kind::number_of;
 pub use name::{Span, string_at};
 pub use refusal::{ReadRefusedOrMemory, refused};
 pub use spec_fields::{Kind, ReadRefused};

@@ -1,4 +1,4 @@
-ghost use Rattle.std.specs.Prelude.{◌≡◌, ◌==◌, ◌<◌, ◌≤◌, ◌^◌, ◌++◌, length, position, OnOk, OnErr};
+ghost use Rattle.std.specs.Prelude.{◌≡◌, ◌==◌, ◌<◌, ◌≤◌, ◌^◌, ◌++◌, ◌+◌, length, position, IfOk};
 ghost use Rattle.spec_fields.specs.Field.{name_at, zero_place};
 ghost use Rattle.xl_fields.specs.Gives.{SpanOf};
 
@@ -37,7 +37,9 @@ fn until_zero_len(text: &[u8]) -> usize
 /// or at the first byte behind it, where the field begins that does not fit.
 #[tactic(auto, unfolding(spec_fields::specs::Field::name_at))]
 pub fn string_at(bytes: &[u8], at: usize) -> Result<Span, ReadRefused>
-    ensures { SpanOf bytes.now result (name_at bytes.now at) }
+    ensures read { SpanOf bytes.now result (name_at bytes.now at) }
+    ensures after { IfOk result (λ s. (at + 4 ≤ s.next) × (s.next ≤ at + 4101)) }
+    ensures inside { IfOk result (λ s. (s.start + s.len ≤ s.next) × (s.next ≤ length bytes.now)) }
 {
     let n = u32_at(bytes, at)? as usize;
     if n > 4097 {

@@ -1,2 +1,5 @@
 pub mod Known
 pub mod Props
+pub mod Checked
+pub mod After
+pub mod Next

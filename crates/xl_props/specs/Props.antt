@@ -1,5 +1,6 @@
 -- What a list of properties says, as code keeps it: a function of the list that reading gives.
-use Rattle.std.specs.Prelude.{ℕ, ◌+◌, min, not, List, map, filter, slice_index, Option, option_map, unwrap_or, Ok}
+use Rattle.std.specs.Prelude.{ℕ, ◌+◌, ℤ, min, not, List, map, filter, slice_index, Option, option_map, unwrap_or, Ok}
+use Rattle.spec_blend.specs.declared.Mode.{Mode}
 use Rattle.spec_blend.specs.declared.Mode.TheVariants.{Normal}
 use Rattle.spec_blend.specs.Blend.{mode_of_code}
 use Rattle.spec_document.specs.declared.Owner.{Owner}
@@ -13,20 +14,37 @@ use Rattle.xl_props.specs.declared.answer.Places.{Places}
 use Rattle.xl_props.specs.declared.answer.Props.{Props}
 use Rattle.xl_props.specs.Known.{part_of}
 
+-- a property of these bytes
+abbrev pub property : (at kind : ℕ) → List ℕ → Property
+property at kind payload = record { at = at; kind = kind; payload = payload }
+
 -- the value that the last property of a kind gives, if there is one
 abbrev pub if_any : {A : Type 0} → (kind : ℕ) → (Property → A) → List Property → Option A
 if_any kind value ps = option_map value (last_of kind ps)
+
+abbrev pub compression_in : Property → ℕ
+compression_in p = slice_index p.payload 0
+
+abbrev pub opacity_in : Property → ℕ
+opacity_in p = min 255 (payload_word p 0)
+
+abbrev pub mode_in : Property → Mode
+mode_in p = unwrap_or (mode_of_code (payload_word p 0)) Normal
+
+-- x and y
+abbrev pub offsets_in : Property → ℤ × ℤ
+offsets_in p = (payload_int p 0, payload_int p 1)
 
 -- the values that a list gives, whoever owns it
 abbrev pub values_of : List Property → Known
 values_of ps = record {
   colours = if_any 1 colours_in ps;
-  compression = if_any 17 (λ p. slice_index p.payload 0) ps;
-  opacity = if_any 6 (λ p. min 255 (payload_word p 0)) ps;
-  mode = if_any 7 (λ p. unwrap_or (mode_of_code (payload_word p 0)) Normal) ps;
+  compression = if_any 17 compression_in ps;
+  opacity = if_any 6 opacity_in ps;
+  mode = if_any 7 mode_in ps;
   visible = if_any 8 is_set ps;
   apply_mask = if_any 11 is_set ps;
-  offsets = if_any 15 (λ p. (payload_int p 0, payload_int p 1)) ps;
+  offsets = if_any 15 offsets_in ps;
   group = has 29 ps;
   path = if_any 30 path_words ps;
   selection = has 4 ps;

@@ -8,9 +8,18 @@ mod answer;
 mod byte_list;
 mod colour_list;
 mod kept_list;
+mod learn;
+mod numbers;
 mod offset_list;
 mod path_list;
+mod payload;
+mod property;
 mod read;
+mod rules;
+mod so_far;
+mod unit;
+mod values;
+mod words;
 
 pub use answer::{Known, Places, Props};
 pub use byte_list::Bytes;

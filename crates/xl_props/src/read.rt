@@ -2,16 +2,40 @@ ghost use Rattle.std.specs.Prelude.{◌≡◌, ◌+◌, ◌^◌, ◌≤◌, leng
 ghost use Rattle.spec_document.specs.Limits.{AreKept};
 ghost use Rattle.xl_fields.specs.Gives.{Gives};
 ghost use Rattle.xl_props.specs.Known.{IsKnown};
+ghost use Rattle.xl_props.specs.Next.{EndsFull};
 ghost use Rattle.xl_props.specs.Props.{props_read};
 
 use crate::answer::Props;
+use crate::numbers::END;
+use crate::property::next_property;
+use crate::so_far::{add, nothing};
 use spec_document::Owner;
 use std::alloc::Global;
-use xl_fields::ReadRefusedOrMemory;
+use xl_fields::{Kind, ReadRefused, ReadRefusedOrMemory, refused, u32_at};
+
+/// How many properties a list has at most.
+const MAX_PROPERTIES: usize = 1024;
+
+/// How many properties of a list are kept at most.
+const MAX_KEPT: usize = 256;
+
+/// The end of a list, which alone may stand behind as many properties as a list has at most.
+#[tactic(auto, unfolding(spec_props::specs::Reading::list_at, spec_props::specs::Reading::end_at))]
+fn end_of_full(bytes: &[u8], at: usize) -> Result<(), ReadRefused>
+    requires { at ≤ 2 ^ 33 }
+    ensures read { EndsFull bytes.now at result }
+    ensures fits { IfOk result (λ _. at + 8 ≤ length bytes.now) }
+{
+    if u32_at(bytes, at)? != END {
+        return Err(refused(Kind::TooMany, at));
+    }
+    u32_at(bytes, at + 4)?;
+    Ok(())
+}
 
 /// The list of properties at an offset, or its first fault.
 pub fn read_props(
-    _alloc: Global,
+    alloc: Global,
     bytes: &[u8],
     at: usize,
     owner: Owner,
@@ -25,5 +49,14 @@ pub fn read_props(
     ensures next { IfOk result (λ props. props.next ≡ props.places.end + 8) }
     ensures within { IfOk result (λ props. props.next ≤ length bytes.now) }
 {
-    Err(ReadRefusedOrMemory::Memory)
+    let mut props = nothing(alloc, at);
+    for _count in 0..MAX_PROPERTIES {
+        let end = props.places.end;
+        match next_property(bytes, owner, MAX_KEPT - props.kept.len(), end)? {
+            None => return Ok(props),
+            Some((kind, payload)) => add(&mut props, alloc, owner, kind, payload)?,
+        }
+    }
+    end_of_full(bytes, props.places.end)?;
+    Ok(props)
 }

@@ -34,7 +34,7 @@ module _ {N : Type 0} where
   regroup (e ∷ x) y z = ap (λ es. e ∷ es) (regroup x y z)
 
   -- what is deeper is passed
-  below-flat_deeper : (low level : ℕ) → low < level → (f : Forest N N) (rest : List (Entry N)) → below low (flat level f ++ rest) ≡ size f + below low rest
+  pub below-flat_deeper : (low level : ℕ) → low < level → (f : Forest N N) (rest : List (Entry N)) → below low (flat level f ++ rest) ≡ size f + below low rest
   below-flat_deeper low level h none rest = omega arith
   below-flat_deeper low level h (leaf id w u) rest =
       cond_true (nat_lt low level) _ _ (lt-ltb low level h) ∙ omega (arith, below-flat_deeper low level h u rest)

@@ -6,13 +6,13 @@ use Rattle.spec_forest.specs.Forest.{levels}
 use Rattle.xl_tree.specs.declared.entries.Entry.{Entry}
 use Rattle.xl_tree.specs.Flat.{flat, forest_of}
 
--- these are the entries of siblings at a level, in preorder, with all below them
+-- these are the entries of siblings at a level, in preorder, with all below them, within the limits
 pub record AreSiblings {N : Type 0} (level : ℕ) (entries : List (Entry N)) : Type 0 where
   pub flat_is : entries ≡ flat level (forest_of entries)
+  pub few : length entries ≤ 512
   pub low : level + levels (forest_of entries) ≤ 8
 
 -- the entries of a forest within the limits, and room for all that may come
 pub record IsKept {N Z : Type 0} (entries : Vec (Entry N) Z) : Type 0 where
   pub siblings : AreSiblings 0 entries.items
-  pub few : length entries.items ≤ 512
   pub room : 512 ≤ vec_capacity entries

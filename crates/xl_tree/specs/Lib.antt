@@ -1,3 +1,4 @@
 pub mod Flat
 pub mod Parts
 pub mod Kept
+pub mod Places

@@ -1,5 +1,5 @@
 ghost use Rattle.std.specs.Prelude.{◌≡◌};
-ghost use Rattle.xl_tree.specs.Flat.{below};
+ghost use Rattle.xl_tree.specs.Flat.{below, from_id};
 
 /// A node at its level. The entries that follow at a deeper level are those below it.
 #[derive(Drop)]
@@ -20,4 +20,16 @@ pub fn deeper<N>(entries: &[Entry<N>], level: u32) -> usize
         }
     }
     entries.len()
+}
+
+/// The entries from the first with an id on, none where there is no such.
+pub fn from_id<N>(entries: &[Entry<N>], id: u32) -> &[Entry<N>]
+    ensures { result.now ≡ from_id id entries.now }
+{
+    for (at, entry) in entries.iter().enumerate() {
+        if entry.id == id {
+            return &entries[at..];
+        }
+    }
+    &[]
 }

@@ -1,8 +1,11 @@
-ghost use Rattle.std.specs.Prelude.{◌≡◌, IfOk};
-ghost use Rattle.spec_forest.specs.Forest.{none, size};
+ghost use Rattle.std.specs.Prelude.{◌≡◌, ◌<◌, ◌≤◌, length, IfOk, IsSome, is_some};
+ghost use Rattle.spec_forest.specs.Forest.{none, size, stack_at};
+ghost use Rattle.spec_forest.specs.Changes.{put_last};
+ghost use Rattle.xl_tree.specs.Places.{alone};
 
-use crate::entries::Entry;
+use crate::entries::{Entry, deeper, from_id};
 use crate::naming::{NodeId, Shown};
+use crate::places::end_at;
 use crate::stacks::Stack;
 use std::alloc::{AllocError, Global};
 use std::marker::Model;
@@ -32,7 +35,7 @@ impl<N> Model for Tree<N> {
     ghost invariant = { λ t. IsKept t.entries };
 }
 
-impl<N> Tree<N> {
+impl<N: Drop> Tree<N> {
     /// A tree without nodes.
     pub fn new(alloc: Global) -> Result<Tree<N>, AllocError>
         ensures { IfOk result (λ tree. tree ≡ none) }
@@ -43,15 +46,59 @@ impl<N> Tree<N> {
 
     /// The number of nodes.
     pub fn len(&self) -> u32
-        ensures { result ≡ size self.now }
+        ensures len { result ≡ size self.now }
+        ensures few { result ≤ 512 }
     {
         self.entries.len() as u32
     }
 
     /// The whole forest.
     pub fn top(&self) -> Stack<'_, N>
-        ensures { result ≡ self.now }
+        ensures value { result ≡ self.now }
+        ensures few { size self.now ≤ 512 }
     {
         Stack::of(self.entries.as_slice(), 0)
+    }
+
+    /// The nodes of a stack: of 0 the whole forest, of a group its children. None where the id
+    /// names neither.
+    pub fn stack(&self, id: NodeId) -> Option<Stack<'_, N>>
+        ensures { result ≡ stack_at id.0 self.now }
+    {
+        if id.0 == 0 {
+            return Some(self.top());
+        }
+        let (first, rest) = from_id(self.entries.as_slice(), id.0).split_first()?;
+        if !first.group {
+            return None;
+        }
+        let inside = deeper(rest, first.level);
+        Some(Stack::of(&rest[..inside], first.level + 1))
+    }
+
+    /// Whether a path, by places from the top, names a group. The empty path names the top.
+    pub fn leads(&self, path: &[u32]) -> bool
+        ensures { result ≡ is_some (put_last path.now none self.now) }
+    {
+        end_at(self.top(), path).is_some()
+    }
+}
+
+impl<N: Shown + Drop> Tree<N> {
+    /// Puts a node under the last child of the group that a path names.
+    pub fn put_last(&mut self, path: &[u32], id: NodeId, node: N)
+        requires leads { IsSome (put_last path.now none self.old) }
+        requires short { length path.now < 8 }
+        requires few { size self.old < 512 }
+        ensures { put_last path.now (alone (N.is_group node) id.0 node) self.old ≡ Some self.new }
+    {
+        let at = end_at(self.top(), path).unwrap();
+        let entry = Entry {
+            id: id.0,
+            level: path.len() as u32,
+            group: node.is_group(),
+            node,
+        };
+        self.entries.insert(at as usize, entry).unwrap();
     }
 }

@@ -6,6 +6,7 @@
 mod entries;
 mod forest;
 mod naming;
+mod places;
 mod stacks;
 
 pub use forest::{MAX_NODES, Tree};

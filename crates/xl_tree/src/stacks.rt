@@ -1,5 +1,5 @@
-ghost use Rattle.std.specs.Prelude.{◌≡◌};
-ghost use Rattle.spec_forest.specs.Forest.{size};
+ghost use Rattle.std.specs.Prelude.{◌≡◌, ◌≤◌};
+ghost use Rattle.spec_forest.specs.Forest.{none, size};
 ghost use Rattle.xl_tree.specs.Flat.{forest_of};
 ghost use Rattle.xl_tree.specs.Kept.{AreSiblings};
 ghost use Rattle.xl_tree.specs.Parts.{whole, Falls};
@@ -9,6 +9,7 @@ use crate::naming::NodeId;
 use std::marker::Model;
 
 /// Siblings, with all below them, lent by a tree.
+#[derive(Drop)]
 pub struct Stack<'a, N> {
     entries: &'a [Entry<N>],
     level: u32,
@@ -31,6 +32,7 @@ impl<'a, N> Model for Stack<'a, N> {
 }
 
 /// A stack taken apart at its topmost node.
+#[derive(Drop)]
 pub enum Split<'a, N> {
     Empty,
     Leaf {
@@ -46,16 +48,17 @@ pub enum Split<'a, N> {
     },
 }
 
-impl<N> Drop for Stack<'_, N> {
-    fn drop(self) {
-        let Stack {
-            entries: _,
-            level: _,
-        } = self;
+impl<'a, N: Drop> Stack<'a, N> {
+    /// No siblings.
+    pub(crate) fn empty() -> Stack<'a, N>
+        ensures { result ≡ none }
+    {
+        Stack {
+            entries: &[],
+            level: 0,
+        }
     }
-}
 
-impl<'a, N> Stack<'a, N> {
     /// The siblings at a level of which these are the entries.
     pub(crate) fn of(entries: &'a [Entry<N>], level: u32) -> Stack<'a, N>
         requires { AreSiblings level entries.now }
@@ -76,13 +79,35 @@ impl<'a, N> Stack<'a, N> {
         let id = NodeId(first.id);
         let node = &first.node;
         if !first.group {
-            let under = Stack { entries: rest, level };
+            let under = Stack {
+                entries: rest,
+                level,
+            };
             return Split::Leaf { id, node, under };
         }
         let inner = deeper(rest, first.level);
         let (inside, after) = rest.split_at(inner);
-        let children = Stack { entries: inside, level: first.level + 1 };
-        let under = Stack { entries: after, level };
-        Split::Group { id, node, children, under }
+        let children = Stack {
+            entries: inside,
+            level: first.level + 1,
+        };
+        let under = Stack {
+            entries: after,
+            level,
+        };
+        Split::Group {
+            id,
+            node,
+            children,
+            under,
+        }
+    }
+
+    /// The number of nodes, at any depth.
+    pub fn len(&self) -> u32
+        ensures len { result ≡ size self.now }
+        ensures few { result ≤ 512 }
+    {
+        self.entries.len() as u32
     }
 }

@@ -1,0 +1,5 @@
+pub mod Counted
+pub mod Part
+pub mod More
+pub mod Ranges
+pub mod Front

@@ -1,0 +1,13 @@
+-- The head of a code in code.
+use Rattle.std.specs.Prelude.{◌≡◌, ℕ, ◌<◌, ◌≤◌, List, length, slice_index, Option, Some, None}
+use Rattle.spec_plane.specs.Reading as plane
+use Rattle.spec_plane.specs.Reading.{head_of}
+use Rattle.xl_rle.specs.declared.head.Head.{Head}
+
+abbrev pub as_read : Head → plane.Head
+as_read h = record { is_run = h.is_run; count = h.count; body = h.body }
+
+-- the head at the offset, where it fits
+abbrev pub HeadAt : (file : List ℕ) (at : ℕ) → Option Head → Type 0
+HeadAt file at None = length file < (head_of file at (slice_index file at)).body
+HeadAt file at (Some h) = (as_read h ≡ head_of file at (slice_index file at)) × (at < h.body) × (h.body ≤ length file)

@@ -1,0 +1,2 @@
+pub mod HeadAt
+pub mod PlaneOf

@@ -1,0 +1,61 @@
+ghost use Rattle.std.specs.Prelude.{◌≡◌, ◌≤◌, ◌+◌, ◌++◌, length, take, drop, replicate};
+ghost use Rattle.spec_plane.specs.Reading.{plane_at};
+ghost use Rattle.xl_rle.specs.PlaneOf.{PlaneOf};
+
+use crate::head::head_at;
+use xl_fields::{Kind, ReadRefused, refused};
+
+// A plane has at most so many codes.
+const MAX_CODES: u32 = 8192;
+
+fn put_run(out: &mut [u8], at: usize, len: usize, value: u8)
+    requires { at + len ≤ length out.old }
+    ensures { take (at + len) out.new ≡ take at out.old ++ replicate len value }
+{
+    out[at..at + len].fill(value);
+}
+
+fn put_literal(out: &mut [u8], at: usize, bytes: &[u8], from: usize, len: usize)
+    requires out { at + len ≤ length out.old }
+    requires bytes { from + len ≤ length bytes.now }
+    ensures { take (at + len) out.new ≡ take at out.old ++ take len (drop from bytes.now) }
+{
+    out[at..at + len].copy_from_slice(&bytes[from..from + len]);
+}
+
+/// Fills a plane from the codes that begin at an offset. Gives the offset after the last code.
+///
+/// Truncated, or BadRun, at the code that does not fit the file, or the plane. The bytes of the plane are then unspecified.
+pub fn decode_plane(bytes: &[u8], at: usize, out: &mut [u8]) -> Result<usize, ReadRefused>
+    requires some { 1 ≤ length out.old }
+    requires few { length out.old ≤ 4096 }
+    ensures { PlaneOf result out.new (plane_at bytes.now at (length out.old)) }
+{
+    let mut at = at;
+    let mut filled = 0;
+    let mut left = MAX_CODES;
+    while filled < out.len() {
+        let Some(head) = head_at(bytes, at) else {
+            return Err(refused(Kind::Truncated, at));
+        };
+        if out.len() - filled < head.count || left == 0 {
+            return Err(refused(Kind::BadRun, at));
+        }
+        if head.is_run {
+            if head.body == bytes.len() {
+                return Err(refused(Kind::Truncated, at));
+            }
+            put_run(out, filled, head.count, bytes[head.body]);
+            at = head.body + 1;
+        } else {
+            if bytes.len() - head.body < head.count {
+                return Err(refused(Kind::Truncated, at));
+            }
+            put_literal(out, filled, bytes, head.body, head.count);
+            at = head.body + head.count;
+        }
+        filled += head.count;
+        left -= 1;
+    }
+    Ok(at)
+}

@@ -1,0 +1,54 @@
+ghost use Rattle.std.specs.Prelude.{◌≡◌, ◌<◌, ◌+◌, ◌*◌, length, slice_index};
+ghost use Rattle.xl_rle.specs.HeadAt.{HeadAt};
+
+/// The head of a code: how many bytes of the plane it gives, and where its value or its bytes begin.
+#[derive(Clone, Copy)]
+pub struct Head {
+    pub is_run: bool,
+    pub count: usize,
+    pub body: usize,
+}
+
+// The first byte of a run in the long form, and of literal bytes in the long form.
+const LONG_RUN: u8 = 127;
+
+const LONG_LITERAL: u8 = 128;
+
+fn long_count(bytes: &[u8], at: usize) -> usize
+    requires { at + 2 < length bytes.now }
+    ensures { result ≡ 256 * slice_index bytes.now (at + 1) + slice_index bytes.now (at + 2) }
+{
+    256 * bytes[at + 1] as usize + bytes[at + 2] as usize
+}
+
+/// The head of the code at an offset, or None where it does not fit.
+pub fn head_at(bytes: &[u8], at: usize) -> Option<Head>
+    ensures { HeadAt bytes.now at result }
+{
+    if bytes.len() <= at {
+        return None;
+    }
+    let first = bytes[at];
+    if first < LONG_RUN {
+        return Some(Head {
+            is_run: true,
+            count: first as usize + 1,
+            body: at + 1,
+        });
+    }
+    if first > LONG_LITERAL {
+        return Some(Head {
+            is_run: false,
+            count: 256 - first as usize,
+            body: at + 1,
+        });
+    }
+    if bytes.len() - at < 3 {
+        return None;
+    }
+    Some(Head {
+        is_run: first == LONG_RUN,
+        count: long_count(bytes, at),
+        body: at + 3,
+    })
+}

@@ -1,0 +1,8 @@
+use Rattle.std.proofs.Common.{arith, ap}
+use Rattle.spec_forest.specs.Forest.{size}
+use Rattle.xl_tree.proofs.Flat.{size-forest_of}
+use Rattle.xl_tree.proofs.forest.Tree.top.Goals as goal
+
+pub returns-clause-few : goal.returns-clause-few
+returns-clause-few g c =
+    omega (arith, c.self.invariant.siblings.few, size-forest_of 0 _ c.self.invariant.siblings.flat_is, ap size c.self.view_is)
