@@ -1,5 +1,5 @@
-ghost use Rattle.std.specs.Prelude.{◌≡◌, ◌<◌, ◌≤◌, length, IfOk, IsSome, is_some};
-ghost use Rattle.spec_forest.specs.Forest.{none, size, stack_at};
+ghost use Rattle.std.specs.Prelude.{◌≡◌, ◌<◌, ◌≤◌, length, IfOk, IfSome, IsSome, is_some};
+ghost use Rattle.spec_forest.specs.Forest.{none, size, levels, stack_at};
 ghost use Rattle.spec_forest.specs.Changes.{put_last};
 ghost use Rattle.xl_tree.specs.Places.{alone};
 
@@ -56,6 +56,7 @@ impl<N: Drop> Tree<N> {
     pub fn top(&self) -> Stack<'_, N>
         ensures value { result ≡ self.now }
         ensures few { size self.now ≤ 512 }
+        ensures low { levels self.now ≤ 8 }
     {
         Stack::of(self.entries.as_slice(), 0)
     }
@@ -63,7 +64,8 @@ impl<N: Drop> Tree<N> {
     /// The nodes of a stack: of 0 the whole forest, of a group its children. None where the id
     /// names neither.
     pub fn stack(&self, id: NodeId) -> Option<Stack<'_, N>>
-        ensures { result ≡ stack_at id.0 self.now }
+        ensures value { result ≡ stack_at id.0 self.now }
+        ensures low { IfSome result (λ stack. levels stack ≤ 8) }
     {
         if id.0 == 0 {
             return Some(self.top());
