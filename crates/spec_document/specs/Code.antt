@@ -75,8 +75,17 @@ coded_layer =
     code_by (Group × Pixels) (coded× coded_group coded_pixels)
     (λ l. (record { name = l.name; opacity = l.opacity; mode = l.mode; visible = l.visible; kept = l.kept }, (l.kind, (l.x, (l.y, (l.plane, (l.mask, l.apply_mask)))))))
     (λ q. record {
-      name = q.0.name; opacity = q.0.opacity; mode = q.0.mode; visible = q.0.visible; kept = q.0.kept;
-      kind = q.1.0; x = q.1.1.0; y = q.1.1.1.0; plane = q.1.1.1.1.0; mask = q.1.1.1.1.1.0; apply_mask = q.1.1.1.1.1.1;
+      name = q.0.name;
+      opacity = q.0.opacity;
+      mode = q.0.mode;
+      visible = q.0.visible;
+      kept = q.0.kept;
+      kind = q.1.0;
+      x = q.1.1.0;
+      y = q.1.1.1.0;
+      plane = q.1.1.1.1.0;
+      mask = q.1.1.1.1.1.0;
+      apply_mask = q.1.1.1.1.1.1;
     }) (λ _. refl)
 
 abbrev pub Canvas : Type 0
@@ -90,6 +99,13 @@ coded_document =
     code_by (Canvas × (Nodes × (List Channel × Option Channel))) (coded× coded_canvas (coded× (coded_forest coded_layer coded_group) (coded× (coded_list coded_channel) (coded_option coded_channel))))
     (λ d. ((d.width, (d.height, (d.base, (d.compression, (d.colours, d.kept))))), (d.nodes, (d.channels, d.selection))))
     (λ q. record {
-      width = q.0.0; height = q.0.1.0; base = q.0.1.1.0; compression = q.0.1.1.1.0; colours = q.0.1.1.1.1.0; kept = q.0.1.1.1.1.1;
-      nodes = q.1.0; channels = q.1.1.0; selection = q.1.1.1;
+      width = q.0.0;
+      height = q.0.1.0;
+      base = q.0.1.1.0;
+      compression = q.0.1.1.1.0;
+      colours = q.0.1.1.1.1.0;
+      kept = q.0.1.1.1.1.1;
+      nodes = q.1.0;
+      channels = q.1.1.0;
+      selection = q.1.1.1;
     }) (λ _. refl)
