@@ -1,2 +1,12 @@
-//! The picture of a document.
+//! The picture of a document: its visible layers and groups laid over one another, row by row.
 #![tactic(auto)]
+
+mod bytes;
+mod lay;
+mod own;
+mod recompose;
+mod source;
+mod span;
+mod stacks;
+
+pub use recompose::{Composer, picture};

@@ -1,0 +1,5 @@
+use Rattle.spec_forest.specs.Forest.{size}
+use Rattle.xl_compose.proofs.stacks.+lay_stack.Given as goal
+
+abbrev pub decreases-lay_stack : goal.decreases-lay_stack
+decreases-lay_stack g l = size l.nodes

@@ -1,0 +1,7 @@
+pub mod Own
+pub mod Span
+pub mod Laid
+pub mod Source
+pub mod Neat
+pub mod Rows
+pub mod Canvas
