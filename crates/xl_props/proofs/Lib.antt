@@ -3,3 +3,4 @@ pub mod Part
 pub mod More
 pub mod Ranges
 pub mod Front
+pub mod Lengths

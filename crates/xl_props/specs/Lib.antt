@@ -3,3 +3,4 @@ pub mod Props
 pub mod Checked
 pub mod After
 pub mod Next
+pub mod Written

@@ -1,0 +1,6 @@
+use Rattle.std.proofs.Common.{◌≡◌, ◌++◌, take}
+use Rattle.xl_props.specs.Written.{all_colours}
+use Rattle.xl_props.proofs.put.put_bytes_of_each.Given as goal
+
+abbrev pub invariant-loop-colour : goal.invariant-loop-colour
+invariant-loop-colour l = l.out.items ≡ l.initial.out.items ++ all_colours (take l.colour-index l.colours)

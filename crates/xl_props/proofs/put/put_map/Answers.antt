@@ -1,0 +1,12 @@
+use Rattle.std.proofs.Common.{◌≡◌, ◌+◌, ◌*◌, length, sym}
+use Rattle.xl_props.specs.Written.{word, all_colours}
+use Rattle.xl_props.proofs.Lengths.{length_colours, headed_parts, onto}
+use Rattle.xl_props.proofs.put.put_map.Goals as goal
+
+pub returns : goal.returns
+returns c =
+    let colours = c.args.colours.now in
+    let n = length colours in
+    onto c.put_bytes_of_each.result _ _ _
+    (headed_parts c.args.out.now.items c.put_head.new.out.items c.put_word.new.out.items (word n) (all_colours colours) 1 (4 + 3 * n) c.in_ok-put_head.ensures c.in_ok-put_word.ensures
+    (sym (length_colours colours c.requires.1))) c.put_bytes_of_each.ensures
