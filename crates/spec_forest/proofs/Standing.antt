@@ -1,6 +1,7 @@
 -- Where the node with an id stands.
-use Rattle.std.proofs.Common.{◌≡◌, ℕ, ◌+◌, Bool, true, false, cond, eqb, refl, sym, ◌∙◌, ap, arith, eq-eqb, eqb-true}
-use Rattle.spec_forest.specs.Forest.{Forest, none, leaf, group, Found, nothing, a_leaf, a_group, or_else, find}
+use Rattle.std.proofs.Common.{◌≡◌, ℕ, ◌+◌, Bool, true, false, cond, eqb, List, [], ◌∷◌, ◌++◌, refl, sym, ◌∙◌, ap, arith, eq-eqb, eqb-true}
+use Rattle.spec_forest.specs.Forest.{Forest, none, leaf, group, Found, nothing, a_leaf, a_group, or_else, find, first_of, ancestors}
+use Rattle.std.specs.Prelude.{Some, None, option_map}
 use Rattle.spec_forest.proofs.Holes.{Hole, here, under_leaf, under_group, in_group, plug}
 
 -- no node before the hole has the id
@@ -59,3 +60,51 @@ module _ {L G : Type 0} where
   find-at_group id (in_group i v h x) w c u fresh =
       ap (λ b. cond b (a_group v (plug h (group id w c u))) (or_else (find id (plug h (group id w c u))) (find id x))) fresh.0
       ∙ ap (λ y. or_else y (find id x)) (find-at_group id h w c u fresh.1)
+
+-- the ids of the groups round the hole, innermost first
+abbrev pub groups : {L G : Type 0} → Hole L G → List ℕ
+groups here = []
+groups (under_leaf i w h) = groups h
+groups (under_group i w c h) = groups h
+groups (in_group i w h u) = groups h ++ i ∷ []
+
+module _ {L G : Type 0} where
+  -- where nothing is found at a leaf or a group, it has another id, and nothing is found below
+  pub lacks_leaf : (w : L) (found : Found L G) (b : Bool) → cond b (a_leaf w) found ≡ nothing → (b ≡ false) × (found ≡ nothing)
+  lacks_leaf w found true n = cc
+  lacks_leaf w found false n = (refl, n)
+
+  pub lacks_group : (w : G) (c : Forest L G) (x y : Found L G) (b : Bool) → cond b (a_group w c) (or_else x y) ≡ nothing → (b ≡ false) × (x ≡ nothing) × (y ≡ nothing)
+  lacks_group w c x y true n = cc
+  lacks_group w c nothing y false n = (refl, refl, n)
+  lacks_group w c (a_leaf v) y false n = cc
+  lacks_group w c (a_group v d) y false n = cc
+
+  pub ancestors-nowhere : (id : ℕ) (f : Forest L G) → find id f ≡ nothing → ancestors id f ≡ None
+  ancestors-nowhere id none n = refl
+  ancestors-nowhere id (leaf i w u) n =
+      let l = lacks_leaf w (find id u) (eqb id i) n in
+      ap (λ b. cond b (Some []) (ancestors id u)) l.0 ∙ ancestors-nowhere id u l.1
+  ancestors-nowhere id (group i w c u) n =
+      let l = lacks_group w c (find id c) (find id u) (eqb id i) n in
+      ap (λ b. cond b (Some []) (first_of (option_map (λ above. above ++ i ∷ []) (ancestors id c)) (ancestors id u))) l.0
+      ∙ (ap (λ o. first_of (option_map (λ above. above ++ i ∷ []) o) (ancestors id u)) (ancestors-nowhere id c l.1) ∙ ancestors-nowhere id u l.2)
+
+  -- the groups above the first node with an id, whose forest f begins with that node
+  pub ancestors-plug : (id : ℕ) (h : Hole L G) (f : Forest L G) → Fresh id h → ancestors id f ≡ Some [] → ancestors id (plug h f) ≡ Some (groups h)
+  ancestors-plug id here f fresh top = top
+  ancestors-plug id (under_leaf i w h) f fresh top =
+      ap (λ b. cond b (Some []) (ancestors id (plug h f))) fresh.0 ∙ ancestors-plug id h f fresh.1 top
+  ancestors-plug id (under_group i w c h) f fresh top =
+      ap (λ b. cond b (Some []) (first_of (option_map (λ above. above ++ i ∷ []) (ancestors id c)) (ancestors id (plug h f)))) fresh.0
+      ∙ (ap (λ o. first_of (option_map (λ above. above ++ i ∷ []) o) (ancestors id (plug h f))) (ancestors-nowhere id c fresh.1) ∙ ancestors-plug id h f fresh.2 top)
+  ancestors-plug id (in_group i w h u) f fresh top =
+      ap (λ b. cond b (Some []) (first_of (option_map (λ above. above ++ i ∷ []) (ancestors id (plug h f))) (ancestors id u))) fresh.0
+      ∙ ap (λ o. first_of (option_map (λ above. above ++ i ∷ []) o) (ancestors id u)) (ancestors-plug id h f fresh.1 top)
+
+  pub ancestors-of_leaf : (id : ℕ) (w : L) (u : Forest L G) → ancestors id (leaf id w u) ≡ Some []
+  ancestors-of_leaf id w u = ap (λ b. cond b (Some []) (ancestors id u)) (eq-eqb id id refl)
+
+  pub ancestors-of_group : (id : ℕ) (w : G) (c u : Forest L G) → ancestors id (group id w c u) ≡ Some []
+  ancestors-of_group id w c u =
+      ap (λ b. cond b (Some []) (first_of (option_map (λ above. above ++ id ∷ []) (ancestors id c)) (ancestors id u))) (eq-eqb id id refl)

@@ -5,3 +5,6 @@ pub mod FlatHoles
 pub mod Paths
 pub mod PutLast
 pub mod Search
+pub mod Deepest
+pub mod GroupsBefore
+pub mod Placed

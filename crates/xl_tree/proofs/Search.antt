@@ -10,6 +10,7 @@ use Rattle.spec_forest.proofs.Standing.{Fresh, Standing, nowhere, at_leaf, at_gr
 use Rattle.xl_tree.specs.declared.entries.Entry.{Entry}
 use Rattle.xl_tree.specs.Flat.{flat, below, forest_of, from_id}
 use Rattle.xl_tree.specs.Kept.{AreSiblings}
+use Rattle.xl_tree.specs.Reads.{IsFound}
 use Rattle.xl_tree.proofs.Flat.{size-forest_of, below-flat_deeper, length-flat, forest_of_is}
 use Rattle.xl_tree.proofs.FlatHoles.{entry_of, front, back, flat-plug}
 use Rattle.xl_tree.proofs.Taken.{siblings}
@@ -114,16 +115,16 @@ module _ {N : Type 0} where
       ap (below level) split ∙ omega (arith, below-flat_deeper level (suc level) deeper c (flat level u ++ rest), below-seam level (flat level u) rest (below-low level level u (omega arith)) h, length-flat (suc level) c) in
       (λ i. take (k i) (split i)) ∙ take_at (flat (suc level) c) (flat level u ++ rest) (length (flat (suc level) c)) refl
 
-  from_id-nowhere : (id : ℕ) (f : Forest N N) → find id f ≡ nothing → from_id id (flat 0 f) ≡ []
+  pub from_id-nowhere : (id : ℕ) (f : Forest N N) → find id f ≡ nothing → from_id id (flat 0 f) ≡ []
   from_id-nowhere id f n = ap (from_id id) (sym (append-nil (flat 0 f))) ∙ from_id-lacking id 0 f [] n
 
-  from_id-leaf : (id : ℕ) (f : Forest N N) (h : Hole N N) (w : N) (u : Forest N N) → f ≡ plug h (leaf id w u) → Fresh id h → from_id id (flat 0 f) ≡ entry_of (depth h) id false w ∷ (flat (0 + depth h) u ++ back 0 h)
+  pub from_id-leaf : (id : ℕ) (f : Forest N N) (h : Hole N N) (w : N) (u : Forest N N) → f ≡ plug h (leaf id w u) → Fresh id h → from_id id (flat 0 f) ≡ entry_of (depth h) id false w ∷ (flat (0 + depth h) u ++ back 0 h)
   from_id-leaf id f h w u is fresh =
       let first : flat (0 + depth h) (leaf id w u) ++ back 0 h ≡ entry_of (depth h) id false w ∷ (flat (0 + depth h) u ++ back 0 h) =
       ap (λ l. entry_of l id false w ∷ (flat (0 + depth h) u ++ back 0 h)) (omega arith) in
       ap (λ x. from_id id (flat 0 x)) is ∙ from_id-plug id 0 h (leaf id w u) (entry_of (depth h) id false w) _ fresh first (eq-eqb id id refl)
 
-  from_id-group : (id : ℕ) (f : Forest N N) (h : Hole N N) (w : N) (c u : Forest N N) → f ≡ plug h (group id w c u) → Fresh id h → from_id id (flat 0 f) ≡ entry_of (depth h) id true w ∷ ((flat (suc (depth h)) c ++ flat (depth h) u) ++ back 0 h)
+  pub from_id-group : (id : ℕ) (f : Forest N N) (h : Hole N N) (w : N) (c u : Forest N N) → f ≡ plug h (group id w c u) → Fresh id h → from_id id (flat 0 f) ≡ entry_of (depth h) id true w ∷ ((flat (suc (depth h)) c ++ flat (depth h) u) ++ back 0 h)
   from_id-group id f h w c u is fresh =
       let first : flat (0 + depth h) (group id w c u) ++ back 0 h ≡ entry_of (depth h) id true w ∷ ((flat (suc (depth h)) c ++ flat (depth h) u) ++ back 0 h) =
       let l_is : 0 + depth h ≡ depth h = omega arith in
@@ -203,3 +204,15 @@ module _ {N : Type 0} where
   -- a stack that is not the top is the children of a group
   pub stack_below : (id : ℕ) (f : Forest N N) (found : Found N N) → (id ≡ 0 → ⊥) → find id f ≡ found → stack_at id f ≡ children_of found
   stack_below id f found ne is = ap (λ b. cond b (Some f) (children_of (find id f))) (ne_eqb id 0 ne) ∙ ap children_of is
+
+  pub is_found_leaf : (found : Found N N) (e : Entry N) (children : Forest N N) → found ≡ a_leaf e.node → e.group ≡ false → children ≡ none → IsFound found e children
+  is_found_leaf found e children is mark empty = record {
+    found_is = is ∙ sym (ap (λ b. cond b (a_group e.node children) (a_leaf e.node)) mark);
+    leaf_is = λ _. empty;
+  }
+
+  pub is_found_group : (found : Found N N) (e : Entry N) (children : Forest N N) → found ≡ a_group e.node children → e.group ≡ true → IsFound found e children
+  is_found_group found e children is mark = record {
+    found_is = is ∙ sym (ap (λ b. cond b (a_group e.node children) (a_leaf e.node)) mark);
+    leaf_is = λ unmarked. let wrong : true ≡ false = sym mark ∙ unmarked in cc;
+  }

@@ -1,5 +1,5 @@
 -- A list of entries in preorder, each with its depth, as a forest.
-use Rattle.std.specs.Prelude.{ℕ, zero, suc, Bool, true, false, nat_lt, List, [], ◌∷◌, ◌++◌, length, take, drop, ◌==◌, if◌then◌else◌}
+use Rattle.std.specs.Prelude.{ℕ, max, zero, suc, Bool, true, false, nat_lt, List, [], ◌∷◌, ◌++◌, length, take, drop, ◌==◌, if◌then◌else◌}
 use Rattle.std.specs.List.{prefix_len}
 use Rattle.spec_forest.specs.Forest.{Forest, none, leaf, group}
 use Rattle.xl_tree.specs.declared.entries.Entry.{Entry}
@@ -34,3 +34,8 @@ forest_of es = forest_from (length es) es
 abbrev pub from_id : {N : Type 0} → (id : ℕ) → List (Entry N) → List (Entry N)
 from_id id [] = []
 from_id id (e ∷ es) = if id == e.id then e ∷ es else from_id id es
+
+-- the deepest level
+abbrev pub deepest : {N : Type 0} → List (Entry N) → ℕ
+deepest [] = 0
+deepest (e ∷ es) = max e.level (deepest es)

@@ -1,5 +1,5 @@
 -- Places in a forest, counted from the top.
-use Rattle.std.specs.Prelude.{ℕ, zero, suc, ◌+◌, Bool, true, false, List, [], ◌∷◌, Option, Some, None, option_map}
+use Rattle.std.specs.Prelude.{ℕ, zero, suc, ◌+◌, ◌==◌, if◌then◌else◌, Bool, true, false, List, [], ◌∷◌, Option, Some, None, option_map}
 use Rattle.spec_forest.specs.Forest.{Forest, none, leaf, group, size}
 
 -- the forest from a place at the top on
@@ -22,3 +22,14 @@ end_at (suc place ∷ path) (group id what children under) = option_map (λ n. 1
 abbrev pub alone : {N : Type 0} → (mark : Bool) → (id : ℕ) → N → Forest N N
 alone true id node = group id node none none
 alone false id node = leaf id node none
+
+abbrev pub first_some : {A : Type 0} → Option A → Option A → Option A
+first_some None other = other
+first_some (Some one) other = Some one
+
+-- how many nodes come before the first with an id, in preorder
+abbrev pub place_of : {L G : Type 0} → (id : ℕ) → Forest L G → Option ℕ
+place_of id none = None
+place_of id (leaf i what under) = if id == i then Some 0 else option_map (λ n. 1 + n) (place_of id under)
+place_of id (group i what children under) =
+    if id == i then Some 0 else first_some (option_map (λ n. 1 + n) (place_of id children)) (option_map (λ n. 1 + size children + n) (place_of id under))

@@ -1,5 +1,5 @@
 ghost use Rattle.std.specs.Prelude.{◌≡◌};
-ghost use Rattle.xl_tree.specs.Flat.{below, from_id};
+ghost use Rattle.xl_tree.specs.Flat.{below, deepest, from_id};
 
 /// A node at its level. The entries that follow at a deeper level are those below it.
 #[derive(Drop)]
@@ -32,4 +32,15 @@ pub fn from_id<N>(entries: &[Entry<N>], id: u32) -> &[Entry<N>]
         }
     }
     &[]
+}
+
+/// The deepest level of these entries, and 0 where there is none.
+pub fn deepest<N>(entries: &[Entry<N>]) -> u32
+    ensures { result ≡ deepest entries.now }
+{
+    let mut level = 0u32;
+    for entry in entries {
+        level = level.max(entry.level);
+    }
+    level
 }

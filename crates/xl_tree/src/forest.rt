@@ -1,7 +1,8 @@
-ghost use Rattle.std.specs.Prelude.{◌≡◌, ◌<◌, ◌≤◌, length, IfOk, IfSome, IsSome, is_some};
-ghost use Rattle.spec_forest.specs.Forest.{none, size, levels, stack_at};
+ghost use Rattle.std.specs.Prelude.{◌≡◌, ◌<◌, ◌≤◌, length, IfNone, IfOk, IfSome, IsSome, is_some};
+ghost use Rattle.spec_forest.specs.Forest.{none, nothing, levels, size, find, stack_at};
 ghost use Rattle.spec_forest.specs.Changes.{put_last};
 ghost use Rattle.xl_tree.specs.Places.{alone};
+ghost use Rattle.xl_tree.specs.Reads.{IsFound};
 
 use crate::entries::{Entry, deeper, from_id};
 use crate::naming::{NodeId, Shown};
@@ -16,7 +17,7 @@ pub const MAX_NODES: u32 = 512;
 /// An ordered forest. Its room is taken when it is made.
 #[derive(Drop)]
 pub struct Tree<N> {
-    entries: Vec<Entry<N>>,
+    pub(crate) entries: Vec<Entry<N>>,
 }
 
 impl<N> Model for Tree<N> {
@@ -65,17 +66,30 @@ impl<N: Drop> Tree<N> {
     /// names neither.
     pub fn stack(&self, id: NodeId) -> Option<Stack<'_, N>>
         ensures value { result ≡ stack_at id.0 self.now }
+        ensures few { IfSome result (λ stack. size stack ≤ 512) }
         ensures low { IfSome result (λ stack. levels stack ≤ 8) }
     {
         if id.0 == 0 {
             return Some(self.top());
         }
+        let (entry, children) = self.found(id)?;
+        if entry.group { Some(children) } else { None }
+    }
+
+    /// The entry of a node, and its children.
+    pub(crate) fn found(&self, id: NodeId) -> Option<(&Entry<N>, Stack<'_, N>)>
+        ensures none { IfNone result (find id.0 self.now ≡ nothing) }
+        ensures some { IfSome result (λ p. IsFound (find id.0 self.now) p.0.now p.1) }
+        ensures few { IfSome result (λ p. size p.1 ≤ 512) }
+        ensures low { IfSome result (λ p. levels p.1 ≤ 8) }
+    {
         let (first, rest) = from_id(self.entries.as_slice(), id.0).split_first()?;
         if !first.group {
-            return None;
+            return Some((first, Stack::empty()));
         }
         let inside = deeper(rest, first.level);
-        Some(Stack::of(&rest[..inside], first.level + 1))
+        let children = Stack::of(&rest[..inside], first.level + 1);
+        Some((first, children))
     }
 
     /// Whether a path, by places from the top, names a group. The empty path names the top.

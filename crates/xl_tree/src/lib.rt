@@ -3,12 +3,16 @@
 //! A contract sees a tree as a plain forest. The topmost node of a stack comes first.
 #![tactic(auto)]
 
+mod above;
 mod entries;
 mod forest;
 mod naming;
 mod places;
+mod reads;
 mod stacks;
+mod writes;
 
+pub use above::Ancestors;
 pub use forest::{MAX_NODES, Tree};
 pub use naming::{NodeId, Shown};
 pub use stacks::{Split, Stack};

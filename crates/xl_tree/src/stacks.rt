@@ -1,10 +1,10 @@
 ghost use Rattle.std.specs.Prelude.{◌≡◌, ◌≤◌};
-ghost use Rattle.spec_forest.specs.Forest.{none, size};
+ghost use Rattle.spec_forest.specs.Forest.{levels, none, size};
 ghost use Rattle.xl_tree.specs.Flat.{forest_of};
 ghost use Rattle.xl_tree.specs.Kept.{AreSiblings};
 ghost use Rattle.xl_tree.specs.Parts.{whole, Falls};
 
-use crate::entries::{Entry, deeper};
+use crate::entries::{Entry, deeper, deepest};
 use crate::naming::NodeId;
 use std::marker::Model;
 
@@ -109,5 +109,16 @@ impl<'a, N: Drop> Stack<'a, N> {
         ensures few { result ≤ 512 }
     {
         self.entries.len() as u32
+    }
+
+    /// The number of levels.
+    pub fn levels(&self) -> u32
+        ensures levels { result ≡ levels self.now }
+        ensures low { result ≤ 8 }
+    {
+        if self.entries.is_empty() {
+            return 0;
+        }
+        deepest(self.entries) + 1 - self.level
     }
 }

@@ -1,0 +1,89 @@
+ghost use Rattle.std.specs.Prelude.{◌≡◌, ◌≤◌, ◌<◌, [], ◌∷◌, ◌++◌, length, map, unwrap_or};
+ghost use Rattle.spec_forest.specs.Forest.{ancestors};
+ghost use Rattle.xl_tree.specs.Above.{groups_before};
+
+use crate::entries::{Entry, from_id};
+use crate::forest::Tree;
+use crate::naming::NodeId;
+use std::marker::Model;
+
+/// The most groups that a node may be in, and one more.
+const ROOM: usize = 8;
+
+/// The groups above a node, innermost first.
+#[derive(Drop)]
+pub struct Ancestors {
+    ids: [NodeId; ROOM],
+    len: usize,
+}
+
+impl Model for Ancestors {
+    ghost use Rattle.std.specs.Prelude.{◌≡◌, ◌≤◌, List, length, take};
+    ghost use Rattle.xl_tree.specs.declared.naming.NodeId.{NodeId};
+
+    ghost Value = { List NodeId };
+
+    ghost view = { λ a. take a.len a.ids };
+
+    ghost invariant = { λ a. (length a.ids ≡ 8) × (a.len ≤ 8) };
+}
+
+impl Ancestors {
+    fn none() -> Ancestors
+        ensures { result ≡ [] }
+    {
+        Ancestors {
+            ids: [NodeId(0); ROOM],
+            len: 0,
+        }
+    }
+
+    fn push(&mut self, id: NodeId)
+        requires { length self.old < 8 }
+        ensures { self.new ≡ self.old ++ id ∷ [] }
+    {
+        self.ids[self.len] = id;
+        self.len += 1;
+    }
+
+    /// The ids, innermost first.
+    pub fn as_slice(&self) -> &[NodeId]
+        ensures ids { result.now ≡ self.now }
+        ensures few { length self.now ≤ 8 }
+    {
+        &self.ids[..self.len]
+    }
+}
+
+impl<N: Drop> Tree<N> {
+    /// The groups above a node. None where there is no such node.
+    pub fn ancestors(&self, id: NodeId) -> Ancestors
+        ensures { map (λ i. i.0) result ≡ unwrap_or (ancestors id.0 self.now) [] }
+    {
+        let entries = self.entries.as_slice();
+        let found = from_id(entries, id.0);
+        match found.split_first() {
+            None => Ancestors::none(),
+            Some((entry, _)) => groups_before(&entries[..entries.len() - found.len()], entry.level),
+        }
+    }
+}
+
+/// The groups among these entries that are above what follows them at a level.
+fn groups_before<N>(before: &[Entry<N>], level: u32) -> Ancestors
+    requires { level ≤ 8 }
+    ensures { map (λ i. i.0) result ≡ groups_before before.now level }
+{
+    let mut above = Ancestors::none();
+    let mut lowest = level;
+    let mut at = before.len();
+    while 0 < at && 0 < lowest {
+        at -= 1;
+        let entry = &before[at];
+        if entry.level < lowest {
+            above.push(NodeId(entry.id));
+            lowest = entry.level;
+        }
+    }
+    above
+}
