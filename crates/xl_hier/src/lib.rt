@@ -1,7 +1,10 @@
 //! A plane of pixels in a file: a hierarchy, its level in use, and the tiles.
 #![tactic(auto)]
 
+mod frame;
+mod level;
 mod reading;
+mod tile;
 
 pub use reading::read_hierarchy;
 pub use xl_fields::ReadRefusedOrMemory;

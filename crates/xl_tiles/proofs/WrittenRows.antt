@@ -23,7 +23,7 @@ choose true a b old h = h refl
 choose false a b old h = refl
 
 -- a byte of a pixel is past the first byte of a column exactly where the pixel is past the column
-same_left : (X x b c : ℕ) → c < b → nat_le (X * b) (x * b + c) ≡ nat_le X x
+pub same_left : (X x b c : ℕ) → c < b → nat_le (X * b) (x * b + c) ≡ nat_le X x
 same_left X x b c hc =
     elim (cases_lt x X) [
       | inl before ↦
@@ -36,7 +36,7 @@ same_left X x b c hc =
           grind (arith, nat_tests, past, within)
     ]
 
-same_right : (X W x b c : ℕ) → c < b → nat_lt (x * b + c) (X * b + W * b) ≡ nat_lt x (X + W)
+pub same_right : (X W x b c : ℕ) → c < b → nat_lt (x * b + c) (X * b + W * b) ≡ nat_lt x (X + W)
 same_right X W x b c hc =
     elim (cases_lt x (X + W)) [
       | inl before ↦

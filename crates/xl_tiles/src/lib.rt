@@ -6,4 +6,5 @@ mod plane;
 mod rows;
 
 pub use plane::Plane;
+pub use rows::{Part, put_part};
 pub use xl_grid::{Rect, TileAt};

@@ -1,0 +1,29 @@
+ghost use Rattle.std.specs.Prelude.{◌≡◌};
+ghost use Rattle.spec_grid.specs.Grid as grid;
+ghost use Rattle.xl_hier.specs.Frame.{IsFrame};
+
+/// The sides of a plane, its bytes per pixel, and how its tiles are stored.
+#[derive(Clone, Copy)]
+pub struct Frame {
+    pub width: usize,
+    pub height: usize,
+    pub bpp: usize,
+    pub compression: u8,
+    ghost limits: { IsFrame width height bpp },
+}
+
+impl Frame {
+    /// How many tiles stand side by side.
+    pub fn columns(&self) -> usize
+        ensures { result ≡ grid.tiles_along self.now.width }
+    {
+        (self.width + 63) / 64
+    }
+
+    /// How many rows of tiles there are.
+    pub fn rows(&self) -> usize
+        ensures { result ≡ grid.tiles_along self.now.height }
+    {
+        (self.height + 63) / 64
+    }
+}
