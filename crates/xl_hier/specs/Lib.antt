@@ -1,2 +1,4 @@
 pub mod Frame
+pub mod Joined
 pub mod Level
+pub mod Placed

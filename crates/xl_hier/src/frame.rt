@@ -9,7 +9,7 @@ pub struct Frame {
     pub height: usize,
     pub bpp: usize,
     pub compression: u8,
-    ghost limits: { IsFrame width height bpp },
+    ghost limits: { IsFrame width height bpp compression },
 }
 
 impl Frame {

@@ -2,8 +2,10 @@
 #![tactic(auto)]
 
 mod frame;
+mod join;
 mod level;
 mod reading;
+mod spelled;
 mod tile;
 
 pub use reading::read_hierarchy;

@@ -11,7 +11,6 @@ use xl_fields::ReadRefusedOrMemory;
 use xl_tiles::Plane;
 
 fn read_pixels(alloc: Global, bytes: &[u8], at: usize, frame: Frame) -> Result<Plane, ReadRefusedOrMemory>
-    requires compression { frame.compression ≤ 1 }
     ensures { Gives result (pixels_at bytes.now at frame.width frame.height frame.bpp frame.compression) }
 {
     let _unused = (alloc, bytes.len(), at, frame.bpp);
