@@ -7,11 +7,7 @@ use Rattle.spec_fields.specs.Reading.{Read, ◌>>=◌}
 use Rattle.spec_plane.specs.Reading.{Part, plane_at}
 use Rattle.spec_hierarchy.specs.Reading.{spelled_at}
 use Rattle.xl_hier.specs.Joined.{pieces}
-
--- what is read goes behind what stands in front
-abbrev pub behind : {A : Type 0} → List A → Read (List A) → Read (List A)
-behind front (Ok xs) = Ok (front ++ xs)
-behind front (Err e) = Err e
+use Rattle.xl_hier.specs.SoFar.{behind}
 
 pub behind-behind : {A : Type 0} (a b : List A) (r : Read (List A)) → behind a (behind b r) ≡ behind (a ++ b) r
 behind-behind a b (Ok xs) = ap Ok (sym (append_assoc a b xs))

@@ -2,3 +2,4 @@ pub mod Frame
 pub mod Joined
 pub mod Level
 pub mod Placed
+pub mod SoFar

@@ -1,6 +1,7 @@
 //! A plane of pixels in a file: a hierarchy, its level in use, and the tiles.
 #![tactic(auto)]
 
+mod band;
 mod frame;
 mod join;
 mod level;
