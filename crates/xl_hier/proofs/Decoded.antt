@@ -1,10 +1,10 @@
 -- Planes that are decoded one after another.
-use Rattle.std.proofs.Common.{◌≡◌, ℕ, zero, suc, ◌+◌, ◌-◌, ◌*◌, ◌<◌, ◌≤◌, List, [], ◌∷◌, ◌++◌, length, take, drop, refl, sym, ap, ◌∙◌, arith, append-nil, append_assoc}
+use Rattle.std.proofs.Common.{◌≡◌, ℕ, zero, suc, ◌+◌, ◌-◌, ◌*◌, ◌<◌, ◌≤◌, List, [], ◌∷◌, ◌++◌, take, drop, refl, sym, ap, ◌∙◌, arith, append-nil, append_assoc}
 use Rattle.std.specs.Prelude.{Ok, Err}
 use Rattle.std.proofs.lemmas.List.{drop-drop, drop-take, take-take}
 use Rattle.spec_fields.specs.declared.ReadRefused.{ReadRefused}
 use Rattle.spec_fields.specs.Reading.{Read, ◌>>=◌}
-use Rattle.spec_plane.specs.Reading.{Part, plane_at}
+use Rattle.spec_plane.specs.Reading.{plane_at}
 use Rattle.spec_hierarchy.specs.Reading.{spelled_at}
 use Rattle.xl_hier.specs.Joined.{pieces}
 use Rattle.xl_hier.specs.SoFar.{behind}
@@ -60,12 +60,12 @@ goes_on {file = file} {from = from} {n = n} {bpp = bpp} {c = c} {at = at} {plane
     let step : suc c ≡ c + 1 = omega arith in
     record {
       reads = so_far.reads
-        ∙ (ap (λ k. behind (pieces c n planes) (spelled_at k file at n)) left
-        ∙ (ap (λ r. behind (pieces c n planes) (r >>= (λ part. spelled_at (bpp - (c + 1)) file part.next n >>= (λ rest. Ok (part.pixels ∷ rest))))) h
-        ∙ (ap (behind (pieces c n planes)) (one_behind pixels rest)
-        ∙ (behind-behind (pieces c n planes) (pixels ∷ []) rest
-        ∙ (ap (λ ps. behind (ps ++ pixels ∷ []) rest) (front_only c n planes new (sym same))
-        ∙ ap (λ ps. behind ps rest) (sym (more c n new) ∙ ap (λ k. pieces k n new) step))))));
+          ∙ (ap (λ k. behind (pieces c n planes) (spelled_at k file at n)) left
+          ∙ (ap (λ r. behind (pieces c n planes) (r >>= (λ part. spelled_at (bpp - (c + 1)) file part.next n >>= (λ rest. Ok (part.pixels ∷ rest))))) h
+          ∙ (ap (behind (pieces c n planes)) (one_behind pixels rest)
+          ∙ (behind-behind (pieces c n planes) (pixels ∷ []) rest
+          ∙ (ap (λ ps. behind (ps ++ pixels ∷ []) rest) (front_only c n planes new (sym same))
+          ∙ ap (λ ps. behind ps rest) (sym (more c n new) ∙ ap (λ k. pieces k n new) step))))));
     }
 
 pub ends : {file : List ℕ} {from n bpp c at : ℕ} {planes : List ℕ} → Decoding file from n bpp c at planes → bpp ≤ c → c ≤ bpp

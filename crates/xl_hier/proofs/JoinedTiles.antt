@@ -1,13 +1,12 @@
 -- Pixels that are joined from planes are those that reading interleaves.
-use Rattle.std.proofs.Common.{◌≡◌, ℕ, zero, suc, ◌+◌, ◌*◌, ◌/◌, ◌%◌, ◌<◌, List, [], ◌∷◌, length, take, drop, map, slice_index, get_or, refl, sym, ap, ◌∙◌, arith}
-use Rattle.std.specs.Prelude.{Ok, Err, flat_map}
+use Rattle.std.proofs.Common.{◌≡◌, ℕ, zero, suc, ◌+◌, ◌*◌, ◌/◌, ◌%◌, ◌<◌, List, [], ◌∷◌, length, drop, map, slice_index, get_or, refl, sym, ap, ◌∙◌, arith}
+use Rattle.std.specs.Prelude.{Ok, Err}
 use Rattle.std.proofs.lemmas.List.{ext_get_or}
 use Rattle.std.proofs.lemmas.Nat.{div-add-mod'}
 use Rattle.std.proofs.Math.Nat.{mod-lt, div-lt_iff_lt-mul}
-use Rattle.spec_grid.specs.Rect.{count_from}
 use Rattle.spec_document.proofs.PlaneLemmas.{index-pieces, length-pieces}
 use Rattle.spec_fields.specs.declared.ReadRefused.{ReadRefused}
-use Rattle.spec_fields.specs.Reading.{Read, ◌>>=◌}
+use Rattle.spec_fields.specs.Reading.{◌>>=◌}
 use Rattle.spec_hierarchy.specs.Tiles.{interleaved}
 use Rattle.spec_hierarchy.specs.Reading.{spelled_at, tile_at}
 use Rattle.xl_hier.specs.Joined.{IsJoined, pieces}

@@ -1,12 +1,9 @@
 -- The reading of a plane is that of its level and then that of its tiles.
-use Rattle.std.proofs.Common.{◌≡◌, ℕ, ◌+◌, List, refl, ap, ◌∙◌}
+use Rattle.std.proofs.Common.{◌≡◌, ℕ, ◌+◌, List, refl}
 use Rattle.std.specs.Prelude.{Ok, Err}
-use Rattle.spec_grid.specs.Grid.{all_tiles}
-use Rattle.spec_document.specs.Plane.{Plane}
 use Rattle.spec_fields.specs.declared.Kind.TheVariants.{BadHierarchy}
 use Rattle.spec_fields.specs.Reading.{Read, ◌>>=◌}
-use Rattle.spec_hierarchy.specs.Tiles.{plane_of_tiles}
-use Rattle.spec_hierarchy.specs.Reading.{same_word_at, pointer_at, tiles_at, hierarchy_at}
+use Rattle.spec_hierarchy.specs.Reading.{same_word_at, pointer_at, hierarchy_at}
 use Rattle.xl_hier.specs.Level.{level_at, pixels_at}
 
 -- two steps behind another
@@ -18,7 +15,7 @@ then_last (Err e) b level rest = refl
 
 then_level : {A : Type 0} (a b c : Read (Unit {0})) (pointer : Read ℕ) (d e : ℕ → Read (Unit {0})) (rest : ℕ → Read A)
     → (a >>= (λ _. b >>= (λ _. c >>= (λ _. pointer >>= (λ level. d level >>= (λ _. e level >>= (λ _. rest level)))))))
-      ≡ ((a >>= (λ _. b >>= (λ _. c >>= (λ _. pointer >>= (λ level. d level >>= (λ _. e level >>= (λ _. Ok level))))))) >>= rest)
+    ≡ ((a >>= (λ _. b >>= (λ _. c >>= (λ _. pointer >>= (λ level. d level >>= (λ _. e level >>= (λ _. Ok level))))))) >>= rest)
 then_level (Err f) b c pointer d e rest = refl
 then_level (Ok x) (Err f) c pointer d e rest = refl
 then_level (Ok x) (Ok y) (Err f) pointer d e rest = refl

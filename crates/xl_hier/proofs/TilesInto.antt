@@ -1,5 +1,5 @@
 -- A tile that was read and then written into its place.
-use Rattle.std.proofs.Common.{◌≡◌, ℕ, ◌+◌, ◌*◌, ◌<◌, List, length, slice_index, sym, ap, ◌∙◌, arith, subst}
+use Rattle.std.proofs.Common.{◌≡◌, ℕ, ◌+◌, ◌*◌, ◌<◌, List, slice_index, sym, ap, ◌∙◌, arith}
 use Rattle.std.specs.Prelude.{Ok}
 use Rattle.spec_grid.specs.declared.TileAt.{TileAt}
 use Rattle.spec_hierarchy.specs.Tiles.{tile_width, tile_height}

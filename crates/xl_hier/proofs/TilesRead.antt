@@ -1,5 +1,5 @@
 -- The tiles of a plane are read one after another.
-use Rattle.std.proofs.Common.{◌≡◌, ℕ, zero, suc, ◌+◌, ◌*◌, ◌<◌, ◌≤◌, List, [], ◌∷◌, ◌++◌, length, drop, map, get_or, refl, sym, ap, ◌∙◌, arith, length-append, drop-cons}
+use Rattle.std.proofs.Common.{◌≡◌, ℕ, zero, suc, ◌+◌, ◌*◌, ◌<◌, List, [], ◌∷◌, ◌++◌, length, drop, map, refl, ap, ◌∙◌, arith, length-append, drop-cons}
 use Rattle.std.specs.Prelude.{Ok, Err, flat_map}
 use Rattle.std.proofs.lemmas.Nat.{mul-add-lt}
 use Rattle.spec_grid.specs.declared.TileAt.{TileAt}
@@ -8,12 +8,11 @@ use Rattle.spec_grid.specs.Grid.{tiles_along, all_tiles}
 use Rattle.spec_fields.specs.declared.Kind.TheVariants.{BadHierarchy}
 use Rattle.spec_fields.specs.declared.ReadRefused.{ReadRefused}
 use Rattle.spec_fields.specs.Reading.{Read, ◌>>=◌}
-use Rattle.spec_fields.proofs.Steps.{onward}
 use Rattle.spec_hierarchy.specs.Tiles.{tile_width, tile_height}
 use Rattle.spec_hierarchy.specs.Reading.{pointer_at, tile_at, tiles_at}
 use Rattle.spec_hierarchy.proofs.TilesOfPlane.{tile_at_place}
 use Rattle.xl_hier.specs.declared.frame.Frame.{Frame}
-use Rattle.xl_hier.specs.Placed.{part_of, TileInto}
+use Rattle.xl_hier.specs.Placed.{TileInto}
 use Rattle.xl_hier.specs.SoFar.{behind, all_at, SoFar}
 use Rattle.xl_hier.proofs.Decoded.{behind-behind, one_behind}
 use Rattle.xl_hier.proofs.Placing.{placed_more}
@@ -63,7 +62,7 @@ first_of ts file at f t = refl
 to_read : {file : List ℕ} {first : ℕ} {f : Frame} {col row : ℕ} {out : List ℕ} → (so_far : SoFar file first f (row * tiles_along f.width + col) out)
     → col < tiles_along f.width → row < tiles_along f.height
     → all_at file first f ≡ behind so_far.tiles (pointer_at file (first + 4 * (row * tiles_along f.width + col)) BadHierarchy
-      >>= from_pointer (drop (row * tiles_along f.width + (col + 1)) (all_tiles f.width f.height)) file (first + 4 * (row * tiles_along f.width + col)) f (tile col row))
+    >>= from_pointer (drop (row * tiles_along f.width + (col + 1)) (all_tiles f.width f.height)) file (first + 4 * (row * tiles_along f.width + col)) f (tile col row))
 to_read {file = file} {first = first} {f = f} {col = col} {row = row} so_far hc hr =
     let at = first + 4 * (row * tiles_along f.width + col) in
     so_far.reads
@@ -99,11 +98,11 @@ tile_more {file = file} {first = first} {f = f} {col = col} {row = row} {out = o
       tiles = so_far.tiles ++ read.tile ∷ [];
       count = omega (arith, length-append so_far.tiles (read.tile ∷ []), so_far.count);
       reads = to_read so_far hc hr
-        ∙ (ap (λ r. behind so_far.tiles (r >>= from_pointer ts file at f (tile col row))) h
-        ∙ (ap (λ r. behind so_far.tiles (r >>= (λ tile. tiles_at ts file (at + 4) f.width f.height f.bpp f.compression >>= (λ rest. Ok (tile ∷ rest))))) read.read
-        ∙ (ap (behind so_far.tiles) (one_behind read.tile (tiles_at ts file (at + 4) f.width f.height f.bpp f.compression))
-        ∙ (behind-behind so_far.tiles (read.tile ∷ []) (tiles_at ts file (at + 4) f.width f.height f.bpp f.compression)
-        ∙ ap (λ n. behind (so_far.tiles ++ read.tile ∷ []) (tiles_at ts file n f.width f.height f.bpp f.compression)) onto))));
+          ∙ (ap (λ r. behind so_far.tiles (r >>= from_pointer ts file at f (tile col row))) h
+          ∙ (ap (λ r. behind so_far.tiles (r >>= (λ tile. tiles_at ts file (at + 4) f.width f.height f.bpp f.compression >>= (λ rest. Ok (tile ∷ rest))))) read.read
+          ∙ (ap (behind so_far.tiles) (one_behind read.tile (tiles_at ts file (at + 4) f.width f.height f.bpp f.compression))
+          ∙ (behind-behind so_far.tiles (read.tile ∷ []) (tiles_at ts file (at + 4) f.width f.height f.bpp f.compression)
+          ∙ ap (λ n. behind (so_far.tiles ++ read.tile ∷ []) (tiles_at ts file n f.width f.height f.bpp f.compression)) onto))));
       placed = λ x y c hx hy hc' before.
-        placed_more f.width f.height f.bpp row col k so_far.tiles read.tile out new so_far.count refl hc so_far.placed read.placed x y c hx hy hc' (omega (arith, before));
+          placed_more f.width f.height f.bpp row col k so_far.tiles read.tile out new so_far.count refl hc so_far.placed read.placed x y c hx hy hc' (omega (arith, before));
     }

@@ -1,7 +1,6 @@
 -- A tile that is read and stands in its place among the pixels of a plane.
-use Rattle.std.specs.Prelude.{◌≡◌, ℕ, ◌+◌, ◌-◌, ◌*◌, ◌/◌, ◌%◌, ◌<◌, min, IsTrue, List, [], length, slice_index, slice_index_or, Ok}
+use Rattle.std.specs.Prelude.{◌≡◌, ℕ, ◌+◌, ◌*◌, ◌<◌, List, slice_index, Ok}
 use Rattle.spec_grid.specs.declared.TileAt.{TileAt}
-use Rattle.spec_grid.specs.Grid.{is_on_grid, tiles_along}
 use Rattle.spec_hierarchy.specs.Tiles.{tile_width, tile_height}
 use Rattle.spec_hierarchy.specs.Reading.{tile_at}
 use Rattle.xl_tiles.specs.declared.rows.Part.{Part}
@@ -17,4 +16,4 @@ pub record TileInto (file : List ℕ) (at : ℕ) (f : Frame) (t : TileAt) (old n
   pub tile : List ℕ
   pub read : tile_at file at (tile_width f.width t * tile_height f.height t) f.bpp f.compression ≡ Ok tile
   pub placed : (row col : ℕ) → col < f.width * f.bpp
-    → slice_index new (row * (f.width * f.bpp) + col) ≡ byte_in (part_of f t) tile (slice_index old (row * (f.width * f.bpp) + col)) row col
+      → slice_index new (row * (f.width * f.bpp) + col) ≡ byte_in (part_of f t) tile (slice_index old (row * (f.width * f.bpp) + col)) row col

@@ -82,6 +82,12 @@ pub fn join(planes: &[u8], n: usize, bpp: usize, tile: &mut [u8])
         1 => tile.copy_from_slice(planes),
         2 => join_two(&planes[..n], &planes[n..2 * n], tile),
         3 => join_three(&planes[..n], &planes[n..2 * n], &planes[2 * n..3 * n], tile),
-        _ => join_four(&planes[..n], &planes[n..2 * n], &planes[2 * n..3 * n], &planes[3 * n..4 * n], tile),
+        _ => join_four(
+            &planes[..n],
+            &planes[n..2 * n],
+            &planes[2 * n..3 * n],
+            &planes[3 * n..4 * n],
+            tile,
+        ),
     }
 }

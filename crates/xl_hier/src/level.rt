@@ -35,6 +35,7 @@ pub fn pointer_at(bytes: &[u8], at: usize) -> Result<usize, ReadRefused>
 pub fn level_at(bytes: &[u8], at: usize, frame: Frame) -> Result<usize, ReadRefused>
     ensures value { result ≡ level_at bytes.now at frame.width frame.height frame.bpp }
     ensures within { IfOk result (λ level. level + 8 ≤ length bytes.now) }
+    ensures small { IfOk result (λ level. level < 2 ^ 32) }
 {
     same_word_at(bytes, at, frame.width)?;
     same_word_at(bytes, at + 4, frame.height)?;

@@ -8,7 +8,13 @@ use xl_fields::ReadRefused;
 use xl_rle::decode_plane;
 
 // Decodes a plane of n bytes into its place. Gives the offset after its last code.
-fn plane_into(bytes: &[u8], at: usize, planes: &mut [u8], from: usize, n: usize) -> Result<usize, ReadRefused>
+fn plane_into(
+    bytes: &[u8],
+    at: usize,
+    planes: &mut [u8],
+    from: usize,
+    n: usize,
+) -> Result<usize, ReadRefused>
     requires some { 1 ≤ n }
     requires few { n ≤ 4096 }
     requires fits { from + n ≤ length planes.old }
@@ -19,7 +25,13 @@ fn plane_into(bytes: &[u8], at: usize, planes: &mut [u8], from: usize, n: usize)
 }
 
 /// Decodes as many planes of n bytes as a pixel has bytes, one after another.
-pub fn planes_at(bytes: &[u8], at: usize, n: usize, bpp: usize, planes: &mut [u8]) -> Result<(), ReadRefused>
+pub fn planes_at(
+    bytes: &[u8],
+    at: usize,
+    n: usize,
+    bpp: usize,
+    planes: &mut [u8],
+) -> Result<(), ReadRefused>
     requires some { 1 ≤ n }
     requires few { n ≤ 4096 }
     requires bpp { bpp ≤ 4 }
@@ -34,7 +46,14 @@ pub fn planes_at(bytes: &[u8], at: usize, n: usize, bpp: usize, planes: &mut [u8
 }
 
 /// Reads a tile of n pixels in runs.
-pub fn spelled_tile(bytes: &[u8], at: usize, n: usize, bpp: usize, planes: &mut [u8], tile: &mut [u8]) -> Result<(), ReadRefused>
+pub fn spelled_tile(
+    bytes: &[u8],
+    at: usize,
+    n: usize,
+    bpp: usize,
+    planes: &mut [u8],
+    tile: &mut [u8],
+) -> Result<(), ReadRefused>
     requires some { 1 ≤ n }
     requires few { n ≤ 4096 }
     requires some_bytes { 1 ≤ bpp }

@@ -58,7 +58,15 @@ fn pixels_of(frame: Frame, spot: TileAt) -> usize
 }
 
 /// Reads the tile at an offset of the file into its place among the pixels. The planes and the tile are room for it.
-pub fn read_tile(bytes: &[u8], at: usize, frame: Frame, spot: TileAt, out: &mut [u8], planes: &mut [u8], tile: &mut [u8]) -> Result<(), ReadRefused>
+pub fn read_tile(
+    bytes: &[u8],
+    at: usize,
+    frame: Frame,
+    spot: TileAt,
+    out: &mut [u8],
+    planes: &mut [u8],
+    tile: &mut [u8],
+) -> Result<(), ReadRefused>
     requires small { at < 2 ^ 32 }
     requires column { spot.col < grid.tiles_along frame.width }
     requires row { spot.row < grid.tiles_along frame.height }
@@ -76,7 +84,14 @@ pub fn read_tile(bytes: &[u8], at: usize, frame: Frame, spot: TileAt, out: &mut 
         put_part(out, stride, part, plain);
     } else {
         let size = n * frame.bpp;
-        spelled_tile(bytes, at, n, frame.bpp, &mut planes[..size], &mut tile[..size])?;
+        spelled_tile(
+            bytes,
+            at,
+            n,
+            frame.bpp,
+            &mut planes[..size],
+            &mut tile[..size],
+        )?;
         put_part(out, stride, part, &tile[..size]);
     }
     Ok(())

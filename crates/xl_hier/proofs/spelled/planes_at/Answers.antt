@@ -1,4 +1,4 @@
-use Rattle.std.proofs.Common.{arith, ◌≡◌, sym, ◌∙◌}
+use Rattle.std.proofs.Common.{arith}
 use Rattle.std.proofs.lemmas.Result.{err_from_is_err_and}
 use Rattle.xl_hier.proofs.Decoded.{stops, goes_on, ends}
 use Rattle.xl_hier.proofs.spelled.planes_at.Goals as goal

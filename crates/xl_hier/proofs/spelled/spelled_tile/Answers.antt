@@ -1,4 +1,4 @@
-use Rattle.std.proofs.Common.{sym, ◌∙◌}
+use Rattle.std.proofs.Common.{◌∙◌}
 use Rattle.std.proofs.lemmas.Result.{err_from_is_err_and}
 use Rattle.xl_hier.proofs.JoinedTiles.{tile_stops, tile_is}
 use Rattle.xl_hier.proofs.spelled.spelled_tile.Goals as goal

@@ -1,4 +1,4 @@
-use Rattle.std.proofs.Common.{arith, refl, sym, ap, ◌∙◌, Err}
+use Rattle.std.proofs.Common.{refl, sym, ap, ◌∙◌, Err}
 use Rattle.xl_hier.proofs.Plain.{plain_stops, plain_is}
 use Rattle.xl_hier.proofs.tile.plain_tile.Goals as goal
 
