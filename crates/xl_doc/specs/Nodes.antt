@@ -24,8 +24,17 @@ abbrev pub layer_of : Node → doc.Layer
 layer_of n =
     let s = sheet_of n.body in
     record {
-      name = n.name; opacity = n.opacity; mode = n.mode; visible = n.visible; kept = n.kept;
-      kind = s.kind; x = s.x; y = s.y; plane = s.plane; mask = s.mask; apply_mask = s.apply_mask;
+      name = n.name;
+      opacity = n.opacity;
+      mode = n.mode;
+      visible = n.visible;
+      kept = n.kept;
+      kind = s.kind;
+      x = s.x;
+      y = s.y;
+      plane = s.plane;
+      mask = s.mask;
+      apply_mask = s.apply_mask;
     }
 
 abbrev pub group_of : Node → doc.Group

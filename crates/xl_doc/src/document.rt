@@ -31,15 +31,15 @@ impl Model for Document {
     ghost use Rattle.spec_document.specs.Limits.{IsSide};
 
     ghost view = { λ d. record {
-        width = d.width;
-        height = d.height;
-        base = d.base;
-        compression = d.compression;
-        colours = d.colours;
-        kept = d.kept;
-        nodes = nodes_of d.tree;
-        channels = d.channels;
-        selection = d.selection;
+      width = d.width;
+      height = d.height;
+      base = d.base;
+      compression = d.compression;
+      colours = d.colours;
+      kept = d.kept;
+      nodes = nodes_of d.tree;
+      channels = d.channels;
+      selection = d.selection;
     } };
 
     ghost invariant = { λ d. IsSide d.width × IsSide d.height × MarksAgree d.tree };

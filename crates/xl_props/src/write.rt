@@ -8,7 +8,8 @@ use crate::answer::Known;
 use crate::kept_list::{Kept, PropList};
 use crate::numbers::{APPLY_MASK, END, GROUP_ITEM, SELECTION, VISIBLE};
 use crate::put::{
-    put, put_colours, put_compression, put_flag, put_mark, put_mode, put_offsets, put_opacity, put_path,
+    put, put_colours, put_compression, put_flag, put_mark, put_mode, put_offsets, put_opacity,
+    put_path,
 };
 use std::alloc::AllocError;
 
