@@ -1,2 +1,13 @@
-//! The program: a command's words, its devices, and how it ends.
+//! The program: the words of a command, the devices that it works on, and how it ends.
+//!
+//! `render FILE` writes the picture of a file to the sink. What else a command comes to is told by one line there
+//! and by the status.
 #![tactic(auto)]
+
+mod command;
+mod line;
+mod rendering;
+mod running;
+mod stopped;
+
+pub use running::{Ended, run};

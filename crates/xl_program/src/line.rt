@@ -1,0 +1,23 @@
+ghost use Rattle.std.specs.Prelude.{◌≡◌, string_bytes, IfOk, MatchResult};
+ghost use Rattle.xl_program.specs.Lines.{refused_line, Tells};
+
+use spec_fields::ReadRefused;
+use std::alloc::{AllocError, Global};
+use xl_fields::number_of;
+use xl_ports::{Sink, write_all};
+
+/// Writes a line. Where the sink fails there is nothing else to tell it by.
+pub fn tell<K: Sink>(sink: &mut K, text: &[u8])
+    ensures { Tells K.held K.faults sink.old sink.new text.now }
+{
+    let _ = write_all(sink, text);
+}
+
+/// The line of a refused file.
+pub fn refusal_text(alloc: Global, refused: ReadRefused) -> Result<String, AllocError>
+    ensures { IfOk result (λ text. string_bytes text ≡ refused_line refused) }
+{
+    let kind = number_of(refused.kind);
+    let at = refused.at;
+    format!(in alloc; "file refused {kind} at {at}\n")
+}
