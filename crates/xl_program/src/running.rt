@@ -26,6 +26,7 @@ const SINK_FAULT: u8 = 7;
 const MEMORY: u8 = 8;
 
 /// The status that a command came to, and the shelf that was handed in.
+#[derive(Drop)]
 pub struct Ended<D> {
     pub status: u8,
     pub shelf: D,

@@ -1,0 +1,42 @@
+//! Renders a file of GIMP's as a PAM on the standard output: `xcfedit render FILE`.
+#![tactic(auto)]
+
+mod file_shelf;
+mod std_sink;
+mod std_source;
+
+use file_shelf::FileShelf;
+use std::alloc::AllocError;
+use std::process::ExitCode;
+use std::{env, io};
+use std_sink::StdSink;
+use std_source::StdSource;
+use xl_program::run;
+
+/// The status where memory ran out before the command began.
+const MEMORY: u8 = 8;
+
+// The words behind the program's name.
+fn words_given(rt: &HostRuntime) -> io::Result<Vec<String>> {
+    let mut words = env::args(rt)?;
+    let _program = words.next();
+    Ok(words.collect(rt.alloc())?)
+}
+
+fn started(rt: &HostRuntime) -> Result<u8, AllocError> {
+    let alloc = rt.alloc();
+    // Words that are no text are no command, like none at all.
+    let given = words_given(rt).unwrap_or(Vec::new(alloc));
+    let mut words = Vec::new(alloc);
+    for word in &given {
+        words.push(word.as_str())?;
+    }
+    let mut source = StdSource::new(rt);
+    let mut sink = StdSink::new(rt);
+    let shelf = FileShelf::new(rt);
+    Ok(run(alloc, &words, &mut source, &mut sink, shelf).status)
+}
+
+fn main(rt: HostRuntime) -> ExitCode {
+    ExitCode::from(started(&rt).unwrap_or(MEMORY))
+}

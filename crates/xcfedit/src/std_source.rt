@@ -1,0 +1,36 @@
+ghost use Rattle.std.specs.Prelude.{None};
+
+use std::io::{Read, Stdin};
+use xl_ports::{Failed, Source};
+
+/// The standard input. What it has left is not told.
+#[derive(Drop)]
+pub struct StdSource {
+    input: Stdin,
+    faults: u64,
+}
+
+impl StdSource {
+    pub fn new(rt: &HostRuntime) -> Self {
+        StdSource {
+            input: rt.stdin(),
+            faults: 0,
+        }
+    }
+}
+
+impl Source for StdSource {
+    ghost left = { λ s. None };
+
+    ghost faults = { λ s. s.faults };
+
+    fn read(&mut self, buf: &mut [u8]) -> Result<usize, Failed> {
+        match self.input.read(buf) {
+            Ok(given) => Ok(given),
+            Err(_) => {
+                self.faults = self.faults.saturating_add(1);
+                Err(Failed)
+            }
+        }
+    }
+}
