@@ -1,0 +1,5 @@
+//! Commands run over devices in memory: what they write, and how they end.
+#![tactic(auto)]
+
+#[cfg(test)]
+mod tests;
