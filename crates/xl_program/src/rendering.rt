@@ -27,7 +27,7 @@ pub fn render<K: Sink, D: Shelf>(
     let document = read_document(alloc, name, shelf)?;
     match write_pam(alloc, &document, sink) {
         Ok(()) => Ok(()),
-        Err(PamFaultOrMemory::Write) => Err(Stopped::SinkFault),
+        Err(PamFaultOrMemory::Refused(_)) => Err(Stopped::SinkFault),
         Err(PamFaultOrMemory::Memory) => Err(Stopped::Memory),
     }
 }
