@@ -7,7 +7,7 @@ use xl_doc::Document;
 use xl_fields::ReadRefusedOrMemory;
 use xl_ports::{Failed, FailedOrMemory, Shelf, Sink, load_all};
 use xl_read::decode;
-use xl_report::{PamFaultOrMemory, write_pam};
+use xl_report::{PamFaultOrMemory, pam};
 
 /// How much of a file is read. One of so many bytes or more is refused.
 const MOST_BYTES: usize = 1 << 31;
@@ -25,7 +25,7 @@ pub fn render<K: Sink, D: Shelf>(
     ensures selected { (D.selected shelf.new ≡ D.selected shelf.old) ⊎ (D.selected shelf.new ≡ Some name.now) }
 {
     let document = read_document(alloc, name, shelf)?;
-    match write_pam(alloc, &document, sink) {
+    match pam(alloc, &document, sink) {
         Ok(()) => Ok(()),
         Err(PamFaultOrMemory::Refused(_)) => Err(Stopped::SinkFault),
         Err(PamFaultOrMemory::Memory) => Err(Stopped::Memory),
