@@ -1,17 +1,11 @@
 //! Renders a file of GIMP's as a PAM on the standard output: `xcfedit render FILE`.
 #![tactic(auto)]
 
-mod file_shelf;
-mod std_sink;
-mod std_source;
-
-use file_shelf::FileShelf;
 use std::alloc::AllocError;
 use std::process::ExitCode;
 use std::{env, io};
-use std_sink::StdSink;
-use std_source::StdSource;
 use xl_program::run;
+use xl_real::{FileShelf, StdSink, StdSource};
 
 /// The status where memory ran out before the command began.
 const MEMORY: u8 = 8;
