@@ -1,2 +1,20 @@
 //! A document from the bytes of a file, or the first fault of the file.
 #![tactic(auto)]
+
+mod channel;
+mod draft;
+mod file;
+mod head;
+mod header;
+mod kept;
+mod layer;
+mod listing;
+mod lists;
+mod mask;
+mod owners;
+mod placing;
+mod sums;
+mod words;
+
+pub use file::decode;
+pub use xl_fields::{Kind, ReadRefused, ReadRefusedOrMemory};

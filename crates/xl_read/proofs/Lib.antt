@@ -1,0 +1,9 @@
+pub mod Listings
+pub mod Payloads
+pub mod Placings
+pub mod Drafts
+pub mod Hierarchies
+pub mod Paths
+pub mod Pointers
+pub mod Branches
+pub mod Channels

@@ -1,0 +1,5 @@
+pub mod Listing
+pub mod Draft
+pub mod Head
+pub mod Room
+pub mod Yields

@@ -1,0 +1,26 @@
+-- The limits that a layer keeps before it is put in.
+use Rattle.std.specs.Prelude.{◌≡◌, ℕ, ◌+◌, ◌*◌, ◌^◌, ◌<◌, ◌≤◌, List, length, Option, Some, None, IsSome}
+use Rattle.spec_forest.specs.Forest.{none, size}
+use Rattle.spec_forest.specs.Changes.{put_last}
+use Rattle.spec_document.specs.Document.{Document, Channel, mask_area, channel_kept, area, all_kept}
+use Rattle.spec_file.specs.Layers.{Head}
+use Rattle.spec_file.specs.Placing.{path_to}
+use Rattle.xl_read.specs.Head.{head_kept}
+
+-- a mask has these sides
+abbrev pub HasSides : (width height : ℕ) → Option Channel → Type 0
+HasSides width height None = Unit {0}
+HasSides width height (Some mask) = (mask.plane.width ≡ width) × (mask.plane.height ≡ height)
+
+-- a mask has its layer's sides, and the document has room for both
+pub record FitsMask (d : Document) (h : Head) (mask : Option Channel) : Type 0 where
+  pub sides : HasSides h.width h.height mask
+  pub area : area d + (h.width * h.height + mask_area mask) ≤ 2 ^ 28
+  pub kept : all_kept d + (head_kept h + channel_kept mask) ≤ 2 ^ 28
+
+-- the node may be put where its path leads
+pub record MayPlace (d : Document) (h : Head) : Type 0 where
+  pub leads : IsSome (put_last (path_to h.props.list) none d.nodes)
+  pub short : length (path_to h.props.list) < 8
+  pub few : size d.nodes < 512
+  pub kept : all_kept d + head_kept h ≤ 2 ^ 28

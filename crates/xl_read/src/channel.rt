@@ -1,0 +1,77 @@
+ghost use Rattle.std.specs.Prelude.{◌≡◌, ◌+◌, ◌*◌, ◌≤◌, ◌<◌, ◌^◌, ◌||◌, not, is_none, nat_lt, length, IsTrue};
+ghost use Rattle.spec_document.specs.Document.{area, all_kept, kept_bytes};
+ghost use Rattle.spec_file.specs.Channels.{with_channel, channel_at};
+ghost use Rattle.xl_read.specs.Yields.{Yields};
+
+use crate::draft::{Draft, MAX_AREA};
+use crate::listing::Listing;
+use crate::owners::OfChannel;
+use crate::words::{Shape, plane_at, pointer_at, same_word_at};
+use std::alloc::Global;
+use xl_doc::{Bytes, Channel, MAX_CHANNELS};
+use xl_fields::{Kind, ReadRefusedOrMemory, refused, string_at};
+
+/// Whether it is no second selection.
+fn is_first(draft: &Draft, selection: bool) -> bool
+    ensures { result ≡ (not selection || is_none draft.now.selection) }
+{
+    !selection || !draft.has_selection()
+}
+
+/// Whether it is the selection, or there is room for one channel more.
+fn has_place(draft: &Draft, selection: bool) -> bool
+    ensures { result ≡ (selection || nat_lt (length draft.now.channels) 64) }
+{
+    selection || draft.channel_count() < MAX_CHANNELS as usize
+}
+
+/// Makes a channel the selection, or puts it last.
+fn put(draft: &mut Draft, selection: bool, channel: Channel)
+    requires first { IsTrue (not selection || is_none draft.old.selection) }
+    requires few { IsTrue (selection || nat_lt (length draft.old.channels) 64) }
+    requires area { area draft.old + draft.old.width * draft.old.height ≤ 2 ^ 28 }
+    requires kept { all_kept draft.old + kept_bytes channel.kept ≤ 2 ^ 28 }
+    ensures { draft.new ≡ with_channel draft.old selection channel }
+{
+    if selection {
+        draft.set_selection(channel);
+    } else {
+        draft.push_channel(channel);
+    }
+}
+
+/// Puts in the channel at an offset, or makes it the selection. Its pointer stands at a place.
+#[tactic(auto, unfolding(spec_file::specs::Channels::channel_at))]
+pub fn channel_at(
+    alloc: Global,
+    file: &[u8],
+    at: usize,
+    place: usize,
+    draft: &mut Draft,
+) -> Result<(), ReadRefusedOrMemory>
+    requires file { length file.now ≤ 2 ^ 31 }
+    requires at { at < 2 ^ 32 }
+    ensures { Yields result (λ _. draft.new) (channel_at file.now at place draft.old) }
+{
+    same_word_at(file, at, draft.width(), Kind::ChannelSize)?;
+    same_word_at(file, at + 4, draft.height(), Kind::ChannelSize)?;
+    let name = string_at(file, at + 8)?;
+    let props: Listing<OfChannel> = Listing::read(alloc, file, name.next)?;
+    props.check_kept(draft.kept_bytes())?;
+    let hierarchy = pointer_at(file, props.end() + 8, Kind::BadHierarchy)?;
+    let selection = props.is_selection();
+    if !is_first(draft, selection) {
+        return Err(refused(Kind::TwoSelections, props.selection_place()).into());
+    }
+    if !has_place(draft, selection) {
+        return Err(refused(Kind::TooMany, place).into());
+    }
+    if draft.area() + draft.canvas() > MAX_AREA {
+        return Err(refused(Kind::TooLarge, at).into());
+    }
+    let plane = plane_at(alloc, file, hierarchy, Shape::of_canvas(draft))?;
+    let name = Bytes::from_slice(alloc, &file[name.start..name.start + name.len])?;
+    let kept = props.into_kept();
+    put(draft, selection, Channel { name, kept, plane });
+    Ok(())
+}

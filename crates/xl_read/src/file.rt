@@ -1,0 +1,59 @@
+ghost use Rattle.std.specs.Prelude.{◌≡◌, ◌≤◌, ◌^◌, length, IfOk};
+ghost use Rattle.spec_document.specs.declared.Owner.TheVariants as owners;
+ghost use Rattle.spec_document.specs.Document.{kept_bytes};
+ghost use Rattle.spec_document.specs.Limits.{IsSide};
+ghost use Rattle.spec_file.specs.Reading.{blank, reading};
+ghost use Rattle.spec_props.specs.Meaning.{kept_of};
+ghost use Rattle.xl_fields.specs.Gives.{Gives};
+
+use crate::draft::Draft;
+use crate::header::{Header, header_at, is_indexed};
+use crate::lists::{channels_at, nodes_at};
+use crate::listing::Listing;
+use crate::owners::OfImage;
+use std::alloc::{AllocError, Global};
+use xl_doc::{ColourMap, Document};
+use xl_fields::{Kind, ReadRefusedOrMemory, refused};
+
+/// The offset of the properties of the image.
+const PROPERTIES: usize = 26;
+
+/// The document before any layer or channel.
+fn blank(
+    alloc: Global,
+    header: Header,
+    props: Listing<OfImage>,
+) -> Result<Draft, AllocError>
+    requires width { IsSide header.width }
+    requires height { IsSide header.height }
+    requires kept { kept_bytes (kept_of owners.Image props.list) ≤ 2 ^ 28 }
+    ensures { IfOk result (λ draft. draft ≡ blank header props.entry) }
+{
+    let compression = props.compression();
+    let (colours, kept) = props.into_parts(alloc);
+    let colours = if is_indexed(header.base) {
+        colours
+    } else {
+        ColourMap::new(alloc)
+    };
+    Draft::new(alloc, header, compression, colours, kept)
+}
+
+/// The document that a file holds, or its first fault in the order of reading.
+#[tactic(auto, unfolding(spec_file::specs::Reading::reading))]
+pub fn decode(alloc: Global, bytes: &[u8]) -> Result<Document, ReadRefusedOrMemory>
+    requires { length bytes.now ≤ 2 ^ 31 }
+    ensures exact { Gives result (reading bytes.now) }
+{
+    let header = header_at(bytes)?;
+    let props: Listing<OfImage> = Listing::read(alloc, bytes, PROPERTIES)?;
+    props.check_kept(0)?;
+    if is_indexed(header.base) && !props.has_colours() {
+        return Err(refused(Kind::NoColourMap, props.end()).into());
+    }
+    let layers = props.end() + 8;
+    let mut draft = blank(alloc, header, props)?;
+    let channels = nodes_at(alloc, bytes, layers, &mut draft)?;
+    channels_at(alloc, bytes, channels, &mut draft)?;
+    Ok(draft.finish())
+}

@@ -1,0 +1,38 @@
+ghost use Rattle.std.specs.Prelude.{◌≡◌, ◌≤◌, ◌+◌, ◌^◌, length, IfOk};
+ghost use Rattle.spec_document.specs.Document.{kept_bytes};
+ghost use Rattle.spec_fields.specs.Reading.{unless};
+ghost use Rattle.xl_read.specs.Listing.{over};
+
+use xl_fields::{Kind, ReadRefused, refused};
+use xl_props::{Offsets, PropList};
+
+/// How many bytes of payload a document keeps at most.
+pub const MAX_KEPT_BYTES: u64 = 1 << 28;
+
+/// How many bytes of payload a list keeps.
+pub fn payload_bytes(kept: &PropList) -> u64
+    requires { kept_bytes kept.now ≤ 2 ^ 28 }
+    ensures { result ≡ kept_bytes kept.now }
+{
+    kept.as_slice().iter().map(|k| k.payload.len() as u64).sum()
+}
+
+/// Refuses the first of the payloads, which stand at these places, that takes what is kept past the limit.
+#[tactic(auto, using(crate::proofs::Payloads::passed_not))]
+pub fn within(kept: &PropList, places: &Offsets, before: u64) -> Result<(), ReadRefused>
+    requires before { before ≤ 2 ^ 28 }
+    requires places { length places.now ≡ length kept.now }
+    ensures rule { result ≡ unless (over before kept.now places.now) }
+    ensures room { IfOk result (λ _. before + kept_bytes kept.now ≤ 2 ^ 28) }
+{
+    let places = places.as_slice();
+    let mut total = before;
+    for (i, property) in kept.as_slice().iter().enumerate() {
+        let bytes = property.payload.len() as u64;
+        if bytes > MAX_KEPT_BYTES - total {
+            return Err(refused(Kind::TooLarge, places[i]));
+        }
+        total += bytes;
+    }
+    Ok(())
+}

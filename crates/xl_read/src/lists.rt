@@ -1,0 +1,81 @@
+ghost use Rattle.std.specs.Prelude.{◌≡◌, ◌≤◌, ◌^◌, length, OnOk, IfOk};
+ghost use Rattle.spec_forest.specs.Forest.{size};
+ghost use Rattle.spec_file.specs.Layers.{nodes_at};
+ghost use Rattle.spec_file.specs.Channels.{channels_at};
+ghost use Rattle.xl_read.specs.Yields.{Yields};
+
+use crate::channel::channel_at;
+use crate::draft::Draft;
+use crate::layer::node_at;
+use std::alloc::Global;
+use xl_fields::{Kind, ReadRefusedOrMemory, refused, u32_at};
+
+/// How many layers and groups a document has at most.
+const MAX_NODES: usize = 512;
+
+/// How many channel pointers are looked at: of 64 channels and the selection, and the zero behind them.
+const CHANNEL_POINTERS: usize = 66;
+
+/// Puts in the layers whose pointers stand from an offset on. Answers the offset behind the zero that ends them.
+#[tactic(auto, using(
+    crate::proofs::Pointers::nodes_next,
+    crate::proofs::Pointers::nodes_fault,
+    crate::proofs::Pointers::nodes_end,
+    crate::proofs::Pointers::nodes_cut,
+    crate::proofs::Pointers::nodes_many
+))]
+pub fn nodes_at(
+    alloc: Global,
+    file: &[u8],
+    at: usize,
+    draft: &mut Draft,
+) -> Result<usize, ReadRefusedOrMemory>
+    requires file { length file.now ≤ 2 ^ 31 }
+    requires place { at ≤ 2 ^ 33 }
+    requires empty { size draft.old.nodes ≡ 0 }
+    ensures read { Yields result (λ next. record { document = draft.new; next = next }) (nodes_at 512 file.now at draft.old) }
+    ensures within { IfOk result (λ next. next ≤ length file.now) }
+{
+    for i in 0..MAX_NODES {
+        let place = at + 4 * i;
+        let pointer = u32_at(file, place)?;
+        if pointer == 0 {
+            return Ok(place + 4);
+        }
+        node_at(alloc, file, pointer as usize, draft)?;
+    }
+    let place = at + 4 * MAX_NODES;
+    if u32_at(file, place)? != 0 {
+        return Err(refused(Kind::TooMany, place).into());
+    }
+    Ok(place + 4)
+}
+
+/// Puts in the channels whose pointers stand from an offset on.
+#[tactic(auto, using(
+    crate::proofs::Pointers::channels_next,
+    crate::proofs::Pointers::channels_fault,
+    crate::proofs::Pointers::channels_end,
+    crate::proofs::Pointers::channels_cut,
+    crate::proofs::Pointers::channels_many
+))]
+pub fn channels_at(
+    alloc: Global,
+    file: &[u8],
+    at: usize,
+    draft: &mut Draft,
+) -> Result<(), ReadRefusedOrMemory>
+    requires file { length file.now ≤ 2 ^ 31 }
+    requires place { at ≤ 2 ^ 33 }
+    ensures { Yields result (λ _. draft.new) (channels_at 66 file.now at draft.old) }
+{
+    for i in 0..CHANNEL_POINTERS {
+        let place = at + 4 * i;
+        let pointer = u32_at(file, place)?;
+        if pointer == 0 {
+            return Ok(());
+        }
+        channel_at(alloc, file, pointer as usize, place, draft)?;
+    }
+    Err(refused(Kind::TooMany, at + 4 * CHANNEL_POINTERS).into())
+}
