@@ -6,7 +6,7 @@ use Rattle.spec_forest.specs.Forest.{size}
 use Rattle.spec_forest.specs.Changes.{put_last}
 use Rattle.spec_forest.proofs.Totals.{total-put_last}
 use Rattle.spec_file.proofs.ForestGrows.{size-put_last}
-use Rattle.xl_doc.proofs.Placed.{size-nodes_of}
+use Rattle.xl_read.proofs.Placed.{size-nodes_of}
 use Rattle.spec_document.specs.Document.{Document, Nodes, Channel, plane_area, mask_area, nodes_area, area, kept_bytes, channel_kept, nodes_kept, all_kept, selection_count}
 use Rattle.spec_document.specs.Limits.{IsSide}
 use Rattle.xl_doc.specs.declared.node.Node.{Node}

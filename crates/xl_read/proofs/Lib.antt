@@ -7,3 +7,4 @@ pub mod Paths
 pub mod Pointers
 pub mod Branches
 pub mod Channels
+pub mod Placed

@@ -9,7 +9,7 @@ use Rattle.xl_doc.specs.declared.node.Node.{Node}
 use Rattle.xl_doc.specs.declared.node.Body.{Body}
 use Rattle.xl_doc.specs.Nodes.{nodes_of, is_group_body, IsLeaf, IsGroup, MarksAgree}
 use Rattle.xl_doc.specs.declared.node.Body.TheVariants as body
-use Rattle.xl_doc.proofs.Placed.{nodes_of-put_last, marks-put_last, size-nodes_of}
+use Rattle.xl_read.proofs.Placed.{nodes_of-put_last, marks-put_last, size-nodes_of}
 
 is_some-map : {A B : Type 0} (f : A → B) (o : Option A) → is_some (option_map f o) ≡ is_some o
 is_some-map f None = refl

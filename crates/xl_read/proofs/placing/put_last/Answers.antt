@@ -2,7 +2,7 @@ use Rattle.std.proofs.Common.{◌≡◌, ◌+◌, arith}
 use Rattle.spec_forest.specs.Forest.{size}
 use Rattle.xl_doc.specs.Nodes.{nodes_of, is_group_body}
 use Rattle.xl_tree.specs.Places.{alone}
-use Rattle.xl_doc.proofs.Placed.{size-nodes_of, marks-put_last}
+use Rattle.xl_read.proofs.Placed.{size-nodes_of, marks-put_last}
 use Rattle.xl_read.proofs.Placings.{leads_back, placed_same, marks_alone}
 use Rattle.xl_read.proofs.placing.put_last.Goals as goal
 
