@@ -3,9 +3,9 @@
 //! `data/` has the files, and `stdout` what each must give.
 #![tactic(auto)]
 
+use sha2::{Digest, Sha256};
 use std::alloc::AllocError;
 use std::process::ExitCode;
-use sha2::{Digest, Sha256};
 use xl_ports::fakes::{MemorySink, MemorySource};
 use xl_program::run;
 use xl_real::FileShelf;
@@ -49,7 +49,14 @@ fn line_of(rt: &HostRuntime, name: &str) -> Result<String, AllocError> {
     let alloc = rt.alloc();
     let mut source = MemorySource::new(Vec::new(alloc), 1, Vec::new(alloc));
     let mut sink = MemorySink::new(alloc, 1 << 20, Vec::new(alloc));
-    let status = run(alloc, &["render", name], &mut source, &mut sink, FileShelf::new(rt)).status;
+    let status = run(
+        alloc,
+        &["render", name],
+        &mut source,
+        &mut sink,
+        FileShelf::new(rt),
+    )
+    .status;
     let digest = hex::encode(alloc, &Sha256::digest(sink.held()))?;
     format!(in alloc; "{name} {status} {digest}")
 }

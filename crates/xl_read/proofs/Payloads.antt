@@ -47,8 +47,8 @@ module _ (owner : Owner) where
       by : (b : Bool) → ((total : ℕ) → total ≤ 2 ^ 28 → passes owner total ps ≡ over total (kept_of owner ps) (kept_places owner ps))
           → (let total = cond b before (before + length p.payload) in cond (nat_le total (2 ^ 28)) (passes owner total ps) (Some (fault TooLarge p.at)))
           ≡ over before
-            (map (λ q. record { kind = q.kind; payload = q.payload }) (cond (not b) (p ∷ filter (λ q. not (interprets owner q.kind)) ps) (filter (λ q. not (interprets owner q.kind)) ps)))
-            (map (λ q. q.at) (cond (not b) (p ∷ filter (λ q. not (interprets owner q.kind)) ps) (filter (λ q. not (interprets owner q.kind)) ps)))
+          (map (λ q. record { kind = q.kind; payload = q.payload }) (cond (not b) (p ∷ filter (λ q. not (interprets owner q.kind)) ps) (filter (λ q. not (interprets owner q.kind)) ps)))
+          (map (λ q. q.at) (cond (not b) (p ∷ filter (λ q. not (interprets owner q.kind)) ps) (filter (λ q. not (interprets owner q.kind)) ps)))
       by true rest = chosen_true (nat_le before (2 ^ 28)) (passes owner before ps) (Some (fault TooLarge p.at)) (le-leb before (2 ^ 28) small) ∙ rest before small
       by false rest = kept (nat_le (before + length p.payload) (2 ^ 28)) refl
         where

@@ -9,3 +9,9 @@ abbrev pub Yields : {A B : Type 0} → Result A ReadRefusedOrMemory → (A → B
 Yields (Ok x) made read = read ≡ Ok (made x)
 Yields (Err Memory) made read = Unit {0}
 Yields (Err (Refused e)) made read = read ≡ Err e
+
+-- a fact where a file is refused
+abbrev pub OnRefused : {A : Type 0} → Result A ReadRefusedOrMemory → Type 0 → Type 0
+OnRefused (Ok x) fact = Unit {0}
+OnRefused (Err Memory) fact = Unit {0}
+OnRefused (Err (Refused e)) fact = fact

@@ -52,19 +52,17 @@ impl Draft {
         requires height { IsSide header.height }
         requires compression { compression ≤ 1 }
         requires kept { kept_bytes kept ≤ 2 ^ 28 }
-        ensures {
-            IfOk result (λ d. d ≡ record {
-                width = header.width;
-                height = header.height;
-                base = header.base;
-                compression = compression;
-                colours = colours;
-                kept = kept;
-                nodes = none;
-                channels = [];
-                selection = None;
-            })
-        }
+        ensures { IfOk result (λ d. d ≡ record {
+          width = header.width;
+          height = header.height;
+          base = header.base;
+          compression = compression;
+          colours = colours;
+          kept = kept;
+          nodes = none;
+          channels = [];
+          selection = None;
+        }) }
     {
         let kept_bytes = payload_bytes(&kept);
         let document = Document {

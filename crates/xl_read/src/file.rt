@@ -1,15 +1,18 @@
 ghost use Rattle.std.specs.Prelude.{◌≡◌, ◌≤◌, ◌^◌, length, IfOk};
+ghost use Rattle.spec_document.specs.Document.{Document as Plain};
 ghost use Rattle.spec_document.specs.declared.Owner.TheVariants as owners;
 ghost use Rattle.spec_document.specs.Document.{kept_bytes};
-ghost use Rattle.spec_document.specs.Limits.{IsSide};
+ghost use Rattle.spec_document.specs.Limits.{IsSide, IsDocument};
+ghost use Rattle.spec_file.specs.Holds.{Holds};
 ghost use Rattle.spec_file.specs.Reading.{blank, reading};
 ghost use Rattle.spec_props.specs.Meaning.{kept_of};
 ghost use Rattle.xl_fields.specs.Gives.{Gives};
+ghost use Rattle.xl_read.specs.Yields.{OnRefused};
 
 use crate::draft::Draft;
 use crate::header::{Header, header_at, is_indexed};
-use crate::lists::{channels_at, nodes_at};
 use crate::listing::Listing;
+use crate::lists::{channels_at, nodes_at};
 use crate::owners::OfImage;
 use std::alloc::{AllocError, Global};
 use xl_doc::{ColourMap, Document};
@@ -19,11 +22,7 @@ use xl_fields::{Kind, ReadRefusedOrMemory, refused};
 const PROPERTIES: usize = 26;
 
 /// The document before any layer or channel.
-fn blank(
-    alloc: Global,
-    header: Header,
-    props: Listing<OfImage>,
-) -> Result<Draft, AllocError>
+fn blank(alloc: Global, header: Header, props: Listing<OfImage>) -> Result<Draft, AllocError>
     requires width { IsSide header.width }
     requires height { IsSide header.height }
     requires kept { kept_bytes (kept_of owners.Image props.list) ≤ 2 ^ 28 }
@@ -39,11 +38,11 @@ fn blank(
     Draft::new(alloc, header, compression, colours, kept)
 }
 
-/// The document that a file holds, or its first fault in the order of reading.
+/// The document that reading a file in order gives, or its first fault.
 #[tactic(auto, unfolding(spec_file::specs::Reading::reading))]
-pub fn decode(alloc: Global, bytes: &[u8]) -> Result<Document, ReadRefusedOrMemory>
+fn read(alloc: Global, bytes: &[u8]) -> Result<Document, ReadRefusedOrMemory>
     requires { length bytes.now ≤ 2 ^ 31 }
-    ensures exact { Gives result (reading bytes.now) }
+    ensures { Gives result (reading bytes.now) }
 {
     let header = header_at(bytes)?;
     let props: Listing<OfImage> = Listing::read(alloc, bytes, PROPERTIES)?;
@@ -56,4 +55,16 @@ pub fn decode(alloc: Global, bytes: &[u8]) -> Result<Document, ReadRefusedOrMemo
     let channels = nodes_at(alloc, bytes, layers, &mut draft)?;
     channels_at(alloc, bytes, channels, &mut draft)?;
     Ok(draft.finish())
+}
+
+/// The document that a file holds, or its first fault in the order of reading.
+pub fn decode(alloc: Global, bytes: &[u8]) -> Result<Document, ReadRefusedOrMemory>
+    requires { length bytes.now ≤ 2 ^ 31 }
+    ensures exact { Gives result (reading bytes.now) }
+    ensures held { IfOk result (λ document. Holds bytes.now document) }
+    ensures only { IfOk result (λ document. (other : Plain) → Holds bytes.now other → other ≡ document) }
+    ensures refused { OnRefused result ((document : Plain) → ¬ (Holds bytes.now document)) }
+    ensures limits { IfOk result (λ document. IsDocument document) }
+{
+    read(alloc, bytes)
 }

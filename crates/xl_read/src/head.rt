@@ -39,14 +39,14 @@ impl<'a> Model for Head<'a> {
     ghost Value = { layers.Head };
 
     ghost view = { λ h. record {
-        at = h.at;
-        width = h.width;
-        height = h.height;
-        kind = h.kind;
-        text = text_of h.file.now h.name;
-        props = h.props;
-        hierarchy = h.hierarchy;
-        mask = h.mask;
+      at = h.at;
+      width = h.width;
+      height = h.height;
+      kind = h.kind;
+      text = text_of h.file.now h.name;
+      props = h.props;
+      hierarchy = h.hierarchy;
+      mask = h.mask;
     } };
 
     ghost invariant = { λ h. (h.at < 2 ^ 32) × (h.name.start + h.name.len ≤ length h.file.now) × (length h.file.now ≤ 2 ^ 31) };

@@ -14,6 +14,8 @@ mod mask;
 mod owners;
 mod placing;
 mod sums;
+#[cfg(test)]
+mod tests;
 mod words;
 
 pub use file::decode;

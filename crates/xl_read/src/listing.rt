@@ -47,7 +47,11 @@ impl<'a, O: Owned> Model for Listing<'a, O> {
 impl<'a, O: Owned> Listing<'a, O> {
     /// The list at an offset, or its first fault.
     #[tactic(auto, using(crate::proofs::Listings::keeps), unfolding(crate::specs::Listing::listed))]
-    pub fn read(alloc: Global, file: &'a [u8], at: usize) -> Result<Listing<'a, O>, ReadRefusedOrMemory>
+    pub fn read(
+        alloc: Global,
+        file: &'a [u8],
+        at: usize,
+    ) -> Result<Listing<'a, O>, ReadRefusedOrMemory>
         requires short { length file.now ≤ 2 ^ 31 }
         requires place { at ≤ 2 ^ 33 }
         ensures read { Gives result (properties_at file.now O.owner at) }

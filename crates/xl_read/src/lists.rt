@@ -17,13 +17,7 @@ const MAX_NODES: usize = 512;
 const CHANNEL_POINTERS: usize = 66;
 
 /// Puts in the layers whose pointers stand from an offset on. Answers the offset behind the zero that ends them.
-#[tactic(auto, using(
-    crate::proofs::Pointers::nodes_next,
-    crate::proofs::Pointers::nodes_fault,
-    crate::proofs::Pointers::nodes_end,
-    crate::proofs::Pointers::nodes_cut,
-    crate::proofs::Pointers::nodes_many
-))]
+#[tactic(auto, using(crate::proofs::Pointers::nodes_next, crate::proofs::Pointers::nodes_fault, crate::proofs::Pointers::nodes_end, crate::proofs::Pointers::nodes_cut, crate::proofs::Pointers::nodes_many))]
 pub fn nodes_at(
     alloc: Global,
     file: &[u8],
@@ -52,13 +46,7 @@ pub fn nodes_at(
 }
 
 /// Puts in the channels whose pointers stand from an offset on.
-#[tactic(auto, using(
-    crate::proofs::Pointers::channels_next,
-    crate::proofs::Pointers::channels_fault,
-    crate::proofs::Pointers::channels_end,
-    crate::proofs::Pointers::channels_cut,
-    crate::proofs::Pointers::channels_many
-))]
+#[tactic(auto, using(crate::proofs::Pointers::channels_next, crate::proofs::Pointers::channels_fault, crate::proofs::Pointers::channels_end, crate::proofs::Pointers::channels_cut, crate::proofs::Pointers::channels_many))]
 pub fn channels_at(
     alloc: Global,
     file: &[u8],
