@@ -1,6 +1,19 @@
+use Rattle.std.proofs.Common.{arith}
 use Rattle.xl_read.proofs.ByteLists.{are_bytes}
 use Rattle.xl_read.proofs.Decoded.{held, only, refused, limits}
 use Rattle.xl_read.proofs.file.decode.Goals as goal
 
 pub returns-clause-held : goal.returns-clause-held
-returns-clause-held c = held c.args.bytes.now c.read.result (are_bytes c.args.bytes.now ?) c.read.ensures
+returns-clause-held c =
+    held c.args.bytes.now c.read.result (are_bytes c.args.bytes.now (λ i. omega (arith, c.type_inv.bytes i))) c.read.ensures
+
+pub returns-clause-only : goal.returns-clause-only
+returns-clause-only c =
+    only c.args.bytes.now c.read.result (are_bytes c.args.bytes.now (λ i. omega (arith, c.type_inv.bytes i))) c.read.ensures
+
+pub returns-clause-refused : goal.returns-clause-refused
+returns-clause-refused c = refused c.args.bytes.now c.read.result c.read.ensures
+
+pub returns-clause-limits : goal.returns-clause-limits
+returns-clause-limits c =
+    limits c.args.bytes.now c.read.result (are_bytes c.args.bytes.now (λ i. omega (arith, c.type_inv.bytes i))) c.read.ensures
