@@ -29,7 +29,7 @@ const GROUPED: [u8; 253] = [
 ];
 
 /// The bytes of the only pixel of a plane.
-fn pixel(rt: &impl Abort, plane: &Plane) -> &[u8] {
+fn pixel<'a>(rt: &impl Abort, plane: &'a Plane) -> &'a [u8] {
     assert_eq!(rt; (plane.width(), plane.height()), (1, 1));
     plane.row(0, 0, 1)
 }
