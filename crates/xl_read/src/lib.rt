@@ -14,8 +14,6 @@ mod mask;
 mod owners;
 mod placing;
 mod sums;
-#[cfg(test)]
-mod tests;
 mod words;
 
 pub use file::decode;

@@ -1,7 +1,7 @@
-use crate::decode;
 use std::process::Abort;
 use std::test::Fail;
 use xl_doc::{Body, Plane};
+use xl_read::decode;
 use xl_tree::Split;
 
 /// A canvas of one pixel, with one layer of the colour c86432ff.
