@@ -7,7 +7,9 @@ mod colours;
 mod count;
 mod fades;
 mod pixels;
+mod reciprocals;
 mod rows;
+mod words;
 
 pub use bytes::mul;
 pub use codes::{code_of, mode_of};
