@@ -1,3 +1,4 @@
+pub mod Laid
 pub mod Pairs
 pub mod Quotients
 pub mod SoFar

@@ -3,6 +3,7 @@ use Rattle.std.proofs.Common.{◌≡◌, ℕ, ◌+◌, ◌-◌, ◌*◌, ◌/◌
 use Rattle.std.proofs.Math.Nat.{mul-le-mul_right}
 use Rattle.std.proofs.lemmas.Nat.{and_mask, and_block}
 use Rattle.spec_blend.specs.Over.{mean}
+use Rattle.spec_blend.proofs.OverLemmas.{mean-is_byte}
 use Rattle.xl_blend.specs.Words.{pair, mixed_pair}
 
 -- the lowest byte of each half
@@ -60,3 +61,26 @@ mixed_in_word part above below part_small a_low a_high b_low b_high =
     let n = ah * part + bh * (255 - part) in
     let halves : above * part + below * (255 - part) + 8388736 ≡ pair (m + 128) (n + 128) = split_sum part (255 - part) above below in
     rw halves (rounded_pair m n (weighed part al bl part_small a_low b_low) (weighed part ah bh part_small a_high b_high))
+
+halves_of : (x y : ℕ) → x ≤ 255 → y ≤ 255 → (pair x y % 65536 ≤ 255) × (pair x y / 65536 ≤ 255)
+halves_of x y x_small y_small = (omega arith, omega arith)
+
+-- the means are bytes
+pub mixed_pair-bytes : (part above below : ℕ) → part ≤ 255 → above % 65536 ≤ 255 → above / 65536 ≤ 255 → below % 65536 ≤ 255 → below / 65536 ≤ 255
+    → (mixed_pair part above below % 65536 ≤ 255) × (mixed_pair part above below / 65536 ≤ 255)
+mixed_pair-bytes part above below part_small a_low a_high b_low b_high =
+    let some : 0 < 255 = omega arith in
+    let low : mean 255 part (above % 65536) (below % 65536) ≤ 255 = mean-is_byte 255 part (above % 65536) (below % 65536) some part_small a_low b_low in
+    let high : mean 255 part (above / 65536) (below / 65536) ≤ 255 = mean-is_byte 255 part (above / 65536) (below / 65536) some part_small a_high b_high in
+    halves_of (mean 255 part (above % 65536) (below % 65536)) (mean 255 part (above / 65536) (below / 65536)) low high
+
+-- the pairs in the word of four bytes
+pub outer_in_word : (r g b a : ℕ) → r ≤ 255 → g ≤ 255 → b ≤ 255 → bit_and (r + 256 * g + 65536 * b + 16777216 * a) 16711935 ≡ pair r b
+outer_in_word r g b a r_small g_small b_small =
+    let halves : r + 256 * g + 65536 * b + 16777216 * a ≡ pair (r + 256 * g) (b + 256 * a) = omega arith in
+    rw (halves, bytes_of_pair (r + 256 * g) (b + 256 * a) (omega arith)) (omega arith)
+
+pub inner_in_word : (r g b a : ℕ) → r ≤ 255 → g ≤ 255 → b ≤ 255 → a ≤ 255 → bit_and ((r + 256 * g + 65536 * b + 16777216 * a) / 256) 16711935 ≡ pair g a
+inner_in_word r g b a r_small g_small b_small a_small =
+    let halves : (r + 256 * g + 65536 * b + 16777216 * a) / 256 ≡ pair (g + 256 * b) a = omega arith in
+    rw (halves, bytes_of_pair (g + 256 * b) a (omega arith)) (omega arith)

@@ -6,6 +6,7 @@ mod codes;
 mod colours;
 mod count;
 mod fades;
+mod normal;
 mod pixels;
 mod reciprocals;
 mod rows;
