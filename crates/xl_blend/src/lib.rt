@@ -1,6 +1,7 @@
 //! The arithmetic of pixels: sixteen blend modes, and one row of pixels laid over another.
 #![tactic(auto)]
 
+mod alphas;
 mod bytes;
 mod codes;
 mod colours;

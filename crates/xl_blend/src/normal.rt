@@ -1,10 +1,10 @@
 //! Single pixels in the normal mode, by words.
-ghost use Rattle.std.specs.Prelude.{◌≡◌, ◌≤◌, ◌*◌, ◌+◌, ◌/◌};
-ghost use Rattle.spec_blend.specs.Over.{over_normal as laid_normal, mean as laid_mean};
+ghost use Rattle.std.specs.Prelude.{◌≡◌, ◌≤◌};
+ghost use Rattle.spec_blend.specs.Over.{over_normal as laid_normal};
 ghost use Rattle.xl_blend.specs.Words.{alpha_over, reciprocal_of};
 ghost use Rattle.xl_blend.specs.Shown.{shown};
 
-use crate::reciprocals::quotient;
+use crate::bytes::mean_by;
 use crate::words::{
     alpha, inner_pair, mix_pair, mul_bytes, of_bytes, of_pairs, of_word, opaque_inner_pair, outer_pair, wide_of, word,
 };
@@ -38,21 +38,6 @@ pub fn alpha_of(below: Pixel, above: Pixel) -> u32
 {
     let part = alpha(above);
     part + mul_bytes(alpha(below), 255 - part)
-}
-
-/// The mean of two bytes, by the reciprocal of the whole.
-#[inline(always)]
-fn mean_by(whole: u32, reciprocal: u32, part: u32, above: u32, below: u32) -> u32
-    requires byte { whole ≤ 255 }
-    requires is { reciprocal ≡ reciprocal_of whole }
-    requires within { part ≤ whole }
-    requires above { above ≤ 255 }
-    requires below { below ≤ 255 }
-    ensures value { result ≡ laid_mean whole part above below }
-    ensures byte { result ≤ 255 }
-{
-    let sum = above * part + below * (whole - part) + (whole >> 1);
-    quotient(sum, whole, reciprocal)
 }
 
 /// A pixel over another, by its alpha and the reciprocal of that.
