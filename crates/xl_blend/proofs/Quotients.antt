@@ -36,8 +36,8 @@ by_some x d m some d_small x_small m_is =
     let whole : d * m ≡ 16777216 + (d * m - 16777216) = omega arith in
     let parts : x ≡ x / d * d + x % d = sym (div-add-mod' x d) in
     rw (split (x / d) d (x % d) m (d * m - 16777216) x parts whole)
-        (div-mul-add (x / d) 16777216 (x / d * (d * m - 16777216) + x % d * m)
-            (left_over (x / d) d (x % d) m (d * m - 16777216) (few x d some x_small) (omega arith) d_small whole (omega arith)))
+    (div-mul-add (x / d) 16777216 (x / d * (d * m - 16777216) + x % d * m)
+    (left_over (x / d) d (x % d) m (d * m - 16777216) (few x d some x_small) (omega arith) d_small whole (omega arith)))
 
 by_none : (x m : ℕ) → 2 * x ≤ 0 → x * m / 16777216 ≡ x / 0
 by_none x m x_small =

@@ -20,6 +20,7 @@ pub struct Alphas {
 pub fn alphas_of(row: &[Pixel]) -> Alphas
     ensures least { (k : ℕ) → k < length row.now → result.least ≤ (slice_index_or row.now k clear).a }
     ensures most { (k : ℕ) → k < length row.now → (slice_index_or row.now k clear).a ≤ result.most }
+    ensures byte { result.most ≤ 255 }
 {
     let mut least = 255;
     let mut most = 0;

@@ -6,6 +6,7 @@ use crate::bytes::mul;
 use spec_blend::Mode;
 
 /// The colour byte that a mode gives for `i` below and `m` above.
+#[inline(always)]
 pub fn blend(mode: Mode, i: u8, m: u8) -> u8
     ensures { result ≡ blended mode i m }
 {

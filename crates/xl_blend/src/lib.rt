@@ -2,12 +2,14 @@
 #![tactic(auto)]
 
 mod alphas;
+mod blended_rows;
 mod bytes;
 mod codes;
 mod colours;
 mod count;
 mod fades;
 mod normal;
+mod normal_rows;
 mod pixels;
 mod reciprocals;
 mod rows;

@@ -5,8 +5,10 @@ ghost use Rattle.xl_blend.specs.Words.{alpha_over, reciprocal_of};
 ghost use Rattle.xl_blend.specs.Shown.{shown};
 
 use crate::bytes::mean_by;
+use crate::reciprocals::reciprocal;
 use crate::words::{
-    alpha, inner_pair, mix_pair, mul_bytes, of_bytes, of_pairs, of_word, opaque_inner_pair, outer_pair, wide_of, word,
+    alpha, inner_pair, mix_pair, mul_bytes, of_bytes, of_pairs, of_word, opaque_inner_pair,
+    outer_pair, wide_of, word,
 };
 use spec_blend::Pixel;
 
@@ -53,4 +55,13 @@ pub fn over_by(below: Pixel, above: Pixel, whole: u32, reciprocal: u32) -> Pixel
     let g = mean_by(whole, reciprocal, above.a, above.g, below.g);
     let b = mean_by(whole, reciprocal, above.a, above.b, below.b);
     of_bytes(r, g, b, whole)
+}
+
+/// A pixel over another.
+#[inline]
+pub fn over_normal(below: Pixel, above: Pixel) -> Pixel
+    ensures { result ≡ laid_normal below above }
+{
+    let whole = alpha_of(below, above);
+    over_by(below, above, whole, reciprocal(whole as u8))
 }

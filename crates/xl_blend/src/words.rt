@@ -30,7 +30,8 @@ pub fn of_word(word: u32) -> Pixel
 /// The alpha of a pixel.
 #[inline(always)]
 pub fn alpha(of: Pixel) -> u32
-    ensures { result ≡ of.a }
+    ensures value { result ≡ of.a }
+    ensures byte { result ≤ 255 }
 {
     word(of) >> 24
 }
