@@ -1,35 +1,63 @@
 //! The alphas of rows of pixels.
 ghost use Rattle.std.specs.Prelude.{◌≡◌, ℕ, ◌<◌, ◌≤◌, length, slice_index, slice_index_or};
-ghost use Rattle.spec_blend.specs.Over.{clear};
-ghost use Rattle.xl_blend.specs.Words.{alpha_over, reciprocal_of};
+ghost use Rattle.std.specs.Bool.{OnTrue};
+ghost use Rattle.spec_blend.specs.Over.{clear, IsPixel};
+ghost use Rattle.xl_blend.specs.Words.{word_of, alpha_over, reciprocal_of};
 
 use crate::normal::alpha_of;
 use crate::reciprocals::reciprocal;
-use crate::words::alpha;
+use crate::words::word;
 use spec_blend::Pixel;
 
-/// What all alphas of a row lie between.
-#[derive(Clone, Copy)]
-pub struct Alphas {
-    pub least: u32,
-    pub most: u32,
+/// Whether a row is opaque; of an empty row the answer is no.
+///
+/// Most rows that are not are known by their first pixel, and are not read further.
+#[inline]
+pub fn is_opaque(row: &[Pixel]) -> bool
+    ensures { OnTrue result ((k : ℕ) → k < length row.now → (slice_index_or row.now k clear).a ≡ 255) }
+{
+    match row.first() {
+        Some(first) if first.a == 255 => least_word(row) >= OPAQUE,
+        _ => false,
+    }
 }
 
-/// The least alpha of a row and the greatest; of an empty row 255 and 0.
+/// Whether a row has no alpha anywhere; of an empty row the answer is no.
 #[inline]
-pub fn alphas_of(row: &[Pixel]) -> Alphas
-    ensures least { (k : ℕ) → k < length row.now → result.least ≤ (slice_index_or row.now k clear).a }
-    ensures most { (k : ℕ) → k < length row.now → (slice_index_or row.now k clear).a ≤ result.most }
-    ensures byte { result.most ≤ 255 }
+pub fn is_clear(row: &[Pixel]) -> bool
+    ensures { OnTrue result ((k : ℕ) → k < length row.now → (slice_index_or row.now k clear).a ≡ 0) }
 {
-    let mut least = 255;
-    let mut most = 0;
-    for pixel in row {
-        let alpha = alpha(*pixel);
-        least = alpha.min(least);
-        most = alpha.max(most);
+    match row.first() {
+        Some(first) if first.a == 0 => greatest_word(row) < SOME,
+        _ => false,
     }
-    Alphas { least, most }
+}
+
+/// The least word of an opaque pixel.
+const OPAQUE: u32 = 0xff00_0000;
+
+/// The least word of a pixel with some alpha.
+const SOME: u32 = 0x0100_0000;
+
+fn least_word(row: &[Pixel]) -> u32
+    ensures least { (k : ℕ) → k < length row.now → result ≤ word_of (slice_index_or row.now k clear) }
+    ensures pixels { (k : ℕ) → k < length row.now → IsPixel (slice_index_or row.now k clear) }
+{
+    let mut least = u32::MAX;
+    for pixel in row {
+        least = word(*pixel).min(least);
+    }
+    least
+}
+
+fn greatest_word(row: &[Pixel]) -> u32
+    ensures { (k : ℕ) → k < length row.now → word_of (slice_index_or row.now k clear) ≤ result }
+{
+    let mut greatest = 0;
+    for pixel in row {
+        greatest = word(*pixel).max(greatest);
+    }
+    greatest
 }
 
 /// The alpha of each pixel over the one below it.

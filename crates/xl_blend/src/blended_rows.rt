@@ -3,7 +3,7 @@ ghost use Rattle.std.specs.Prelude.{◌≡◌, ℕ, ◌<◌, length, slice_index
 ghost use Rattle.spec_blend.specs.Over.{clear};
 ghost use Rattle.xl_blend.specs.Rows.{blended_rows};
 
-use crate::alphas::alphas_of;
+use crate::alphas::{is_clear, is_opaque};
 use crate::pixels::{blend_opaque, over_blended};
 use spec_blend::{Mode, Pixel};
 
@@ -36,13 +36,12 @@ pub fn lay_blended(mode: Mode, below: &mut [Pixel], above: &[Pixel])
     requires { length below.old ≡ length above.now }
     ensures { below.new ≡ blended_rows mode below.old above.now }
 {
-    let upper = alphas_of(above);
-    if upper.most != 0 {
-        let lower = alphas_of(below);
-        if lower.least == 255 {
-            lay_over_opaque(mode, below, above);
-        } else {
-            lay_over_any(mode, below, above);
-        }
+    if is_clear(above) {
+        return;
+    }
+    if is_opaque(below) {
+        lay_over_opaque(mode, below, above);
+    } else {
+        lay_over_any(mode, below, above);
     }
 }

@@ -5,7 +5,7 @@ ghost use Rattle.xl_blend.specs.Rows.{over_rows};
 ghost use Rattle.xl_blend.specs.Shown.{shown};
 ghost use Rattle.xl_blend.specs.Words.{alpha_over, reciprocal_of};
 
-use crate::alphas::{alphas_of, reciprocals_of, wholes_of};
+use crate::alphas::{is_clear, is_opaque, reciprocals_of, wholes_of};
 use crate::normal::{over_by, over_opaque, shown_of};
 use spec_blend::{Mode, Pixel};
 
@@ -68,20 +68,16 @@ pub fn lay_normal(below: &mut [Pixel], above: &[Pixel])
     requires piece { length below.old ≤ PIECE }
     ensures { below.new ≡ over_rows Mode.Normal below.old above.now }
 {
-    let upper = alphas_of(above);
-    if upper.least == 255 {
+    if is_opaque(above) {
         below.copy_from_slice(above);
-    } else if upper.most == 0 {
+    } else if is_clear(above) {
+        show(below);
+    } else if is_opaque(below) {
+        lay_over_opaque(below, above);
+    } else if is_clear(below) {
+        below.copy_from_slice(above);
         show(below);
     } else {
-        let lower = alphas_of(below);
-        if lower.least == 255 {
-            lay_over_opaque(below, above);
-        } else if lower.most == 0 {
-            below.copy_from_slice(above);
-            show(below);
-        } else {
-            lay_over_any(below, above);
-        }
+        lay_over_any(below, above);
     }
 }

@@ -3,6 +3,7 @@
 //! Loops over words, in place of fields, are compiled to vector instructions.
 ghost use Rattle.std.specs.Prelude.{◌≡◌, ◌≤◌, ◌%◌, ◌/◌};
 ghost use Rattle.spec_blend.specs.Blend.{mul as product};
+ghost use Rattle.spec_blend.specs.Over.{IsPixel};
 ghost use Rattle.xl_blend.specs.Words.{word_of, pixel_of, pair, mixed_pair};
 
 use spec_blend::Pixel;
@@ -13,7 +14,8 @@ const PAIR: u32 = 0x00ff_00ff;
 /// The bytes of a pixel, red lowest.
 #[inline(always)]
 pub fn word(of: Pixel) -> u32
-    ensures { result ≡ word_of of }
+    ensures value { result ≡ word_of of }
+    ensures bytes { IsPixel of }
 {
     u32::from_le_bytes([of.r, of.g, of.b, of.a])
 }
