@@ -1,6 +1,6 @@
 -- A quotient by a product with a reciprocal that was rounded up.
-use Rattle.std.proofs.Common.{◌≡◌, ℕ, zero, suc, refl, ◌+◌, ◌-◌, ◌*◌, ◌/◌, ◌%◌, ◌≤◌, ◌<◌, arith, sym, mul_comm, mul_assoc}
-use Rattle.std.proofs.Math.Nat.{add-mul, mul-add, mul-le-mul_left, mul-le-mul_right, div-mul-le_self, lt-div-mul-add, div-lt_iff_lt-mul}
+use Rattle.std.proofs.Common.{◌≡◌, ℕ, zero, suc, ◌+◌, ◌-◌, ◌*◌, ◌/◌, ◌%◌, ◌≤◌, ◌<◌, arith, sym, mul_comm, mul_assoc}
+use Rattle.std.proofs.Math.Nat.{add-mul, mul-add, mul-le-mul_right, div-mul-le_self, lt-div-mul-add, div-lt_iff_lt-mul}
 use Rattle.xl_blend.specs.Words.{reciprocal_of}
 use Rattle.std.proofs.lemmas.Nat.{div-mul-add, div-add-mod'}
 

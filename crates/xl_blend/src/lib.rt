@@ -13,6 +13,8 @@ mod normal_rows;
 mod pixels;
 mod reciprocals;
 mod rows;
+#[cfg(test)]
+mod tests;
 mod words;
 
 pub use bytes::mul;

@@ -10,7 +10,7 @@ use crate::normal::{over_by, over_opaque, shown_of};
 use spec_blend::{Mode, Pixel};
 
 /// The most pixels of a piece.
-pub const PIECE: usize = 64;
+pub const PIECE: usize = 128;
 
 /// Pixels over opaque ones.
 fn lay_over_opaque(below: &mut [Pixel], above: &[Pixel])

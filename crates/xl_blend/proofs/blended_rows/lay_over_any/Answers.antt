@@ -1,5 +1,5 @@
-use Rattle.std.proofs.Common.{◌≡◌, ◌∙◌, sym, arith}
-use Rattle.xl_blend.proofs.SoFar.{so_far-none, so_far-more, so_far-all, rest-more}
+use Rattle.std.proofs.Common.{◌∙◌, sym, arith}
+use Rattle.xl_blend.proofs.SoFar.{so_far-none, so_far-more, so_far-all}
 use Rattle.xl_blend.proofs.blended_rows.lay_over_any.Goals as goal
 
 pub loop-i-init : goal.loop-i-init

@@ -1,6 +1,6 @@
-use Rattle.std.proofs.Common.{◌≡◌, ℕ, ◌<◌, ◌≤◌, length, slice_index_or}
+use Rattle.std.proofs.Common.{◌≡◌}
 use Rattle.spec_blend.specs.declared.Pixel.{Pixel}
-use Rattle.spec_blend.specs.Over.{over_blended, clear}
+use Rattle.spec_blend.specs.Over.{over_blended}
 use Rattle.xl_blend.specs.Rows.{blended_rows}
 use Rattle.xl_blend.proofs.SoFar.{so_far}
 use Rattle.xl_blend.proofs.blended_rows.lay_over_any.Given as goal

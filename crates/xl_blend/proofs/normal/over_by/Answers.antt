@@ -1,4 +1,3 @@
-use Rattle.std.proofs.Common.{◌∙◌}
 use Rattle.xl_blend.proofs.Laid.{over_by_means}
 use Rattle.xl_blend.proofs.normal.over_by.Goals as goal
 

@@ -1,4 +1,3 @@
-use Rattle.std.proofs.Common.{Fits}
 use Rattle.xl_blend.proofs.Quotients.{by_reciprocal, product_fits}
 use Rattle.xl_blend.proofs.reciprocals.quotient.Goals as goal
 

@@ -1,5 +1,5 @@
 -- The table is held against its definition at each number, by computing.
-use Rattle.std.proofs.Common.{◌≡◌, ℕ, zero, suc, ◌+◌, ◌-◌, ◌/◌, ◌<◌, Bool, true, false, ◌&&◌, nat_eq, get_or, refl, arith, inl, inr}
+use Rattle.std.proofs.Common.{◌≡◌, ℕ, zero, suc, ◌<◌, Bool, true, false, ◌&&◌, nat_eq, get_or, refl, arith, inl, inr}
 use Rattle.std.proofs.lemmas.Bool.{cases_eq, eqb-true}
 use Rattle.xl_blend.specs.declared.reciprocals.TheConstants.{RECIPROCALS}
 use Rattle.xl_blend.specs.Words.{reciprocal_of}

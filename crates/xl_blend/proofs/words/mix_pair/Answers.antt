@@ -1,4 +1,3 @@
-use Rattle.std.proofs.Common.{◌≤◌, ◌%◌}
 use Rattle.xl_blend.proofs.Pairs.{mixed_in_word, mixed_pair-bytes}
 use Rattle.xl_blend.proofs.words.mix_pair.Goals as goal
 
