@@ -1,1 +1,5 @@
+pub mod Laid
+pub mod Pairs
+pub mod Quotients
+pub mod RowLemmas
 pub mod SoFar

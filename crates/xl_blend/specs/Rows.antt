@@ -4,11 +4,15 @@ use Rattle.std.specs.List.{zip}
 use Rattle.spec_blend.specs.declared.Mode.{Mode}
 use Rattle.spec_blend.specs.declared.Pixel.{Pixel}
 use Rattle.spec_blend.specs.Blend.{mul}
-use Rattle.spec_blend.specs.Over.{over}
+use Rattle.spec_blend.specs.Over.{over, over_blended}
 
 -- each pixel of a row laid over the pixel below it
 abbrev pub over_rows : Mode → (below above : List Pixel) → List Pixel
 over_rows mode below above = map (λ (p : Pixel × Pixel). over mode p.0 p.1) (zip below above)
+
+-- the same where the mode is not the normal one
+abbrev pub blended_rows : Mode → (below above : List Pixel) → List Pixel
+blended_rows mode below above = map (λ (p : Pixel × Pixel). over_blended mode p.0 p.1) (zip below above)
 
 -- the same pixel with a part of its alpha
 abbrev pub faded : (part : ℕ) → Pixel → Pixel

@@ -2,6 +2,9 @@
 ghost use Rattle.std.specs.Prelude.{◌≡◌, ◌≤◌, ◌<◌};
 ghost use Rattle.spec_blend.specs.Blend.{mul as product};
 ghost use Rattle.spec_blend.specs.Over.{mean as laid_mean};
+ghost use Rattle.xl_blend.specs.Words.{reciprocal_of};
+
+use crate::reciprocals::{quotient, reciprocal};
 
 /// The product in parts of 255.
 #[inline]
@@ -15,14 +18,47 @@ pub fn mul(a: u32, b: u32) -> u32
     (2 * a * b + 255) / 510
 }
 
-/// The mean of two bytes, of which the upper one has the weight `weight` of `total`.
-#[inline]
+/// The mean of two bytes, by the reciprocal of the whole.
+#[inline(always)]
+pub fn mean_by(whole: u32, reciprocal: u32, part: u32, above: u32, below: u32) -> u32
+    requires byte { whole ≤ 255 }
+    requires is { reciprocal ≡ reciprocal_of whole }
+    requires within { part ≤ whole }
+    requires above { above ≤ 255 }
+    requires below { below ≤ 255 }
+    ensures value { result ≡ laid_mean whole part above below }
+    ensures byte { result ≤ 255 }
+{
+    let sum = above * part + below * (whole - part) + (whole >> 1);
+    quotient(sum, whole, reciprocal)
+}
+
+/// The mean of two bytes, where the upper one has the weight `weight` of `total`.
+#[inline(always)]
 pub fn mean(total: u32, weight: u32, above: u8, below: u8) -> u8
     requires some { 0 < total }
     requires within { weight ≤ total }
     requires byte { total ≤ 255 }
     ensures { result ≡ laid_mean total weight above below }
 {
-    let sum = u32::from(above) * weight + u32::from(below) * (total - weight);
-    ((2 * sum + total) / (2 * total)) as u8
+    let reciprocal = reciprocal(total as u8);
+    mean_by(
+        total,
+        reciprocal,
+        weight,
+        u32::from(above),
+        u32::from(below),
+    ) as u8
+}
+
+/// The mean of two bytes, where the upper one has the weight `part` of 255.
+#[inline(always)]
+pub fn mix(part: u32, above: u8, below: u32) -> u32
+    requires part { part ≤ 255 }
+    requires below { below ≤ 255 }
+    ensures value { result ≡ laid_mean 255 part above below }
+    ensures byte { result ≤ 255 }
+{
+    let sum = u32::from(above) * part + below * (255 - part) + 128;
+    sum + (sum >> 8) >> 8
 }

@@ -3,9 +3,11 @@ ghost use Rattle.std.specs.Prelude.{◌≡◌};
 ghost use Rattle.spec_blend.specs.Blend.{blend as blended};
 
 use crate::bytes::mul;
+use crate::words::mul_bytes;
 use spec_blend::Mode;
 
 /// The colour byte that a mode gives for `i` below and `m` above.
+#[inline(always)]
 pub fn blend(mode: Mode, i: u8, m: u8) -> u8
     ensures { result ≡ blended mode i m }
 {
@@ -13,8 +15,8 @@ pub fn blend(mode: Mode, i: u8, m: u8) -> u8
     let m = u32::from(m);
     let value = match mode {
         Mode::Normal => m,
-        Mode::Multiply => mul(i, m),
-        Mode::Screen => 255 - mul(255 - i, 255 - m),
+        Mode::Multiply => mul_bytes(i, m),
+        Mode::Screen => 255 - mul_bytes(255 - i, 255 - m),
         Mode::Overlay => mul(i, i + mul(2 * m, 255 - i)),
         Mode::Difference => i.abs_diff(m),
         Mode::Addition => i + m,
@@ -31,7 +33,10 @@ pub fn blend(mode: Mode, i: u8, m: u8) -> u8
                 2 * i * m / 256
             }
         }
-        Mode::SoftLight => mul(255 - i, mul(i, m)) + mul(i, 255 - mul(255 - i, 255 - m)),
+        Mode::SoftLight => {
+            let screen = 255 - mul_bytes(255 - i, 255 - m);
+            mul_bytes(255 - i, mul_bytes(i, m)) + mul_bytes(i, screen)
+        }
         Mode::GrainExtract => (i + 128).saturating_sub(m),
         Mode::GrainMerge => (i + m).saturating_sub(128),
     };

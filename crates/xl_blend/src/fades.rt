@@ -19,6 +19,9 @@ fn fade(pixel: Pixel, part: u8) -> Pixel
 pub fn fade_row(row: &mut [Pixel], part: u8)
     ensures { row.new ≡ faded_row part row.old }
 {
+    if part == 255 {
+        return;
+    }
     for pixel in row {
         *pixel = fade(*pixel, part);
     }

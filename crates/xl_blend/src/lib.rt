@@ -1,13 +1,21 @@
 //! The arithmetic of pixels: sixteen blend modes, and one row of pixels laid over another.
 #![tactic(auto)]
 
+mod alphas;
+mod blended_rows;
 mod bytes;
 mod codes;
 mod colours;
 mod count;
 mod fades;
+mod normal;
+mod normal_rows;
 mod pixels;
+mod reciprocals;
 mod rows;
+#[cfg(test)]
+mod tests;
+mod words;
 
 pub use bytes::mul;
 pub use codes::{code_of, mode_of};

@@ -1,47 +1,23 @@
 //! One pixel laid over another.
 ghost use Rattle.std.specs.Prelude.{◌≡◌, ◌+◌};
-ghost use Rattle.spec_blend.specs.Over.{over as laid_over, over_normal as laid_normal, over_blended as laid_blended};
+ghost use Rattle.spec_blend.specs.Over.{over as laid_over, over_blended as laid_blended};
 
-use crate::bytes::{mean, mul};
+use crate::bytes::{mean, mix};
 use crate::colours::blend;
 use crate::count::Steps;
+use crate::normal::over_normal;
+use crate::words::{mul_bytes, of_bytes, wide_of};
 use spec_blend::{Mode, Pixel};
 use std::sync::ledger::Ledger;
 
-/// No colour, and nothing of it.
-pub const CLEAR: Pixel = Pixel {
-    r: 0,
-    g: 0,
-    b: 0,
-    a: 0,
-};
-
-/// A pixel laid over another in the normal mode.
-#[inline]
-pub fn over_normal(below: Pixel, above: Pixel) -> Pixel
-    ensures { result ≡ laid_normal below above }
-{
-    let weight = u32::from(above.a);
-    let alpha = weight + mul(u32::from(below.a), 255 - weight);
-    if alpha == 0 {
-        return CLEAR;
-    }
-    Pixel {
-        r: mean(alpha, weight, above.r, below.r),
-        g: mean(alpha, weight, above.g, below.g),
-        b: mean(alpha, weight, above.b, below.b),
-        a: alpha as u8,
-    }
-}
-
 /// A pixel laid over another in any other mode.
-#[inline]
+#[inline(always)]
 pub fn over_blended(mode: Mode, below: Pixel, above: Pixel) -> Pixel
     ensures { result ≡ laid_blended mode below above }
 {
     let part = u32::from(above.a.min(below.a));
     let alpha = u32::from(below.a);
-    let total = alpha + mul(255 - alpha, part);
+    let total = alpha + mul_bytes(255 - alpha, part);
     if part == 0 {
         return below;
     }
@@ -51,6 +27,20 @@ pub fn over_blended(mode: Mode, below: Pixel, above: Pixel) -> Pixel
         b: mean(total, part, blend(mode, below.b, above.b), below.b),
         a: below.a,
     }
+}
+
+/// The same over an opaque pixel.
+#[inline(always)]
+pub fn blend_opaque(mode: Mode, below: Pixel, above: Pixel) -> Pixel
+    requires { below.a ≡ 255 }
+    ensures { result ≡ laid_blended mode below above }
+{
+    let lower = wide_of(below);
+    let upper = wide_of(above);
+    let r = mix(upper.a, blend(mode, lower.r as u8, upper.r as u8), lower.r);
+    let g = mix(upper.a, blend(mode, lower.g as u8, upper.g as u8), lower.g);
+    let b = mix(upper.a, blend(mode, lower.b as u8, upper.b as u8), lower.b);
+    of_bytes(r, g, b, 255)
 }
 
 /// A pixel laid over another in a mode.

@@ -1,11 +1,52 @@
-//! One row of pixels laid over another.
-ghost use Rattle.std.specs.Prelude.{◌≡◌, ◌+◌, length};
+//! One row of pixels laid over another, a piece at a time.
+ghost use Rattle.std.specs.Prelude.{◌≡◌, ◌+◌, ◌≤◌, length};
 ghost use Rattle.xl_blend.specs.Rows.{over_rows};
 
+use crate::blended_rows::lay_blended;
 use crate::count::Steps;
-use crate::pixels::over_pixel;
+use crate::normal_rows::{PIECE, lay_normal};
 use spec_blend::{Mode, Pixel};
 use std::sync::ledger::Ledger;
+
+/// A piece of a row over another. Each arm names its mode, so that its loop is compiled for that
+/// mode alone.
+fn lay(mode: Mode, below: &mut [Pixel], above: &[Pixel])
+    requires lengths { length below.old ≡ length above.now }
+    requires piece { length below.old ≤ PIECE }
+    ensures { below.new ≡ over_rows mode below.old above.now }
+{
+    match mode {
+        Mode::Normal => lay_normal(below, above),
+        Mode::Multiply => lay_blended(Mode::Multiply, below, above),
+        Mode::Screen => lay_blended(Mode::Screen, below, above),
+        Mode::Overlay => lay_blended(Mode::Overlay, below, above),
+        Mode::Difference => lay_blended(Mode::Difference, below, above),
+        Mode::Addition => lay_blended(Mode::Addition, below, above),
+        Mode::Subtract => lay_blended(Mode::Subtract, below, above),
+        Mode::DarkenOnly => lay_blended(Mode::DarkenOnly, below, above),
+        Mode::LightenOnly => lay_blended(Mode::LightenOnly, below, above),
+        Mode::Divide => lay_blended(Mode::Divide, below, above),
+        Mode::Dodge => lay_blended(Mode::Dodge, below, above),
+        Mode::Burn => lay_blended(Mode::Burn, below, above),
+        Mode::HardLight => lay_blended(Mode::HardLight, below, above),
+        Mode::SoftLight => lay_blended(Mode::SoftLight, below, above),
+        Mode::GrainExtract => lay_blended(Mode::GrainExtract, below, above),
+        Mode::GrainMerge => lay_blended(Mode::GrainMerge, below, above),
+    }
+}
+
+/// A row over another, a piece at a time.
+fn lay_row(mode: Mode, below: &mut [Pixel], above: &[Pixel])
+    requires { length below.old ≡ length above.now }
+    ensures { below.new ≡ over_rows mode below.old above.now }
+{
+    let mut at = 0;
+    while at < below.len() {
+        let end = (below.len() - at).min(PIECE) + at;
+        lay(mode, &mut below[at..end], &above[at..end]);
+        at = end;
+    }
+}
 
 /// Each pixel of a row laid over the pixel below it, which is one step a pixel.
 pub fn over_row<L: Ledger>(mode: Mode, below: &mut [Pixel], above: &[Pixel], steps: &mut Steps<L>)
@@ -14,7 +55,5 @@ pub fn over_row<L: Ledger>(mode: Mode, below: &mut [Pixel], above: &[Pixel], ste
     ensures cost { steps.new ≡ steps.old + length below.old }
 {
     steps.add(below.len() as u64);
-    for i in 0..below.len() {
-        below[i] = over_pixel(mode, below[i], above[i]);
-    }
+    lay_row(mode, below, above);
 }

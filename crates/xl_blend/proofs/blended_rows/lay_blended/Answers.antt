@@ -1,0 +1,10 @@
+use Rattle.std.proofs.Common.{slice_index_or, ◌∙◌, sym, arith}
+use Rattle.std.proofs.lemmas.List.{map-id}
+use Rattle.spec_blend.specs.Over.{clear}
+use Rattle.xl_blend.proofs.SoFar.{map-zip_first}
+use Rattle.xl_blend.proofs.Laid.{blended_by_clear}
+use Rattle.xl_blend.proofs.blended_rows.lay_blended.Goals as goal
+
+pub returns-then-is_clear : goal.returns-then-is_clear
+returns-then-is_clear c =
+    sym (map-zip_first _ (λ p. p) _ _ clear clear c.requires (λ k h. blended_by_clear c.args.mode (slice_index_or c.args.below.now k clear) (slice_index_or c.args.above.now k clear) (c.if-is_clear.ensures k (omega arith))) ∙ map-id _)

@@ -1,0 +1,140 @@
+//! Pixels as words, of which two bytes are mixed in one multiplication.
+//!
+//! Loops over words, in place of fields, are compiled to vector instructions.
+ghost use Rattle.std.specs.Prelude.{◌≡◌, ◌≤◌, ◌%◌, ◌/◌};
+ghost use Rattle.spec_blend.specs.Blend.{mul as product};
+ghost use Rattle.spec_blend.specs.Over.{IsPixel};
+ghost use Rattle.xl_blend.specs.Words.{word_of, pixel_of, pair, mixed_pair};
+
+use spec_blend::Pixel;
+
+/// The lowest bytes of both halves of a word.
+const PAIR: u32 = 0x00ff_00ff;
+
+/// The bytes of a pixel, red lowest.
+#[inline(always)]
+pub fn word(of: Pixel) -> u32
+    ensures value { result ≡ word_of of }
+    ensures bytes { IsPixel of }
+{
+    u32::from_le_bytes([of.r, of.g, of.b, of.a])
+}
+
+/// The pixel of a word.
+#[inline(always)]
+pub fn of_word(word: u32) -> Pixel
+    ensures { result ≡ pixel_of word }
+{
+    let [r, g, b, a] = word.to_le_bytes();
+    Pixel { r, g, b, a }
+}
+
+/// The alpha of a pixel.
+#[inline(always)]
+pub fn alpha(of: Pixel) -> u32
+    ensures value { result ≡ of.a }
+    ensures byte { result ≤ 255 }
+{
+    word(of) >> 24
+}
+
+/// The red and the blue of a pixel.
+#[inline(always)]
+pub fn outer_pair(of: Pixel) -> u32
+    ensures { result ≡ pair of.r of.b }
+{
+    word(of) & PAIR
+}
+
+/// The green and the alpha of a pixel.
+#[inline(always)]
+pub fn inner_pair(of: Pixel) -> u32
+    ensures { result ≡ pair of.g of.a }
+{
+    word(of) >> 8 & PAIR
+}
+
+/// The green of a pixel, and the whole alpha.
+#[inline(always)]
+pub fn opaque_inner_pair(of: Pixel) -> u32
+    ensures { result ≡ pair of.g 255 }
+{
+    (word(of) >> 8 & 0xff) + 0x00ff_0000
+}
+
+/// The pixel whose red and blue, and whose green and alpha, are a pair each.
+#[inline(always)]
+pub fn of_pairs(outer: u32, inner: u32) -> Pixel
+    requires red { outer % 65536 ≤ 255 }
+    requires blue { outer / 65536 ≤ 255 }
+    requires green { inner % 65536 ≤ 255 }
+    requires alpha { inner / 65536 ≤ 255 }
+    ensures { result ≡ record { r = outer % 65536; g = inner % 65536; b = outer / 65536; a = inner / 65536 } }
+{
+    of_word(outer + (inner << 8))
+}
+
+/// The pixel of four bytes.
+#[inline(always)]
+pub fn of_bytes(r: u32, g: u32, b: u32, a: u32) -> Pixel
+    requires red { r ≤ 255 }
+    requires green { g ≤ 255 }
+    requires blue { b ≤ 255 }
+    requires alpha { a ≤ 255 }
+    ensures { result ≡ record { r = r; g = g; b = b; a = a } }
+{
+    of_word(r + (g << 8) + (b << 16) + (a << 24))
+}
+
+/// The bytes of a pixel as numbers of 32 bits.
+#[derive(Clone, Copy)]
+pub struct Wide {
+    pub r: u32,
+    pub g: u32,
+    pub b: u32,
+    pub a: u32,
+}
+
+/// The bytes of a pixel as numbers of 32 bits.
+#[inline(always)]
+pub fn wide_of(pixel: Pixel) -> Wide
+    ensures { result ≡ record { r = pixel.r; g = pixel.g; b = pixel.b; a = pixel.a } }
+{
+    let word = word(pixel);
+    Wide {
+        r: word & 0xff,
+        g: word >> 8 & 0xff,
+        b: word >> 16 & 0xff,
+        a: word >> 24,
+    }
+}
+
+/// The product of two bytes in parts of 255.
+#[inline(always)]
+pub fn mul_bytes(a: u32, b: u32) -> u32
+    requires left { a ≤ 255 }
+    requires right { b ≤ 255 }
+    ensures exact { result ≡ product a b }
+    ensures part_of_right { result ≤ b }
+    ensures part_of_left { result ≤ a }
+{
+    let sum = a * b + 128;
+    sum + (sum >> 8) >> 8
+}
+
+/// The means of two pairs of bytes, where those above have the weight `part` of 255.
+#[inline(always)]
+pub fn mix_pair(part: u32, above: u32, below: u32) -> u32
+    requires part { part ≤ 255 }
+    requires above_low { above % 65536 ≤ 255 }
+    requires above_high { above / 65536 ≤ 255 }
+    requires below_low { below % 65536 ≤ 255 }
+    requires below_high { below / 65536 ≤ 255 }
+    ensures value { result ≡ mixed_pair part above below }
+    ensures low { result % 65536 ≤ 255 }
+    ensures high { result / 65536 ≤ 255 }
+{
+    let sum = above * part + below * (255 - part) + 0x0080_0080;
+    let sum = sum + (sum >> 8 & PAIR);
+    sum >> 8 & PAIR
+}
