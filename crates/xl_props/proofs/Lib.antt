@@ -4,3 +4,4 @@ pub mod More
 pub mod Ranges
 pub mod Front
 pub mod Lengths
+pub mod Inverse
