@@ -1,6 +1,6 @@
 -- What the payload of a value that was written says.
 use Rattle.std.proofs.Common.{rules, ◌≡◌, ℕ, zero, suc, ◌+◌, ◌*◌, ◌/◌, ◌%◌, ◌^◌, ◌<◌, ◌≤◌, ◌&&◌, min, Bool, true, false, not, List, [], ◌∷◌, ◌++◌, length, take, drop, map, get_or, refl, sym, ap, ◌∙◌, arith, length-append}
-use Rattle.std.specs.Prelude.{Some, nat_lt, ◌==◌, ℤ, pos, negsuc, ◌≤ℤ◌}
+use Rattle.std.specs.Prelude.{Some, unwrap_or, nat_lt, ◌==◌, ℤ, pos, negsuc, ◌≤ℤ◌}
 use Rattle.std.specs.List.{AllByRecursion}
 use Rattle.std.specs.Int.{w32, from_be_bytes, cast_signed, cast_unsigned}
 use Rattle.std.specs.Prelude.{FitsSigned}
@@ -75,6 +75,9 @@ small_code GrainMerge = omega arith
 
 pub code_back : (at kind : ℕ) (mode : Mode) → mode_of_code (payload_word (property at kind (mode_word mode)) 0) ≡ Some mode
 code_back at kind mode = ap mode_of_code (one_word (mode_code mode) (small_code mode)) ∙ mode_back_code mode
+
+pub mode_back : (kind : ℕ) (mode : Mode) → mode_in (property 0 kind (mode_word mode)) ≡ mode
+mode_back kind mode = ap (λ o. unwrap_or o Normal) (code_back 0 kind mode)
 
 pub flag_back : (kind : ℕ) (flag : Bool) → is_set (property 0 kind (flag_word flag)) ≡ flag
 unfolding word

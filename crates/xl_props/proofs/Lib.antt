@@ -5,3 +5,5 @@ pub mod Ranges
 pub mod Front
 pub mod Lengths
 pub mod Inverse
+pub mod Placed
+pub mod ReadBack
