@@ -1,6 +1,6 @@
 -- What the payload of a value that was written says.
-use Rattle.std.proofs.Common.{rules, ◌≡◌, ℕ, zero, suc, ◌+◌, ◌*◌, ◌/◌, ◌%◌, ◌^◌, ◌<◌, ◌≤◌, ◌&&◌, min, Bool, true, false, not, List, [], ◌∷◌, ◌++◌, length, take, drop, map, get_or, refl, sym, ap, ◌∙◌, arith, length-append}
-use Rattle.std.specs.Prelude.{Some, unwrap_or, nat_lt, ◌==◌, ℤ, pos, negsuc, ◌≤ℤ◌}
+use Rattle.std.proofs.Common.{rules, ◌≡◌, ℕ, zero, suc, ◌+◌, ◌*◌, ◌/◌, ◌^◌, ◌<◌, ◌≤◌, Bool, true, false, List, [], ◌∷◌, ◌++◌, length, take, drop, map, get_or, refl, sym, ap, ◌∙◌, arith}
+use Rattle.std.specs.Prelude.{Some, unwrap_or, ℤ, pos, negsuc, ◌≤ℤ◌}
 use Rattle.std.specs.List.{AllByRecursion}
 use Rattle.std.specs.Int.{w32, from_be_bytes, cast_signed, cast_unsigned}
 use Rattle.std.specs.Prelude.{FitsSigned}
@@ -12,12 +12,12 @@ use Rattle.spec_blend.specs.declared.Mode.TheVariants.{Normal, Multiply, Screen,
 use Rattle.spec_blend.specs.Blend.{mode_code, mode_of_code}
 use Rattle.spec_grid.specs.Rect.{count_from}
 use Rattle.spec_document.specs.Limits.{IsColour, IsOffset}
-use Rattle.spec_fields.specs.Field.{bytes_at, word_value}
-use Rattle.spec_props.specs.Meaning.{payload_word, payload_int, is_set, colour_number, colours_in, path_words}
+use Rattle.spec_fields.specs.Field.{word_value}
+use Rattle.spec_props.specs.Meaning.{payload_word, is_set, colour_number, colours_in, path_words}
 use Rattle.xl_props.specs.Known.{AreOffsets}
 use Rattle.xl_props.specs.Props.{property, opacity_in, mode_in, offsets_in}
 use Rattle.xl_props.specs.Written.{word, words, flag_word, mode_word, offset_words, all_colours, colour_bytes}
-use Rattle.xl_props.proofs.Lengths.{length_word, length_words, length_colours}
+use Rattle.xl_props.proofs.Lengths.{length_word, length_words}
 
 -- the word in front
 pub word_front : (n : ℕ) (rest : List ℕ) → n < 2 ^ 32 → word_value (word n ++ rest) 0 ≡ n
@@ -140,4 +140,4 @@ colours_back at kind colours few h =
     let n = length colours in
     items_counted (colour_number (property at kind (colour_bytes colours))) [] colours (payload_word (property at kind (colour_bytes colours)) 0) (count_back at kind colours few)
     (λ i l. let e : 4 + 3 * i ≡ length (word n) + 3 * i = omega (arith, length_word n) in
-      ap (λ k. take 3 (drop k (word n ++ all_colours colours))) e ∙ (ap (take 3) (drop-append-add (word n) (all_colours colours) (3 * i)) ∙ nth_colour colours i h l))
+    ap (λ k. take 3 (drop k (word n ++ all_colours colours))) e ∙ (ap (take 3) (drop-append-add (word n) (all_colours colours) (3 * i)) ∙ nth_colour colours i h l))

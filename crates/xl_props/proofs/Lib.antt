@@ -6,4 +6,7 @@ pub mod Front
 pub mod Lengths
 pub mod Inverse
 pub mod Placed
+pub mod KnownBack
+pub mod Others
+pub mod Own
 pub mod ReadBack

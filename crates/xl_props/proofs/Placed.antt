@@ -1,5 +1,5 @@
 -- Properties that stand in a file one behind another, with the end behind them.
-use Rattle.std.proofs.Common.{◌≡◌, ◌≢◌, ℕ, ◌+◌, ◌*◌, ◌^◌, ◌<◌, ◌≤◌, Bool, true, false, cond, List, [], ◌∷◌, ◌++◌, length, None, refl, sym, ap, ◌∙◌, subst, arith, length-append}
+use Rattle.std.proofs.Common.{◌≡◌, ◌≢◌, ℕ, ◌+◌, ◌^◌, ◌<◌, ◌≤◌, Bool, true, false, cond, List, [], ◌∷◌, ◌++◌, length, None, refl, sym, ap, ◌∙◌, subst, arith, length-append}
 use Rattle.std.specs.Prelude.{MatchBool}
 use Rattle.std.specs.List.{AllByRecursion}
 use Rattle.std.specs.Int.{w32, from_be_bytes}
@@ -90,6 +90,7 @@ its_length file owner at k h small = by (is_unit owner k.kind) h.unit
   where
     n : ℕ
     n = length k.payload
+
     by : (b : Bool) → (b ≡ true → is_unit_length n ≡ true) → cond b (unit_length file (at + 8) n) n ≡ n
     by true long = trusted file (at + 8) n (long refl) small
     by false long = refl
@@ -99,7 +100,7 @@ length_is : (file : List ℕ) (owner : Owner) (at : ℕ) (k : Kept) → IsWritab
 length_is file owner at k h e = by (is_colour_map owner k.kind) h.colours
   where
     by : (b : Bool) → (b ≡ true → IsColourMap (property 0 k.kind k.payload))
-      → MatchBool b (IsColourMap (property at k.kind k.payload)) ((true_length file owner k.kind (at + 8) (length k.payload) ≡ length k.payload) × (length k.payload ≤ 2 ^ 24))
+        → MatchBool b (IsColourMap (property at k.kind k.payload)) ((true_length file owner k.kind (at + 8) (length k.payload) ≡ length k.payload) × (length k.payload ≤ 2 ^ 24))
     by true map_is = map_is refl
     by false map_is = (e, h.short)
 

@@ -1,5 +1,5 @@
 -- The values of properties that reading found right are in their ranges.
-use Rattle.std.proofs.Common.{◌≡◌, ℕ, zero, suc, ◌+◌, ◌*◌, ◌/◌, ◌%◌, ◌^◌, ◌<◌, ◌≤◌, Bool, true, false, cond, not, ◌&&◌, List, [], ◌∷◌, ◌++◌, length, take, drop, map, filter, reverse, get_or, refl, sym, ap, subst, arith}
+use Rattle.std.proofs.Common.{◌≡◌, ℕ, zero, suc, ◌+◌, ◌*◌, ◌/◌, ◌%◌, ◌^◌, ◌<◌, ◌≤◌, Bool, true, false, cond, not, ◌&&◌, List, [], ◌∷◌, length, drop, map, filter, reverse, refl, sym, ap, subst, arith}
 use Rattle.std.specs.Prelude.{◌==◌, nat_le, nat_lt, Option, Some, None, option_map, find, IfSome, slice_index, ℤ, pos, negsuc, int_le}
 use Rattle.std.specs.List.{AllByRecursion}
 use Rattle.std.specs.Int.Signed.{le_z_yes}
@@ -9,11 +9,10 @@ use Rattle.std.proofs.lemmas.List.{length-take, length-drop, reverse-append}
 use Rattle.spec_grid.specs.Rect.{count_from}
 use Rattle.spec_document.specs.declared.Owner.{Owner}
 use Rattle.spec_document.specs.declared.Owner.TheVariants.{Image, Layer, Channel, Mask}
-use Rattle.spec_document.specs.Limits.{interprets, is_unit, is_unit_length, AreBytes, IsColour, IsOffset, IsKept}
+use Rattle.spec_document.specs.Limits.{interprets, is_unit, is_unit_length, IsColour, IsOffset, IsKept}
 use Rattle.spec_fields.specs.declared.ReadRefused.{ReadRefused}
 use Rattle.spec_fields.specs.declared.Kind.TheVariants.{BadProperty, Compression, OffsetRange}
 use Rattle.spec_fields.specs.Reading.{fault, fault_with}
-use Rattle.spec_fields.specs.Field.{bytes_at, word_value}
 use Rattle.spec_fields.proofs.All.{all_take, all_drop, all_append}
 use Rattle.spec_fields.proofs.Below.{word_below}
 use Rattle.spec_props.specs.Meaning.{Property, payload_word, payload_int, colour_number, colours_in, path_words, kept_of}

@@ -19,6 +19,8 @@ mod put;
 mod read;
 mod rules;
 mod so_far;
+#[cfg(test)]
+mod tests;
 mod unit;
 mod values;
 mod words;
@@ -27,8 +29,8 @@ mod write;
 pub use answer::{Known, Places, Props};
 pub use byte_list::Bytes;
 pub use colour_list::ColourMap;
-pub use laws::written_props_are_read;
 pub use kept_list::{Kept, PropList};
+pub use laws::written_props_are_read;
 pub use offset_list::Offsets;
 pub use path_list::Path;
 pub use read::read_props;
