@@ -1,11 +1,13 @@
-use crate::{Bytes, ColourMap, Kept, Known, Offsets, Owner, Path, PropList, read_props, write_props};
+use crate::{
+    Bytes, ColourMap, Kept, Known, Offsets, Owner, Path, PropList, read_props, write_props,
+};
 use spec_blend::Mode;
 use std::test::Fail;
 
 /// A layer of opacity 128 in mode 3, at 3 and -5, with a tattoo, and the end.
 const LAYER: [u8; 60] = [
-    0, 0, 0, 6, 0, 0, 0, 4, 0, 0, 0, 128, 0, 0, 0, 7, 0, 0, 0, 4, 0, 0, 0, 3, 0, 0, 0, 15, 0, 0, 0, 8, 0, 0, 0,
-    3, 255, 255, 255, 251, 0, 0, 0, 20, 0, 0, 0, 4, 0, 0, 0, 7, 0, 0, 0, 0, 0, 0, 0, 0,
+    0, 0, 0, 6, 0, 0, 0, 4, 0, 0, 0, 128, 0, 0, 0, 7, 0, 0, 0, 4, 0, 0, 0, 3, 0, 0, 0, 15, 0, 0, 0,
+    8, 0, 0, 0, 3, 255, 255, 255, 251, 0, 0, 0, 20, 0, 0, 0, 4, 0, 0, 0, 7, 0, 0, 0, 0, 0, 0, 0, 0,
 ];
 
 #[test]
