@@ -10,6 +10,7 @@ use Rattle.spec_document.specs.Limits.{interprets, IsKept, AreKept}
 use Rattle.spec_fields.specs.declared.ReadRefused.{ReadRefused}
 use Rattle.spec_fields.specs.Reading.{Read, ◌>>=◌}
 use Rattle.spec_fields.proofs.Steps.{onward}
+use Rattle.spec_fields.proofs.All.{all_append}
 use Rattle.spec_props.specs.Meaning.{Property}
 use Rattle.spec_props.specs.Reading.{Properties, kept_after, list_at, properties_at}
 use Rattle.xl_props.specs.declared.answer.Props.{Props}
@@ -19,7 +20,7 @@ use Rattle.xl_props.specs.Checked.{IsChecked}
 use Rattle.xl_props.specs.After.{longer, as_kept, end_after, props_after}
 use Rattle.xl_props.specs.Next.{with_first}
 use Rattle.xl_props.proofs.More.{up_to, props_more}
-use Rattle.xl_props.proofs.Ranges.{all_behind, known_in_range, each_kept}
+use Rattle.xl_props.proofs.Ranges.{known_in_range, each_kept}
 
 -- what is read behind some properties, with these in front
 abbrev pub behind : List Property → Read Properties → Read Properties
@@ -96,7 +97,7 @@ step_of file owner at i kind payload props after front more goes_on room fits ch
     record {
       list = front.list ++ p ∷ [];
       is = e ∙ (ap (props_after owner p) front.is ∙ (props_more owner front.list p ∙ ap (λ k. props_of owner (up_to (front.list ++ p ∷ []) k)) (sym end_is)));
-      checked = all_behind (IsChecked owner) front.list (p ∷ []) front.checked (is_checked, tt);
+      checked = all_append (IsChecked owner) front.list (p ∷ []) front.checked (is_checked, tt);
       few = omega (arith, few.0, ap length kept_is);
       place = omega (arith, end_is, fits);
       rest = λ rest all.

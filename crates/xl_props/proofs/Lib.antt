@@ -4,3 +4,9 @@ pub mod More
 pub mod Ranges
 pub mod Front
 pub mod Lengths
+pub mod Inverse
+pub mod Placed
+pub mod KnownBack
+pub mod Others
+pub mod Own
+pub mod ReadBack

@@ -41,7 +41,7 @@ place_more : (kind : ℕ) (ps : List Property) (p : Property) → newer_place ki
 place_more kind ps p =
     sym (ap (λ o. unwrap_or (option_map (λ (q : Property). q.at) o) 0) (last_more kind ps p) ∙ chosen_place (p.kind == kind) p (last_of kind ps))
 
-known_more : (owner : Owner) (ps : List Property) (p : Property) → known_after owner p (known_of owner ps) ≡ known_of owner (ps ++ p ∷ [])
+pub known_more : (owner : Owner) (ps : List Property) (p : Property) → known_after owner p (known_of owner ps) ≡ known_of owner (ps ++ p ∷ [])
 known_more Image ps p = λ i. record unknown { colours = if_any_more 1 colours_in ps p i; compression = if_any_more 17 compression_in ps p i }
 known_more Layer ps p = λ i. record unknown {
   opacity = if_any_more 6 opacity_in ps p i;

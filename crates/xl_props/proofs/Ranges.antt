@@ -1,5 +1,5 @@
 -- The values of properties that reading found right are in their ranges.
-use Rattle.std.proofs.Common.{◌≡◌, ℕ, zero, suc, ◌+◌, ◌*◌, ◌/◌, ◌%◌, ◌^◌, ◌<◌, ◌≤◌, Bool, true, false, cond, not, ◌&&◌, List, [], ◌∷◌, ◌++◌, length, take, drop, map, filter, reverse, get_or, refl, sym, ap, subst, arith}
+use Rattle.std.proofs.Common.{◌≡◌, ℕ, zero, suc, ◌+◌, ◌*◌, ◌/◌, ◌%◌, ◌^◌, ◌<◌, ◌≤◌, Bool, true, false, cond, not, ◌&&◌, List, [], ◌∷◌, length, drop, map, filter, reverse, refl, sym, ap, subst, arith}
 use Rattle.std.specs.Prelude.{◌==◌, nat_le, nat_lt, Option, Some, None, option_map, find, IfSome, slice_index, ℤ, pos, negsuc, int_le}
 use Rattle.std.specs.List.{AllByRecursion}
 use Rattle.std.specs.Int.Signed.{le_z_yes}
@@ -9,11 +9,12 @@ use Rattle.std.proofs.lemmas.List.{length-take, length-drop, reverse-append}
 use Rattle.spec_grid.specs.Rect.{count_from}
 use Rattle.spec_document.specs.declared.Owner.{Owner}
 use Rattle.spec_document.specs.declared.Owner.TheVariants.{Image, Layer, Channel, Mask}
-use Rattle.spec_document.specs.Limits.{interprets, is_unit, is_unit_length, AreBytes, IsColour, IsOffset, IsKept}
+use Rattle.spec_document.specs.Limits.{interprets, is_unit, is_unit_length, IsColour, IsOffset, IsKept}
 use Rattle.spec_fields.specs.declared.ReadRefused.{ReadRefused}
 use Rattle.spec_fields.specs.declared.Kind.TheVariants.{BadProperty, Compression, OffsetRange}
 use Rattle.spec_fields.specs.Reading.{fault, fault_with}
-use Rattle.spec_fields.specs.Field.{bytes_at, word_value}
+use Rattle.spec_fields.proofs.All.{all_take, all_drop, all_append}
+use Rattle.spec_fields.proofs.Below.{word_below}
 use Rattle.spec_props.specs.Meaning.{Property, payload_word, payload_int, colour_number, colours_in, path_words, kept_of}
 use Rattle.spec_props.specs.Rules.{rule, rule_of, offsets_rule, is_offset}
 use Rattle.xl_props.specs.Known.{AreFewColours, AreOffsets, IsPath, IsKnown}
@@ -31,13 +32,9 @@ rule_held true refused next e = (refl, e)
 rule_held false refused next e = cc
 
 module _ {X : Type 0} (P : X → Type 0) where
-  pub all_behind : (xs ys : List X) → AllByRecursion P xs → AllByRecursion P ys → AllByRecursion P (xs ++ ys)
-  all_behind [] ys p q = q
-  all_behind (x ∷ xs) ys p q = (p.0, all_behind xs ys p.1 q)
-
   all_reverse : (xs : List X) → AllByRecursion P xs → AllByRecursion P (reverse xs)
   all_reverse [] h = tt
-  all_reverse (x ∷ xs) h = subst (AllByRecursion P) (sym (reverse-append (x ∷ []) xs)) (all_behind (reverse xs) (x ∷ []) (all_reverse xs h.1) (h.0, tt))
+  all_reverse (x ∷ xs) h = subst (AllByRecursion P) (sym (reverse-append (x ∷ []) xs)) (all_append P (reverse xs) (x ∷ []) (all_reverse xs h.1) (h.0, tt))
 
   if_found : {A : Type 0} (test : X → Bool) (value : X → A) (Q : A → Type 0) → ((x : X) → P x → test x ≡ true → Q (value x))
       → (xs : List X) → AllByRecursion P xs → IfSome (option_map value (find test xs)) Q
@@ -69,30 +66,6 @@ if_last : {A : Type 0} (owner : Owner) (kind : ℕ) (value : Property → A) (Q 
 if_last owner kind value Q each ps h =
     if_found (IsChecked owner) (λ p. p.kind == kind) value Q (λ p checked e. each p checked (eqb-true p.kind kind e)) (reverse ps) (all_reverse (IsChecked owner) ps h)
 
-take_bytes : (n : ℕ) (xs : List ℕ) → AreBytes xs → AreBytes (take n xs)
-take_bytes zero [] h = tt
-take_bytes zero (x ∷ xs) h = tt
-take_bytes (suc n) [] h = tt
-take_bytes (suc n) (x ∷ xs) h = (h.0, take_bytes n xs h.1)
-
-drop_bytes : (n : ℕ) (xs : List ℕ) → AreBytes xs → AreBytes (drop n xs)
-drop_bytes zero [] h = tt
-drop_bytes zero (x ∷ xs) h = h
-drop_bytes (suc n) [] h = tt
-drop_bytes (suc n) (x ∷ xs) h = drop_bytes n xs h.1
-
-byte_of : (xs : List ℕ) (i : ℕ) → AreBytes xs → get_or xs i 0 < 256
-byte_of [] i h = omega arith
-byte_of (x ∷ xs) zero h = h.0
-byte_of (x ∷ xs) (suc i) h = byte_of xs i h.1
-
--- four bytes make a word
-word_below : (xs : List ℕ) (at : ℕ) → AreBytes xs → word_value xs at < 2 ^ 32
-word_below xs at h =
-    let part = bytes_at xs at 4 in
-    let bytes = take_bytes 4 (drop at xs) (drop_bytes at xs h) in
-    omega (arith, byte_of part 0 bytes, byte_of part 1 bytes, byte_of part 2 bytes, byte_of part 3 bytes)
-
 few_colours : (p : Property) → IsChecked Image p → p.kind ≡ 1 → AreFewColours (colours_in p)
 few_colours p h e =
     let map_is = h.colours (ap (λ k. k == 1) e) in
@@ -100,7 +73,7 @@ few_colours p h e =
       omega (arith, length_counted (colour_number p) 0 n, map_is.1),
       all_counted IsColour (colour_number p) n (λ i l.
           let long : length (colour_number p i) ≡ 3 = omega (arith, length-take 3 (drop (4 + 3 * i) p.payload), length-drop (4 + 3 * i) p.payload, map_is.2, l) in
-          (long, take_bytes 3 (drop (4 + 3 * i) p.payload) (drop_bytes (4 + 3 * i) p.payload h.bytes))),
+          (long, all_take (λ b. b < 256) 3 (drop (4 + 3 * i) p.payload) (all_drop (λ b. b < 256) (4 + 3 * i) p.payload h.bytes))),
     )
 
 -- the rules of a kind held

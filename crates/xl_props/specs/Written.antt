@@ -1,5 +1,5 @@
 -- How a list of properties is written.
-use Rattle.std.specs.Prelude.{ℕ, Bool, true, false, ℤ, List, [], ◌∷◌, ◌++◌, length, Option, Some, None}
+use Rattle.std.specs.Prelude.{◌≡◌, ℕ, ◌+◌, Ok, Bool, true, false, ℤ, List, [], ◌∷◌, ◌++◌, length, Option, Some, None}
 use Rattle.std.specs.List.{flat_map}
 use Rattle.std.specs.Int.{w32, to_be_bytes, cast_unsigned}
 use Rattle.spec_blend.specs.declared.Mode.{Mode}
@@ -8,7 +8,11 @@ use Rattle.spec_document.specs.declared.Owner.{Owner}
 use Rattle.spec_document.specs.Document.{Kept}
 use Rattle.spec_document.specs.Limits.{AreKept}
 use Rattle.xl_props.specs.declared.answer.Known.{Known}
+use Rattle.spec_props.specs.Meaning.{kept_of}
+use Rattle.spec_props.specs.Reading.{Properties, properties_at}
+use Rattle.spec_props.specs.Holds.{HasProperties}
 use Rattle.xl_props.specs.Known.{IsKnown}
+use Rattle.xl_props.specs.Props.{known_of}
 
 -- four bytes, the highest first
 unfoldable pub word : ℕ → List ℕ
@@ -82,3 +86,12 @@ written known kept = all_spelled (known_list known ++ (kept ++ raw 0 [] ∷ []))
 -- one owner interprets each of the values and none of the properties that are kept, and all are in their ranges
 abbrev pub CanBeWritten : Known → List Kept → Type 0
 CanBeWritten known kept = (owner : Owner) × IsKnown owner known × AreKept owner kept
+
+-- The list that was written stands at an offset of a file: its values and its properties that are kept are read back, and nothing else.
+pub record ReadsBack (file : List ℕ) (owner : Owner) (at : ℕ) (known : Known) (kept : List Kept) : Type 0 where
+  pub list : Properties
+  pub holds : HasProperties file owner at list
+  pub is_read : properties_at file owner at ≡ Ok list
+  pub same_known : known_of owner list.list ≡ known
+  pub same_kept : kept_of owner list.list ≡ kept
+  pub next : list.end + 8 ≡ at + length (written known kept)

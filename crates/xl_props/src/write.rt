@@ -46,7 +46,8 @@ fn put_kept(out: &mut Vec<u8>, kept: &[Kept]) -> Result<(), AllocError>
 
 /// Appends a list of properties: the values that are there, then those that are kept, then the end.
 ///
-/// One owner has to interpret each of the values and none of the properties that are kept.
+/// One owner has to interpret each of the values and none of the properties that are kept. Where memory runs out, a part of the
+/// list may stand at the end.
 pub fn write_props(out: &mut Vec<u8>, known: &Known, kept: &PropList) -> Result<(), AllocError>
     requires { CanBeWritten known.now kept.now }
     ensures { OnOk result (out.new.items ≡ out.old.items ++ written known.now kept.now) }
