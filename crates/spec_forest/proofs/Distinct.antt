@@ -4,7 +4,8 @@ use Rattle.std.specs.List.{AllByRecursion, IsDistinct}
 use Rattle.std.proofs.lemmas.Map.Keys.{IsDistinct-head, IsDistinct-tail, IsDistinct-cons}
 use Rattle.spec_forest.specs.Forest.{Forest, none, leaf, group, size, levels, ids, Found, nothing, a_leaf, a_group, or_else, find}
 use Rattle.spec_forest.specs.Changes.{above, with_leaf, with_group, with_children, without, branch_of}
-use Rattle.spec_forest.proofs.Holes.{Hole, here, under_leaf, under_group, in_group, plug, above-none}
+use Rattle.spec_forest.specs.Holes.{Hole, here, under_leaf, under_group, in_group, plug}
+use Rattle.spec_forest.proofs.Holes.{above-none}
 use Rattle.spec_forest.proofs.Standing.{Fresh, lacks_leaf, lacks_group}
 
 -- no node behind the hole has the id

@@ -5,7 +5,8 @@ use Rattle.std.specs.Prelude.{Option, Some, None, option_map}
 use Rattle.std.specs.List.{IsDistinct}
 use Rattle.spec_forest.specs.Forest.{Forest, none, leaf, group, size, levels, ids, nothing, a_leaf, a_group, find}
 use Rattle.spec_forest.specs.Changes.{with_leaf, with_group}
-use Rattle.spec_forest.proofs.Holes.{Hole, here, under_leaf, under_group, in_group, plug, depth, passed, size-plug, levels-plug, passed_within, depth_below_levels}
+use Rattle.spec_forest.specs.Holes.{Hole, here, under_leaf, under_group, in_group, plug, depth, passed}
+use Rattle.spec_forest.proofs.Holes.{size-plug, levels-plug, passed_within, depth_below_levels}
 use Rattle.spec_forest.proofs.Standing.{Fresh, Standing, nowhere, at_leaf, at_group, standing, lacks_leaf, lacks_group, find-at_leaf, find-at_group}
 use Rattle.spec_forest.proofs.Distinct.{lone_leaf, lone_group, with_leaf-at_leaf, with_leaf-at_group, with_group-at_leaf, with_group-at_group}
 use Rattle.xl_tree.specs.declared.entries.Entry.{Entry}
