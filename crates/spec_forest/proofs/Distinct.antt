@@ -22,11 +22,11 @@ abbrev pub Member : ℕ → List ℕ → Type 0
 Member id [] = ⊥
 Member id (x ∷ xs) = (x ≡ id) ⊎ Member id xs
 
-all-left : (P : ℕ → Type 0) (xs ys : List ℕ) → AllByRecursion P (xs ++ ys) → AllByRecursion P xs
+pub all-left : (P : ℕ → Type 0) (xs ys : List ℕ) → AllByRecursion P (xs ++ ys) → AllByRecursion P xs
 all-left P [] ys h = tt
 all-left P (x ∷ xs) ys h = (h.0, all-left P xs ys h.1)
 
-all-right : (P : ℕ → Type 0) (xs ys : List ℕ) → AllByRecursion P (xs ++ ys) → AllByRecursion P ys
+pub all-right : (P : ℕ → Type 0) (xs ys : List ℕ) → AllByRecursion P (xs ++ ys) → AllByRecursion P ys
 all-right P [] ys h = h
 all-right P (x ∷ xs) ys h = all-right P xs ys h.1
 
@@ -47,12 +47,12 @@ apart id [] ys d m = absurd m
 apart id (x ∷ xs) ys d (inl e) = let P : ℕ → Type 0 = λ i. AllByRecursion (IsNot i) ys in subst P e (all-right (IsNot x) xs ys d.0)
 apart id (x ∷ xs) ys d (inr m) = apart id xs ys d.1 m
 
-member-left : (id : ℕ) (xs ys : List ℕ) → Member id xs → Member id (xs ++ ys)
+pub member-left : (id : ℕ) (xs ys : List ℕ) → Member id xs → Member id (xs ++ ys)
 member-left id [] ys m = absurd m
 member-left id (x ∷ xs) ys (inl e) = inl e
 member-left id (x ∷ xs) ys (inr m) = inr (member-left id xs ys m)
 
-member-right : (id : ℕ) (xs ys : List ℕ) → Member id ys → Member id (xs ++ ys)
+pub member-right : (id : ℕ) (xs ys : List ℕ) → Member id ys → Member id (xs ++ ys)
 member-right id [] ys m = m
 member-right id (x ∷ xs) ys m = inr (member-right id xs ys m)
 
@@ -66,7 +66,7 @@ module _ {L G : Type 0} where
       ∙ (ap (λ x. or_else x (find id u)) (nothing_from_ids id c (all-left (IsNot id) (ids c) (ids u) h.1))
       ∙ nothing_from_ids id u (all-right (IsNot id) (ids c) (ids u) h.1))
 
-  member-plug : (id : ℕ) (h : Hole L G) (f : Forest L G) → Member id (ids f) → Member id (ids (plug h f))
+  pub member-plug : (id : ℕ) (h : Hole L G) (f : Forest L G) → Member id (ids f) → Member id (ids (plug h f))
   member-plug id here f m = m
   member-plug id (under_leaf i w h) f m = inr (member-plug id h f m)
   member-plug id (under_group i w c h) f m = inr (member-right id (ids c) (ids (plug h f)) (member-plug id h f m))

@@ -8,3 +8,6 @@ pub mod Search
 pub mod Deepest
 pub mod GroupsBefore
 pub mod Placed
+pub mod Stands
+pub mod Shifted
+pub mod Moved
