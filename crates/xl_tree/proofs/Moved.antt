@@ -255,3 +255,42 @@ module _ {N : Type 0} where
     levels_right none b = omega arith
     levels_right (leaf i v x) b = omega (arith, levels_right x b)
     levels_right (group i v c x) b = omega (arith, levels_right x b)
+
+  -- what is there when a node is taken out of a tree
+  pub record Taken (id at count level : ℕ) (f : Forest N N) (es : List (Entry N)) : Type 0 where
+    pub removal_is : Removal id at f
+    pub count_is : count ≡ size removal_is.branch
+    pub level_is : level ≡ depth removal_is.hole
+    pub out : TakenOut id at count level f es
+
+  pub taken : (id at count : ℕ) (es : List (Entry N)) (f : Forest N N) (e : Entry N) → AreSiblings 0 es → forest_of es ≡ f → Some at ≡ place_of id f → IsDistinct nat_eq (ids f) → count ≡ size_of (find id f) → e ≡ get_or es at e → Taken id at count e.level f es
+  taken id at count es f e s view_is at_place distinct size_is e_is =
+      let r = removal id at f (sym at_place) distinct in
+      let n : count ≡ size r.branch = size_is ∙ r.size_is in
+      let l : e.level ≡ depth r.hole = removal_level id at es f e s view_is r e_is in
+      record { removal_is = r; count_is = n; level_is = l; out = taken_out id at count e.level es f s view_is r n l }
+
+  -- a tree and a branch after a node was taken out
+  pub record Removed (id : ℕ) (f : Forest N N) (from to : List (Entry N)) : Type 0 where
+    pub from_view : forest_of from ≡ without id f
+    pub to_view : forest_of to ≡ branch_of id f
+    pub from_siblings : AreSiblings 0 from
+    pub to_siblings : AreSiblings 0 to
+
+  pub removed : (id at count level n : ℕ) (es parked from to : List (Entry N)) (f : Forest N N) → AreSiblings 0 es → forest_of es ≡ f → Taken id at count level f es
+    → parked ≡ take at es ++ (drop count (drop at es) ++ map (shifted level 0) (take count (drop at es))) → n ≡ length parked → from ≡ take (n - count) parked → to ≡ drop (n - count) parked → Removed id f from to
+  removed id at count level n es parked from to f s view_is t parked_is n_is from_is to_is =
+      let all = size-forest_of 0 es s.flat_is in
+      let p = parts id at count n f parked (omega (arith, s.few, all, ap size view_is)) (omega (arith, s.low, ap levels view_is)) t.removal_is t.count_is n_is (parked_is ∙ t.out.parked) in
+      let P : List (Entry N) → Type 0 = λ x. AreSiblings 0 x in
+      record {
+        from_view = forest_of_is 0 from (without id f) (from_is ∙ p.rest_is);
+        to_view = forest_of_is 0 to (branch_of id f) (to_is ∙ p.branch_is);
+        from_siblings = subst P (sym from_is) p.rest_siblings;
+        to_siblings = subst P (sym to_is) p.branch_siblings;
+      }
+
+  pub parked_within : (id at count level n : ℕ) (es parked : List (Entry N)) (f : Forest N N) → Taken id at count level f es
+    → parked ≡ take at es ++ (drop count (drop at es) ++ map (shifted level 0) (take count (drop at es))) → n ≡ length parked → count ≤ n
+  parked_within id at count level n es parked f t parked_is n_is =
+      omega (arith, n_is, ap length (parked_is ∙ t.out.parked), length-append (flat 0 (without id f)) (flat 0 (branch_of id f)), length-flat 0 (branch_of id f), t.count_is, ap size t.removal_is.branch_is)

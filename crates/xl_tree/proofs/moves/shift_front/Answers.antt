@@ -4,8 +4,10 @@ use Rattle.xl_tree.specs.Moves.{shifted}
 use Rattle.xl_tree.proofs.Shifted.{shift_more, shift_fits}
 use Rattle.xl_tree.proofs.moves.shift_front.Goals as goal
 
-pub overflow_add-entry-level : goal.overflow_add-entry-level
-overflow_add-entry-level g c = ?
+pub overflow_add-entry : goal.overflow_add-entry
+overflow_add-entry g c =
+    let fits = shift_fits c.args.from c.args.to c.loop-at.at c.args.count c.args.run.now c.loop-at.run c.index-run-at.result c.loop-at-test.true c.requires.within c.requires.shallow c.loop-at.invariant c.index-run-at.is in
+    omega (arith, fits, c.requires.low, c.saturating_sub.ensures, ap (λ x. x.level) c.index-run-at.is)
 
 pub loop-at-preserved : goal.loop-at-preserved
 loop-at-preserved g c =
