@@ -11,3 +11,4 @@ pub mod Placed
 pub mod Stands
 pub mod Shifted
 pub mod Moved
+pub mod Restacked

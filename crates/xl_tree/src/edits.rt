@@ -153,6 +153,6 @@ impl<N: Drop> Tree<N> {
         ensures { result ≡ stands_in self.now node.0 other.0 }
     {
         let above = self.ancestors(node);
-        node.0 == other.0 || above.as_slice().iter().any(|id| id.0 == other.0)
+        node.0 == other.0 || above.as_slice().contains(&other)
     }
 }
