@@ -2,9 +2,11 @@
 use Rattle.std.proofs.Common.{◌≡◌, ℕ, ◌+◌, Bool, true, false, cond, eqb, nat_eq, List, [], ◌∷◌, ◌++◌, ◌⊎◌, inl, inr, refl, sym, ◌∙◌, subst, ap, eq-eqb, arith}
 use Rattle.std.specs.List.{AllByRecursion, IsDistinct}
 use Rattle.std.proofs.lemmas.Map.Keys.{IsDistinct-head, IsDistinct-tail, IsDistinct-cons}
+use Rattle.std.proofs.lemmas.List.{append_assoc}
 use Rattle.spec_forest.specs.Forest.{Forest, none, leaf, group, size, levels, ids, Found, nothing, a_leaf, a_group, or_else, find}
 use Rattle.spec_forest.specs.Changes.{above, with_leaf, with_group, with_children, without, branch_of}
-use Rattle.spec_forest.proofs.Holes.{Hole, here, under_leaf, under_group, in_group, plug, above-none}
+use Rattle.spec_forest.specs.Holes.{Hole, here, under_leaf, under_group, in_group, plug}
+use Rattle.spec_forest.proofs.Holes.{above-none}
 use Rattle.spec_forest.proofs.Standing.{Fresh, lacks_leaf, lacks_group}
 
 -- no node behind the hole has the id
@@ -21,11 +23,11 @@ abbrev pub Member : ℕ → List ℕ → Type 0
 Member id [] = ⊥
 Member id (x ∷ xs) = (x ≡ id) ⊎ Member id xs
 
-all-left : (P : ℕ → Type 0) (xs ys : List ℕ) → AllByRecursion P (xs ++ ys) → AllByRecursion P xs
+pub all-left : (P : ℕ → Type 0) (xs ys : List ℕ) → AllByRecursion P (xs ++ ys) → AllByRecursion P xs
 all-left P [] ys h = tt
 all-left P (x ∷ xs) ys h = (h.0, all-left P xs ys h.1)
 
-all-right : (P : ℕ → Type 0) (xs ys : List ℕ) → AllByRecursion P (xs ++ ys) → AllByRecursion P ys
+pub all-right : (P : ℕ → Type 0) (xs ys : List ℕ) → AllByRecursion P (xs ++ ys) → AllByRecursion P ys
 all-right P [] ys h = h
 all-right P (x ∷ xs) ys h = all-right P xs ys h.1
 
@@ -46,12 +48,12 @@ apart id [] ys d m = absurd m
 apart id (x ∷ xs) ys d (inl e) = let P : ℕ → Type 0 = λ i. AllByRecursion (IsNot i) ys in subst P e (all-right (IsNot x) xs ys d.0)
 apart id (x ∷ xs) ys d (inr m) = apart id xs ys d.1 m
 
-member-left : (id : ℕ) (xs ys : List ℕ) → Member id xs → Member id (xs ++ ys)
+pub member-left : (id : ℕ) (xs ys : List ℕ) → Member id xs → Member id (xs ++ ys)
 member-left id [] ys m = absurd m
 member-left id (x ∷ xs) ys (inl e) = inl e
 member-left id (x ∷ xs) ys (inr m) = inr (member-left id xs ys m)
 
-member-right : (id : ℕ) (xs ys : List ℕ) → Member id ys → Member id (xs ++ ys)
+pub member-right : (id : ℕ) (xs ys : List ℕ) → Member id ys → Member id (xs ++ ys)
 member-right id [] ys m = m
 member-right id (x ∷ xs) ys m = inr (member-right id xs ys m)
 
@@ -65,7 +67,7 @@ module _ {L G : Type 0} where
       ∙ (ap (λ x. or_else x (find id u)) (nothing_from_ids id c (all-left (IsNot id) (ids c) (ids u) h.1))
       ∙ nothing_from_ids id u (all-right (IsNot id) (ids c) (ids u) h.1))
 
-  member-plug : (id : ℕ) (h : Hole L G) (f : Forest L G) → Member id (ids f) → Member id (ids (plug h f))
+  pub member-plug : (id : ℕ) (h : Hole L G) (f : Forest L G) → Member id (ids f) → Member id (ids (plug h f))
   member-plug id here f m = m
   member-plug id (under_leaf i w h) f m = inr (member-plug id h f m)
   member-plug id (under_group i w c h) f m = inr (member-right id (ids c) (ids (plug h f)) (member-plug id h f m))
@@ -239,3 +241,77 @@ module _ {L G : Type 0} where
   branch_of-at_group id h w c u fresh l =
       branch_of-plug id h (group id w c u) fresh l.lone
       ∙ ap (λ b. cond b (group id w c none) (above (branch_of id c) (branch_of id u))) (eq-eqb id id refl)
+
+all-join : (P : ℕ → Type 0) (xs ys : List ℕ) → AllByRecursion P xs → AllByRecursion P ys → AllByRecursion P (xs ++ ys)
+all-join P [] ys h k = k
+all-join P (x ∷ xs) ys h k = (h.0, all-join P xs ys h.1 k)
+
+-- distinct in both parts, and none of the one in the other
+record ApartParts (xs ys : List ℕ) : Type 0 where
+  pub left : IsDistinct nat_eq xs
+  pub right : IsDistinct nat_eq ys
+  pub between : AllByRecursion (λ x. AllByRecursion (IsNot x) ys) xs
+
+between-from : (xs ys : List ℕ) → IsDistinct nat_eq (xs ++ ys) → AllByRecursion (λ x. AllByRecursion (IsNot x) ys) xs
+unfolding IsDistinct
+between-from [] ys d = tt
+between-from (x ∷ xs) ys d = (all-right (IsNot x) xs ys d.0, between-from xs ys d.1)
+
+apart_parts : (xs ys : List ℕ) → IsDistinct nat_eq (xs ++ ys) → ApartParts xs ys
+apart_parts xs ys d = record { left = distinct-left xs ys d; right = distinct-right xs ys d; between = between-from xs ys d }
+
+distinct-join : (xs ys : List ℕ) → IsDistinct nat_eq xs → IsDistinct nat_eq ys → AllByRecursion (λ x. AllByRecursion (IsNot x) ys) xs → IsDistinct nat_eq (xs ++ ys)
+unfolding IsDistinct
+distinct-join [] ys d e b = e
+distinct-join (x ∷ xs) ys d e b = (all-join (IsNot x) xs ys d.0 b.0, distinct-join xs ys d.1 e b.1)
+
+each : (P Q : ℕ → Type 0) (xs : List ℕ) → ((x : ℕ) → P x → Q x) → AllByRecursion P xs → AllByRecursion Q xs
+each P Q [] f h = tt
+each P Q (x ∷ xs) f h = (f x h.0, each P Q xs f h.1)
+
+module _ {L G : Type 0} where
+  -- the new forest has no other ids than the old one
+  pub record FewerIds (old new : Forest L G) : Type 1 where
+    pub all : (P : ℕ → Type 0) → AllByRecursion P (ids old) → AllByRecursion P (ids new)
+    pub distinct : IsDistinct nat_eq (ids old) → IsDistinct nat_eq (ids new)
+
+  all-plug : (old new : Forest L G) → FewerIds old new → (P : ℕ → Type 0) (h : Hole L G) → AllByRecursion P (ids (plug h old)) → AllByRecursion P (ids (plug h new))
+  all-plug old new k P here a = k.all P a
+  all-plug old new k P (under_leaf i w h) a = (a.0, all-plug old new k P h a.1)
+  all-plug old new k P (under_group i w c h) a =
+      (a.0, all-join P (ids c) (ids (plug h new)) (all-left P (ids c) (ids (plug h old)) a.1) (all-plug old new k P h (all-right P (ids c) (ids (plug h old)) a.1)))
+  all-plug old new k P (in_group i w h u) a =
+      (a.0, all-join P (ids (plug h new)) (ids u) (all-plug old new k P h (all-left P (ids (plug h old)) (ids u) a.1)) (all-right P (ids (plug h old)) (ids u) a.1))
+
+  pub distinct-plug : (old new : Forest L G) → FewerIds old new → (h : Hole L G) → IsDistinct nat_eq (ids (plug h old)) → IsDistinct nat_eq (ids (plug h new))
+  distinct-plug old new k here d = k.distinct d
+  distinct-plug old new k (under_leaf i w h) d =
+      IsDistinct-cons nat_eq i (ids (plug h new)) (all-plug old new k (IsNot i) h (IsDistinct-head nat_eq i (ids (plug h old)) d))
+      (distinct-plug old new k h (IsDistinct-tail nat_eq i (ids (plug h old)) d))
+  distinct-plug old new k (under_group i w c h) d =
+      let p = apart_parts (ids c) (ids (plug h old)) (IsDistinct-tail nat_eq i (ids c ++ ids (plug h old)) d) in
+      let front_all = IsDistinct-head nat_eq i (ids c ++ ids (plug h old)) d in
+      IsDistinct-cons nat_eq i (ids c ++ ids (plug h new))
+      (all-join (IsNot i) (ids c) (ids (plug h new)) (all-left (IsNot i) (ids c) (ids (plug h old)) front_all) (all-plug old new k (IsNot i) h (all-right (IsNot i) (ids c) (ids (plug h old)) front_all)))
+      (distinct-join (ids c) (ids (plug h new)) p.left (distinct-plug old new k h p.right)
+       (each (λ x. AllByRecursion (IsNot x) (ids (plug h old))) (λ x. AllByRecursion (IsNot x) (ids (plug h new))) (ids c) (λ x a. all-plug old new k (IsNot x) h a) p.between))
+  distinct-plug old new k (in_group i w h u) d =
+      let p = apart_parts (ids (plug h old)) (ids u) (IsDistinct-tail nat_eq i (ids (plug h old) ++ ids u) d) in
+      let front_all = IsDistinct-head nat_eq i (ids (plug h old) ++ ids u) d in
+      IsDistinct-cons nat_eq i (ids (plug h new) ++ ids u)
+      (all-join (IsNot i) (ids (plug h new)) (ids u) (all-plug old new k (IsNot i) h (all-left (IsNot i) (ids (plug h old)) (ids u) front_all)) (all-right (IsNot i) (ids (plug h old)) (ids u) front_all))
+      (distinct-join (ids (plug h new)) (ids u) (distinct-plug old new k h p.left) p.right
+       (all-plug old new k (λ x. AllByRecursion (IsNot x) (ids u)) h p.between))
+
+  pub ids-above : (a b : Forest L G) → ids (above a b) ≡ ids a ++ ids b
+  ids-above none b = refl
+  ids-above (leaf i w u) b = ap (λ xs. i ∷ xs) (ids-above u b)
+  ids-above (group i w c u) b =
+      ap (λ xs. i ∷ xs) (ap (λ xs. ids c ++ xs) (ids-above u b) ∙ sym (append_assoc (ids c) (ids u) (ids b)))
+
+  -- without what is on top there are fewer
+  pub fewer_under : (a b : Forest L G) → FewerIds (above a b) b
+  fewer_under a b = record {
+    all = λ P h. all-right P (ids a) (ids b) (let Q : List ℕ → Type 0 = λ xs. AllByRecursion P xs in subst Q (ids-above a b) h);
+    distinct = λ d. distinct-right (ids a) (ids b) (let Q : List ℕ → Type 0 = λ xs. IsDistinct nat_eq xs in subst Q (ids-above a b) d);
+  }

@@ -2,35 +2,8 @@
 use Rattle.std.proofs.Common.{◌≡◌, ℕ, zero, suc, ◌+◌, ◌<◌, ◌≤◌, max, Bool, true, false, cond, eqb, List, [], ◌∷◌, ◌++◌, length, refl, sym, ◌∙◌, ap, arith}
 use Rattle.std.specs.Prelude.{Option, Some, None, option_map}
 use Rattle.spec_forest.specs.Forest.{Forest, none, leaf, group, size, levels, ids, Found, nothing, a_leaf, a_group, or_else, find}
-use Rattle.spec_forest.specs.Changes.{above, put_last}
-
--- what stands before a place: the nodes above it, and the groups round it with what is under them
-pub data Hole (L G : Type 0) : Type 0 where
-  here : Hole L G
-  under_leaf : (id : ℕ) (what : L) (hole : Hole L G) → Hole L G
-  under_group : (id : ℕ) (what : G) (children : Forest L G) (hole : Hole L G) → Hole L G
-  in_group : (id : ℕ) (what : G) (hole : Hole L G) (under : Forest L G) → Hole L G
-
--- a forest from the place on
-abbrev pub plug : {L G : Type 0} → Hole L G → Forest L G → Forest L G
-plug here f = f
-plug (under_leaf id w h) f = leaf id w (plug h f)
-plug (under_group id w c h) f = group id w c (plug h f)
-plug (in_group id w h u) f = group id w (plug h f) u
-
--- how many groups are round the place
-abbrev pub depth : {L G : Type 0} → Hole L G → ℕ
-depth here = 0
-depth (under_leaf id w h) = depth h
-depth (under_group id w c h) = depth h
-depth (in_group id w h u) = suc (depth h)
-
--- how many nodes are before the place
-abbrev pub passed : {L G : Type 0} → Hole L G → ℕ
-passed here = 0
-passed (under_leaf id w h) = 1 + passed h
-passed (under_group id w c h) = 1 + size c + passed h
-passed (in_group id w h u) = 1 + passed h
+use Rattle.spec_forest.specs.Changes.{above, put_at, put_last}
+use Rattle.spec_forest.specs.Holes.{from_place, Hole, here, under_leaf, under_group, in_group, plug, depth, passed}
 
 -- one hole in another
 abbrev pub into : {L G : Type 0} → Hole L G → Hole L G → Hole L G
@@ -176,3 +149,36 @@ module _ {L G : Type 0} where
   depth-hole_last (suc place ∷ path) (group id w c u) h e =
       let m = mapped_hole (under_group id w c) (hole_last (place ∷ path) u) h e in
       ap depth (sym m.2) ∙ depth-hole_last (place ∷ path) u m.0 m.1
+
+-- the place of the node that is so many from the top
+abbrev pub hole_at : {L G : Type 0} → (place : ℕ) → Forest L G → Hole L G
+hole_at zero f = here
+hole_at (suc place) none = here
+hole_at (suc place) (leaf id w u) = under_leaf id w (hole_at place u)
+hole_at (suc place) (group id w c u) = under_group id w c (hole_at place u)
+
+module _ {L G : Type 0} where
+  pub plug-hole_at : (place : ℕ) (f : Forest L G) → plug (hole_at place f) (from_place place f) ≡ f
+  plug-hole_at zero f = refl
+  plug-hole_at (suc place) none = refl
+  plug-hole_at (suc place) (leaf id w u) = ap (leaf id w) (plug-hole_at place u)
+  plug-hole_at (suc place) (group id w c u) = ap (group id w c) (plug-hole_at place u)
+
+  pub depth-hole_at : (place : ℕ) (f : Forest L G) → depth (hole_at place f) ≡ 0
+  depth-hole_at zero f = refl
+  depth-hole_at (suc place) none = refl
+  depth-hole_at (suc place) (leaf id w u) = depth-hole_at place u
+  depth-hole_at (suc place) (group id w c u) = depth-hole_at place u
+
+  pub passed-hole_at : (place : ℕ) (f : Forest L G) → passed (hole_at place f) + size (from_place place f) ≡ size f
+  passed-hole_at zero f = omega arith
+  passed-hole_at (suc place) none = refl
+  passed-hole_at (suc place) (leaf id w u) = omega (arith, passed-hole_at place u)
+  passed-hole_at (suc place) (group id w c u) = omega (arith, passed-hole_at place u)
+
+  -- what is put in at a place goes into the hole there
+  pub put_at-hole : (b : Forest L G) (place : ℕ) (f : Forest L G) → put_at b place f ≡ plug (hole_at place f) (above b (from_place place f))
+  put_at-hole b zero f = refl
+  put_at-hole b (suc place) none = refl
+  put_at-hole b (suc place) (leaf id w u) = ap (leaf id w) (put_at-hole b place u)
+  put_at-hole b (suc place) (group id w c u) = ap (group id w c) (put_at-hole b place u)

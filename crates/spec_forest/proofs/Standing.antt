@@ -2,7 +2,7 @@
 use Rattle.std.proofs.Common.{◌≡◌, ℕ, ◌+◌, Bool, true, false, cond, eqb, List, [], ◌∷◌, ◌++◌, refl, sym, ◌∙◌, ap, arith, eq-eqb, eqb-true}
 use Rattle.spec_forest.specs.Forest.{Forest, none, leaf, group, Found, nothing, a_leaf, a_group, or_else, find, first_of, ancestors}
 use Rattle.std.specs.Prelude.{Some, None, option_map}
-use Rattle.spec_forest.proofs.Holes.{Hole, here, under_leaf, under_group, in_group, plug}
+use Rattle.spec_forest.specs.Holes.{Hole, here, under_leaf, under_group, in_group, plug}
 
 -- no node before the hole has the id
 abbrev pub Fresh : {L G : Type 0} → ℕ → Hole L G → Type 0

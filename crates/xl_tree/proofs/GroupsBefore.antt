@@ -5,7 +5,8 @@ use Rattle.std.proofs.lemmas.Bool.Decides.{nat_tests}
 use Rattle.std.proofs.lemmas.List.{take_more, append-nil, append_assoc, take_at}
 use Rattle.std.specs.Prelude.{Some, None, unwrap_or}
 use Rattle.spec_forest.specs.Forest.{Forest, none, leaf, group, size, levels, find, ancestors}
-use Rattle.spec_forest.proofs.Holes.{Hole, here, under_leaf, under_group, in_group, plug, depth, depth_below_levels}
+use Rattle.spec_forest.specs.Holes.{Hole, here, under_leaf, under_group, in_group, plug, depth}
+use Rattle.spec_forest.proofs.Holes.{depth_below_levels}
 use Rattle.spec_forest.proofs.Standing.{Fresh, Standing, nowhere, at_leaf, at_group, standing, groups, ancestors-nowhere, ancestors-plug, ancestors-of_leaf, ancestors-of_group}
 use Rattle.xl_tree.specs.declared.entries.Entry.{Entry}
 use Rattle.xl_tree.specs.Flat.{flat, forest_of, from_id}

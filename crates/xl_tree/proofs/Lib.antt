@@ -8,3 +8,7 @@ pub mod Search
 pub mod Deepest
 pub mod GroupsBefore
 pub mod Placed
+pub mod Stands
+pub mod Shifted
+pub mod Moved
+pub mod Restacked

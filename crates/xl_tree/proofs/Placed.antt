@@ -5,7 +5,8 @@ use Rattle.std.specs.Prelude.{Option, Some, None, option_map}
 use Rattle.std.specs.List.{IsDistinct}
 use Rattle.spec_forest.specs.Forest.{Forest, none, leaf, group, size, levels, ids, nothing, a_leaf, a_group, find}
 use Rattle.spec_forest.specs.Changes.{with_leaf, with_group}
-use Rattle.spec_forest.proofs.Holes.{Hole, here, under_leaf, under_group, in_group, plug, depth, passed, size-plug, levels-plug, passed_within, depth_below_levels}
+use Rattle.spec_forest.specs.Holes.{Hole, here, under_leaf, under_group, in_group, plug, depth, passed}
+use Rattle.spec_forest.proofs.Holes.{size-plug, levels-plug, passed_within, depth_below_levels}
 use Rattle.spec_forest.proofs.Standing.{Fresh, Standing, nowhere, at_leaf, at_group, standing, lacks_leaf, lacks_group, find-at_leaf, find-at_group}
 use Rattle.spec_forest.proofs.Distinct.{lone_leaf, lone_group, with_leaf-at_leaf, with_leaf-at_group, with_group-at_leaf, with_group-at_group}
 use Rattle.xl_tree.specs.declared.entries.Entry.{Entry}
@@ -13,6 +14,8 @@ use Rattle.xl_tree.specs.Flat.{flat, forest_of, from_id}
 use Rattle.xl_tree.specs.Kept.{AreSiblings}
 use Rattle.xl_tree.specs.Places.{place_of, first_some}
 use Rattle.xl_tree.specs.Reads.{node_of}
+use Rattle.xl_tree.specs.Refusals.{no_node}
+use Rattle.xl_tree.specs.declared.refused.TreeRefused.TheVariants.{NoNode}
 use Rattle.xl_tree.specs.Writes.{with_node}
 use Rattle.xl_tree.proofs.Flat.{length-flat, forest_of_is, size-forest_of}
 use Rattle.xl_tree.proofs.FlatHoles.{entry_of, front, back, flat-plug, length-front}
@@ -162,3 +165,14 @@ module _ {N : Type 0} where
         made h (group id v c u) (group id w c u) true v ((flat (suc (0 + depth h)) c ++ flat (0 + depth h) u) ++ back 0 h) is at refl refl refl refl
         (ap (λ x. node_of (find id x)) is ∙ ap node_of (find-at_group id h v c u fresh))
         (ap (with_node id w) is ∙ (ap (with_group id (λ _. w)) (with_leaf-at_group id (λ _. w) h v c u fresh l) ∙ with_group-at_group id (λ _. w) h v c u fresh l))
+
+module _ {L G : Type 0} where
+  -- a node with a place is there, and one without is not
+  pub is_there : (id place : ℕ) (f : Forest L G) → Some place ≡ place_of id f → no_node id (find id f) ≡ None
+  is_there id place f e = from (spot id place f (sym e)) where
+    from : Spot id place f → no_node id (find id f) ≡ None
+    from (a_leaf_at h w u is fresh at) = ap (λ x. no_node id (find id x)) is ∙ ap (no_node id) (find-at_leaf id h w u fresh)
+    from (a_group_at h w c u is fresh at) = ap (λ x. no_node id (find id x)) is ∙ ap (no_node id) (find-at_group id h w c u fresh)
+
+  pub is_not_there : (id : ℕ) (f : Forest L G) → None ≡ place_of id f → no_node id (find id f) ≡ Some (NoNode id)
+  is_not_there id f e = ap (no_node id) (nothing_placed id f (sym e))

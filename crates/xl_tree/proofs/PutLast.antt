@@ -4,7 +4,8 @@ use Rattle.std.specs.Prelude.{Option, Some, None, option_map}
 use Rattle.std.specs.List.{insert}
 use Rattle.spec_forest.specs.Forest.{Forest, none, leaf, group, size, levels}
 use Rattle.spec_forest.specs.Changes.{put_last}
-use Rattle.spec_forest.proofs.Holes.{Hole, plug, depth, passed, hole_last, plug-hole_last, depth-hole_last, put_last-hole, size-plug, levels-plug, passed_within}
+use Rattle.spec_forest.specs.Holes.{Hole, plug, depth, passed}
+use Rattle.spec_forest.proofs.Holes.{hole_last, plug-hole_last, depth-hole_last, put_last-hole, size-plug, levels-plug, passed_within}
 use Rattle.xl_tree.specs.declared.entries.Entry.{Entry}
 use Rattle.xl_tree.specs.Flat.{flat, forest_of}
 use Rattle.xl_tree.specs.Kept.{AreSiblings}

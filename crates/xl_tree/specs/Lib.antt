@@ -5,3 +5,7 @@ pub mod Places
 pub mod Reads
 pub mod Above
 pub mod Writes
+pub mod Refusals
+pub mod Slots
+pub mod Moves
+pub mod Branches

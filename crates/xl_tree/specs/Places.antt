@@ -2,13 +2,6 @@
 use Rattle.std.specs.Prelude.{ℕ, zero, suc, ◌+◌, ◌==◌, if◌then◌else◌, Bool, true, false, List, [], ◌∷◌, Option, Some, None, option_map}
 use Rattle.spec_forest.specs.Forest.{Forest, none, leaf, group, size}
 
--- the forest from a place at the top on
-abbrev pub from_place : {L G : Type 0} → (place : ℕ) → Forest L G → Forest L G
-from_place zero forest = forest
-from_place (suc place) none = none
-from_place (suc place) (leaf id what under) = from_place place under
-from_place (suc place) (group id what children under) = from_place place under
-
 -- how many nodes come, in preorder, before what is put last in the group that a path names
 abbrev pub end_at : {L G : Type 0} → (path : List ℕ) → Forest L G → Option ℕ
 end_at [] forest = Some (size forest)

@@ -2,7 +2,8 @@
 use Rattle.std.specs.Prelude.{◌≡◌, ℕ, ◌+◌, Bool, false, if◌then◌else◌, Option, Some, None}
 use Rattle.spec_forest.specs.Forest.{Forest, none, leaf, group, size, levels, Found, nothing, a_leaf, a_group}
 use Rattle.xl_tree.specs.declared.entries.Entry.{Entry}
-use Rattle.xl_tree.specs.Places.{first_some, from_place}
+use Rattle.spec_forest.specs.Holes.{from_place}
+use Rattle.xl_tree.specs.Places.{first_some}
 
 -- a node with this entry and these children was found
 abbrev pub found_as : {N : Type 0} → Entry N → (children : Forest N N) → Found N N

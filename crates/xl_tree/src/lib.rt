@@ -4,15 +4,22 @@
 #![tactic(auto)]
 
 mod above;
+mod branch;
+mod edits;
 mod entries;
 mod forest;
+mod moves;
 mod naming;
 mod places;
 mod reads;
+mod refused;
+mod slots;
 mod stacks;
 mod writes;
 
 pub use above::Ancestors;
+pub use branch::Branch;
 pub use forest::{MAX_NODES, Tree};
 pub use naming::{NodeId, Shown};
+pub use refused::TreeRefused;
 pub use stacks::{Split, Stack};

@@ -1,6 +1,7 @@
 ghost use Rattle.std.specs.Prelude.{◌≡◌, ◌≤◌};
 ghost use Rattle.spec_forest.specs.Forest.{size};
-ghost use Rattle.xl_tree.specs.Places.{end_at, from_place};
+ghost use Rattle.spec_forest.specs.Holes.{from_place};
+ghost use Rattle.xl_tree.specs.Places.{end_at};
 
 use crate::stacks::{Split, Stack};
 
