@@ -8,19 +8,32 @@ use xl_fields::{Kind, ReadRefused, refused};
 // A plane has at most so many codes.
 const MAX_CODES: u32 = 8192;
 
+// A short code is put by one write of so many bytes, where the plane has them: the codes behind it put the rest.
+const BLOCK: usize = 32;
+
+// What stands in the plane behind the run is unspecified.
 fn put_run(out: &mut [u8], at: usize, len: usize, value: u8)
     requires { at + len ≤ length out.old }
     ensures { take (at + len) out.new ≡ take at out.old ++ replicate len value }
 {
-    out[at..at + len].fill(value);
+    if len <= BLOCK && out.len() - at >= BLOCK {
+        out[at..at + BLOCK].fill(value);
+    } else {
+        out[at..at + len].fill(value);
+    }
 }
 
+// What stands in the plane behind the bytes is unspecified.
 fn put_literal(out: &mut [u8], at: usize, bytes: &[u8], from: usize, len: usize)
     requires out { at + len ≤ length out.old }
     requires bytes { from + len ≤ length bytes.now }
     ensures { take (at + len) out.new ≡ take at out.old ++ take len (drop from bytes.now) }
 {
-    out[at..at + len].copy_from_slice(&bytes[from..from + len]);
+    if len <= BLOCK && out.len() - at >= BLOCK && bytes.len() - from >= BLOCK {
+        out[at..at + BLOCK].copy_from_slice(&bytes[from..from + BLOCK]);
+    } else {
+        out[at..at + len].copy_from_slice(&bytes[from..from + len]);
+    }
 }
 
 /// Fills a plane from the codes that begin at an offset. Gives the offset after the last code.

@@ -1,0 +1,96 @@
+ghost use Rattle.std.specs.Prelude.{◌≡◌, ◌<◌, ◌≤◌, ◌++◌, length, OnOk};
+ghost use Rattle.spec_plane.specs.Codes.{code_bytes, short_literal};
+ghost use Rattle.spec_plane.specs.Greedy as coder;
+
+use std::alloc::AllocError;
+
+// The longest run and the longest literal of the short form.
+const MAX_SHORT: usize = 127;
+
+// The first byte of a run, and of literal bytes, in the long form.
+const LONG_RUN: u8 = 127;
+const LONG_LITERAL: u8 = 128;
+
+// Whether three equal bytes begin here.
+fn begins_run(bytes: &[u8]) -> bool
+    ensures { result ≡ coder.begins_run bytes.now }
+{
+    match bytes {
+        [a, b, c, ..] => a == b && b == c,
+        _ => false,
+    }
+}
+
+// How many equal bytes begin here.
+fn run_length(bytes: &[u8]) -> usize
+    requires { 0 < length bytes.now }
+    ensures value { result ≡ coder.run_length bytes.now }
+    ensures within { result ≤ length bytes.now }
+    ensures some { 0 < result }
+{
+    let first = bytes[0];
+    let mut n = 1;
+    while n < bytes.len() && bytes[n] == first {
+        n += 1;
+    }
+    n
+}
+
+// How many bytes stand before the next three equal ones.
+fn literal_length(bytes: &[u8]) -> usize
+    ensures value { result ≡ length (coder.up_to_run bytes.now) }
+    ensures within { result ≤ length bytes.now }
+{
+    let mut n = 0;
+    while n < bytes.len() && !begins_run(&bytes[n..]) {
+        n += 1;
+    }
+    n
+}
+
+fn push_run(out: &mut Vec<u8>, count: usize, value: u8) -> Result<(), AllocError>
+    requires some { 0 < count }
+    requires few { count ≤ 4096 }
+    ensures { OnOk result (out.new.items ≡ out.old.items ++ code_bytes (coder.run_code count value)) }
+{
+    if count <= MAX_SHORT {
+        out.extend_from_slice(&[(count - 1) as u8, value])
+    } else {
+        out.extend_from_slice(&[LONG_RUN, (count / 256) as u8, (count % 256) as u8, value])
+    }
+}
+
+fn push_literal(out: &mut Vec<u8>, bytes: &[u8]) -> Result<(), AllocError>
+    requires some { 0 < length bytes.now }
+    requires few { length bytes.now ≤ 4096 }
+    ensures { OnOk result (out.new.items ≡ out.old.items ++ code_bytes (coder.literal_code bytes.now)) }
+{
+    let count = bytes.len();
+    if count <= MAX_SHORT {
+        out.extend_from_slice(&[(256 - count) as u8])?;
+    } else {
+        out.extend_from_slice(&[LONG_LITERAL, (count / 256) as u8, (count % 256) as u8])?;
+    }
+    out.extend_from_slice(bytes)
+}
+
+/// Appends the spelling that takes each run of three or more bytes whole, and what lies between as it is.
+pub fn encode_greedy(plane: &[u8], out: &mut Vec<u8>) -> Result<(), AllocError>
+    requires { length plane.now ≤ 4096 }
+    ensures { OnOk result (out.new.items ≡ out.old.items ++ coder.greedy plane.now) }
+{
+    let mut at = 0;
+    while at < plane.len() {
+        let rest = &plane[at..];
+        if begins_run(rest) {
+            let count = run_length(rest);
+            push_run(out, count, rest[0])?;
+            at += count;
+        } else {
+            let count = literal_length(rest);
+            push_literal(out, &rest[..count])?;
+            at += count;
+        }
+    }
+    Ok(())
+}
