@@ -294,14 +294,14 @@ module _ {L G : Type 0} where
       IsDistinct-cons nat_eq i (ids c ++ ids (plug h new))
       (all-join (IsNot i) (ids c) (ids (plug h new)) (all-left (IsNot i) (ids c) (ids (plug h old)) front_all) (all-plug old new k (IsNot i) h (all-right (IsNot i) (ids c) (ids (plug h old)) front_all)))
       (distinct-join (ids c) (ids (plug h new)) p.left (distinct-plug old new k h p.right)
-       (each (λ x. AllByRecursion (IsNot x) (ids (plug h old))) (λ x. AllByRecursion (IsNot x) (ids (plug h new))) (ids c) (λ x a. all-plug old new k (IsNot x) h a) p.between))
+      (each (λ x. AllByRecursion (IsNot x) (ids (plug h old))) (λ x. AllByRecursion (IsNot x) (ids (plug h new))) (ids c) (λ x a. all-plug old new k (IsNot x) h a) p.between))
   distinct-plug old new k (in_group i w h u) d =
       let p = apart_parts (ids (plug h old)) (ids u) (IsDistinct-tail nat_eq i (ids (plug h old) ++ ids u) d) in
       let front_all = IsDistinct-head nat_eq i (ids (plug h old) ++ ids u) d in
       IsDistinct-cons nat_eq i (ids (plug h new) ++ ids u)
       (all-join (IsNot i) (ids (plug h new)) (ids u) (all-plug old new k (IsNot i) h (all-left (IsNot i) (ids (plug h old)) (ids u) front_all)) (all-right (IsNot i) (ids (plug h old)) (ids u) front_all))
       (distinct-join (ids (plug h new)) (ids u) (distinct-plug old new k h p.left) p.right
-       (all-plug old new k (λ x. AllByRecursion (IsNot x) (ids u)) h p.between))
+      (all-plug old new k (λ x. AllByRecursion (IsNot x) (ids u)) h p.between))
 
   pub ids-above : (a b : Forest L G) → ids (above a b) ≡ ids a ++ ids b
   ids-above none b = refl

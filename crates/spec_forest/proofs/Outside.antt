@@ -28,9 +28,10 @@ all_member P id (x ∷ xs) h (inr m) = all_member P id xs h.1 m
 -- a member of the later part is none of the earlier
 apart_before : (id : ℕ) (xs ys : List ℕ) → IsDistinct nat_eq (xs ++ ys) → Member id ys → AllByRecursion (IsNot id) xs
 apart_before id [] ys d m = tt
-apart_before id (x ∷ xs) ys d m =
-    (not_same x id (all_member (IsNot x) id (xs ++ ys) (IsDistinct-head nat_eq x (xs ++ ys) d) (member-right id xs ys m)),
-     apart_before id xs ys (IsDistinct-tail nat_eq x (xs ++ ys) d) m)
+apart_before id (x ∷ xs) ys d m = (
+  not_same x id (all_member (IsNot x) id (xs ++ ys) (IsDistinct-head nat_eq x (xs ++ ys) d) (member-right id xs ys m)),
+  apart_before id xs ys (IsDistinct-tail nat_eq x (xs ++ ys) d) m,
+)
 
 any_there : (id : ℕ) (xs ys : List ℕ) → list_any (λ i. eqb i id) (xs ++ id ∷ ys) ≡ true
 any_there id [] ys = ap (λ b. b || list_any (λ i. eqb i id) ys) (eq-eqb id id refl)
@@ -69,20 +70,23 @@ module _ {L G : Type 0} where
   -- where ids are distinct, no node before the hole has an id of what is in it
   pub fresh_from : (p : ℕ) (h : Hole L G) (f : Forest L G) → IsDistinct nat_eq (ids (plug h f)) → Member p (ids f) → Fresh p h
   fresh_from p here f d m = tt
-  fresh_from p (under_leaf i w h) f d m =
-      (not_same i p (all_member (IsNot i) p (ids (plug h f)) (IsDistinct-head nat_eq i (ids (plug h f)) d) (member-plug p h f m)),
-       fresh_from p h f (IsDistinct-tail nat_eq i (ids (plug h f)) d) m)
+  fresh_from p (under_leaf i w h) f d m = (
+    not_same i p (all_member (IsNot i) p (ids (plug h f)) (IsDistinct-head nat_eq i (ids (plug h f)) d) (member-plug p h f m)),
+    fresh_from p h f (IsDistinct-tail nat_eq i (ids (plug h f)) d) m,
+  )
   fresh_from p (under_group i w c h) f d m =
       let t = IsDistinct-tail nat_eq i (ids c ++ ids (plug h f)) d in
-      let inside = member-plug p h f m in
-      (not_same i p (all_member (IsNot i) p (ids c ++ ids (plug h f)) (IsDistinct-head nat_eq i (ids c ++ ids (plug h f)) d) (member-right p (ids c) (ids (plug h f)) inside)),
-       nothing_from_ids p c (apart_before p (ids c) (ids (plug h f)) t inside),
-       fresh_from p h f (distinct-right (ids c) (ids (plug h f)) t) m)
+      let inside = member-plug p h f m in (
+        not_same i p (all_member (IsNot i) p (ids c ++ ids (plug h f)) (IsDistinct-head nat_eq i (ids c ++ ids (plug h f)) d) (member-right p (ids c) (ids (plug h f)) inside)),
+        nothing_from_ids p c (apart_before p (ids c) (ids (plug h f)) t inside),
+        fresh_from p h f (distinct-right (ids c) (ids (plug h f)) t) m,
+      )
   fresh_from p (in_group i w h u) f d m =
       let t = IsDistinct-tail nat_eq i (ids (plug h f) ++ ids u) d in
-      let inside = member-plug p h f m in
-      (not_same i p (all_member (IsNot i) p (ids (plug h f) ++ ids u) (IsDistinct-head nat_eq i (ids (plug h f) ++ ids u) d) (member-left p (ids (plug h f)) (ids u) inside)),
-       fresh_from p h f (distinct-left (ids (plug h f)) (ids u) t) m)
+      let inside = member-plug p h f m in (
+        not_same i p (all_member (IsNot i) p (ids (plug h f) ++ ids u) (IsDistinct-head nat_eq i (ids (plug h f) ++ ids u) d) (member-left p (ids (plug h f)) (ids u) inside)),
+        fresh_from p h f (distinct-left (ids (plug h f)) (ids u) t) m,
+      )
 
   fresh-into : (p : ℕ) (h inner : Hole L G) → Fresh p h → Fresh p inner → Fresh p (into h inner)
   fresh-into p here inner a b = b
@@ -106,11 +110,12 @@ module _ {L G : Type 0} where
         let inside : Member p (ids c) = let P : Forest L G → Type 0 = λ y. Member p (ids y) in subst P (sym is) (member-plug p h2 x m) in
         let before : Fresh p h = fresh_from p h (group id w c u) d (inr (member-left p (ids c) (ids u) inside)) in
         let above_it : ancestors p (plug h (group id w c u)) ≡ Some (groups all) =
-          ap (ancestors p) whole ∙ ancestors-plug p all x (fresh-into p h (in_group id w h2 u) before (ne, fresh)) top in
+        ap (ancestors p) whole ∙ ancestors-plug p all x (fresh-into p h (in_group id w h2 u) before (ne, fresh)) top in
         let shape : groups all ≡ groups h2 ++ id ∷ groups h =
-          groups-into h (in_group id w h2 u) ∙ append_assoc (groups h2) (id ∷ []) (groups h) in
+        groups-into h (in_group id w h2 u) ∙ append_assoc (groups h2) (id ∷ []) (groups h) in
         ap (λ o. list_any (λ i. eqb i id) (unwrap_or o [])) above_it
         ∙ (ap (list_any (λ i. eqb i id)) shape ∙ any_there id (groups h2) (groups h))
+
     from : Standing p c → list_any (λ i. eqb i id) (unwrap_or (ancestors p (plug h (group id w c u))) []) ≡ true
     from (nowhere n) = absurd (some n)
     from (at_leaf h2 v x is fresh) = made h2 (leaf p v x) is fresh (inl refl) (ancestors-of_leaf p v x)

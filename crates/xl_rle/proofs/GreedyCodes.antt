@@ -71,8 +71,10 @@ first_gives b bytes = by (begins_run (b ∷ bytes))
     run =
         ap (λ ps. ps ++ drop (length ps) (b ∷ bytes)) (pixels_of_run (run_length (b ∷ bytes)) b)
         ∙ (ap (λ n. replicate (run_length (b ∷ bytes)) b ++ drop n (b ∷ bytes)) (length-replicate (run_length (b ∷ bytes)) b) ∙ run_parts b bytes)
+
     literal : code_pixels (literal_code (up_to_run (b ∷ bytes))) ++ drop (length (code_pixels (literal_code (up_to_run (b ∷ bytes))))) (b ∷ bytes) ≡ b ∷ bytes
     literal = ap (λ ps. ps ++ drop (length ps) (b ∷ bytes)) (pixels_of_literal (up_to_run (b ∷ bytes))) ∙ literal_parts (b ∷ bytes)
+
     by : (t : Bool) → let code = cond t (run_code (run_length (b ∷ bytes)) b) (literal_code (up_to_run (b ∷ bytes))) in
         code_pixels code ++ drop (length (code_pixels code)) (b ∷ bytes) ≡ b ∷ bytes
     by true = run
@@ -131,8 +133,8 @@ goes plane out first code new at n so_far some within one new_is = record {
   codes = so_far.codes - 1;
   enough = omega (arith, length-drop (at + n) plane, length-drop at plane, so_far.enough, some);
   spelled = (λ i. new_is i ++ spell (so_far.codes - 1) (sym (drop-drop n at plane) i))
-    ∙ (append_assoc out code (spell (so_far.codes - 1) (drop n (drop at plane)))
-    ∙ (ap (λ xs. out ++ xs) (sym one) ∙ so_far.spelled));
+      ∙ (append_assoc out code (spell (so_far.codes - 1) (drop n (drop at plane)))
+      ∙ (ap (λ xs. out ++ xs) (sym one) ∙ so_far.spelled));
 }
 
 -- what stands from a place on, as code reads it
@@ -159,7 +161,7 @@ goes_literal plane out first new at n so_far more off value within new_is =
     let value' : n ≡ length (up_to_run (drop at plane)) = value ∙ ap (λ xs. length (up_to_run xs)) r in
     let size : 0 < length (drop at plane) = omega (arith, length-drop at plane, more) in
     let front : take n (drop at plane) ≡ up_to_run (drop at plane) =
-      ap (take n) (sym (literal_parts (drop at plane))) ∙ take_at (up_to_run (drop at plane)) (drop (length (up_to_run (drop at plane))) (drop at plane)) n (sym value') in
+    ap (take n) (sym (literal_parts (drop at plane))) ∙ take_at (up_to_run (drop at plane)) (drop (length (up_to_run (drop at plane))) (drop at plane)) n (sym value') in
     goes plane out first (code_bytes (literal_code (up_to_run (drop at plane)))) new at n so_far (omega (arith, value', literal_some (drop at plane) size off')) (omega (arith, within, ap length r))
     (spell_literal so_far.codes (drop at plane) size (omega (arith, size, so_far.enough)) off'
     ∙ ap (λ k. code_bytes (literal_code (up_to_run (drop at plane))) ++ spell (so_far.codes - 1) (drop k (drop at plane))) (sym value'))

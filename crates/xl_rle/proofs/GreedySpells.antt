@@ -106,14 +106,16 @@ ends_with code (next ∷ codes) h = ends_with next codes h.1
 pub greedy_spells : (plane : List ℕ) → 1 ≤ length plane → length plane ≤ 4096 → AreBytes plane → Spells (greedy plane) plane
 greedy_spells [] some few are = absurd (omega (arith, some))
 greedy_spells (b ∷ bytes) some few are =
-    let codes = codes_are (suc (length bytes)) (b ∷ bytes) (omega arith) few are in
-    (greedy_codes (suc (length bytes)) (b ∷ bytes), record {
-      few = omega (arith, codes.few, few);
-      each = codes.each;
-      ends = ends_with (first_code b bytes) (greedy_codes (length bytes) (drop (length (code_pixels (first_code b bytes))) (b ∷ bytes))) codes.some;
-      spelled = refl;
-      given = codes.given;
-    })
+    let codes = codes_are (suc (length bytes)) (b ∷ bytes) (omega arith) few are in (
+      greedy_codes (suc (length bytes)) (b ∷ bytes),
+      record {
+        few = omega (arith, codes.few, few);
+        each = codes.each;
+        ends = ends_with (first_code b bytes) (greedy_codes (length bytes) (drop (length (code_pixels (first_code b bytes))) (b ∷ bytes))) codes.some;
+        spelled = refl;
+        given = codes.given;
+      },
+    )
 
 some_of : (b : ℕ) (bytes : List ℕ) → 0 < length (code_pixels (first_code b bytes))
 some_of b bytes = by (begins_run (b ∷ bytes)) refl
@@ -177,7 +179,7 @@ short_run_first n b bytes on rest_short =
 
 short_literal_first : (n b : ℕ) (bytes : List ℕ) → begins_run (b ∷ bytes) ≡ false
     → (BeginsOrEnds (drop (length (code_pixels (first_code b bytes))) (b ∷ bytes))
-      → 131 * length (spell n (drop (length (code_pixels (first_code b bytes))) (b ∷ bytes))) ≤ 133 * length (drop (length (code_pixels (first_code b bytes))) (b ∷ bytes)))
+    → 131 * length (spell n (drop (length (code_pixels (first_code b bytes))) (b ∷ bytes))) ≤ 133 * length (drop (length (code_pixels (first_code b bytes))) (b ∷ bytes)))
     → 131 * length (spell (suc n) (b ∷ bytes)) ≤ 133 * length (b ∷ bytes) + 137
 short_literal_first n b bytes off rest_short =
     let front = up_to_run (b ∷ bytes) in

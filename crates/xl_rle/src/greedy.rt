@@ -9,6 +9,7 @@ const MAX_SHORT: usize = 127;
 
 // The first byte of a run, and of literal bytes, in the long form.
 const LONG_RUN: u8 = 127;
+
 const LONG_LITERAL: u8 = 128;
 
 // Whether three equal bytes begin here.

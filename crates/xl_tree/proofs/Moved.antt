@@ -60,12 +60,12 @@ module _ {N : Type 0} where
   pub put_in : (stack place : ℕ) (es new : List (Entry N)) (f b : Forest N N) (at level : ℕ) → es ≡ flat 0 f → IsSlot stack place f at level → size f + size b ≤ 512 → levels (put_into stack place b f) ≤ 8 → new ≡ take at es ++ (flat level b ++ drop at es) → PutIn new (put_into stack place b f)
   put_in stack place es new f b at level es_is s few low new_is =
       let new_flat : new ≡ flat 0 (plug s.hole (above b s.under)) =
-        plugged s.hole s.under b f at level new s.forest_is s.at_is s.level_is (new_is ∙ ap (λ x. take at x ++ (flat level b ++ drop at x)) es_is) in
+      plugged s.hole s.under b f at level new s.forest_is s.at_is s.level_is (new_is ∙ ap (λ x. take at x ++ (flat level b ++ drop at x)) es_is) in
       record {
         view = forest_of_is 0 new (plug s.hole (above b s.under)) new_flat ∙ sym (s.put_is b);
         siblings = siblings 0 new (plug s.hole (above b s.under)) new_flat
-          (omega (arith, few, size-plug s.hole s.under (above b s.under), size-above b s.under, ap size s.forest_is))
-          (omega (arith, low, ap levels (s.put_is b)));
+            (omega (arith, few, size-plug s.hole s.under (above b s.under), size-above b s.under, ap size s.forest_is))
+            (omega (arith, low, ap levels (s.put_is b)));
       }
 
   pub put_in_one : (stack place : ℕ) (es new : List (Entry N)) (f : Forest N N) (at level id : ℕ) (mark : Bool) (node : N) → es ≡ flat 0 f → IsSlot stack place f at level → size f < 512 → levels (put_into stack place (alone mark id node) f) ≤ 8 → new ≡ insert es at (entry_of level id mark node) → PutIn new (put_into stack place (alone mark id node) f)
@@ -95,22 +95,36 @@ module _ {N : Type 0} where
     from (a_leaf_at h w u is fresh at_is) =
         let l = lone_leaf id h w u (let P : Forest N N → Type 0 = λ x. IsDistinct nat_eq (ids x) in subst P is distinct) in
         record {
-          hole = h; branch = leaf id w none; under = u; forest_is = is; at_is = at_is;
+          hole = h;
+          branch = leaf id w none;
+          under = u;
+          forest_is = is;
+          at_is = at_is;
           without_is = ap (without id) is ∙ without-at_leaf id h w u fresh l;
           branch_is = ap (branch_of id) is ∙ branch_of-at_leaf id h w u fresh l;
           size_is = ap (λ x. size_of (find id x)) is ∙ ap size_of (find-at_leaf id h w u fresh);
           some = omega arith;
-          entry = entry_of (0 + depth h) id false w; rest = []; first_is = refl; level_is = omega arith;
+          entry = entry_of (0 + depth h) id false w;
+          rest = [];
+          first_is = refl;
+          level_is = omega arith;
         }
     from (a_group_at h w c u is fresh at_is) =
         let l = lone_group id h w c u (let P : Forest N N → Type 0 = λ x. IsDistinct nat_eq (ids x) in subst P is distinct) in
         record {
-          hole = h; branch = group id w c none; under = u; forest_is = is; at_is = at_is;
+          hole = h;
+          branch = group id w c none;
+          under = u;
+          forest_is = is;
+          at_is = at_is;
           without_is = ap (without id) is ∙ without-at_group id h w c u fresh l;
           branch_is = ap (branch_of id) is ∙ branch_of-at_group id h w c u fresh l;
           size_is = ap (λ x. size_of (find id x)) is ∙ (ap size_of (find-at_group id h w c u fresh) ∙ omega arith);
           some = omega arith;
-          entry = entry_of (0 + depth h) id true w; rest = flat (suc (0 + depth h)) c ++ []; first_is = refl; level_is = omega arith;
+          entry = entry_of (0 + depth h) id true w;
+          rest = flat (suc (0 + depth h)) c ++ [];
+          first_is = refl;
+          level_is = omega arith;
         }
 
   -- the entries where a node is taken out
@@ -128,8 +142,8 @@ module _ {N : Type 0} where
       let before : take at es ≡ front 0 h = (λ j. take (sym r.at_is j) (es_is j)) ∙ take-plug 0 h (above r.branch r.under) in
       let tail : List (Entry N) = flat d r.under ++ back 0 h in
       let after : drop at es ≡ flat d r.branch ++ tail =
-        (λ j. drop (sym r.at_is j) (es_is j)) ∙ (drop-plug 0 h (above r.branch r.under)
-        ∙ (ap (λ x. x ++ back 0 h) (flat-above d r.branch r.under) ∙ append_assoc (flat d r.branch) (flat d r.under) (back 0 h))) in
+      (λ j. drop (sym r.at_is j) (es_is j)) ∙ (drop-plug 0 h (above r.branch r.under)
+      ∙ (ap (λ x. x ++ back 0 h) (flat-above d r.branch r.under) ∙ append_assoc (flat d r.branch) (flat d r.under) (back 0 h))) in
       let n : length (flat d r.branch) ≡ count = length-flat d r.branch ∙ sym count_is in
       let run : take count (drop at es) ≡ flat d r.branch = ap (take count) after ∙ take_at (flat d r.branch) tail count n in
       let left : drop count (drop at es) ≡ tail = ap (drop count) after ∙ drop_at (flat d r.branch) tail count n in
@@ -143,23 +157,23 @@ module _ {N : Type 0} where
         there = omega (arith, size_all, inside, r.at_is, r.some, size-above r.branch r.under);
         shallow = let P : List (Entry N) → Type 0 = AreShallow in subst P (sym run) (shallow-flat d r.branch (omega (arith, s.low, ap levels view_is, ap levels r.forest_is, deep, low_branch)));
         parked = (λ j. before j ++ (left j ++ map (shifted (l j) 0) (run j)))
-          ∙ (ap (λ x. front 0 h ++ (tail ++ x)) (map-down d r.branch)
-          ∙ (sym (append_assoc (front 0 h) tail (flat 0 r.branch))
-          ∙ (λ j. (sym (flat-plug 0 h r.under) ∙ ap (flat 0) (sym r.without_is)) j ++ flat 0 (sym r.branch_is j))));
+            ∙ (ap (λ x. front 0 h ++ (tail ++ x)) (map-down d r.branch)
+            ∙ (sym (append_assoc (front 0 h) tail (flat 0 r.branch))
+            ∙ (λ j. (sym (flat-plug 0 h r.under) ∙ ap (flat 0) (sym r.without_is)) j ++ flat 0 (sym r.branch_is j))));
       } where
-    levels-above_left : (a b : Forest N N) → levels a ≤ levels (above a b)
-    levels-above_left none b = omega arith
-    levels-above_left (leaf i v x) b = omega (arith, levels-above_left x b)
-    levels-above_left (group i v c x) b = omega (arith, levels-above_left x b)
+        levels-above_left : (a b : Forest N N) → levels a ≤ levels (above a b)
+        levels-above_left none b = omega arith
+        levels-above_left (leaf i v x) b = omega (arith, levels-above_left x b)
+        levels-above_left (group i v c x) b = omega (arith, levels-above_left x b)
 
   pub removal_level : (id at : ℕ) (es : List (Entry N)) (f : Forest N N) (e : Entry N) → AreSiblings 0 es → forest_of es ≡ f → (r : Removal id at f) → e ≡ get_or es at e → e.level ≡ depth r.hole
   removal_level id at es f e s view_is r e_is =
       let h : Hole N N = r.hole in
       let d : ℕ = 0 + depth h in
       let split : es ≡ front 0 h ++ (r.entry ∷ (r.rest ++ (flat d r.under ++ back 0 h))) =
-        s.flat_is ∙ (ap (flat 0) (view_is ∙ r.forest_is) ∙ (flat-plug 0 h (above r.branch r.under)
-        ∙ ap (λ x. front 0 h ++ x) (ap (λ x. x ++ back 0 h) (flat-above d r.branch r.under)
-        ∙ (append_assoc (flat d r.branch) (flat d r.under) (back 0 h) ∙ ap (λ x. x ++ (flat d r.under ++ back 0 h)) r.first_is)))) in
+      s.flat_is ∙ (ap (flat 0) (view_is ∙ r.forest_is) ∙ (flat-plug 0 h (above r.branch r.under)
+      ∙ ap (λ x. front 0 h ++ x) (ap (λ x. x ++ back 0 h) (flat-above d r.branch r.under)
+      ∙ (append_assoc (flat d r.branch) (flat d r.under) (back 0 h) ∙ ap (λ x. x ++ (flat d r.under ++ back 0 h)) r.first_is)))) in
       ap (λ x. x.level) (e_is ∙ (ap (λ x. get_or x at e) split ∙ get_or_at (front 0 h) r.entry (r.rest ++ (flat d r.under ++ back 0 h)) e at (length-front 0 h ∙ r.at_is)))
       ∙ r.level_is
 
@@ -207,14 +221,14 @@ module _ {N : Type 0} where
 
   -- a branch that was parked at the end is put into a slot
   pub grafted : (stack place : ℕ) (r b : Forest N N) (es new : List (Entry N)) (at count level n : ℕ) → es ≡ flat 0 r ++ flat 0 b → n ≡ length es → count ≡ size b → IsSlot stack place r at level → size r + size b ≤ 512 → levels (put_into stack place b r) ≤ 8
-    → new ≡ take at es ++ (map (shifted 0 level) (drop (n - count) es) ++ take (n - count - at) (drop at es)) → PutIn new (put_into stack place b r)
+      → new ≡ take at es ++ (map (shifted 0 level) (drop (n - count) es) ++ take (n - count - at) (drop at es)) → PutIn new (put_into stack place b r)
   grafted stack place r b es new at count level n es_is n_is count_is slot few low new_is =
       put_in stack place (flat 0 r) new r b at level refl slot few low
       (new_is ∙ put_back_is r b es at count level n es_is n_is count_is (slot_within stack place r at level slot))
 
   -- or where it was before
   pub restored : (id at : ℕ) (f : Forest N N) (es new : List (Entry N)) (count level n : ℕ) → es ≡ flat 0 (without id f) ++ flat 0 (branch_of id f) → n ≡ length es → (k : Removal id at f) → count ≡ size k.branch → level ≡ depth k.hole
-    → new ≡ take at es ++ (map (shifted 0 level) (drop (n - count) es) ++ take (n - count - at) (drop at es)) → new ≡ flat 0 f
+      → new ≡ take at es ++ (map (shifted 0 level) (drop (n - count) es) ++ take (n - count - at) (drop at es)) → new ≡ flat 0 f
   restored id at f es new count level n es_is n_is k count_is level_is new_is =
       let inside : at ≤ size (without id f) = omega (arith, k.at_is, passed_within k.hole k.under, ap size k.without_is) in
       as_before id at f new k
@@ -233,28 +247,29 @@ module _ {N : Type 0} where
       let rest_size : length (flat 0 (without id f)) ≡ size (without id f) = length-flat 0 (without id f) in
       let branch_size : length (flat 0 (branch_of id f)) ≡ size r.branch = length-flat 0 (branch_of id f) ∙ ap size r.branch_is in
       let k : length (flat 0 (without id f)) ≡ n - count =
-        omega (arith, n_is, count_is, branch_size, ap length es_is, length-append (flat 0 (without id f)) (flat 0 (branch_of id f))) in
+      omega (arith, n_is, count_is, branch_size, ap length es_is, length-append (flat 0 (without id f)) (flat 0 (branch_of id f))) in
       let rest_is : take (n - count) es ≡ flat 0 (without id f) = ap (take (n - count)) es_is ∙ take_at (flat 0 (without id f)) (flat 0 (branch_of id f)) (n - count) k in
       let branch_is : drop (n - count) es ≡ flat 0 (branch_of id f) = ap (drop (n - count)) es_is ∙ drop_at (flat 0 (without id f)) (flat 0 (branch_of id f)) (n - count) k in
       let sizes : size f ≡ size r.branch + size (without id f) =
-        ap size r.forest_is ∙ omega (arith, size-plug r.hole r.under (above r.branch r.under), size-above r.branch r.under, ap size r.without_is) in
+      ap size r.forest_is ∙ omega (arith, size-plug r.hole r.under (above r.branch r.under), size-above r.branch r.under, ap size r.without_is) in
       let deep = depth_below_levels r.hole (above r.branch r.under) in
       record {
         rest_is = rest_is;
         branch_is = branch_is;
         rest_siblings = siblings 0 (take (n - count) es) (without id f) rest_is (omega (arith, few, sizes))
-          (omega (arith, low, ap levels r.without_is, levels-plug r.hole (above r.branch r.under) r.under, deep, levels_right r.branch r.under, ap levels r.forest_is));
+            (omega (arith, low, ap levels r.without_is, levels-plug r.hole (above r.branch r.under) r.under, deep, levels_right r.branch r.under, ap levels r.forest_is));
         branch_siblings = siblings 0 (drop (n - count) es) (branch_of id f) branch_is (omega (arith, few, sizes, ap size r.branch_is))
-          (omega (arith, low, ap levels r.branch_is, deep, levels_left r.branch r.under, ap levels r.forest_is));
+            (omega (arith, low, ap levels r.branch_is, deep, levels_left r.branch r.under, ap levels r.forest_is));
       } where
-    levels_left : (a b : Forest N N) → levels a ≤ levels (above a b)
-    levels_left none b = omega arith
-    levels_left (leaf i v x) b = omega (arith, levels_left x b)
-    levels_left (group i v c x) b = omega (arith, levels_left x b)
-    levels_right : (a b : Forest N N) → levels b ≤ levels (above a b)
-    levels_right none b = omega arith
-    levels_right (leaf i v x) b = omega (arith, levels_right x b)
-    levels_right (group i v c x) b = omega (arith, levels_right x b)
+        levels_left : (a b : Forest N N) → levels a ≤ levels (above a b)
+        levels_left none b = omega arith
+        levels_left (leaf i v x) b = omega (arith, levels_left x b)
+        levels_left (group i v c x) b = omega (arith, levels_left x b)
+
+        levels_right : (a b : Forest N N) → levels b ≤ levels (above a b)
+        levels_right none b = omega arith
+        levels_right (leaf i v x) b = omega (arith, levels_right x b)
+        levels_right (group i v c x) b = omega (arith, levels_right x b)
 
   -- what is there when a node is taken out of a tree
   pub record Taken (id at count level : ℕ) (f : Forest N N) (es : List (Entry N)) : Type 0 where
@@ -278,7 +293,7 @@ module _ {N : Type 0} where
     pub to_siblings : AreSiblings 0 to
 
   pub removed : (id at count level n : ℕ) (es parked from to : List (Entry N)) (f : Forest N N) → AreSiblings 0 es → forest_of es ≡ f → Taken id at count level f es
-    → parked ≡ take at es ++ (drop count (drop at es) ++ map (shifted level 0) (take count (drop at es))) → n ≡ length parked → from ≡ take (n - count) parked → to ≡ drop (n - count) parked → Removed id f from to
+      → parked ≡ take at es ++ (drop count (drop at es) ++ map (shifted level 0) (take count (drop at es))) → n ≡ length parked → from ≡ take (n - count) parked → to ≡ drop (n - count) parked → Removed id f from to
   removed id at count level n es parked from to f s view_is t parked_is n_is from_is to_is =
       let all = size-forest_of 0 es s.flat_is in
       let p = parts id at count n f parked (omega (arith, s.few, all, ap size view_is)) (omega (arith, s.low, ap levels view_is)) t.removal_is t.count_is n_is (parked_is ∙ t.out.parked) in
@@ -291,6 +306,6 @@ module _ {N : Type 0} where
       }
 
   pub parked_within : (id at count level n : ℕ) (es parked : List (Entry N)) (f : Forest N N) → Taken id at count level f es
-    → parked ≡ take at es ++ (drop count (drop at es) ++ map (shifted level 0) (take count (drop at es))) → n ≡ length parked → count ≤ n
+      → parked ≡ take at es ++ (drop count (drop at es) ++ map (shifted level 0) (take count (drop at es))) → n ≡ length parked → count ≤ n
   parked_within id at count level n es parked f t parked_is n_is =
       omega (arith, n_is, ap length (parked_is ∙ t.out.parked), length-append (flat 0 (without id f)) (flat 0 (branch_of id f)), length-flat 0 (branch_of id f), t.count_is, ap size t.removal_is.branch_is)

@@ -70,10 +70,13 @@ module _ {L G : Type 0} where
   stack_stays p id at f at_place distinct there outside = from (spot id at f at_place) where
     apart : (eqb p id ≡ false) × (unwrap_or (option_map (λ above. list_any (λ i. eqb i id) above) (ancestors p f)) false ≡ false)
     apart = or_false (eqb p id) _ outside
+
     not_above : list_any (λ i. eqb i id) (unwrap_or (ancestors p f) []) ≡ false
     not_above = sym (any_of (list_any (λ i. eqb i id)) (ancestors p f) refl) ∙ apart.1
+
     P : Forest L G → Type 0
     P x = IsDistinct nat_eq (ids x)
+
     from : Spot id at f → no_stack p (without id f) ≡ None
     from (a_leaf_at h w u is fresh at_is) =
         let l = lone_leaf id h w u (subst P is distinct) in
@@ -86,8 +89,8 @@ module _ {L G : Type 0} where
         let l = lone_group id h w c u d in
         let gone = ap (without id) is ∙ without-at_group id h w c u fresh l in
         let outside_c : find p c ≡ nothing = not_found p c (λ some.
-          let wrong : true ≡ false = sym (above_inside p id h w c u d apart.0 some) ∙ (ap (λ x. list_any (λ i. eqb i id) (unwrap_or (ancestors p x) [])) (sym is) ∙ not_above) in
-          cc) in
+        let wrong : true ≡ false = sym (above_inside p id h w c u d apart.0 some) ∙ (ap (λ x. list_any (λ i. eqb i id) (unwrap_or (ancestors p x) [])) (sym is) ∙ not_above) in
+        cc) in
         stack_kept p f (without id f) (eqb p 0) refl
         (ap (λ x. kind (find p x)) is ∙ (kind-plug p h (group id w c u) u (kind_here p id w c u apart.0 outside_c) ∙ ap (λ x. kind (find p x)) (sym gone))) there
 
@@ -138,7 +141,7 @@ module _ {N : Type 0} where
     pub sizes : n ≡ size (without id f) + count
 
   pub is_parked : (id at count level n : ℕ) (es parked : List (Entry N)) (f : Forest N N) → AreSiblings 0 es → forest_of es ≡ f → IsDistinct nat_eq (ids f) → Taken id at count level f es
-    → parked ≡ take at es ++ (drop count (drop at es) ++ map (shifted level 0) (take count (drop at es))) → n ≡ length parked → Parked id at count level n f parked
+      → parked ≡ take at es ++ (drop count (drop at es) ++ map (shifted level 0) (take count (drop at es))) → n ≡ length parked → Parked id at count level n f parked
   is_parked id at count level n es parked f s view_is distinct t parked_is n_is =
       let r = t.removal_is in
       let few = size-forest_of 0 es s.flat_is in

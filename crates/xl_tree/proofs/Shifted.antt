@@ -50,9 +50,9 @@ module _ {N : Type 0} where
       let a : suc (from + d) ≡ from + suc d = omega arith in
       let b : to + suc d ≡ suc (to + d) = omega arith in
       let inner : map (shifted from to) (flat (suc (from + d)) c) ≡ flat (suc (to + d)) c =
-        ap (λ l. map (shifted from to) (flat l c)) a ∙ (map-shifted_flat from to (suc d) c ∙ ap (λ l. flat l c) b) in
+      ap (λ l. map (shifted from to) (flat l c)) a ∙ (map-shifted_flat from to (suc d) c ∙ ap (λ l. flat l c) b) in
       let both : map (shifted from to) (flat (suc (from + d)) c ++ flat (from + d) u) ≡ flat (suc (to + d)) c ++ flat (to + d) u =
-        map-append (shifted from to) (flat (suc (from + d)) c) (flat (from + d) u) ∙ (λ j. inner j ++ map-shifted_flat from to d u j) in
+      map-append (shifted from to) (flat (suc (from + d)) c) (flat (from + d) u) ∙ (λ j. inner j ++ map-shifted_flat from to d u j) in
       λ j. shift_entry from to d id true w j ∷ both j
 
   pub map-down : (level : ℕ) (f : Forest N N) → map (shifted level 0) (flat level f) ≡ flat 0 f
@@ -72,5 +72,5 @@ module _ {N : Type 0} where
       let n : length p ≡ i = length-map (take i old) (shifted from to) ∙ length-take-le i old (omega (arith, h, within)) in
       let split : xs ≡ p ++ get_or old i e ∷ drop (i + 1) old = so_far ∙ ap (λ x. p ++ x) (drop_more old i e (omega (arith, h, within))) in
       let y_is : e ≡ get_or (take count old) i e =
-        e_is ∙ (ap (λ x. get_or x i e) split ∙ (get_or_at p (get_or old i e) (drop (i + 1) old) e i n ∙ sym (get_or-take count old i e h))) in
+      e_is ∙ (ap (λ x. get_or x i e) split ∙ (get_or_at p (get_or old i e) (drop (i + 1) old) e i n ∙ sym (get_or-take count old i e h))) in
       omega (arith, ap (λ x. x.level) y_is, shallow_at (take count old) i e shallow (omega (arith, h, length-take-le count old within)))

@@ -35,8 +35,10 @@ module _ {N : Type 0} where
   group_stands id es f nodes e rest inside ne s view_is distinct some_is mark inside_at nodes_is = from (standing id f) where
     flat_at : es ≡ flat 0 f
     flat_at = s.flat_is ∙ ap (flat 0) view_is
+
     all : from_id id (flat 0 f) ≡ e ∷ rest
     all = ap (from_id id) (sym flat_at) ∙ some_is
+
     from : Standing id f → IsStackAt id f nodes (length es - length rest) (e.level + 1)
     from (nowhere n) = let k = sym (from_id-nowhere id f n) ∙ all in cc
     from (at_leaf h w u is fresh) =
@@ -53,24 +55,25 @@ module _ {N : Type 0} where
         let l = lone_group id h w c u (let P : Forest N N → Type 0 = λ x. IsDistinct nat_eq (ids x) in subst P is distinct) in
         let hole : Hole N N = into h (in_group id w here u) in
         let length_is : length es ≡ passed h + length (e ∷ rest) =
-          ap length (flat_at ∙ (ap (flat 0) is ∙ flat-plug 0 h (group id w c u)))
-          ∙ omega (arith, length-append (front 0 h) (flat (0 + depth h) (group id w c u) ++ back 0 h), length-front 0 h, ap length next_is) in
+        ap length (flat_at ∙ (ap (flat 0) is ∙ flat-plug 0 h (group id w c u)))
+        ∙ omega (arith, length-append (front 0 h) (flat (0 + depth h) (group id w c u) ++ back 0 h), length-front 0 h, ap length next_is) in
         record {
           hole = hole;
           forest_is = is ∙ (ap (λ x. plug h (group id w x u)) (sym nodes_c) ∙ sym (plug-into h (in_group id w here u) nodes));
           at_is = omega (arith, passed-into h (in_group id w here u), length_is);
           level_is = omega (arith, depth-into h (in_group id w here u), ap (λ x. x.level) first);
           stack_is = ap (λ b. cond b (Some f) (children_of (find id f))) (ne_eqb id 0 ne)
-            ∙ (ap children_of (ap (find id) is ∙ find-at_group id h w c u fresh) ∙ ap Some (sym nodes_c));
+              ∙ (ap children_of (ap (find id) is ∙ find-at_group id h w c u fresh) ∙ ap Some (sym nodes_c));
           change_is = λ change. ap (λ b. cond b (change f) (with_children id change f)) (ne_eqb id 0 ne)
-            ∙ (ap (with_children id change) is
-            ∙ (with_children-at_group id change h w c u fresh l
-            ∙ (ap (λ x. plug h (group id w (change x) u)) (sym nodes_c) ∙ sym (plug-into h (in_group id w here u) (change nodes)))));
+              ∙ (ap (with_children id change) is
+              ∙ (with_children-at_group id change h w c u fresh l
+              ∙ (ap (λ x. plug h (group id w (change x) u)) (sym nodes_c) ∙ sym (plug-into h (in_group id w here u) (change nodes)))));
         } where
-      z : 0 + depth h ≡ depth h
-      z = omega arith
-      next_is : flat (0 + depth h) (group id w c u) ++ back 0 h ≡ e ∷ rest
-      next_is = ap (λ l. entry_of l id true w ∷ ((flat (suc l) c ++ flat l u) ++ back 0 h)) z ∙ (sym (from_id-group id f h w c u is fresh) ∙ all)
+          z : 0 + depth h ≡ depth h
+          z = omega arith
+
+          next_is : flat (0 + depth h) (group id w c u) ++ back 0 h ≡ e ∷ rest
+          next_is = ap (λ l. entry_of l id true w ∷ ((flat (suc l) c ++ flat l u) ++ back 0 h)) z ∙ (sym (from_id-group id f h w c u is fresh) ∙ all)
 
   -- where no node, or no group, was found
   pub none_stands : (id : ℕ) (f : Forest N N) → (id ≡ 0 → ⊥) → no_stack id f ≡ no_group id (find id f)
@@ -88,7 +91,7 @@ module _ {N : Type 0} where
     at_is = omega (arith, s.at_is, passed-into s.hole (hole_at place nodes), passed-hole_at place nodes);
     level_is = omega (arith, s.level_is, depth-into s.hole (hole_at place nodes), depth-hole_at place nodes);
     put_is = λ branch. s.change_is (put_at branch place)
-      ∙ (ap (plug s.hole) (put_at-hole branch place nodes) ∙ sym (plug-into s.hole (hole_at place nodes) (above branch (from_place place nodes))));
+        ∙ (ap (plug s.hole) (put_at-hole branch place nodes) ∙ sym (plug-into s.hole (hole_at place nodes) (above branch (from_place place nodes))));
   }
 
   -- the place in a stack that is there

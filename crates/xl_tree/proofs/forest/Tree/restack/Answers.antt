@@ -123,8 +123,8 @@ invariant_of-self-in-Err g c =
     let back = restored c.args.id.0 c.in-Some.at c.args.self.now c.take_out.new.entries.items _ _ _ _ k.flat_is c.take_out.new.entries.ok.0 t.removal_is t.count_is t.level_is c.put_back-in-Err.ensures.items in
     record {
       siblings = siblings 0 _ c.args.self.now back
-        (omega (arith, c.self.invariant.siblings.few, size-forest_of 0 _ c.self.invariant.siblings.flat_is, ap size c.self.view_is))
-        (omega (arith, c.self.invariant.siblings.low, ap levels c.self.view_is));
+          (omega (arith, c.self.invariant.siblings.few, size-forest_of 0 _ c.self.invariant.siblings.flat_is, ap size c.self.view_is))
+          (omega (arith, c.self.invariant.siblings.low, ap levels c.self.view_is));
       room = omega (arith, c.self.invariant.room, c.take_out.ensures.room, c.put_back-in-Err.ensures.room);
     }
 
