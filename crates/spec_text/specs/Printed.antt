@@ -1,0 +1,79 @@
+-- The printed lines of a history.
+use Rattle.std.specs.Prelude.{ℕ, Bool, true, false, List, [], ◌∷◌, ◌++◌, flat_map, map, Option, Some, None, codes, decimal}
+use Rattle.spec_edit.specs.declared.EditRefused.{EditRefused}
+use Rattle.spec_edit.specs.declared.EditRefused.TheVariants.{NoNode, IsGroup, NotGroup, Inside, BadPlace, OutsideLayer, OtherType, NoMask, HasMask, NoChannel, NotIndexed, ModeRefused, TooMany, TooLarge, OffsetRange, BadName, GroupInIndexed, TooDeep}
+use Rattle.spec_text.specs.declared.OrderWord.{OrderWord}
+use Rattle.spec_history.specs.Machine.{Reply, changed, refused, moved, nothing_to_undo, nothing_to_redo, not_top, tile_of, stale, no_stack, outside_tile, top_is, saved, save_fault, save_memory, history_full}
+use Rattle.spec_history.specs.History.{Entry, is_end_kind}
+
+abbrev pub spaced : ℕ → List ℕ
+spaced n = 32 ∷ decimal n
+
+-- the number of a refusal, and its value behind a space where it has one
+abbrev pub refusal_text : EditRefused → List ℕ
+refusal_text (NoNode id) = decimal 1 ++ spaced id
+refusal_text (IsGroup id) = decimal 2 ++ spaced id
+refusal_text (NotGroup id) = decimal 3 ++ spaced id
+refusal_text (Inside id) = decimal 4 ++ spaced id
+refusal_text (BadPlace len) = decimal 5 ++ spaced len
+refusal_text OutsideLayer = decimal 6
+refusal_text OtherType = decimal 7
+refusal_text NoMask = decimal 8
+refusal_text HasMask = decimal 9
+refusal_text (NoChannel n) = decimal 10 ++ spaced n
+refusal_text NotIndexed = decimal 11
+refusal_text (ModeRefused mode) = decimal 12 ++ spaced mode
+refusal_text (TooMany count) = decimal 13 ++ spaced count
+refusal_text (TooLarge area) = decimal 14 ++ spaced area
+refusal_text OffsetRange = decimal 15
+refusal_text BadName = decimal 16
+refusal_text GroupInIndexed = decimal 17
+refusal_text (TooDeep depth) = decimal 19 ++ spaced depth
+
+-- a number, or the word none
+abbrev pub or_none : Option ℕ → List ℕ
+or_none None = codes "none"
+or_none (Some n) = decimal n
+
+-- a reply, where the digest is that of the tile
+abbrev pub reply_text : (digest : List ℕ) → Reply → List ℕ
+reply_text digest (changed version group next) = codes "changed" ++ spaced version ++ spaced group ++ spaced next
+reply_text digest (refused index cause) = codes "refused" ++ spaced index ++ 32 ∷ refusal_text cause
+reply_text digest (moved now) = codes "moved" ++ spaced now
+reply_text digest nothing_to_undo = codes "nothing to undo"
+reply_text digest nothing_to_redo = codes "nothing to redo"
+reply_text digest (not_top group) = codes "not top" ++ spaced group
+reply_text digest (tile_of version) = codes "tile" ++ spaced version ++ 32 ∷ digest
+reply_text digest (stale have seen) = codes "stale " ++ or_none have ++ spaced seen
+reply_text digest (no_stack node) = codes "no stack" ++ spaced node
+reply_text digest outside_tile = codes "outside tile"
+reply_text digest (top_is group version) = codes "top " ++ or_none group ++ spaced version
+reply_text digest (saved version) = codes "saved" ++ spaced version
+reply_text digest (save_fault version) = codes "save fault" ++ spaced version
+reply_text digest (save_memory version) = []
+reply_text digest history_full = []
+
+-- session and index
+abbrev pub place_text : (session index : ℕ) → List ℕ
+place_text session index = decimal session ++ 46 ∷ decimal index
+
+-- the line of a call
+abbrev pub line_text : (session index : ℕ) → (digest : List ℕ) → Reply → List ℕ
+line_text session index digest reply = place_text session index ++ 32 ∷ (reply_text digest reply ++ 10 ∷ [])
+
+abbrev pub end_mark : Bool → List ℕ
+end_mark true = codes "e"
+end_mark false = []
+
+abbrev pub order_word : OrderWord → List ℕ
+order_word w = 32 ∷ (place_text w.session w.index ++ end_mark w.end)
+
+abbrev pub order_line : List OrderWord → List ℕ
+order_line ws = codes "order" ++ flat_map order_word ws ++ 10 ∷ []
+
+abbrev pub word_of_entry : Entry → OrderWord
+word_of_entry e = record { session = e.session; index = e.index; end = is_end_kind e.kind }
+
+-- the entries in their order
+abbrev pub order_text : List Entry → List ℕ
+order_text es = order_line (map word_of_entry es)
