@@ -12,5 +12,8 @@ pub enum Edit {
         pixel: Bytes,
     },
     /// 255 is opaque.
-    SetOpacity { id: NodeId, value: u8 },
+    SetOpacity {
+        id: NodeId,
+        value: u8,
+    },
 }
