@@ -9,26 +9,53 @@ use Rattle.spec_history.specs.History.{Entry, is_end_kind}
 abbrev pub spaced : ℕ → List ℕ
 spaced n = 32 ∷ decimal n
 
+abbrev pub refusal_number : EditRefused → ℕ
+refusal_number (NoNode id) = 1
+refusal_number (IsGroup id) = 2
+refusal_number (NotGroup id) = 3
+refusal_number (Inside id) = 4
+refusal_number (BadPlace len) = 5
+refusal_number OutsideLayer = 6
+refusal_number OtherType = 7
+refusal_number NoMask = 8
+refusal_number HasMask = 9
+refusal_number (NoChannel n) = 10
+refusal_number NotIndexed = 11
+refusal_number (ModeRefused mode) = 12
+refusal_number (TooMany count) = 13
+refusal_number (TooLarge area) = 14
+refusal_number OffsetRange = 15
+refusal_number BadName = 16
+refusal_number GroupInIndexed = 17
+refusal_number (TooDeep depth) = 19
+
+abbrev pub refusal_value : EditRefused → Option ℕ
+refusal_value (NoNode id) = Some id
+refusal_value (IsGroup id) = Some id
+refusal_value (NotGroup id) = Some id
+refusal_value (Inside id) = Some id
+refusal_value (BadPlace len) = Some len
+refusal_value OutsideLayer = None
+refusal_value OtherType = None
+refusal_value NoMask = None
+refusal_value HasMask = None
+refusal_value (NoChannel n) = Some n
+refusal_value NotIndexed = None
+refusal_value (ModeRefused mode) = Some mode
+refusal_value (TooMany count) = Some count
+refusal_value (TooLarge area) = Some area
+refusal_value OffsetRange = None
+refusal_value BadName = None
+refusal_value GroupInIndexed = None
+refusal_value (TooDeep depth) = Some depth
+
+abbrev pub spaced_if_any : Option ℕ → List ℕ
+spaced_if_any None = []
+spaced_if_any (Some n) = spaced n
+
 -- the number of a refusal, and its value behind a space where it has one
 abbrev pub refusal_text : EditRefused → List ℕ
-refusal_text (NoNode id) = decimal 1 ++ spaced id
-refusal_text (IsGroup id) = decimal 2 ++ spaced id
-refusal_text (NotGroup id) = decimal 3 ++ spaced id
-refusal_text (Inside id) = decimal 4 ++ spaced id
-refusal_text (BadPlace len) = decimal 5 ++ spaced len
-refusal_text OutsideLayer = decimal 6
-refusal_text OtherType = decimal 7
-refusal_text NoMask = decimal 8
-refusal_text HasMask = decimal 9
-refusal_text (NoChannel n) = decimal 10 ++ spaced n
-refusal_text NotIndexed = decimal 11
-refusal_text (ModeRefused mode) = decimal 12 ++ spaced mode
-refusal_text (TooMany count) = decimal 13 ++ spaced count
-refusal_text (TooLarge area) = decimal 14 ++ spaced area
-refusal_text OffsetRange = decimal 15
-refusal_text BadName = decimal 16
-refusal_text GroupInIndexed = decimal 17
-refusal_text (TooDeep depth) = decimal 19 ++ spaced depth
+refusal_text cause = decimal (refusal_number cause) ++ spaced_if_any (refusal_value cause)
 
 -- a number, or the word none
 abbrev pub or_none : Option ℕ → List ℕ
