@@ -89,11 +89,16 @@ impl Model for Script {
 }
 
 impl Script {
-    // The script of which the first session has these lines, and no other has any.
+    /// The script of which the first session has these lines, and no other has any.
     pub fn of_first(alloc: Global, lines: Lines) -> Result<Script, AllocError>
         ensures { IfOk result (λ s. s ≡ lines ∷ replicate 7 []) }
     {
-        Err(AllocError)
+        let mut lists = Vec::with_capacity(alloc, SESSIONS as usize)?;
+        lists.push(lines)?;
+        for _ in 1..SESSIONS {
+            lists.push(Lines::new(alloc))?;
+        }
+        Ok(Script { alloc, lists })
     }
 
     /// The lines of a session.
