@@ -1,5 +1,5 @@
 -- Hexadecimal bytes, two digits at a time.
-use Rattle.std.proofs.Common.{◌≡◌, ℕ, suc, ◌+◌, ◌-◌, ◌*◌, ◌<◌, ◌≤◌, Bool, true, false, List, [], ◌∷◌, ◌++◌, length, drop, refl, ap, sym, ◌∙◌, arith, get_or, append_assoc}
+use Rattle.std.proofs.Common.{◌≡◌, ℕ, ◌+◌, ◌*◌, ◌≤◌, List, [], ◌∷◌, ◌++◌, length, drop, refl, ap, sym, ◌∙◌, arith, get_or, append_assoc}
 use Rattle.std.specs.Prelude.{Option, Some, None, option_map}
 use Rattle.spec_script.specs.Words.{◌>>=◌, hex_digit, hex_bytes}
 use Rattle.xl_script.specs.Numbers.{two_digits}
@@ -15,22 +15,10 @@ pairs (Some h) None rest byte e = cc
 pairs (Some h) (Some l) None byte e = refl
 pairs (Some h) (Some l) (Some bytes) byte e = let same : 16 * h + l ≡ byte = cc in ap (λ (n : ℕ). Some (n ∷ bytes)) same
 
-no_pair : (high low : Option ℕ) (rest : Option (List ℕ)) → (high >>= λ h. low >>= λ l. Some (16 * h + l)) ≡ None
-    → (high >>= λ h. low >>= λ l. rest >>= λ bytes. Some ((16 * h + l) ∷ bytes)) ≡ None
-no_pair None low rest e = refl
-no_pair (Some h) None rest e = refl
-no_pair (Some h) (Some l) rest e = cc
-
 regrouped : (front : List ℕ) (byte : ℕ) (rest : Option (List ℕ))
     → in_front front (option_map (λ bytes. byte ∷ bytes) rest) ≡ in_front (front ++ byte ∷ []) rest
 regrouped front byte None = refl
 regrouped front byte (Some bytes) = ap Some (sym (append_assoc front (byte ∷ []) bytes))
-
--- the list has two heads
-pub two_heads : (digits : List ℕ) → 2 ≤ length digits → digits ≡ get_or digits 0 0 ∷ get_or digits 1 0 ∷ drop 2 digits
-two_heads [] h = absurd (omega arith)
-two_heads (a ∷ []) h = absurd (omega arith)
-two_heads (a ∷ b ∷ digits) h = refl
 
 pub byte_more : (front digits : List ℕ) (byte : ℕ) → 2 ≤ length digits → two_digits (get_or digits 0 0) (get_or digits 1 0) ≡ Some byte
     → in_front (front ++ byte ∷ []) (hex_bytes (drop 2 digits)) ≡ in_front front (hex_bytes digits)
@@ -38,14 +26,3 @@ byte_more front [] byte h e = absurd (omega arith)
 byte_more front (a ∷ []) byte h e = absurd (omega arith)
 byte_more front (a ∷ b ∷ digits) byte h e =
     sym (ap (in_front front) (pairs (hex_digit a) (hex_digit b) (hex_bytes digits) byte e) ∙ regrouped front byte (hex_bytes digits))
-
-pub byte_none : (digits : List ℕ) → 2 ≤ length digits → two_digits (get_or digits 0 0) (get_or digits 1 0) ≡ None → hex_bytes digits ≡ None
-byte_none [] h e = absurd (omega arith)
-byte_none (a ∷ []) h e = absurd (omega arith)
-byte_none (a ∷ b ∷ digits) h e = no_pair (hex_digit a) (hex_digit b) (hex_bytes digits) e
-
--- one digit is left over
-pub odd_none : (digits : List ℕ) → 0 < length digits → length digits < 2 → hex_bytes digits ≡ None
-odd_none [] h k = absurd (omega arith)
-odd_none (a ∷ []) h k = refl
-odd_none (a ∷ b ∷ digits) h k = absurd (omega arith)

@@ -1,18 +1,18 @@
 -- What the words of a line ask for, keyword by keyword.
 use Rattle.std.proofs.Common.{◌≡◌, ℕ, ◌<◌, Bool, true, false, List, [], ◌∷◌, length, refl, ap, sym, ◌∙◌, subst, arith}
-use Rattle.std.specs.Prelude.{Result, Ok, Err, IfOk, Option, Some, None, option_map, codes, if◌then◌else◌, ◌||◌, ◌&&◌}
+use Rattle.std.specs.Prelude.{Result, Ok, Err, IfOk, Option, Some, None, option_map, codes}
 use Rattle.std.proofs.lemmas.Slice.Eq.{bytes_eq-Decides}
 use Rattle.spec_edit.specs.Edit as edits
 use Rattle.spec_script.specs.Words as numbers
 use Rattle.spec_script.specs.Words.{◌>>=◌, if_holds}
 use Rattle.spec_script.specs.Commands as grammar
 use Rattle.spec_script.specs.Commands.{is_word, command_of}
-use Rattle.spec_script.specs.Built.{is_built, is_built_command, is_lone}
+use Rattle.spec_script.specs.Built.{is_built_command}
 use Rattle.xl_script.specs.declared.commands.Command.{Command}
 use Rattle.spec_grid.specs.declared.Rect.{Rect}
 use Rattle.xl_script.specs.Words.{next, six}
 use Rattle.xl_script.proofs.Splits.{front_of}
-use Rattle.xl_script.specs.Commands.{command_is, asked_of, built_rule, built_asked, tile_rule, undo_alone}
+use Rattle.xl_script.specs.Commands.{command_is, asked_of, built_rule, built_asked, undo_alone}
 
 word_is : (a b : List ℕ) → is_word a b ≡ true → a ≡ b
 word_is a b e = (bytes_eq-Decides a b).0 e
@@ -69,15 +69,6 @@ asked_is (Some command) = refl
 pub first_asks : (s k : List ℕ) (ws : List (List ℕ)) (o : Option Command) → is_word s (codes "0") ≡ true
     → option_map command_is o ≡ built_rule k ws → option_map asked_of o ≡ built_asked (s ∷ k ∷ ws)
 first_asks s k ws o e h = asked_is o ∙ ap by_first h ∙ sym (first_agrees s k ws e)
-
--- no other session is built
-pub others_ask : (s : List ℕ) (ws : List (List ℕ)) → is_word s (codes "0") ≡ false → built_asked (s ∷ ws) ≡ None
-others_ask s [] e = refl
-others_ask s (k ∷ ws) e = rw e refl
-
--- nor is a session alone
-pub lone_asks : (s : List ℕ) → built_asked (s ∷ []) ≡ None
-lone_asks s = refl
 
 -- an undo with words behind it
 pub undo_more : (words : List (List ℕ)) → 0 < length words → undo_alone words ≡ None

@@ -1,10 +1,10 @@
 -- Splitting at the first separator.
-use Rattle.std.proofs.Common.{◌≡◌, ℕ, suc, ◌+◌, ◌-◌, ◌<◌, ◌≤◌, Bool, true, false, cond, List, [], ◌∷◌, length, take, drop, refl, ap, sym, ◌∙◌, arith, nat_lt}
+use Rattle.std.proofs.Common.{◌≡◌, ℕ, suc, ◌+◌, ◌<◌, ◌≤◌, Bool, true, false, cond, List, [], ◌∷◌, length, take, drop, refl, ap, arith, nat_lt}
 use Rattle.std.specs.Prelude.{Option, Some, None, MatchOption, not, ◌==◌, if◌then◌else◌}
 use Rattle.std.specs.List.{position, position_or_len}
 use Rattle.std.proofs.lemmas.Bool.{ltb-false, ltb-true}
 use Rattle.spec_script.specs.Words.{with_first, split_at, without_last_empty, lines_of, words_of}
-use Rattle.xl_script.specs.Words.{words_left, next, two}
+use Rattle.xl_script.specs.Words.{next, two}
 
 -- what position says of the number of bytes before the separator
 position_is : (p n : ℕ) (r : Option ℕ) → r ≡ cond (nat_lt p n) (Some p) None → MatchOption r (n ≤ p) (λ i. (i ≡ p) × (p < n))

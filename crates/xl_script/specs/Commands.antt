@@ -1,5 +1,5 @@
 -- What the commands of the code mean.
-use Rattle.std.specs.Prelude.{ℕ, List, [], ◌∷◌, Option, Some, None, if◌then◌else◌, codes}
+use Rattle.std.specs.Prelude.{ℕ, List, [], ◌∷◌, Option, None, if◌then◌else◌, codes}
 use Rattle.spec_edit.specs.Edit as edits
 use Rattle.spec_history.specs.Machine as machine
 use Rattle.spec_script.specs.Words.{◌>>=◌, if_holds}

@@ -1,7 +1,6 @@
 -- A script so far: the lines of the first session.
 use Rattle.std.specs.Prelude.{◌≡◌, ℕ, List, length, Option, Some, None, Result, Ok, Err}
 use Rattle.spec_edit.specs.Effect.{changed_at}
-use Rattle.spec_script.specs.Script as script
 use Rattle.spec_script.specs.Script.{Parsed, start}
 use Rattle.xl_script.specs.declared.bad_line.BadLineOrMemory.{BadLineOrMemory}
 use Rattle.xl_script.specs.declared.bad_line.BadLineOrMemory.TheVariants.{Memory, Refused}

@@ -1,6 +1,6 @@
 -- The words of a line, taken one by one or all at once.
 use Rattle.std.specs.Prelude.{ℕ, List, [], ◌∷◌, Option, Some, None}
-use Rattle.spec_script.specs.Words.{◌>>=◌, words_of}
+use Rattle.spec_script.specs.Words.{words_of}
 
 -- the words of the rest of a line, where there is a rest
 abbrev pub words_left : Option (List ℕ) → List (List ℕ)

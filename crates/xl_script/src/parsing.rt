@@ -98,7 +98,6 @@ pub fn parse(alloc: Global, text: &[u8], chests: &[u32]) -> Result<Script, BadLi
     requires { length text.now ≤ 2 ^ 24 + 1 }
     ensures { ScriptOf result (grammar.script text.now chests.now) }
 {
-    let _filters = chests;
     if text.len() > MAX_LEN {
         return Err(BadLineOrMemory::Refused(BadLine {
             line: line_of_last(text),

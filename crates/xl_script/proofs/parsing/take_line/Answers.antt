@@ -1,5 +1,4 @@
-use Rattle.std.proofs.Common.{sym, ◌∙◌, ◌<◌, ◌^◌, ◌≡◌, false, length, arith}
-use Rattle.spec_script.specs.Script.{is_skipped}
+use Rattle.std.proofs.Common.{sym, ◌∙◌, ◌<◌, ◌^◌, length, arith}
 use Rattle.xl_script.proofs.Taking.{pushed}
 use Rattle.xl_script.proofs.parsing.take_line.Goals as goal
 

@@ -1,5 +1,4 @@
-use Rattle.std.proofs.Common.{◌≡◌, ℕ, ◌+◌, ◌-◌, List, ◌∷◌, length, take, drop, take_all, arith, length-drop, Some, None}
-use Rattle.spec_script.specs.Words as grammar
+use Rattle.std.proofs.Common.{◌≡◌, ◌+◌, ◌-◌, length, take, drop, take_all, arith, length-drop, Some, None}
 use Rattle.xl_script.proofs.Splits.{split_by}
 use Rattle.xl_script.proofs.splitting.split_once.Goals as goal
 

@@ -1,4 +1,4 @@
-use Rattle.std.proofs.Common.{◌≡◌, ℕ, ◌+◌, ◌-◌, List, [], ◌∷◌, ◌++◌, replicate, sym, ◌∙◌, ap, arith}
+use Rattle.std.proofs.Common.{◌≡◌, ℕ, ◌+◌, ◌-◌, List, [], ◌∷◌, ◌++◌, replicate, ◌∙◌, ap, arith}
 use Rattle.std.proofs.lemmas.List.{replicate-append-replicate}
 use Rattle.xl_script.specs.declared.script.Line.{Line}
 use Rattle.xl_script.proofs.script.Script.of_first.Goals as goal
