@@ -1,5 +1,4 @@
 -- What the replies of the code mean.
-use Rattle.std.specs.Prelude.{Bool, true, false}
 use Rattle.spec_history.specs.Machine as machine
 use Rattle.xl_edit.specs.declared.reply.Reply.{Reply}
 use Rattle.xl_edit.specs.declared.reply.Reply.TheVariants.{Changed, Refused, Moved, NothingToUndo, NothingToRedo, NotTop, Tile, Stale, NoStack, OutsideTile, Top, Saved, SaveFault, SaveMemory, HistoryFull}

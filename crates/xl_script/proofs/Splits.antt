@@ -30,7 +30,7 @@ split_none s (x ∷ xs) h =
 some_step : (s : ℕ) (b : Bool) (n m x : ℕ) (xs : List ℕ) (rest : List (List ℕ)) → rest ≡ split_at s xs → cond (not b) (1 + n) 0 < suc m
     → (n < m → rest ≡ take n xs ∷ split_at s (drop (n + 1) xs))
     → (if b then [] ∷ rest else with_first x rest)
-      ≡ take (cond (not b) (1 + n) 0) (x ∷ xs) ∷ split_at s (drop (cond (not b) (1 + n) 0 + 1) (x ∷ xs))
+    ≡ take (cond (not b) (1 + n) 0) (x ∷ xs) ∷ split_at s (drop (cond (not b) (1 + n) 0 + 1) (x ∷ xs))
 some_step s true n m x xs rest same h ih = ap (λ (zs : List (List ℕ)). [] ∷ zs) same
 some_step s false n m x xs rest same h ih =
     let one : 1 + n ≡ suc n = omega arith in

@@ -14,7 +14,7 @@ use Rattle.xl_script.specs.declared.commands.Command.{Command}
 use Rattle.xl_script.specs.declared.commands.Command.TheVariants.{Edit, Call}
 use Rattle.xl_script.specs.declared.script.Line.{Line}
 use Rattle.xl_script.specs.Commands.{asked_of, built_asked, line_alone}
-use Rattle.xl_script.specs.Lines.{line_of, lists_of} 
+use Rattle.xl_script.specs.Lines.{line_of, lists_of}
 use Rattle.xl_script.specs.Lines as code
 use Rattle.xl_script.specs.Parsed.{with_lines}
 
@@ -43,7 +43,7 @@ made chests lines calls = record { sessions = changed_at 0 (λ s. record s { lin
 -- a command is a line more, where there is room
 command_taken : (number : ℕ) (chests : List ℕ) (lines : List script.Line) (calls : ℕ) (command : Command)
     → take_after number (made chests lines calls) (asked_of command)
-      ≡ (if nat_le (calls + 1) (2 ^ 19) then Some (made chests (lines ++ line_alone command ∷ []) (calls + 1)) else None)
+    ≡ (if nat_le (calls + 1) (2 ^ 19) then Some (made chests (lines ++ line_alone command ∷ []) (calls + 1)) else None)
 command_taken number chests lines calls (Edit (Fill id rect pixel)) = refl
 command_taken number chests lines calls (Edit (SetOpacity id value)) = refl
 command_taken number chests lines calls (Call call) = refl
@@ -57,7 +57,7 @@ pub pushed : (number : ℕ) (line : List ℕ) (chests : List ℕ) (lines : List 
     → take_line number line (with_lines chests lines) ≡ Some (with_lines chests (lines ++ more ∷ []))
 pushed number line chests lines command more e h k same =
     let all : code.lines_of lines ++ line_alone command ∷ [] ≡ code.lines_of (lines ++ more ∷ [])
-        = ap (λ (l : script.Line). code.lines_of lines ++ l ∷ []) (sym same) ∙ sym (map-append line_of lines (more ∷ [])) in
+    = ap (λ (l : script.Line). code.lines_of lines ++ l ∷ []) (sym same) ∙ sym (map-append line_of lines (more ∷ [])) in
     let count : length lines + 1 ≡ length (lines ++ more ∷ []) = sym (length-append lines (more ∷ [])) in
     line_taken number line (with_lines chests lines) (Some (asked_of command)) e h
     ∙ command_taken number chests (code.lines_of lines) (length lines) command

@@ -6,11 +6,16 @@ use xl_edit::{EditRefused, NodeId};
 fn lines_are_parsed(rt: HostRuntime) -> Result<(), Fail> {
     let text = b"# hide it\n\n0 opacity 1 0\n0 tile 0 0 0\n0 undo";
     let script = parse(rt.alloc(), text, &[])?;
-    assert!(rt; matches!(script.lines(0), [
-        Line::Call(Call::Edit(_)),
-        Line::Call(Call::Tile(NodeId(0), _)),
-        Line::Call(Call::Undo(None)),
-    ]));
+    assert!(rt;
+        matches!(
+            script.lines(0),
+            [
+                Line::Call(Call::Edit(_)),
+                Line::Call(Call::Tile(NodeId(0), _)),
+                Line::Call(Call::Undo(None)),
+            ]
+        )
+    );
     Ok(())
 }
 

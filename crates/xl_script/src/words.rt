@@ -59,9 +59,7 @@ pub fn three_words(words: Option<&[u8]>) -> Option<(&[u8], &[u8], &[u8])>
 }
 
 /// The words, if they are six.
-pub fn six_words(
-    words: Option<&[u8]>,
-) -> Option<(&[u8], &[u8], &[u8], &[u8], &[u8], &[u8])>
+pub fn six_words(words: Option<&[u8]>) -> Option<(&[u8], &[u8], &[u8], &[u8], &[u8], &[u8])>
     ensures { MatchOption result
         (six (words_left (option_copied words.entry)) ≡ None)
         (λ t. six (words_left (option_copied words.entry)) ≡ Some (t.0.now, t.1.now, t.2.now, t.3.now, t.4.now, t.5.now)) }
