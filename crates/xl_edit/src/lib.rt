@@ -1,0 +1,16 @@
+//! Edits, and what a session asks and is answered.
+//!
+//! `specs/` has what each of these types means in the definitions.
+#![tactic(auto)]
+
+mod call;
+mod edit;
+mod edit_list;
+mod reply;
+
+pub use call::{Call, Group};
+pub use edit::Edit;
+pub use edit_list::Edits;
+pub use reply::Reply;
+pub use spec_edit::EditRefused;
+pub use xl_doc::{Bytes, MAX_NODES, MAX_SIDE, NodeId, Rect, TileAt};

@@ -1,0 +1,5 @@
+pub mod Splits
+pub mod Decimals
+pub mod HexPairs
+pub mod Keywords
+pub mod Taking

@@ -1,0 +1,7 @@
+pub mod Lines
+pub mod Gives
+pub mod Printed
+pub mod Words
+pub mod Numbers
+pub mod Commands
+pub mod Parsed

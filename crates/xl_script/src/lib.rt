@@ -1,0 +1,22 @@
+//! Scripts: the lines of the sessions, read from bytes, and the lines that tell what the sessions were answered.
+#![tactic(auto)]
+
+mod bad_line;
+mod commands;
+mod digits;
+mod numbers;
+mod parsing;
+mod printing;
+mod script;
+mod splitting;
+mod words;
+
+pub use bad_line::{BadLine, BadLineOrMemory};
+pub use parsing::parse;
+pub use printing::{print_order, print_reply};
+pub use script::{Line, Script};
+pub use spec_text::OrderWord;
+pub use xl_edit::{Call, Edit, Edits, Group, Reply};
+
+#[cfg(test)]
+mod tests;
