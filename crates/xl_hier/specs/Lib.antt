@@ -1,5 +1,6 @@
 pub mod Frame
 pub mod Joined
+pub mod Layout
 pub mod Level
 pub mod Placed
 pub mod SoFar

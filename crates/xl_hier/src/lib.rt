@@ -3,6 +3,7 @@
 
 mod band;
 mod frame;
+mod gather;
 mod join;
 mod level;
 mod reading;
