@@ -1,3 +1,4 @@
+pub mod Appended
 pub mod Frame
 pub mod Joined
 pub mod Layout

@@ -62,3 +62,16 @@ pub fn gather(plane: &Plane, spot: TileAt, c: u32, out: &mut [u8])
         gather_row(row, bpp, c as usize, out, r as usize * n, n);
     }
 }
+
+/// How many pixels a tile has.
+pub fn tile_pixels(plane: &Plane, spot: TileAt) -> usize
+    requires column { spot.col < grid.tiles_along plane.now.width }
+    requires row { spot.row < grid.tiles_along plane.now.height }
+    ensures value { result ≡ tiles.tile_width plane.now.width spot * tiles.tile_height plane.now.height spot }
+    ensures some { 1 ≤ result }
+    ensures few { result ≤ 4096 }
+{
+    let (_, across) = span(plane.width(), spot.col);
+    let (_, down) = span(plane.height(), spot.row);
+    across as usize * down as usize
+}

@@ -9,6 +9,7 @@ mod level;
 mod reading;
 mod spelled;
 mod tile;
+mod written_tile;
 
 pub use reading::read_hierarchy;
 pub use xl_fields::ReadRefusedOrMemory;
