@@ -1,4 +1,5 @@
 pub mod Appended
+pub mod Filled
 pub mod Frame
 pub mod Joined
 pub mod Layout

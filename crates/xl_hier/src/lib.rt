@@ -9,6 +9,7 @@ mod level;
 mod reading;
 mod spelled;
 mod tile;
+mod writing;
 mod written_tile;
 
 pub use reading::read_hierarchy;
