@@ -1,11 +1,11 @@
 -- The tiles of a plane are appended one after another, and the pointers to them are set.
-use Rattle.std.proofs.Common.{◌≡◌, ℕ, zero, suc, ◌+◌, ◌-◌, ◌*◌, ◌^◌, ◌/◌, ◌%◌, ◌<◌, ◌≤◌, min, Bool, true, false, List, [], ◌∷◌, ◌++◌, length, map, take, drop, replicate, get_or, refl, sym, ap, ◌∙◌, subst, arith, append_assoc, append-nil, length-append, mul-le-mul_right, take-append-drop, take_all}
-use Rattle.std.specs.Prelude.{flat_map, MatchBool, ◌==◌}
+use Rattle.std.proofs.Common.{◌≡◌, ℕ, zero, suc, ◌+◌, ◌-◌, ◌*◌, ◌^◌, ◌/◌, ◌%◌, ◌<◌, ◌≤◌, Bool, true, false, List, [], ◌∷◌, ◌++◌, length, map, take, drop, replicate, get_or, refl, sym, ap, ◌∙◌, subst, arith, append_assoc, append-nil, length-append, take-append-drop, take_all}
+use Rattle.std.specs.Prelude.{MatchBool, ◌==◌}
 use Rattle.std.specs.Int.{w32, to_be_bytes}
 use Rattle.std.specs.List.{concat}
 use Rattle.std.proofs.lemmas.Grind.{flat_map-append}
 use Rattle.std.proofs.lemmas.List.{take_at, drop_at, length-replicate, take_more, replicate-append-replicate}
-use Rattle.std.proofs.lemmas.Nat.{mul-le, div-add-mod', mul-add-lt}
+use Rattle.std.proofs.lemmas.Nat.{mul-le, div-add-mod'}
 use Rattle.std.proofs.Math.Nat.{mod-lt, div-lt_iff_lt-mul}
 use Rattle.spec_grid.specs.declared.TileAt.{TileAt}
 use Rattle.spec_grid.specs.Rect.{count_from}
@@ -37,7 +37,7 @@ places_more first (head ∷ pieces) piece =
     let place : first + length head + length (concat pieces) ≡ first + length (head ++ concat pieces) = omega (arith, length-append head (concat pieces)) in
     ap (λ xs. first ∷ xs) (places_more (first + length head) pieces piece ∙ ap (λ n. places_from (first + length head) pieces ++ n ∷ []) place)
 
-words_more : (ns : List ℕ) (n : ℕ) → words (ns ++ n ∷ []) ≡ words ns ++ to_be_bytes w32 n
+pub words_more : (ns : List ℕ) (n : ℕ) → words (ns ++ n ∷ []) ≡ words ns ++ to_be_bytes w32 n
 words_more ns n = flat_map-append (to_be_bytes w32) ns (n ∷ []) ∙ ap (λ xs. words ns ++ xs) (append-nil (to_be_bytes w32 n))
 
 tiles_more : (fits : List ℕ → List ℕ → Type 0) (compression : ℕ) (p : Plane) (ts : List TileAt) (tiles : List (List ℕ)) (t : TileAt) (tile : List ℕ)
@@ -72,7 +72,7 @@ spelled_small fits p t first (suc n) bytes (spelled, rest, s, short, f, is, are)
     let step : suc n * 4160 ≡ 4160 + n * 4160 = omega arith in
     omega (arith, ap length is, length-append spelled rest, short, plane_small p t first, more, step)
 
-tile_small : (fits : List ℕ → List ℕ → Type 0) (compression : ℕ) (p : Plane) (t : TileAt) (bytes : List ℕ) → p.bpp ≤ 4 → IsTile fits compression p t bytes → length bytes ≤ 16640
+pub tile_small : (fits : List ℕ → List ℕ → Type 0) (compression : ℕ) (p : Plane) (t : TileAt) (bytes : List ℕ) → p.bpp ≤ 4 → IsTile fits compression p t bytes → length bytes ≤ 16640
 tile_small fits compression p t bytes few is = by (compression == 0) is
   where
     by : (b : Bool) → MatchBool b (bytes ≡ tile_bytes p t) (AreSpelled fits bytes (map (tile_plane p t) (count_from 0 p.bpp))) → length bytes ≤ 16640
@@ -86,7 +86,7 @@ pub record Filling (fits : List ℕ → List ℕ → Type 0) (compression : ℕ)
   pub are : AreTiles fits compression p (take k (all_tiles p.width p.height)) tiles
   pub small : length (concat tiles) ≤ k * 16640
   pub made : out ≡ front ++ (words (places_from (table + 4 * (tiles_along p.height * tiles_along p.width) + 4) tiles)
-    ++ (replicate (4 * (tiles_along p.height * tiles_along p.width - k) + 4) 0 ++ concat tiles))
+      ++ (replicate (4 * (tiles_along p.height * tiles_along p.width - k) + 4) 0 ++ concat tiles))
 
 abbrev zeros_of : ℕ → List ℕ
 zeros_of n = replicate n 0
@@ -102,9 +102,9 @@ starts fits compression p table out zeros = record {
   are = tt;
   small = omega arith;
   made =
-    let n = all_count p in
-    let same : 4 * n + 4 ≡ 4 * (n - 0) + 4 = omega arith in
-    sym (take-append-drop table out) ∙ ap (λ xs. take table out ++ xs) (zeros ∙ (ap (λ m. replicate m 0) same ∙ sym (append-nil (replicate (4 * (n - 0) + 4) 0))));
+      let n = all_count p in
+      let same : 4 * n + 4 ≡ 4 * (n - 0) + 4 = omega arith in
+      sym (take-append-drop table out) ∙ ap (λ xs. take table out ++ xs) (zeros ∙ (ap (λ m. replicate m 0) same ∙ sym (append-nil (replicate (4 * (n - 0) + 4) 0))));
 }
 
 pub filling_length : {fits : List ℕ → List ℕ → Type 0} {compression : ℕ} {p : Plane} {table : ℕ} {front : List ℕ} {k : ℕ} {out : List ℕ}
@@ -114,9 +114,19 @@ filling_length {p = p} {table = table} {front = front} {k = k} so_far within siz
     let n = all_count p in
     let places = places_from (table + 4 * n + 4) so_far.tiles in
     let rest : List ℕ = zeros_of (4 * (n - k) + 4) ++ concat so_far.tiles in
-    omega (arith, ap length so_far.made, length-append front (words places ++ rest), length-append (words places) rest,
-    length-append (zeros_of (4 * (n - k) + 4)) (concat so_far.tiles), length-replicate {A = ℕ} (4 * (n - k) + 4) 0, length_of_words places, length_of_places (table + 4 * n + 4) so_far.tiles,
-    so_far.count, within, size)
+    omega (
+      arith,
+      ap length so_far.made,
+      length-append front (words places ++ rest),
+      length-append (words places) rest,
+      length-append (zeros_of (4 * (n - k) + 4)) (concat so_far.tiles),
+      length-replicate {A = ℕ} (4 * (n - k) + 4) 0,
+      length_of_words places,
+      length_of_places (table + 4 * n + 4) so_far.tiles,
+      so_far.count,
+      within,
+      size,
+    )
 
 -- the pointer to a tile has room, and its word stands in the table
 pub pointer_small : {fits : List ℕ → List ℕ → Type 0} {compression : ℕ} {p : Plane} {table : ℕ} {front : List ℕ} {k : ℕ} {out : List ℕ}
@@ -138,10 +148,10 @@ set_is front ws zeros body word out at is size =
     let long : length head ≡ at = length-append front ws ∙ size in
     let whole : out ≡ head ++ ((replicate 4 0 ++ zeros) ++ body) = is ∙ sym (append_assoc front ws ((replicate 4 0 ++ zeros) ++ body)) in
     let parts : out ≡ (head ++ replicate 4 0) ++ (zeros ++ body) =
-      whole ∙ (ap (λ xs. head ++ xs) (append_assoc (replicate 4 0) zeros body) ∙ sym (append_assoc head (replicate 4 0) (zeros ++ body))) in
+    whole ∙ (ap (λ xs. head ++ xs) (append_assoc (replicate 4 0) zeros body) ∙ sym (append_assoc head (replicate 4 0) (zeros ++ body))) in
     let first : take at out ≡ head = ap (take at) whole ∙ take_at head ((replicate 4 0 ++ zeros) ++ body) at long in
     let last : drop (at + 4) out ≡ zeros ++ body =
-      ap (drop (at + 4)) parts ∙ drop_at (head ++ replicate 4 0) (zeros ++ body) (at + 4) (omega (arith, length-append head (replicate 4 0), long)) in
+    ap (drop (at + 4)) parts ∙ drop_at (head ++ replicate 4 0) (zeros ++ body) (at + 4) (omega (arith, length-append head (replicate 4 0), long)) in
     (λ i. first i ++ (word ++ last i)) ∙ append_assoc front ws (word ++ (zeros ++ body))
 
 tail_is : (front ws word zeros body bytes : List ℕ) → (front ++ (ws ++ (word ++ (zeros ++ body)))) ++ bytes ≡ front ++ ((ws ++ word) ++ (zeros ++ (body ++ bytes)))
@@ -180,9 +190,9 @@ filling_more {fits = fits} {compression = compression} {p = p} {table = table} {
       are = subst (λ ts. AreTiles fits compression p ts (tiles ++ made.bytes ∷ [])) front_tiles (tiles_more fits compression p (take k all) tiles t made.bytes so_far.are made.tile);
       small = omega (arith, ap length (concat_more tiles made.bytes), length-append (concat tiles) made.bytes, so_far.small, small, step);
       made = made.appended
-        ∙ (ap (λ xs. xs ++ made.bytes) (mid_is ∙ set_is front ws zeros (concat tiles) word out (table + 4 * k) out_is at_is)
-        ∙ (tail_is front ws word zeros (concat tiles) made.bytes
-        ∙ (λ i. front ++ (pointers i ++ (zeros ++ sym (concat_more tiles made.bytes) i)))));
+          ∙ (ap (λ xs. xs ++ made.bytes) (mid_is ∙ set_is front ws zeros (concat tiles) word out (table + 4 * k) out_is at_is)
+          ∙ (tail_is front ws word zeros (concat tiles) made.bytes
+          ∙ (λ i. front ++ (pointers i ++ (zeros ++ sym (concat_more tiles made.bytes) i)))));
     }
   where
     pointers : words (places_from (table + 4 * all_count p + 4) so_far.tiles) ++ to_be_bytes w32 (length out)

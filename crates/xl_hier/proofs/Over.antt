@@ -1,5 +1,5 @@
 -- The bytes of the points of a rectangle, row by row.
-use Rattle.std.proofs.Common.{◌≡◌, ℕ, zero, suc, ◌+◌, ◌*◌, ◌<◌, List, [], ◌∷◌, ◌++◌, length, map, slice_index, refl, sym, ap, ◌∙◌, arith, append_assoc, append-nil, inl, inr}
+use Rattle.std.proofs.Common.{◌≡◌, ℕ, zero, suc, ◌+◌, ◌*◌, ◌<◌, List, [], ◌++◌, length, map, slice_index, refl, sym, ap, ◌∙◌, arith, append_assoc, inl, inr}
 use Rattle.std.specs.Prelude.{flat_map}
 use Rattle.std.proofs.lemmas.Bool.{cases_lt}
 use Rattle.std.proofs.lemmas.Nat.{mul-add-lt}
@@ -73,8 +73,8 @@ gather_more p left top w r c old new row hc so_far before each is x y hx hy =
     elim (cases_lt y r) [
       | inl above ↦ before (y * w + x) (omega (arith, mul-add-lt y w x r above hx)) ∙ so_far x y hx above
       | inr here ↦
-        let same : y ≡ r = omega (arith, hy, here) in
-        ap (λ k. slice_index new (k * w + x)) same ∙ (each x hx ∙ (is x c hx hc ∙ ap (λ k. byte_at p (left + x) (top + k) c) (sym same)))
+          let same : y ≡ r = omega (arith, hy, here) in
+          ap (λ k. slice_index new (k * w + x)) same ∙ (each x hx ∙ (is x c hx hc ∙ ap (λ k. byte_at p (left + x) (top + k) c) (sym same)))
     ]
 
 pub gathered : (p : Plane) (left top w h c : ℕ) (xs : List ℕ) → length xs ≡ w * h

@@ -1,5 +1,5 @@
 -- Planes that are spelled one after another.
-use Rattle.std.proofs.Common.{◌≡◌, ℕ, zero, suc, ◌+◌, ◌*◌, ◌<◌, ◌≤◌, List, [], ◌∷◌, ◌++◌, length, map, refl, sym, ap, ◌∙◌, subst, arith, append_assoc, append-nil}
+use Rattle.std.proofs.Common.{◌≡◌, ℕ, zero, suc, ◌+◌, ◌≤◌, List, [], ◌∷◌, ◌++◌, length, map, refl, sym, ap, ◌∙◌, subst, arith, append_assoc, append-nil}
 use Rattle.spec_grid.specs.declared.TileAt.{TileAt}
 use Rattle.spec_grid.specs.Rect.{count_from}
 use Rattle.spec_document.specs.Plane.{Plane}
@@ -36,11 +36,11 @@ more fits p t c first old plane new so_far is made =
     let step : suc c ≡ c + 1 = omega arith in
     let here : 0 + c ≡ c = omega arith in
     let planes : map (tile_plane p t) (count_from 0 c) ++ plane ∷ [] ≡ map (tile_plane p t) (count_from 0 (c + 1)) =
-      ap (λ xs. map (tile_plane p t) (count_from 0 c) ++ xs ∷ []) (is ∙ ap (tile_plane p t) (sym here))
-      ∙ (sym (last_of (tile_plane p t) 0 c) ∙ ap (λ k. map (tile_plane p t) (count_from 0 k)) step) in
+    ap (λ xs. map (tile_plane p t) (count_from 0 c) ++ xs ∷ []) (is ∙ ap (tile_plane p t) (sym here))
+    ∙ (sym (last_of (tile_plane p t) 0 c) ∙ ap (λ k. map (tile_plane p t) (count_from 0 k)) step) in
     record {
       bytes = so_far.bytes ++ made.spelled;
       spelled = subst (AreSpelled fits (so_far.bytes ++ made.spelled)) planes
-        (spelled_more fits (map (tile_plane p t) (count_from 0 c)) so_far.bytes made.spelled plane so_far.spelled made.spells made.short made.fitting);
+          (spelled_more fits (map (tile_plane p t) (count_from 0 c)) so_far.bytes made.spelled plane so_far.spelled made.spells made.short made.fitting);
       appended = made.appended ∙ (ap (λ xs. xs ++ made.spelled) so_far.appended ∙ append_assoc first so_far.bytes made.spelled);
     }

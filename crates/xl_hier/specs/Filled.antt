@@ -1,7 +1,7 @@
 -- The tiles of a plane, and the pointers to them.
 use Rattle.std.specs.Prelude.{◌≡◌, ℕ, ◌+◌, ◌*◌, List, ◌++◌, length, take, replicate}
 use Rattle.std.specs.List.{concat}
-use Rattle.spec_grid.specs.Grid.{tiles_along, all_tiles}
+use Rattle.spec_grid.specs.Grid.{all_tiles}
 use Rattle.spec_document.specs.Plane.{Plane}
 use Rattle.xl_hier.specs.Layout.{words, places_from, AreTiles}
 

@@ -13,5 +13,7 @@ mod writing;
 mod written_tile;
 
 pub use reading::read_hierarchy;
+pub use writing::write_hierarchy;
 pub use xl_fields::ReadRefusedOrMemory;
+pub use xl_rle::{Greedy, PlaneCoder};
 pub use xl_tiles::Plane;

@@ -1,8 +1,10 @@
 ghost use Rattle.std.specs.Prelude.{◌≡◌, ◌+◌, ◌*◌, ◌<◌, ◌≤◌, ◌^◌, ◌++◌, [], ◌∷◌, length, take, drop, replicate, vec_len, OnOk};
 ghost use Rattle.std.specs.Int.{w32, to_be_bytes};
 ghost use Rattle.spec_grid.specs.Grid as grid;
+ghost use Rattle.spec_hierarchy.specs.Holds.{HasPlane};
+ghost use Rattle.xl_hier.specs.Appended.{PlaneAppended};
 ghost use Rattle.xl_hier.specs.Filled.{TilesFilled};
-ghost use Rattle.xl_hier.specs.Layout.{IsWrittenPlane, words};
+ghost use Rattle.xl_hier.specs.Layout.{words};
 
 use crate::written_tile::write_tile;
 use std::alloc::{AllocError, Global};
@@ -10,6 +12,9 @@ use xl_fields::put_u32;
 use xl_grid::TileAt;
 use xl_rle::PlaneCoder;
 use xl_tiles::Plane;
+
+// A plane of a tile has at most 64 by 64 bytes.
+const MAX_PLANE: usize = 4096;
 
 fn append_words(out: &mut Vec<u8>, values: &[u32]) -> Result<(), AllocError>
     ensures { OnOk result (out.new.items ≡ out.old.items ++ words values.now) }
@@ -40,7 +45,14 @@ fn set_word(out: &mut [u8], at: usize, value: u32)
 }
 
 // Appends the tiles, and sets the pointers to them, whose words begin at the table. The room is for a plane of a tile.
-fn write_tiles<C: PlaneCoder>(plane: &Plane, compression: u8, table: usize, out: &mut Vec<u8>, room: &mut [u8], coder: &mut C) -> Result<(), AllocError>
+fn write_tiles<C: PlaneCoder>(
+    plane: &Plane,
+    compression: u8,
+    table: usize,
+    out: &mut Vec<u8>,
+    room: &mut [u8],
+    coder: &mut C,
+) -> Result<(), AllocError>
     requires compression { compression ≤ 1 }
     requires short { table < 2 ^ 31 + 28 }
     requires table { vec_len out.old ≡ table + 4 * (grid.tiles_along plane.now.height * grid.tiles_along plane.now.width) + 4 }
@@ -59,4 +71,28 @@ fn write_tiles<C: PlaneCoder>(plane: &Plane, compression: u8, table: usize, out:
         write_tile(plane, spot, compression, out, room, coder)?;
     }
     Ok(())
+}
+
+/// Appends a plane: its hierarchy, its one level and its tiles, whose pointers count from the start of `out`.
+///
+/// The tiles stand as they are where the compression is 0, and as the coder spells their planes where it is 1. After want of
+/// memory `out` may have some of the bytes.
+pub fn write_hierarchy<C: PlaneCoder>(
+    alloc: Global,
+    out: &mut Vec<u8>,
+    plane: &Plane,
+    compression: u8,
+    coder: &mut C,
+) -> Result<(), AllocError>
+    requires short { vec_len out.old < 2 ^ 31 }
+    requires compression { compression ≤ 1 }
+    ensures written { OnOk result (PlaneAppended C.fits compression plane.now out.old.items out.new.items) }
+    ensures held { OnOk result (HasPlane out.new.items (length out.old.items) compression plane.now) }
+{
+    append_heads(plane, out)?;
+    let table = out.len();
+    let (columns, rows) = xl_grid::grid(plane.width(), plane.height());
+    out.resize(table + 4 * (rows * columns) as usize + 4, 0)?;
+    let mut room = vec![in alloc; 0; MAX_PLANE]?;
+    write_tiles(plane, compression, table, out, &mut room, coder)
 }

@@ -9,7 +9,13 @@ use xl_rle::PlaneCoder;
 use xl_tiles::Plane;
 
 // Appends a spelling for each of the bytes of a pixel.
-fn append_spelled<C: PlaneCoder>(plane: &Plane, spot: TileAt, out: &mut Vec<u8>, room: &mut [u8], coder: &mut C) -> Result<(), AllocError>
+fn append_spelled<C: PlaneCoder>(
+    plane: &Plane,
+    spot: TileAt,
+    out: &mut Vec<u8>,
+    room: &mut [u8],
+    coder: &mut C,
+) -> Result<(), AllocError>
     requires column { spot.col < grid.tiles_along plane.now.width }
     requires row { spot.row < grid.tiles_along plane.now.height }
     requires room { length room.old ≡ 4096 }
@@ -24,7 +30,14 @@ fn append_spelled<C: PlaneCoder>(plane: &Plane, spot: TileAt, out: &mut Vec<u8>,
 }
 
 /// Appends a tile: its pixels as they are, or spelled. The room is for a plane of it.
-pub fn write_tile<C: PlaneCoder>(plane: &Plane, spot: TileAt, compression: u8, out: &mut Vec<u8>, room: &mut [u8], coder: &mut C) -> Result<(), AllocError>
+pub fn write_tile<C: PlaneCoder>(
+    plane: &Plane,
+    spot: TileAt,
+    compression: u8,
+    out: &mut Vec<u8>,
+    room: &mut [u8],
+    coder: &mut C,
+) -> Result<(), AllocError>
     requires column { spot.col < grid.tiles_along plane.now.width }
     requires row { spot.row < grid.tiles_along plane.now.height }
     requires compression { compression ≤ 1 }

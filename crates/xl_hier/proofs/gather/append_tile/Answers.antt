@@ -1,4 +1,4 @@
-use Rattle.std.proofs.Common.{refl, ◌≡◌, ◌∙◌, arith}
+use Rattle.std.proofs.Common.{refl}
 use Rattle.std.proofs.lemmas.Slice.{pushed}
 use Rattle.xl_hier.proofs.Over.{row_is, append_more}
 use Rattle.xl_hier.proofs.gather.append_tile.Goals as goal

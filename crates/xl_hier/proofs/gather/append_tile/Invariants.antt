@@ -1,4 +1,4 @@
-use Rattle.std.proofs.Common.{◌≡◌, ℕ, ◌+◌, ◌*◌, ◌<◌, ◌++◌, slice_index}
+use Rattle.std.proofs.Common.{◌≡◌, ◌++◌}
 use Rattle.spec_document.specs.Plane.{bytes_over, byte_at}
 use Rattle.xl_hier.proofs.gather.append_tile.Given as goal
 

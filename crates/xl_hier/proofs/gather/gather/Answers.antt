@@ -1,5 +1,4 @@
-use Rattle.std.proofs.Common.{◌≡◌, ◌*◌, ◌-◌, ◌<◌, ℕ, List, length, min, arith, sym, ap, ◌∙◌, subst}
-use Rattle.std.specs.Prelude.{slice_index}
+use Rattle.std.proofs.Common.{◌≡◌, ◌*◌, ◌-◌, length, min, arith, sym, ap, ◌∙◌}
 use Rattle.spec_document.specs.Plane.{bytes_over, byte_at}
 use Rattle.xl_hier.proofs.Over.{gather_more, gathered}
 use Rattle.xl_hier.proofs.gather.gather.Goals as goal

@@ -1,4 +1,4 @@
-use Rattle.std.proofs.Common.{◌≡◌, ◌+◌, ◌*◌, ◌<◌, ◌≤◌, ◌++◌, ℕ, List, length, take, drop, refl, sym, ap, ◌∙◌, arith, length-take-le}
+use Rattle.std.proofs.Common.{◌≡◌, ◌+◌, ◌*◌, ◌<◌, ◌≤◌, ◌++◌, ℕ, List, length, take, drop, refl, ap, ◌∙◌, arith, length-take-le}
 use Rattle.std.proofs.lemmas.List.{take_at}
 use Rattle.std.specs.Int.{w32, to_be_bytes}
 use Rattle.spec_grid.specs.Grid.{tiles_along}
@@ -27,7 +27,7 @@ overflow_cast-pointer g c =
     let all = count_is _ _ _ _ p.width p.height c.grid-columns.ensures.columns c.grid-columns.ensures.rows c.width.ensures.value c.height.ensures.value in
     let size = front_size c.args.table (4 * (tiles_along p.height * tiles_along p.width)) c.args.out.now.items (omega (arith, c.requires.table, c.args.out.now.ok.0)) in
     let small = pointer_small c.loop-k.invariant (omega (arith, all)) size c.requires.short
-      (few_tiles p.height c.height.ensures.sized.height.1) (few_tiles p.width c.width.ensures.sized.width.1) in
+    (few_tiles p.height c.height.ensures.sized.height.1) (few_tiles p.width c.width.ensures.sized.width.1) in
     record { fits = omega (arith, small.0, c.len-pointer.ensures, c.loop-k.out.ok.0) }
 
 pub set_word-requires : goal.set_word-requires
@@ -36,7 +36,7 @@ set_word-requires g c =
     let all = count_is _ _ _ _ p.width p.height c.grid-columns.ensures.columns c.grid-columns.ensures.rows c.width.ensures.value c.height.ensures.value in
     let size = front_size c.args.table (4 * (tiles_along p.height * tiles_along p.width)) c.args.out.now.items (omega (arith, c.requires.table, c.args.out.now.ok.0)) in
     let small = pointer_small c.loop-k.invariant (omega (arith, all)) size c.requires.short
-      (few_tiles p.height c.height.ensures.sized.height.1) (few_tiles p.width c.width.ensures.sized.width.1) in
+    (few_tiles p.height c.height.ensures.sized.height.1) (few_tiles p.width c.width.ensures.sized.width.1) in
     omega (arith, small.1, ap length c.deref_mut.ensures.value)
 
 pub loop-k-preserved : goal.loop-k-preserved
@@ -51,7 +51,7 @@ loop-k-preserved g c =
     let pointer : c.len-pointer.result ≡ length c.loop-k.out.items = omega (arith, c.len-pointer.ensures, c.loop-k.out.ok.0) in
     let whole : length c.set_word.new.out ≡ c.loop-k.out.len = c.set_word.auto.out ∙ (ap length c.deref_mut.ensures.value ∙ long) in
     let set = take_at c.set_word.new.out (drop (length c.set_word.new.out) c.loop-k.out.items) c.loop-k.out.len whole
-      ∙ (c.set_word.ensures ∙ (λ i. take at (c.deref_mut.ensures.value i) ++ (to_be_bytes w32 (pointer i) ++ drop (at + 4) (c.deref_mut.ensures.value i)))) in
+    ∙ (c.set_word.ensures ∙ (λ i. take at (c.deref_mut.ensures.value i) ++ (to_be_bytes w32 (pointer i) ++ drop (at + 4) (c.deref_mut.ensures.value i)))) in
     filling_more c.loop-k.invariant within size c.width.ensures.sized.few _ set _ (numbered p.width p.height c.grid-columns.result.0 c.loop-k.k columns within (omega (arith, columns, c.width.ensures.sized.width.0)))
     c.write_tile.new.out.items c.in_ok-write_tile.ensures
 

@@ -1,4 +1,4 @@
-use Rattle.std.proofs.Common.{◌≡◌, ◌≤◌, ◌∙◌, ◌++◌, ℕ, List, length, take, drop, arith, length-take-le}
+use Rattle.std.proofs.Common.{◌≤◌, ◌∙◌, length, drop, arith, length-take-le}
 use Rattle.std.proofs.lemmas.List.{take_at}
 use Rattle.xl_hier.proofs.Spelling.{more}
 use Rattle.xl_hier.proofs.written_tile.append_spelled.Goals as goal
