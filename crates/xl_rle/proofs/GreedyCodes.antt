@@ -1,11 +1,11 @@
 -- The codes of the greedy spelling, one after another.
-use Rattle.std.proofs.Common.{◌≡◌, ℕ, zero, suc, ◌+◌, ◌-◌, ◌*◌, ◌<◌, ◌≤◌, Bool, true, false, cond, List, [], ◌∷◌, ◌++◌, length, take, drop, replicate, slice_index, get_or, refl, ap, ◌∙◌, append_assoc, sym, arith, append-nil, length-drop, take_all, drop-cons}
-use Rattle.std.specs.Prelude.{flat_map, take_while, ◌==◌, nat_le}
+use Rattle.std.proofs.Common.{◌≡◌, ℕ, zero, suc, ◌+◌, ◌-◌, ◌<◌, ◌≤◌, Bool, true, false, cond, List, [], ◌∷◌, ◌++◌, length, take, drop, replicate, slice_index, get_or, refl, ap, ◌∙◌, append_assoc, sym, arith, append-nil, length-drop, take_all, drop-cons}
+use Rattle.std.specs.Prelude.{flat_map, ◌==◌, nat_le}
 use Rattle.std.proofs.lemmas.Bool.{eqb-true}
 use Rattle.std.proofs.lemmas.List.{drop_all, drop-drop, length-replicate, take_at}
 use Rattle.std.specs.List.{prefix_len}
 use Rattle.std.proofs.lemmas.List.Folds.{length-prefix_len}
-use Rattle.spec_plane.specs.Codes.{Code, short_run, long_run, short_literal, long_literal, code_bytes, code_pixels}
+use Rattle.spec_plane.specs.Codes.{short_run, long_run, short_literal, long_literal, code_bytes, code_pixels}
 use Rattle.spec_plane.specs.Greedy.{run_length, begins_run, up_to_run, run_code, literal_code, first_code, greedy_codes, greedy}
 
 literal_of : (xs ys : List ℕ) (x : ℕ) → xs ≡ x ∷ ys → begins_run xs ≡ false → length (up_to_run xs) ≡ suc (length (up_to_run ys))
