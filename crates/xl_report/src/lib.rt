@@ -1,4 +1,4 @@
-//! What is told of a document: its picture as a PAM. And the digest of bytes.
+//! What is told: the picture of a document as a PAM, and digests of bytes.
 #![tactic(auto)]
 
 mod digests;
