@@ -23,6 +23,3 @@ pub use forest::{MAX_NODES, Tree};
 pub use naming::{NodeId, Shown};
 pub use refused::TreeRefused;
 pub use stacks::{Split, Stack};
-
-#[cfg(test)]
-mod tests;
