@@ -4,4 +4,3 @@ pub mod Laid
 pub mod Source
 pub mod Neat
 pub mod Rows
-pub mod Canvas

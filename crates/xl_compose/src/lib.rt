@@ -8,5 +8,7 @@ mod recompose;
 mod source;
 mod span;
 mod stacks;
+mod tile;
 
 pub use recompose::{Composer, picture};
+pub use tile::{Picture, recompose_tile};

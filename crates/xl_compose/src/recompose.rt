@@ -3,7 +3,7 @@ ghost use Rattle.std.specs.Prelude.{◌≡◌, ◌+◌, ◌*◌, ◌<◌, ◌≤
 ghost use Rattle.spec_forest.specs.Forest.{stack_at};
 ghost use Rattle.spec_grid.specs.Rect.{part_above_0};
 ghost use Rattle.spec_picture.specs.Picture.{picture as pixel_of_picture, picture_bytes};
-ghost use Rattle.xl_compose.specs.Canvas.{IsInside};
+ghost use Rattle.xl_doc.specs.Canvas.{IsInside};
 ghost use Rattle.xl_compose.specs.Laid.{pixel};
 
 use crate::bytes::write_row;

@@ -7,11 +7,13 @@ mod channel;
 mod document;
 mod layer;
 mod node;
+mod pictures;
 
 pub use channel::{Channel, Channels, MAX_CHANNELS, Mask};
 pub use document::Document;
 pub use layer::Layer;
 pub use node::{Body, Node};
+pub use pictures::Pictures;
 pub use spec_document::Base;
 pub use xl_blend::Mode;
 pub use xl_grid::{MAX_SIDE, Rect, TileAt};

