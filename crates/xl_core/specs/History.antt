@@ -1,15 +1,10 @@
 -- A history: the document with which it began, and its entries.
-use Rattle.std.specs.Prelude.{◌≡◌, ℕ, ◌^◌, ◌==◌, nat_eq, nat_le, List, [], ◌∷◌, ◌++◌, length, Option, Some, None, MatchBool, Bool}
-use Rattle.std.specs.List.{IsDistinct, AllByRecursion}
-use Rattle.std.specs.Prelude.{◌≤◌}
-use Rattle.spec_forest.specs.Forest.{ids, size}
-use Rattle.spec_document.specs.Document.{Document, Nodes}
+use Rattle.std.specs.Prelude.{◌≡◌, ℕ, ◌^◌, nat_le, List, [], ◌∷◌, ◌++◌, length, MatchBool}
+use Rattle.spec_document.specs.Document.{Document}
 use Rattle.spec_picture.specs.Picture.{project}
-use Rattle.spec_edit.specs.Edit.{Edit}
 use Rattle.spec_history.specs.Machine as machine
 use Rattle.spec_history.specs.Machine.{Call, Reply, answer}
 use Rattle.spec_history.specs.History.{Entry, asked, replay, next_index, latest_of, document_of}
-use Rattle.spec_history.specs.Kept.{IsLegal}
 
 pub record History : Type 0 where
   pub base : Document
@@ -23,22 +18,9 @@ version h = latest_of h.entries
 abbrev pub document : History → Document
 document h = document_of h.base h.entries (version h)
 
--- the nodes have the ids 1, 2 and so on, each once
-pub record AreNumbered (nodes : Nodes) : Type 0 where
-  pub distinct : IsDistinct nat_eq (ids nodes)
-  pub positive : AllByRecursion (λ id. 1 ≤ id) (ids nodes)
-  pub within : AllByRecursion (λ id. id ≤ size nodes) (ids nodes)
-
 -- how many entries a history has at most
 abbrev pub most_entries : ℕ
 most_entries = 2 ^ 20
-
--- The calls that are built: one edit without a guard, the undo of whichever group is the last, and a tile.
-abbrev pub IsBuilt : Call → Type 0
-IsBuilt (machine.edit None (edit ∷ [])) = Unit {0}
-IsBuilt (machine.undo None) = Unit {0}
-IsBuilt (machine.tile stack at) = Unit {0}
-IsBuilt call = ⊥
 
 -- what the machine answers to a call after this history
 abbrev pub reply_to : History → Call → Reply

@@ -1,6 +1,8 @@
 ghost use Rattle.std.specs.Prelude.{◌≡◌, ◌<◌, ◌≤◌, ◌^◌, length, [], IfOk, IfErr, OnOk, OnErr};
 ghost use Rattle.spec_history.specs.Kept.{IsLegal};
-ghost use Rattle.xl_core.specs.History.{AreNumbered, most_entries, version, document, IsBuilt, Answers, Shows};
+ghost use Rattle.xl_core.specs.History.{most_entries, Answers, Shows};
+ghost use Rattle.xl_doc.specs.Numbered.{AreNumbered};
+ghost use Rattle.xl_edit.specs.Built.{IsBuilt};
 ghost use Rattle.xl_edit.specs.Calls.{call_of};
 ghost use Rattle.xl_edit.specs.Replies.{reply_of};
 

@@ -1,3 +1,4 @@
 pub mod Sheet
 pub mod Nodes
 pub mod Canvas
+pub mod Numbered

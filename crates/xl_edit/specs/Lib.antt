@@ -2,3 +2,4 @@ pub mod Edits
 pub mod Calls
 pub mod Replies
 pub mod Applied
+pub mod Built

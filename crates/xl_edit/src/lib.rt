@@ -7,6 +7,7 @@ mod applying;
 mod call;
 mod edit;
 mod edit_list;
+mod filling;
 mod refused;
 mod reply;
 

@@ -6,6 +6,7 @@
 
 mod command;
 mod line;
+mod playing;
 mod rendering;
 mod running;
 mod stopped;

@@ -5,3 +5,4 @@ pub mod Words
 pub mod Numbers
 pub mod Commands
 pub mod Parsed
+pub mod Built

@@ -1,0 +1,17 @@
+-- The lines that are built.
+use Rattle.std.specs.Prelude.{◌≤◌, ◌^◌, List, length}
+use Rattle.std.specs.List.{AllByRecursion}
+use Rattle.xl_edit.specs.Built.{IsBuilt}
+use Rattle.xl_edit.specs.Calls.{call_of}
+use Rattle.xl_script.specs.declared.script.Line.{Line}
+use Rattle.xl_script.specs.declared.script.Line.TheVariants.{Call, Save, Forget}
+
+abbrev pub IsBuiltLine : Line → Type 0
+IsBuiltLine (Call call) = IsBuilt (call_of call)
+IsBuiltLine Save = ⊥
+IsBuiltLine (Forget slot) = ⊥
+
+-- calls that are built, and no more than a script may have
+pub record AreBuilt (lines : List Line) : Type 0 where
+  pub each : AllByRecursion IsBuiltLine lines
+  pub few : length lines ≤ 2 ^ 19
