@@ -4,11 +4,13 @@
 mod bytes;
 mod lay;
 mod own;
+mod pictures;
 mod recompose;
 mod source;
 mod span;
 mod stacks;
 mod tile;
 
+pub use pictures::Recompose;
 pub use recompose::{Composer, picture};
 pub use tile::{Picture, recompose_tile};

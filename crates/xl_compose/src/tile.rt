@@ -1,14 +1,16 @@
 //! The picture of one tile.
-ghost use Rattle.std.specs.Prelude.{◌≡◌, [], IfOk, OnOk, IsSome, IsTrue};
+ghost use Rattle.std.specs.Prelude.{◌≡◌, ◌≤◌, [], length, IfOk, OnOk, IsSome, IsTrue};
 ghost use Rattle.spec_forest.specs.Forest.{stack_at};
 ghost use Rattle.spec_grid.specs.Grid.{is_on_grid};
 ghost use Rattle.spec_picture.specs.Picture.{project};
 
+use crate::recompose::picture;
 use std::alloc::{AllocError, Global};
 use std::marker::Model;
 use std::sync::ledger::Ledger;
 use xl_blend::Steps;
-use xl_doc::{Document, NodeId, TileAt};
+use xl_doc::{Document, MAX_SIDE, NodeId, TileAt};
+use xl_grid::tile_rect;
 
 /// The bytes of the largest tile: 64 by 64 pixels of four bytes.
 const MAX_BYTES: usize = 16384;
@@ -44,20 +46,42 @@ impl Picture {
     {
         self.bytes.as_slice()
     }
+
+    /// Takes over the bytes of another picture. It takes no memory.
+    pub fn copy_from(&mut self, other: &Picture)
+        ensures { self.new ≡ other.now }
+    {
+        self.bytes.clear();
+        self.bytes
+            .extend_from_slice(other.bytes.as_slice())
+            .unwrap();
+    }
+
+    // Any bytes, so many, within the room.
+    fn set_len(&mut self, len: usize)
+        requires { len ≤ 16384 }
+        ensures { length self.new ≡ len }
+    {
+        self.bytes.resize(len, 0).unwrap();
+    }
 }
 
 /// The picture of a stack at the points of a tile, recomposed. After want of memory `out` holds any bytes.
 pub fn recompose_tile<L: Ledger>(
-    _alloc: Global,
-    _doc: &Document,
-    _stack: NodeId,
-    _at: TileAt,
-    _out: &mut Picture,
-    _steps: &mut Steps<L>,
+    alloc: Global,
+    doc: &Document,
+    stack: NodeId,
+    at: TileAt,
+    out: &mut Picture,
+    steps: &mut Steps<L>,
 ) -> Result<(), AllocError>
-    requires stack { IsSome (stack_at _stack.0 _doc.now.nodes) }
-    requires on_grid { IsTrue (is_on_grid _doc.now.width _doc.now.height _at) }
-    ensures { OnOk result (_out.new ≡ project _doc.now _stack.0 _at) }
+    requires stack { IsSome (stack_at stack.0 doc.now.nodes) }
+    requires on_grid { IsTrue (is_on_grid doc.now.width doc.now.height at) }
+    ensures { OnOk result (out.new ≡ project doc.now stack.0 at) }
 {
-    Err(AllocError)
+    prove!(doc.width <= MAX_SIDE);
+    prove!(doc.height <= MAX_SIDE);
+    let rect = tile_rect(doc.width, doc.height, at);
+    out.set_len(4 * (rect.w as usize * rect.h as usize));
+    picture(alloc, doc, stack, rect, out.bytes.as_mut_slice(), steps)
 }
