@@ -3,3 +3,4 @@ pub mod Decimals
 pub mod HexPairs
 pub mod Keywords
 pub mod Taking
+pub mod Few

@@ -1,11 +1,19 @@
 -- The lines that are built.
-use Rattle.std.specs.Prelude.{◌≤◌, ◌^◌, List, length}
+use Rattle.std.specs.Prelude.{◌≡◌, ◌≤◌, ◌^◌, List, [], ◌∷◌, length, replicate}
 use Rattle.std.specs.List.{AllByRecursion}
 use Rattle.xl_edit.specs.Built.{IsBuilt}
 use Rattle.xl_edit.specs.Calls.{call_of}
+use Rattle.xl_script.specs.declared.commands.Command.{Command}
+use Rattle.xl_script.specs.declared.commands.Command.TheVariants as commands
 use Rattle.xl_script.specs.declared.script.Line.{Line}
 use Rattle.xl_script.specs.declared.script.Line.TheVariants.{Call, Save, Forget}
 
+-- an edit, or a call that is built
+abbrev pub IsBuiltCommand : Command → Type 0
+IsBuiltCommand (commands.Edit edit) = Unit {0}
+IsBuiltCommand (commands.Call call) = IsBuilt (call_of call)
+
+-- a call that is built
 abbrev pub IsBuiltLine : Line → Type 0
 IsBuiltLine (Call call) = IsBuilt (call_of call)
 IsBuiltLine Save = ⊥
@@ -15,3 +23,9 @@ IsBuiltLine (Forget slot) = ⊥
 pub record AreBuilt (lines : List Line) : Type 0 where
   pub each : AllByRecursion IsBuiltLine lines
   pub few : length lines ≤ 2 ^ 19
+
+-- a script of which only the first session has lines, and these are built
+pub record IsOfFirst (lists : List (List Line)) : Type 0 where
+  pub first : List Line
+  pub alone : lists ≡ first ∷ replicate 7 []
+  pub built : AreBuilt first

@@ -1,7 +1,8 @@
-ghost use Rattle.std.specs.Prelude.{◌≡◌, IfOk, option_copied, option_map};
+ghost use Rattle.std.specs.Prelude.{◌≡◌, IfOk, IfSome, option_copied, option_map};
 ghost use Rattle.spec_script.specs.Words.{words_of};
 ghost use Rattle.spec_script.specs.Commands as grammar;
 ghost use Rattle.spec_edit.specs.Edit as edits;
+ghost use Rattle.xl_script.specs.Built.{IsBuiltCommand};
 ghost use Rattle.xl_script.specs.Words.{words_left};
 ghost use Rattle.xl_script.specs.Commands.{command_is, asked_of, built_asked, built_rule, tile_rule, undo_alone};
 
@@ -19,7 +20,8 @@ pub enum Command {
 }
 
 fn fill(alloc: Global, words: Option<&[u8]>) -> Result<Option<Command>, AllocError>
-    ensures { IfOk result (λ o. option_map command_is o ≡ grammar.fill_rule (words_left (option_copied words.entry))) }
+    ensures exact { IfOk result (λ o. option_map command_is o ≡ grammar.fill_rule (words_left (option_copied words.entry))) }
+    ensures built { IfOk result (λ o. IfSome o IsBuiltCommand) }
 {
     let Some((id, x, y, w, h, bytes)) = six_words(words) else {
         return Ok(None);
@@ -41,7 +43,8 @@ fn fill(alloc: Global, words: Option<&[u8]>) -> Result<Option<Command>, AllocErr
 }
 
 fn opacity(words: Option<&[u8]>) -> Option<Command>
-    ensures { option_map command_is result ≡ grammar.byte_rule edits.set_opacity (words_left (option_copied words.entry)) }
+    ensures exact { option_map command_is result ≡ grammar.byte_rule edits.set_opacity (words_left (option_copied words.entry)) }
+    ensures built { IfSome result IsBuiltCommand }
 {
     let (id, value) = two_words(words)?;
     Some(Command::Edit(Edit::SetOpacity {
@@ -51,7 +54,8 @@ fn opacity(words: Option<&[u8]>) -> Option<Command>
 }
 
 fn tile(words: Option<&[u8]>) -> Option<Command>
-    ensures { option_map command_is result ≡ tile_rule (words_left (option_copied words.entry)) }
+    ensures exact { option_map command_is result ≡ tile_rule (words_left (option_copied words.entry)) }
+    ensures built { IfSome result IsBuiltCommand }
 {
     let (node, col, row) = three_words(words)?;
     let node = NodeId(number(node)?);
@@ -63,7 +67,8 @@ fn tile(words: Option<&[u8]>) -> Option<Command>
 }
 
 fn undo(words: Option<&[u8]>) -> Option<Command>
-    ensures { option_map command_is result ≡ undo_alone (words_left (option_copied words.entry)) }
+    ensures exact { option_map command_is result ≡ undo_alone (words_left (option_copied words.entry)) }
+    ensures built { IfSome result IsBuiltCommand }
 {
     match words {
         None => Some(Command::Call(Call::Undo(None))),
@@ -77,7 +82,8 @@ fn keyword_command(
     keyword: &[u8],
     words: Option<&[u8]>,
 ) -> Result<Option<Command>, AllocError>
-    ensures { IfOk result (λ o. option_map command_is o ≡ built_rule keyword.now (words_left (option_copied words.entry))) }
+    ensures exact { IfOk result (λ o. option_map command_is o ≡ built_rule keyword.now (words_left (option_copied words.entry))) }
+    ensures built { IfOk result (λ o. IfSome o IsBuiltCommand) }
 {
     if is_word(keyword, b"fill") {
         return fill(alloc, words);
@@ -96,7 +102,8 @@ fn keyword_command(
 
 /// What a line that is not skipped asks for. None where it is not in the grammar.
 pub fn command_of(alloc: Global, line: &[u8]) -> Result<Option<Command>, AllocError>
-    ensures { IfOk result (λ o. option_map asked_of o ≡ built_asked (words_of line.now)) }
+    ensures exact { IfOk result (λ o. option_map asked_of o ≡ built_asked (words_of line.now)) }
+    ensures built { IfOk result (λ o. IfSome o IsBuiltCommand) }
 {
     let (session, words) = first_word(line);
     if !is_word(session, b"0") {

@@ -1,6 +1,7 @@
 ghost use Rattle.std.specs.Prelude.{◌≡◌, ◌≤◌, ◌+◌, ◌^◌, ℕ, List, length, count_by, ◌==◌, IfOk};
 ghost use Rattle.spec_script.specs.Script as grammar;
 ghost use Rattle.spec_script.specs.Words.{lines_of};
+ghost use Rattle.xl_script.specs.Built.{IsBuiltCommand, IsBuiltLine, AreBuilt, IsOfFirst};
 ghost use Rattle.xl_script.specs.Commands.{line_alone};
 ghost use Rattle.xl_script.specs.Gives.{ScriptOf};
 ghost use Rattle.xl_script.specs.Lines.{line_of};
@@ -41,7 +42,9 @@ fn is_skipped(line: &[u8]) -> bool
 
 // The line of a command that stands alone.
 fn alone(alloc: Global, command: Command) -> Result<Line, AllocError>
-    ensures { IfOk result (λ line. line_of line ≡ line_alone command) }
+    requires { IsBuiltCommand command }
+    ensures exact { IfOk result (λ line. line_of line ≡ line_alone command) }
+    ensures built { IfOk result IsBuiltLine }
 {
     match command {
         Command::Edit(edit) => {
@@ -59,8 +62,9 @@ fn take_line(
     number: u32,
     line: &[u8],
 ) -> Result<(), BadLineOrMemory>
-    ensures { (chests : List ℕ) →
+    ensures taken { (chests : List ℕ) →
         TakenAs number chests result lines.new (grammar.take_line number line.now (with_lines chests lines.old)) }
+    ensures built { AreBuilt lines.old → AreBuilt lines.new }
 {
     if is_skipped(line) {
         return Ok(());
@@ -77,7 +81,8 @@ fn take_line(
 
 fn all_lines(alloc: Global, text: &[u8]) -> Result<Lines, BadLineOrMemory>
     requires { length text.now ≤ 2 ^ 24 }
-    ensures { (chests : List ℕ) → ParsedAs chests result (grammar.take_lines 1 (lines_of text.now) (grammar.start chests)) }
+    ensures parsed { (chests : List ℕ) → ParsedAs chests result (grammar.take_lines 1 (lines_of text.now) (grammar.start chests)) }
+    ensures built { IfOk result AreBuilt }
 {
     let mut lines = Lines::new(alloc);
     let mut rest = text;
@@ -96,7 +101,8 @@ fn all_lines(alloc: Global, text: &[u8]) -> Result<Lines, BadLineOrMemory>
 /// A text of more than 2^24 bytes is refused at the line of byte 2^24, whatever follows.
 pub fn parse(alloc: Global, text: &[u8], chests: &[u32]) -> Result<Script, BadLineOrMemory>
     requires { length text.now ≤ 2 ^ 24 + 1 }
-    ensures { ScriptOf result (grammar.script text.now chests.now) }
+    ensures read { ScriptOf result (grammar.script text.now chests.now) }
+    ensures built { IfOk result IsOfFirst }
 {
     if text.len() > MAX_LEN {
         return Err(BadLineOrMemory::Refused(BadLine {
