@@ -1,4 +1,5 @@
 ghost use Rattle.std.specs.Prelude.{◌≡◌, [], ◌∷◌, ◌++◌, length, OnOk, OnErr};
+ghost use Rattle.spec_document.specs.Document.{without_kind};
 
 use crate::byte_list::Bytes;
 use std::alloc::{AllocError, Global};
@@ -62,5 +63,12 @@ impl PropList {
     {
         self.items.push(item)?;
         Ok(())
+    }
+
+    /// Drops the properties of a kind.
+    pub fn drop_kind(&mut self, kind: u32)
+        ensures { self.new ≡ without_kind kind self.old }
+    {
+        self.items.retain(|kept| kept.kind != kind);
     }
 }

@@ -12,3 +12,4 @@ pub mod Stands
 pub mod Shifted
 pub mod Moved
 pub mod Restacked
+pub mod Ids

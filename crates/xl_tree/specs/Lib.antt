@@ -9,3 +9,4 @@ pub mod Refusals
 pub mod Slots
 pub mod Moves
 pub mod Branches
+pub mod Ids

@@ -1,5 +1,6 @@
-ghost use Rattle.std.specs.Prelude.{◌≡◌};
+ghost use Rattle.std.specs.Prelude.{◌≡◌, fold, max};
 ghost use Rattle.xl_tree.specs.Flat.{below, deepest, from_id};
+ghost use Rattle.xl_tree.specs.Ids.{ids_of};
 
 /// A node at its level. The entries that follow at a deeper level are those below it.
 #[derive(Drop)]
@@ -43,4 +44,15 @@ pub fn deepest<N>(entries: &[Entry<N>]) -> u32
         level = level.max(entry.level);
     }
     level
+}
+
+/// The greatest id of these entries, and 0 where there is none.
+pub fn greatest<N>(entries: &[Entry<N>]) -> u32
+    ensures { result ≡ fold max 0 (ids_of entries.now) }
+{
+    let mut greatest = 0u32;
+    for entry in entries {
+        greatest = greatest.max(entry.id);
+    }
+    greatest
 }

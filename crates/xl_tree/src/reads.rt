@@ -1,8 +1,9 @@
-ghost use Rattle.std.specs.Prelude.{◌≡◌, ◌≤◌, option_map, option_and_then};
+ghost use Rattle.std.specs.Prelude.{◌≡◌, ◌≤◌, fold, max, option_map, option_and_then};
 ghost use Rattle.std.specs.Option.{option_copied};
-ghost use Rattle.spec_forest.specs.Forest.{count, find, size, stack_at};
+ghost use Rattle.spec_forest.specs.Forest.{count, find, ids, size, stack_at};
 ghost use Rattle.xl_tree.specs.Reads.{child_at, bottom_shown, levels_of, node_of, size_of};
 
+use crate::entries::greatest;
 use crate::forest::Tree;
 use crate::naming::{NodeId, Shown};
 use crate::places::from_place;
@@ -25,6 +26,13 @@ impl<N: Drop> Tree<N> {
             None => 0,
             Some((_, children)) => 1 + children.len(),
         }
+    }
+
+    /// The greatest id of a node, and 0 where there is no node.
+    pub fn greatest_id(&self) -> u32
+        ensures { result ≡ fold max 0 (ids self.now) }
+    {
+        greatest(self.entries.as_slice())
     }
 
     /// The levels from a node down, the node itself being 1, and 0 where there is no such node.
