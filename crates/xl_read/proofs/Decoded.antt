@@ -8,10 +8,12 @@ use Rattle.spec_file.specs.Reading.{reading}
 use Rattle.spec_file.proofs.HoldsRead.{holds_read, holds_one}
 use Rattle.spec_file.proofs.ReadHeld.{read_held}
 use Rattle.spec_file.proofs.HeldDocument.{held_document}
+use Rattle.xl_doc.specs.Numbered.{AreNumbered}
 use Rattle.xl_fields.specs.declared.refusal.ReadRefusedOrMemory.{ReadRefusedOrMemory}
 use Rattle.xl_fields.specs.declared.refusal.ReadRefusedOrMemory.TheVariants.{Memory, Refused}
 use Rattle.xl_fields.specs.Gives.{Gives}
 use Rattle.xl_read.specs.Yields.{OnRefused}
+use Rattle.xl_read.proofs.NumberedNodes.{numbered_nodes}
 
 module _ (file : List ℕ) where
   pub held : (r : Result Document ReadRefusedOrMemory) → AreBytes file → Gives r (reading file) → IfOk r (λ d. Holds file d)
@@ -30,3 +32,7 @@ module _ (file : List ℕ) where
   pub limits : (r : Result Document ReadRefusedOrMemory) → AreBytes file → Gives r (reading file) → IfOk r (λ d. IsDocument d)
   limits (Ok d) bytes e = held_document file d bytes (read_held file d bytes e)
   limits (Err x) bytes e = tt
+
+  pub numbered : (r : Result Document ReadRefusedOrMemory) → AreBytes file → Gives r (reading file) → IfOk r (λ d. AreNumbered d.nodes)
+  numbered (Ok d) bytes e = numbered_nodes file d bytes (read_held file d bytes e)
+  numbered (Err x) bytes e = tt

@@ -8,5 +8,6 @@ pub mod Pointers
 pub mod Branches
 pub mod Channels
 pub mod ByteLists
+pub mod NumberedNodes
 pub mod Decoded
 pub mod Placed

@@ -6,6 +6,7 @@ ghost use Rattle.spec_document.specs.Limits.{IsSide, IsDocument};
 ghost use Rattle.spec_file.specs.Holds.{Holds};
 ghost use Rattle.spec_file.specs.Reading.{blank, reading};
 ghost use Rattle.spec_props.specs.Meaning.{kept_of};
+ghost use Rattle.xl_doc.specs.Numbered.{AreNumbered};
 ghost use Rattle.xl_fields.specs.Gives.{Gives};
 ghost use Rattle.xl_read.specs.Yields.{OnRefused};
 
@@ -65,6 +66,7 @@ pub fn decode(alloc: Global, bytes: &[u8]) -> Result<Document, ReadRefusedOrMemo
     ensures only { IfOk result (λ document. (other : Plain) → Holds bytes.now other → other ≡ document) }
     ensures refused { OnRefused result ((document : Plain) → ¬ (Holds bytes.now document)) }
     ensures limits { IfOk result (λ document. IsDocument document) }
+    ensures numbered { IfOk result (λ document. AreNumbered document.nodes) }
 {
     read(alloc, bytes)
 }

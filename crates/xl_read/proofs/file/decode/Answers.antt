@@ -1,6 +1,6 @@
 use Rattle.std.proofs.Common.{arith}
 use Rattle.xl_read.proofs.ByteLists.{are_bytes}
-use Rattle.xl_read.proofs.Decoded.{held, only, refused, limits}
+use Rattle.xl_read.proofs.Decoded.{held, only, refused, limits, numbered}
 use Rattle.xl_read.proofs.file.decode.Goals as goal
 
 pub returns-clause-held : goal.returns-clause-held
@@ -17,3 +17,7 @@ returns-clause-refused c = refused c.args.bytes.now c.read.result c.read.ensures
 pub returns-clause-limits : goal.returns-clause-limits
 returns-clause-limits c =
     limits c.args.bytes.now c.read.result (are_bytes c.args.bytes.now (λ i. omega (arith, c.type_inv.bytes i))) c.read.ensures
+
+pub returns-clause-numbered : goal.returns-clause-numbered
+returns-clause-numbered c =
+    numbered c.args.bytes.now c.read.result (are_bytes c.args.bytes.now (λ i. omega (arith, c.type_inv.bytes i))) c.read.ensures
