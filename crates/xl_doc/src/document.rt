@@ -1,7 +1,11 @@
-ghost use Rattle.std.specs.Prelude.{◌≡◌, IfOk};
+ghost use Rattle.std.specs.Prelude.{◌≡◌, ◌≤◌, IfOk};
+ghost use Rattle.spec_document.specs.Document.{area, selection_count};
+ghost use Rattle.spec_written.specs.Version.{least_version};
 
 use crate::channel::{Channel, Channels};
 use crate::node::Node;
+use crate::sums::nodes_area;
+use crate::versions::{has_group, has_late_mode, indexed_version};
 use spec_document::Base;
 use std::alloc::{AllocError, Global};
 use std::marker::Model;
@@ -50,9 +54,65 @@ impl Model for Document {
 
 impl Document {
     /// The same document.
-    pub fn share(&self, _alloc: Global) -> Result<Document, AllocError>
+    pub fn share(&self, alloc: Global) -> Result<Document, AllocError>
         ensures { IfOk result (λ other. other ≡ self.now) }
     {
-        Err(AllocError)
+        Ok(Document {
+            width: self.width,
+            height: self.height,
+            base: self.base,
+            compression: self.compression,
+            colours: self.colours.share(alloc)?,
+            kept: self.kept.share(alloc)?,
+            tree: self.tree.share(alloc)?,
+            channels: self.channels.share(alloc)?,
+            selection: shared_selection(alloc, &self.selection)?,
+        })
+    }
+
+    /// The pixels of all planes, and a canvas for each group.
+    pub fn area(&self) -> u64
+        ensures { result ≡ area self.now }
+    {
+        let canvas = u64::from(self.width) * u64::from(self.height);
+        let nodes = nodes_area(self.tree.top(), canvas);
+        nodes + canvas * self.channels.count() + canvas * selection_count(&self.selection)
+    }
+
+    /// The least version of the format that can hold the document.
+    pub fn least_version(&self) -> u32
+        ensures { result ≡ least_version self.now }
+    {
+        if has_group(self.tree.top()) {
+            3
+        } else if has_late_mode(self.tree.top()) {
+            2
+        } else {
+            indexed_version(self.base)
+        }
+    }
+}
+
+/// The same selection again, if there is one.
+fn shared_selection(
+    alloc: Global,
+    selection: &Option<Channel>,
+) -> Result<Option<Channel>, AllocError>
+    ensures { IfOk result (λ other. other ≡ selection.now) }
+{
+    match selection {
+        None => Ok(None),
+        Some(channel) => Ok(Some(channel.share(alloc)?)),
+    }
+}
+
+/// One where there is a selection, and else 0.
+fn selection_count(selection: &Option<Channel>) -> u64
+    ensures value { result ≡ selection_count selection.now }
+    ensures one { result ≤ 1 }
+{
+    match selection {
+        None => 0,
+        Some(_) => 1,
     }
 }

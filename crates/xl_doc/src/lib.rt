@@ -8,6 +8,8 @@ mod document;
 mod layer;
 mod node;
 mod pictures;
+mod sums;
+mod versions;
 
 pub use channel::{Channel, Channels, MAX_CHANNELS, Mask};
 pub use document::Document;

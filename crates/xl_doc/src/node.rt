@@ -1,7 +1,10 @@
+ghost use Rattle.std.specs.Prelude.{◌≡◌, IfOk};
+
 use crate::layer::Layer;
+use std::alloc::{AllocError, Global};
 use xl_blend::Mode;
 use xl_props::{Bytes, PropList};
-use xl_tree::Shown;
+use xl_tree::{Share, Shown};
 
 /// A layer or a group, without its id and its place in the tree.
 #[derive(Drop)]
@@ -34,5 +37,28 @@ impl Shown for Node {
 
     fn is_group(&self) -> bool {
         matches!(&self.body, Body::Group)
+    }
+}
+
+impl Share for Node {
+    fn share(&self, alloc: Global) -> Result<Node, AllocError> {
+        Ok(Node {
+            name: self.name.share(alloc)?,
+            opacity: self.opacity,
+            mode: self.mode,
+            visible: self.visible,
+            kept: self.kept.share(alloc)?,
+            body: shared_body(alloc, &self.body)?,
+        })
+    }
+}
+
+/// The same layer or group again.
+fn shared_body(alloc: Global, body: &Body) -> Result<Body, AllocError>
+    ensures { IfOk result (λ other. other ≡ body.now) }
+{
+    match body {
+        Body::Leaf(layer) => Ok(Body::Leaf(layer.share(alloc)?)),
+        Body::Group => Ok(Body::Group),
     }
 }

@@ -1,4 +1,4 @@
-ghost use Rattle.std.specs.Prelude.{◌≡◌, [], ◌∷◌, ◌++◌, length, OnOk, OnErr};
+ghost use Rattle.std.specs.Prelude.{◌≡◌, [], ◌∷◌, ◌++◌, length, IfOk, OnOk, OnErr};
 
 use std::alloc::{AllocError, Global};
 use std::marker::Model;
@@ -24,6 +24,15 @@ impl ColourMap {
         ColourMap {
             items: Vec::new(alloc),
         }
+    }
+
+    /// The same colours again.
+    pub fn share(&self, alloc: Global) -> Result<Self, AllocError>
+        ensures { IfOk result (λ other. other ≡ self.now) }
+    {
+        Ok(ColourMap {
+            items: Vec::from_slice(alloc, self.as_slice())?,
+        })
     }
 
     pub fn len(&self) -> usize

@@ -1,4 +1,4 @@
-ghost use Rattle.std.specs.Prelude.{◌≡◌, [], ◌∷◌, ◌++◌, length, OnOk, OnErr};
+ghost use Rattle.std.specs.Prelude.{◌≡◌, [], ◌∷◌, ◌++◌, length, IfOk, OnOk, OnErr};
 ghost use Rattle.spec_document.specs.Document.{without_kind};
 
 use crate::byte_list::Bytes;
@@ -18,6 +18,18 @@ impl Model for Kept {
     ghost Value = { doc.Kept };
 
     ghost view = { λ k. record { kind = k.kind; payload = k.payload } };
+}
+
+impl Kept {
+    /// The same property again.
+    pub fn share(&self, alloc: Global) -> Result<Self, AllocError>
+        ensures { IfOk result (λ other. other ≡ self.now) }
+    {
+        Ok(Kept {
+            kind: self.kind,
+            payload: self.payload.share(alloc)?,
+        })
+    }
 }
 
 /// Properties that are kept, in their order.
@@ -42,6 +54,17 @@ impl PropList {
         PropList {
             items: Vec::new(alloc),
         }
+    }
+
+    /// The same properties again.
+    pub fn share(&self, alloc: Global) -> Result<Self, AllocError>
+        ensures { IfOk result (λ other. other ≡ self.now) }
+    {
+        let mut items = Vec::with_capacity(alloc, self.items.len())?;
+        for kept in &self.items {
+            items.push(kept.share(alloc)?)?;
+        }
+        Ok(PropList { items })
     }
 
     pub fn len(&self) -> usize

@@ -5,6 +5,7 @@
 
 mod above;
 mod branch;
+mod copies;
 mod edits;
 mod entries;
 mod forest;
@@ -20,6 +21,6 @@ mod writes;
 pub use above::Ancestors;
 pub use branch::Branch;
 pub use forest::{MAX_NODES, Tree};
-pub use naming::{NodeId, Shown};
+pub use naming::{NodeId, Share, Shown};
 pub use refused::TreeRefused;
 pub use stacks::{Split, Stack};

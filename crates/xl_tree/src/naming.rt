@@ -1,4 +1,6 @@
-ghost use Rattle.std.specs.Prelude.{◌≡◌, Bool};
+ghost use Rattle.std.specs.Prelude.{◌≡◌, Bool, IfOk};
+
+use std::alloc::{AllocError, Global};
 
 /// The id of a node. 0 names no node but the top stack.
 #[derive(Clone, Copy, Debug, PartialEq, Eq)]
@@ -17,4 +19,11 @@ pub trait Shown {
     /// Whether the node may have children. A tree asks once, when the node is put in.
     fn is_group(&self) -> bool
         ensures { result ≡ is_group self.now };
+}
+
+/// What a tree asks of its nodes to be made once more.
+pub trait Share: Sized {
+    /// The same again.
+    fn share(&self, alloc: Global) -> Result<Self, AllocError>
+        ensures { IfOk result (λ other. other ≡ self.now) };
 }

@@ -1,0 +1,42 @@
+ghost use Rattle.std.specs.Prelude.{◌≡◌, ◌≤◌, IfOk};
+ghost use Rattle.std.specs.Vec.{vec_capacity};
+
+use crate::entries::Entry;
+use crate::forest::{MAX_NODES, Tree};
+use crate::naming::Share;
+use std::alloc::{AllocError, Global};
+
+impl<N: Share + Drop> Tree<N> {
+    /// The same tree again.
+    pub fn share(&self, alloc: Global) -> Result<Tree<N>, AllocError>
+        ensures { IfOk result (λ other. other ≡ self.now) }
+    {
+        let entries = shared(alloc, self.entries.as_slice())?;
+        Ok(Tree { entries })
+    }
+}
+
+/// The same entry again.
+fn shared_entry<N: Share>(alloc: Global, entry: &Entry<N>) -> Result<Entry<N>, AllocError>
+    ensures { IfOk result (λ other. other ≡ entry.now) }
+{
+    let node = entry.node.share(alloc)?;
+    Ok(Entry {
+        id: entry.id,
+        level: entry.level,
+        group: entry.group,
+        node,
+    })
+}
+
+/// The same entries again, with the room of a tree.
+fn shared<N: Share + Drop>(alloc: Global, entries: &[Entry<N>]) -> Result<Vec<Entry<N>>, AllocError>
+    ensures items { IfOk result (λ other. other.items ≡ entries.now) }
+    ensures room { IfOk result (λ other. 512 ≤ vec_capacity other) }
+{
+    let mut others = Vec::with_capacity(alloc, MAX_NODES as usize)?;
+    for entry in entries {
+        others.push(shared_entry(alloc, entry)?)?;
+    }
+    Ok(others)
+}
