@@ -1,5 +1,6 @@
 -- What the applying of an edit comes to.
-use Rattle.std.specs.Prelude.{◌≡◌, ℕ, [], Result, Ok, Err}
+use Rattle.std.specs.Prelude.{◌≡◌, ℕ, [], Option, Some, Result, Ok, Err}
+use Rattle.spec_edit.specs.declared.EditRefused.{EditRefused}
 use Rattle.spec_document.specs.Document.{Document}
 use Rattle.spec_edit.specs.Edit.{Edit}
 use Rattle.spec_edit.specs.Apply.{At, apply}
@@ -15,3 +16,12 @@ abbrev pub Applies : (old new : At) → Edit → Result (Unit {0}) EditRefusedOr
 Applies old new edit (Ok done) = apply old edit [] ≡ Ok new
 Applies old new edit (Err (Refused cause)) = (apply old edit [] ≡ Err cause) × (new ≡ old)
 Applies old new edit (Err Memory) = new ≡ old
+
+-- why an edit was not applied, if it was not for want of memory
+abbrev pub IsCause : Option EditRefused → EditRefusedOrMemory → Type 0
+IsCause refusal Memory = Unit {0}
+IsCause refusal (Refused cause) = refusal ≡ Some cause
+
+-- an edit that takes no id is applied whole, or it is refused or memory ran out, and the document is as before
+abbrev pub Makes : (old new : Document) → Edit → Result (Unit {0}) EditRefusedOrMemory → Type 0
+Makes old new edit result = (next : ℕ) → Applies (at old next) (at new next) edit result

@@ -5,6 +5,8 @@ ghost use Rattle.xl_edit.specs.Applied.{at, Applies};
 ghost use Rattle.xl_edit.specs.Edits.{edit_of};
 
 use crate::edit::Edit;
+use crate::opacity::set_opacity;
+use crate::painting::fill;
 use crate::refused::EditRefusedOrMemory;
 use std::alloc::Global;
 use xl_doc::Document;
@@ -13,7 +15,7 @@ use xl_doc::Document;
 ///
 /// After a refusal and after want of memory both are as before.
 pub fn apply(
-    _alloc: Global,
+    alloc: Global,
     doc: &mut Document,
     next_id: &mut u32,
     edit: &Edit,
@@ -22,5 +24,8 @@ pub fn apply(
     ensures applied { Applies (at doc.old next_id.old) (at doc.new next_id.new) (edit_of edit.now) result }
     ensures ids { IsDistinct nat_eq (ids doc.new.nodes) }
 {
-    Err(EditRefusedOrMemory::Memory)
+    match edit {
+        Edit::Fill { id, rect, pixel } => fill(alloc, doc, *id, *rect, pixel.as_slice()),
+        Edit::SetOpacity { id, value } => set_opacity(doc, *id, *value),
+    }
 }

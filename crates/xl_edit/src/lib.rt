@@ -5,9 +5,12 @@
 
 mod applying;
 mod call;
+mod checks;
 mod edit;
 mod edit_list;
 mod filling;
+mod opacity;
+mod painting;
 mod refused;
 mod reply;
 

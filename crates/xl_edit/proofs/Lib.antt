@@ -1,0 +1,6 @@
+pub mod OneNode
+pub mod Seen
+pub mod NodesWritten
+pub mod Lent
+pub mod LayerFound
+pub mod Made
