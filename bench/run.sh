@@ -1,5 +1,5 @@
 #!/bin/sh
-# Times `BIN render` and the same work by other programs, where they are installed, on two large files.
+# Times `BIN render` and the same work by other programs, where they are installed, on two large files, and `BIN edit`.
 #
 #     bench/run.sh BIN [FOLDER]
 #
@@ -83,6 +83,11 @@ for file in plain.xcf layers.xcf; do
         best "$file" krita env QT_QPA_PLATFORM=offscreen krita --export --export-filename "$folder/krita.ppm" "$folder/$file"
     fi
 done
+
+# 200 fills of 32 by 32 with a tile after each ten, on a document of 512 by 512 with three layers
+[ -e "$folder/small.xcf" ] || python3 "$here/make_plain.py" "$folder/small.xcf" --size 512 512
+made edits.txt make_edits.py
+best small.xcf "xcfedit edit" sh -c '"$0" edit "$1" < "$2"' "$bin" "$folder/small.xcf" "$folder/edits.txt"
 
 # a file of one pixel, a hundred times: what a start and an end cost
 /usr/bin/time -f '%e' -o "$folder/one" sh -c '
