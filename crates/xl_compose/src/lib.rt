@@ -9,6 +9,8 @@ mod recompose;
 mod source;
 mod span;
 mod stacks;
+#[cfg(test)]
+mod tests;
 mod tile;
 
 pub use pictures::Recompose;

@@ -1,5 +1,5 @@
 -- A group or a layer that was put in is what reading its record gives.
-use Rattle.std.proofs.Common.{◌≡◌, ℕ, ◌+◌, ◌*◌, ◌<◌, ◌≤◌, ◌^◌, true, List, refl, sym, ◌∙◌, ap}
+use Rattle.std.proofs.Common.{◌≡◌, ℕ, ◌+◌, ◌*◌, ◌<◌, ◌≤◌, ◌^◌, true, List, ◌∙◌, ap}
 use Rattle.std.specs.Prelude.{Option, Ok, ◌==◌, nat_le, nat_lt}
 use Rattle.std.proofs.lemmas.Bool.{eq-eqb, le-leb, lt-ltb}
 use Rattle.spec_forest.specs.Forest.{none, leaf, group, size}

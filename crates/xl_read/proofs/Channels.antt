@@ -1,10 +1,10 @@
 -- A channel that was put in is what reading it gives.
-use Rattle.std.proofs.Common.{◌≡◌, ℕ, ◌+◌, ◌*◌, ◌≤◌, ◌^◌, true, List, length, refl, sym, ◌∙◌, ap}
+use Rattle.std.proofs.Common.{◌≡◌, ℕ, ◌+◌, ◌*◌, ◌≤◌, ◌^◌, true, List, length, sym, ◌∙◌, ap}
 use Rattle.std.specs.Prelude.{Ok, ◌||◌, not, is_none, nat_le, nat_lt}
 use Rattle.std.proofs.lemmas.Bool.{le-leb}
 use Rattle.spec_document.specs.declared.Owner.TheVariants as owners
 use Rattle.spec_document.specs.Plane.{Plane}
-use Rattle.spec_document.specs.Document.{Document, Channel, area, all_kept}
+use Rattle.spec_document.specs.Document.{Document, area, all_kept}
 use Rattle.spec_fields.specs.declared.Kind.TheVariants.{ChannelSize, TwoSelections, BadHierarchy, TooLarge, TooMany}
 use Rattle.spec_fields.specs.Reading.{fault, unless}
 use Rattle.spec_fields.specs.Field.{Text, name_at}

@@ -1,20 +1,19 @@
 -- The totals of a draft, as it grows.
-use Rattle.std.proofs.Common.{◌≡◌, ℕ, ◌+◌, ◌*◌, ◌≤◌, ◌^◌, Bool, true, false, List, [], ◌∷◌, ◌++◌, length, refl, sym, ◌∙◌, ap, subst, arith, length-append}
-use Rattle.std.specs.Prelude.{Option, Some, None, sum_by}
+use Rattle.std.proofs.Common.{◌≡◌, ℕ, ◌+◌, ◌*◌, ◌≤◌, ◌^◌, Bool, true, false, List, [], ◌∷◌, ◌++◌, length, sym, ◌∙◌, ap, subst, arith, length-append}
+use Rattle.std.specs.Prelude.{Some}
 use Rattle.std.proofs.lemmas.List.Sums.{sum_by-append}
 use Rattle.spec_forest.specs.Forest.{size}
 use Rattle.spec_forest.specs.Changes.{put_last}
 use Rattle.spec_forest.proofs.Totals.{total-put_last}
 use Rattle.spec_file.proofs.ForestGrows.{size-put_last}
 use Rattle.xl_read.proofs.Placed.{size-nodes_of}
-use Rattle.spec_document.specs.Document.{Document, Nodes, Channel, plane_area, mask_area, nodes_area, area, kept_bytes, channel_kept, nodes_kept, all_kept, selection_count}
-use Rattle.spec_document.specs.Limits.{IsSide}
+use Rattle.spec_document.specs.Document.{Document, Nodes, Channel, plane_area, mask_area, nodes_area, area, kept_bytes, channel_kept, nodes_kept, all_kept}
 use Rattle.xl_doc.specs.declared.node.Node.{Node}
 use Rattle.xl_doc.specs.declared.node.Body.{Body}
 use Rattle.xl_doc.specs.declared.node.Body.TheVariants as body
 use Rattle.xl_doc.specs.Nodes.{nodes_of, is_group_body}
 use Rattle.xl_tree.specs.Places.{alone}
-use Rattle.xl_read.specs.Draft.{IsDraft, body_area, body_kept, node_kept, branch_of, Places}
+use Rattle.xl_read.specs.Draft.{IsDraft, body_area, body_kept, node_kept, branch_of}
 
 -- a channel more
 pub channel_added : (d new : Document) (pixels kept more bytes pixels_new kept_new : ℕ) (c : Channel) → IsDraft d pixels kept → new ≡ record d { channels = d.channels ++ c ∷ [] }

@@ -1,5 +1,5 @@
 -- A plane that was read has the sides and the bytes per pixel that it was read by.
-use Rattle.std.proofs.Common.{◌≡◌, ℕ, ◌+◌, List, refl}
+use Rattle.std.proofs.Common.{◌≡◌, ℕ, ◌+◌, List}
 use Rattle.std.specs.Prelude.{Ok}
 use Rattle.spec_grid.specs.Grid.{all_tiles}
 use Rattle.spec_document.specs.Plane.{Plane}

@@ -3,7 +3,7 @@ use Rattle.std.proofs.Common.{ℕ, ◌+◌, ◌*◌, ◌≤◌, List, [], ◌∷
 use Rattle.std.specs.List.{AllByRecursion}
 use Rattle.spec_forest.specs.Forest.{size, ids}
 use Rattle.spec_document.specs.Document.{Document}
-use Rattle.spec_document.specs.Limits.{AreBytes, IsDocument}
+use Rattle.spec_document.specs.Limits.{AreBytes}
 use Rattle.spec_file.specs.Reading.{blank}
 use Rattle.spec_file.specs.Holds.{Holds}
 use Rattle.spec_file.proofs.ForestGrows.{AreUpTo, none_up_to}

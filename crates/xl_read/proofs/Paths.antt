@@ -1,5 +1,5 @@
 -- The rule of an item path, and a node that is put where it leads.
-use Rattle.std.proofs.Common.{◌≡◌, ℕ, ◌+◌, ◌<◌, ◌≤◌, Bool, true, false, List, length, refl, sym, ◌∙◌, ap, arith}
+use Rattle.std.proofs.Common.{◌≡◌, ℕ, ◌<◌, ◌≤◌, true, false, List, length, refl, sym, ◌∙◌, ap, arith}
 use Rattle.std.specs.Prelude.{Option, Some, None, is_some, nat_lt, Ok, Err}
 use Rattle.std.proofs.lemmas.Bool.{lt-ltb, le-ltb}
 use Rattle.spec_forest.specs.Forest.{none}
@@ -7,7 +7,7 @@ use Rattle.spec_forest.specs.Changes.{put_last}
 use Rattle.spec_document.specs.Document.{Document, Nodes}
 use Rattle.spec_fields.specs.declared.Kind.TheVariants.{BadPath}
 use Rattle.spec_fields.specs.declared.ReadRefused.{ReadRefused}
-use Rattle.spec_fields.specs.Reading.{Read, ◌>>=◌, fault, wants, given}
+use Rattle.spec_fields.specs.Reading.{◌>>=◌, fault, wants, given}
 use Rattle.spec_fields.proofs.Steps.{pass, there}
 use Rattle.spec_file.specs.Placing.{path_to, place_of}
 use Rattle.spec_file.specs.Layers.{Head, placed, path_of}

@@ -1,6 +1,6 @@
 -- The first payload that takes what is kept past the limit, in the list of all properties and in the list of those that are kept.
 use Rattle.std.proofs.Common.{◌≡◌, ℕ, suc, ◌+◌, ◌<◌, ◌≤◌, ◌^◌, Bool, true, false, cond, List, [], ◌∷◌, length, take, drop, get_or, refl, sym, ◌∙◌, ap, arith, add-one}
-use Rattle.std.specs.Prelude.{not, nat_le, map, filter, Option, Some, None}
+use Rattle.std.specs.Prelude.{not, nat_le, map, filter, Option, Some}
 use Rattle.std.proofs.Math.Seq.{drop-cons}
 use Rattle.std.proofs.lemmas.List.{length-map}
 use Rattle.std.proofs.lemmas.Bool.{le-leb, leb-true, lt-leb}

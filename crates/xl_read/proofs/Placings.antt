@@ -1,15 +1,14 @@
 -- A node that is put into a tree is put into the document.
-use Rattle.std.proofs.Common.{◌≡◌, ℕ, ◌+◌, ◌<◌, Bool, true, false, List, refl, sym, ◌∙◌, ap, subst}
+use Rattle.std.proofs.Common.{◌≡◌, ℕ, Bool, List, refl, sym, ◌∙◌, ap, subst}
 use Rattle.std.specs.Prelude.{Option, Some, None, option_map, is_some, IsSome}
-use Rattle.spec_forest.specs.Forest.{Forest, none, leaf, group, size}
+use Rattle.spec_forest.specs.Forest.{Forest, none}
 use Rattle.spec_forest.specs.Changes.{put_last}
-use Rattle.spec_document.specs.Document.{Nodes, Layer, Group}
 use Rattle.xl_tree.specs.Places.{alone}
 use Rattle.xl_doc.specs.declared.node.Node.{Node}
 use Rattle.xl_doc.specs.declared.node.Body.{Body}
 use Rattle.xl_doc.specs.Nodes.{nodes_of, is_group_body, IsLeaf, IsGroup, MarksAgree}
 use Rattle.xl_doc.specs.declared.node.Body.TheVariants as body
-use Rattle.xl_read.proofs.Placed.{nodes_of-put_last, marks-put_last, size-nodes_of}
+use Rattle.xl_read.proofs.Placed.{nodes_of-put_last}
 
 is_some-map : {A B : Type 0} (f : A → B) (o : Option A) → is_some (option_map f o) ≡ is_some o
 is_some-map f None = refl

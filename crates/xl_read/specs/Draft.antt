@@ -1,5 +1,5 @@
 -- The document as far as it was read.
-use Rattle.std.specs.Prelude.{◌≡◌, ℕ, ◌+◌, ◌^◌, ◌≤◌, Option, Some, List}
+use Rattle.std.specs.Prelude.{◌≡◌, ℕ, ◌+◌, ◌^◌, ◌≤◌, Some, List}
 use Rattle.spec_document.specs.Document.{Document, Nodes, plane_area, mask_area, area, kept_bytes, channel_kept, all_kept}
 use Rattle.spec_document.specs.Limits.{IsSide}
 use Rattle.spec_forest.specs.Forest.{size}

@@ -1,5 +1,5 @@
 -- The limits that a layer keeps before it is put in.
-use Rattle.std.specs.Prelude.{◌≡◌, ℕ, ◌+◌, ◌*◌, ◌^◌, ◌<◌, ◌≤◌, List, length, Option, Some, None, IsSome}
+use Rattle.std.specs.Prelude.{◌≡◌, ℕ, ◌+◌, ◌*◌, ◌^◌, ◌<◌, ◌≤◌, length, Option, Some, None, IsSome}
 use Rattle.spec_forest.specs.Forest.{none, size}
 use Rattle.spec_forest.specs.Changes.{put_last}
 use Rattle.spec_document.specs.Document.{Document, Channel, mask_area, channel_kept, area, all_kept}

@@ -1,4 +1,4 @@
-use Rattle.std.proofs.Common.{◌≡◌, ◌∙◌, ap, arith, sym, length}
+use Rattle.std.proofs.Common.{◌∙◌, ap, arith, length}
 use Rattle.xl_read.proofs.Payloads.{passed_next}
 use Rattle.xl_read.proofs.kept.within.Goals as goal
 

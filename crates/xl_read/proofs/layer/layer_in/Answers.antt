@@ -1,4 +1,4 @@
-use Rattle.std.proofs.Common.{rules, ◌∙◌, ap, arith}
+use Rattle.std.proofs.Common.{rules, ◌∙◌, ap}
 use Rattle.xl_doc.specs.declared.node.Body.TheVariants as body
 use Rattle.xl_read.specs.Head.{node_of}
 use Rattle.xl_read.proofs.Branches.{layer_placed}

@@ -1,4 +1,4 @@
-use Rattle.std.proofs.Common.{◌≡◌, ◌+◌, arith}
+use Rattle.std.proofs.Common.{◌+◌, arith}
 use Rattle.spec_forest.specs.Forest.{size}
 use Rattle.xl_doc.specs.Nodes.{nodes_of, is_group_body}
 use Rattle.xl_tree.specs.Places.{alone}
