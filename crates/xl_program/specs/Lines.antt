@@ -8,6 +8,13 @@ use Rattle.xl_ports.specs.Sink.{WritesAll, WritesPart}
 abbrev pub usage_line : List ℕ
 usage_line = line (codes "usage")
 
+abbrev pub source_fault_line : List ℕ
+source_fault_line = line (codes "source fault")
+
+-- the number of the line, counted from 1
+abbrev pub bad_line : (number : ℕ) → List ℕ
+bad_line number = line (codes "bad line " ++ decimal number)
+
 abbrev pub shelf_fault_line : List ℕ
 shelf_fault_line = line (codes "shelf fault")
 

@@ -5,10 +5,14 @@
 #![tactic(auto)]
 
 mod command;
+mod editing;
 mod line;
+mod loading;
+mod obeying;
 mod playing;
 mod rendering;
 mod running;
 mod stopped;
+mod telling;
 
 pub use running::{Ended, run};

@@ -1,5 +1,5 @@
 ghost use Rattle.std.specs.Prelude.{◌≡◌, string_bytes, IfOk, MatchResult};
-ghost use Rattle.xl_program.specs.Lines.{refused_line, Tells};
+ghost use Rattle.xl_program.specs.Lines.{bad_line, refused_line, Tells};
 
 use spec_fields::ReadRefused;
 use std::alloc::{AllocError, Global};
@@ -11,6 +11,13 @@ pub fn tell<K: Sink>(sink: &mut K, text: &[u8])
     ensures { Tells K.held K.faults sink.old sink.new text.now }
 {
     let _ = write_all(sink, text);
+}
+
+/// The line of a refused script.
+pub fn bad_line_text(alloc: Global, number: u32) -> Result<String, AllocError>
+    ensures { IfOk result (λ text. string_bytes text ≡ bad_line number) }
+{
+    format!(in alloc; "bad line {number}\n")
 }
 
 /// The line of a refused file.

@@ -1,29 +1,22 @@
-ghost use Rattle.std.specs.Prelude.{◌≡◌, ◌≢◌, ◌⊎◌, ◌↔◌, None, IfSome};
+ghost use Rattle.std.specs.Prelude.{◌≡◌, ◌≢◌, ◌⊎◌, ◌↔◌, ℕ, List, None, option_map, IfSome};
 ghost use Rattle.spec_fields.specs.declared.ReadRefused.{ReadRefused};
 ghost use Rattle.xl_ports.specs.Faults.{Rose};
 ghost use Rattle.xl_ports.specs.Shelf.{selected_content};
-ghost use Rattle.xl_program.specs.Command.{words_of, render_file};
-ghost use Rattle.xl_program.specs.Lines.{usage_line, shelf_fault_line, refused_line, Tells};
-ghost use Rattle.xl_program.specs.Outcome.{WritesPicture, WritesPictureInPart, HasFault, Keeps, IsStatus, TellsStop};
+ghost use Rattle.xl_ports.specs.Sink.{WritesAll, WritesPart};
+ghost use Rattle.xl_program.specs.Command.{words_of, asked, name_of, IsEdit};
+ghost use Rattle.xl_program.specs.Lines.{usage_line, source_fault_line, bad_line, shelf_fault_line, refused_line, Tells};
+ghost use Rattle.xl_program.specs.Outcome.{IsOutput, IsBadLine, InGrammar, HasFault, Keeps, Takes, IsStatus};
 
-use crate::command::file_to_render;
-use crate::line::{refusal_text, tell};
-use crate::rendering::render;
-use crate::stopped::Stopped;
+use crate::command::command_of;
+use crate::line::tell;
+use crate::obeying::obey;
+use crate::telling::tell_stop;
 use std::alloc::Global;
 use xl_ports::{Shelf, Sink, Source};
 
 const DONE: u8 = 0;
 
 const USAGE: u8 = 2;
-
-const REFUSED: u8 = 4;
-
-const SHELF_FAULT: u8 = 6;
-
-const SINK_FAULT: u8 = 7;
-
-const MEMORY: u8 = 8;
 
 /// The status that a command came to, and the shelf that was handed in.
 #[derive(Drop)]
@@ -34,8 +27,8 @@ pub struct Ended<D> {
 
 /// Does what the words ask for.
 ///
-/// The statuses: 0 done, 2 the words are no command, 4 the file holds no document, 6 the shelf failed, 7 the sink
-/// failed while the picture was written, 8 memory ran out.
+/// The statuses: 0 done, 2 the words are no command, 3 a line of the script is refused, 4 the file holds no document,
+/// 5 the source failed, 6 the shelf failed, 7 the sink failed while the output was written, 8 memory ran out.
 pub fn run<S: Source, K: Sink, D: Shelf>(
     alloc: Global,
     words: &[&str],
@@ -44,55 +37,45 @@ pub fn run<S: Source, K: Sink, D: Shelf>(
     mut shelf: D,
 ) -> Ended<D>
     ensures statuses { IsStatus result.status }
-    ensures usage { (result.status ≡ 2) ↔ (render_file (words_of words.now) ≡ None) }
+    ensures usage { (result.status ≡ 2) ↔ (asked (words_of words.now) ≡ None) }
     ensures usage_told { result.status ≡ 2 → Tells K.held K.faults sink.old sink.new usage_line }
-    ensures done { result.status ≡ 0 → WritesPicture K.held K.faults sink.old sink.new
-        (selected_content (render_file (words_of words.now)) (D.content shelf)) }
+    ensures done { result.status ≡ 0 → (out : List ℕ)
+        × IsOutput (S.left source.old) (D.content shelf) (asked (words_of words.now)) out
+        × WritesAll K.held K.faults sink.old sink.new out }
+    ensures bad_line { result.status ≡ 3 → (number : ℕ)
+        × IsEdit (asked (words_of words.now))
+        × IsBadLine (S.left source.old) number
+        × Tells K.held K.faults sink.old sink.new (bad_line number) }
     ensures refused { result.status ≡ 4 → (refused : ReadRefused)
-        × IfSome (selected_content (render_file (words_of words.now)) (D.content shelf)) (λ c. HasFault c refused)
+        × IfSome (selected_content (option_map name_of (asked (words_of words.now))) (D.content shelf)) (λ c. HasFault c refused)
         × Tells K.held K.faults sink.old sink.new (refused_line refused) }
+    ensures script_first { (result.status ≡ 4) ⊎ (result.status ≡ 6) → InGrammar (S.left source.old) (asked (words_of words.now)) }
+    ensures source_fault { result.status ≡ 5 → Rose (S.faults source.old) (S.faults source.new) }
+    ensures no_source_fault { result.status ≢ 5 → S.faults source.new ≡ S.faults source.old }
+    ensures source_fault_told { result.status ≡ 5 → IsEdit (asked (words_of words.now))
+        × Tells K.held K.faults sink.old sink.new source_fault_line }
     ensures shelf_fault { result.status ≡ 6 → Rose (D.reading_faults shelf) (D.reading_faults result.shelf) }
     ensures no_shelf_fault { result.status ≢ 6 → D.reading_faults result.shelf ≡ D.reading_faults shelf }
     ensures shelf_fault_told { result.status ≡ 6 → Tells K.held K.faults sink.old sink.new shelf_fault_line }
-    ensures sink_fault { result.status ≡ 7 → WritesPictureInPart K.held K.faults sink.old sink.new
-        (selected_content (render_file (words_of words.now)) (D.content shelf)) }
+    ensures sink_fault { result.status ≡ 7 → (out : List ℕ)
+        × IsOutput (S.left source.old) (D.content shelf) (asked (words_of words.now)) out
+        × WritesPart K.held K.faults sink.old sink.new out }
     ensures memory { result.status ≡ 8 → Keeps K.held K.faults sink.old sink.new }
-    ensures source_unread { (S.left source.new ≡ S.left source.old) × (S.faults source.new ≡ S.faults source.old) }
+    ensures source_taken { Takes S.left S.faults source.old source.new (asked (words_of words.now)) }
     ensures contents { D.content result.shelf ≡ D.content shelf }
     ensures selected { (D.selected result.shelf ≡ D.selected shelf)
-        ⊎ (D.selected result.shelf ≡ render_file (words_of words.now)) }
+        ⊎ (D.selected result.shelf ≡ option_map name_of (asked (words_of words.now))) }
 {
-    let Some(name) = file_to_render(words) else {
+    let Some(command) = command_of(words) else {
         tell(sink, b"usage\n");
         return Ended {
             status: USAGE,
             shelf,
         };
     };
-    let status = match render(alloc, name, sink, &mut shelf) {
+    let status = match obey(alloc, command, source, sink, &mut shelf) {
         Ok(()) => DONE,
         Err(stopped) => tell_stop(alloc, sink, stopped),
     };
     Ended { status, shelf }
-}
-
-// Tells why a rendering stopped, and answers the status.
-fn tell_stop<K: Sink>(alloc: Global, sink: &mut K, stopped: Stopped) -> u8
-    ensures { TellsStop K.held K.faults sink.old sink.new stopped result }
-{
-    match stopped {
-        Stopped::ShelfFault => {
-            tell(sink, b"shelf fault\n");
-            SHELF_FAULT
-        }
-        Stopped::Refused(refused) => match refusal_text(alloc, refused) {
-            Ok(text) => {
-                tell(sink, text.as_bytes());
-                REFUSED
-            }
-            Err(_) => MEMORY,
-        },
-        Stopped::SinkFault => SINK_FAULT,
-        Stopped::Memory => MEMORY,
-    }
 }

@@ -1,9 +1,13 @@
 use spec_fields::ReadRefused;
 
-/// Why a rendering did not end well.
+/// Why a command did not end well.
 #[derive(Drop)]
 pub enum Stopped {
+    SourceFault,
+    /// The script is refused at a line, counted from 1.
+    BadLine(u32),
     ShelfFault,
+    /// The file holds no document.
     Refused(ReadRefused),
     SinkFault,
     Memory,

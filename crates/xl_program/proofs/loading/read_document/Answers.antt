@@ -5,25 +5,25 @@ use Rattle.spec_file.specs.Reading.{reading}
 use Rattle.xl_ports.specs.Shelf.{Content, selected_content, GivesFront}
 use Rattle.xl_ports.proofs.Fronts.{same_content}
 use Rattle.xl_program.proofs.Limits.{front_holds, front_faults}
-use Rattle.xl_program.proofs.rendering.read_document.Goals as goal
+use Rattle.xl_program.proofs.loading.read_document.Goals as goal
 
 -- what was loaded is the front of the named file
 of_name : (s : Option (List ℕ)) (name : List ℕ) (c d : List ℕ → Option Content) (bytes : List ℕ) → s ≡ Some name → c ≡ d → IfSome (selected_content s c) (λ x. GivesFront x (2 ^ 31) bytes) → IfSome (d name) (λ x. GivesFront x (2 ^ 31) bytes)
 of_name s name c d bytes e f front = subst (λ (o : Option Content). IfSome o (λ x. GivesFront x (2 ^ 31) bytes)) (same_content s (Some name) c d e f) front
 
-pub returns-in-Ok-decode-clause-ends : goal.returns-in-Ok-decode-clause-ends
-returns-in-Ok-decode-clause-ends g c =
+pub returns-in-Ok-decode-clause-loads : goal.returns-in-Ok-decode-clause-loads
+returns-in-Ok-decode-clause-loads g c =
     let selected = c.in-Ok.ensures in
     let loaded = c.in-Ok-load_all.ensures in
     let bytes : List ℕ = c.in-Ok-load_all.bytes.items in
     let front = of_name _ _ _ _ bytes selected.selected selected.contents loaded.front in
-    (front_holds _ bytes c.in-Ok-decode.document front (subst (λ (l : List ℕ). Holds l c.in-Ok-decode.document) c.deref.ensures.value c.in-Ok-decode.ensures.held), loaded.cause ∙ selected.cause)
+    front_holds _ bytes c.in-Ok-decode.document front (subst (λ (l : List ℕ). Holds l c.in-Ok-decode.document) c.deref.ensures.value c.in-Ok-decode.ensures.held)
 
-pub returns-in-Err-Refused-clause-ends : goal.returns-in-Err-Refused-clause-ends
-returns-in-Err-Refused-clause-ends g c =
+pub returns-in-Err-Refused-clause-loads : goal.returns-in-Err-Refused-clause-loads
+returns-in-Err-Refused-clause-loads g c =
     let selected = c.in-Ok.ensures in
     let loaded = c.in-Ok-load_all.ensures in
     let bytes : List ℕ = c.in-Ok-load_all.bytes.items in
     let front = of_name _ _ _ _ bytes selected.selected selected.contents loaded.front in
     let fails = rw c.in-Err-Refused.field-0-is at c.in-Err-Refused.ensures.exact in
-    (front_faults _ bytes c.in-Err-Refused.refused front (ap reading (sym c.deref.ensures.value) ∙ fails), loaded.cause ∙ selected.cause)
+    front_faults _ bytes c.in-Err-Refused.refused front (ap reading (sym c.deref.ensures.value) ∙ fails)

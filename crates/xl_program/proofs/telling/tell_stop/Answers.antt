@@ -1,6 +1,8 @@
-use Rattle.std.proofs.Common.{◌∙◌, refl, subst, inl}
-use Rattle.xl_program.specs.Lines.{Tells}
-use Rattle.xl_program.proofs.running.tell_stop.Goals as goal
+use Rattle.xl_program.proofs.Told.{text_told}
+use Rattle.xl_program.proofs.telling.tell_stop.Goals as goal
 
-pub returns-in-Ok : goal.returns-in-Ok
-returns-in-Ok g c = rw c.in-Refused.is (inl (refl, subst (Tells g.K.Sink.held g.K.Sink.faults c.args.sink.now c.tell-in-Ok.new.sink) (c.as_bytes.ensures.value ∙ c.in-Ok.ensures) c.tell-in-Ok.ensures))
+pub returns-in-BadLine : goal.returns-in-BadLine
+returns-in-BadLine g c = rw c.in-BadLine.is (text_told g.K.Sink.held g.K.Sink.faults c.bad_line_text.result _ _ _ _ _ c.bad_line_text.ensures c.tell_text.ensures)
+
+pub returns-in-Refused : goal.returns-in-Refused
+returns-in-Refused g c = rw c.in-Refused.is (text_told g.K.Sink.held g.K.Sink.faults c.refusal_text.result _ _ _ _ _ c.refusal_text.ensures c.tell_text-in-Refused.ensures)

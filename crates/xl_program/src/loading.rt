@@ -1,0 +1,42 @@
+ghost use Rattle.std.specs.Prelude.{◌≡◌, ◌⊎◌, Some, IfOk};
+ghost use Rattle.xl_doc.specs.Numbered.{AreNumbered};
+ghost use Rattle.xl_program.specs.Outcome.{ShelfCause};
+ghost use Rattle.xl_program.specs.Parts.{Loads};
+
+use crate::stopped::Stopped;
+use std::alloc::Global;
+use xl_doc::Document;
+use xl_fields::ReadRefusedOrMemory;
+use xl_ports::{Failed, FailedOrMemory, Shelf, load_all};
+use xl_read::decode;
+
+/// How much of a file is read. One of so many bytes or more is refused.
+const MOST_BYTES: usize = 1 << 31;
+
+/// The document of a file.
+pub fn read_document<D: Shelf>(
+    alloc: Global,
+    name: &str,
+    shelf: &mut D,
+) -> Result<Document, Stopped>
+    ensures loads { Loads (D.content shelf.old name.now) result }
+    ensures numbered { IfOk result (λ document. AreNumbered document.nodes) }
+    ensures cause { ShelfCause (D.reading_faults shelf.old) (D.reading_faults shelf.new) result }
+    ensures contents { D.content shelf.new ≡ D.content shelf.old }
+    ensures selected { (D.selected shelf.new ≡ D.selected shelf.old) ⊎ (D.selected shelf.new ≡ Some name.now) }
+{
+    match shelf.select(name) {
+        Ok(()) => {}
+        Err(Failed) => return Err(Stopped::ShelfFault),
+    }
+    let bytes = match load_all(alloc, shelf, MOST_BYTES) {
+        Ok(bytes) => bytes,
+        Err(FailedOrMemory::Failed) => return Err(Stopped::ShelfFault),
+        Err(FailedOrMemory::Memory) => return Err(Stopped::Memory),
+    };
+    match decode(alloc, &bytes) {
+        Ok(document) => Ok(document),
+        Err(ReadRefusedOrMemory::Refused(refused)) => Err(Stopped::Refused(refused)),
+        Err(ReadRefusedOrMemory::Memory) => Err(Stopped::Memory),
+    }
+}
