@@ -1,1 +1,2 @@
 pub mod NodesOf
+pub mod SelectedRows

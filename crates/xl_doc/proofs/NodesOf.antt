@@ -1,5 +1,5 @@
 -- The layers and groups of a tree, found by their ids.
-use Rattle.std.proofs.Common.{◌≡◌, ℕ, Bool, true, false, cond, nat_eq, refl, sym, ◌∙◌, ap, subst}
+use Rattle.std.proofs.Common.{◌≡◌, ℕ, Bool, true, false, cond, refl, ◌∙◌, ap, subst}
 use Rattle.std.specs.Prelude.{Option, Some, None, option_map, ◌==◌}
 use Rattle.spec_forest.specs.Forest.{Forest, none, leaf, group, Found, nothing, a_leaf, a_group, or_else, find, children_of, stack_at}
 use Rattle.spec_document.specs.Document as doc

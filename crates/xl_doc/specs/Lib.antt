@@ -2,3 +2,4 @@ pub mod Sheet
 pub mod Nodes
 pub mod Canvas
 pub mod Numbered
+pub mod Selecting

@@ -1,6 +1,5 @@
 -- The layers and groups that a tree of nodes stands for.
-use Rattle.std.specs.Prelude.{ℕ, Bool, true, false, pos, [], None}
-use Rattle.spec_blend.specs.declared.Mode.TheVariants.{Normal}
+use Rattle.std.specs.Prelude.{Bool, true, false, pos, [], None}
 use Rattle.spec_forest.specs.Forest.{Forest, none, leaf, group}
 use Rattle.spec_document.specs.Document as doc
 use Rattle.xl_doc.specs.Sheet.{Sheet}

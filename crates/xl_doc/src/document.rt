@@ -35,6 +35,7 @@ impl Model for Document {
     ghost coded = { coded_document };
 
     ghost use Rattle.xl_doc.specs.Nodes.{nodes_of, MarksAgree};
+    ghost use Rattle.xl_doc.specs.Selecting.{FitsCanvas};
     ghost use Rattle.spec_document.specs.Limits.{IsSide};
 
     ghost view = { λ d. record {
@@ -49,7 +50,7 @@ impl Model for Document {
       selection = d.selection;
     } };
 
-    ghost invariant = { λ d. IsSide d.width × IsSide d.height × MarksAgree d.tree };
+    ghost invariant = { λ d. IsSide d.width × IsSide d.height × MarksAgree d.tree × FitsCanvas d.width d.height d.selection };
 }
 
 impl Document {

@@ -8,6 +8,7 @@ mod document;
 mod layer;
 mod node;
 mod pictures;
+mod selecting;
 mod sums;
 mod versions;
 

@@ -4,3 +4,6 @@ pub mod NodesWritten
 pub mod Lent
 pub mod LayerFound
 pub mod Made
+mod Weights
+mod FilledRows
+mod FilledPlanes

@@ -6,3 +6,4 @@ pub mod Built
 pub mod Found
 pub mod Paint
 pub mod Opacity
+pub mod Filling

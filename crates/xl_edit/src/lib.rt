@@ -9,6 +9,7 @@ mod checks;
 mod edit;
 mod edit_list;
 mod filling;
+mod mixing;
 mod opacity;
 mod painting;
 mod refused;

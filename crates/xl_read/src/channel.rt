@@ -1,6 +1,7 @@
 ghost use Rattle.std.specs.Prelude.{◌≡◌, ◌+◌, ◌*◌, ◌≤◌, ◌<◌, ◌^◌, ◌||◌, not, is_none, nat_lt, length, IsTrue};
 ghost use Rattle.spec_document.specs.Document.{area, all_kept, kept_bytes};
 ghost use Rattle.spec_file.specs.Channels.{with_channel, channel_at};
+ghost use Rattle.xl_doc.specs.Selecting.{IsOver};
 ghost use Rattle.xl_read.specs.Yields.{Yields};
 
 use crate::draft::{Draft, MAX_AREA};
@@ -29,6 +30,7 @@ fn has_place(draft: &Draft, selection: bool) -> bool
 fn put(draft: &mut Draft, selection: bool, channel: Channel)
     requires first { IsTrue (not selection || is_none draft.old.selection) }
     requires few { IsTrue (selection || nat_lt (length draft.old.channels) 64) }
+    requires over { IsOver draft.old.width draft.old.height channel.plane }
     requires area { area draft.old + draft.old.width * draft.old.height ≤ 2 ^ 28 }
     requires kept { all_kept draft.old + kept_bytes channel.kept ≤ 2 ^ 28 }
     ensures { draft.new ≡ with_channel draft.old selection channel }

@@ -3,6 +3,7 @@ ghost use Rattle.spec_document.specs.Document.{area, all_kept, kept_bytes};
 ghost use Rattle.spec_document.specs.Limits.{IsSide};
 ghost use Rattle.spec_forest.specs.Forest.{none, size};
 ghost use Rattle.spec_forest.specs.Changes.{put_last};
+ghost use Rattle.xl_doc.specs.Selecting.{IsOver};
 ghost use Rattle.xl_read.specs.Draft.{body_area, node_kept, Places};
 
 use crate::header::Header;
@@ -189,6 +190,7 @@ impl Draft {
     /// Makes a channel the selection.
     pub fn set_selection(&mut self, channel: Channel)
         requires first { self.old.selection ≡ None }
+        requires over { IsOver self.old.width self.old.height channel.plane }
         requires area { area self.old + self.old.width * self.old.height ≤ 2 ^ 28 }
         requires kept { all_kept self.old + kept_bytes channel.kept ≤ 2 ^ 28 }
         ensures { self.new ≡ record self.old { selection = Some channel } }
