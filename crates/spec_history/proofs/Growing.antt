@@ -112,12 +112,12 @@ out-answer base s top tables = refl
 pub Grows : (old new : List Document) → Type 0
 Grows old new = (more : List Document) × (new ≡ old ++ more)
 
-unfold_grows : (old new : List Document) → (more : List Document) → new ≡ old ++ more → Grows old new
+pub grows_by : (old new : List Document) → (more : List Document) → new ≡ old ++ more → Grows old new
 unfolding Grows
-unfold_grows old new more e = (more, e)
+grows_by old new more e = (more, e)
 
 grows-same : (old : List Document) → Grows old old
-grows-same old = unfold_grows old old [] (sym (append-nil old))
+grows-same old = grows_by old old [] (sym (append-nil old))
 
 grows-then : (a b c : List Document) → Grows a b → Grows b c → Grows a c
 unfolding Grows
@@ -125,11 +125,11 @@ grows-then a b c (m, p) (n, q) = (m ++ n, q ∙ (ap (λ x. x ++ n) p ∙ append_
 
 grows-made : (s : State) (old : At) (edits : List Edit) (tables : List (List ℕ)) (r : Result At Refused)
     → Grows s.documents (made s old edits tables r).state.documents
-grows-made s old edits tables (Ok new) = unfold_grows s.documents (s.documents ++ new.document ∷ []) (new.document ∷ []) refl
+grows-made s old edits tables (Ok new) = grows_by s.documents (s.documents ++ new.document ∷ []) (new.document ∷ []) refl
 grows-made s old edits tables (Err r) = grows-same s.documents
 
 grows-again : (s : State) (version cause : ℕ) → Grows s.documents (again s version cause).documents
-grows-again s version cause = unfold_grows s.documents (again s version cause).documents (option_to_list (slice_get s.documents version)) refl
+grows-again s version cause = grows_by s.documents (again s version cause).documents (option_to_list (slice_get s.documents version)) refl
 
 grows-undo : (s : State) (named : Option ℕ) (ds : List Done) → Grows s.documents (undo_answer s named ds).state.documents
 grows-undo s named [] = grows-same s.documents

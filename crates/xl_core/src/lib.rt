@@ -6,6 +6,7 @@
 
 mod desk;
 mod entry;
+mod standing;
 mod state;
 
 pub use desk::Desk;

@@ -1,0 +1,174 @@
+-- A history goes on by a call that is built.
+use Rattle.std.proofs.Common.{◌≡◌, ℕ, ◌+◌, ◌<◌, ◌≤◌, Bool, true, false, cond, List, [], ◌∷◌, ◌++◌, length, refl, sym, ◌∙◌, ap, subst, arith, length-append, add-zero, inl, inr}
+use Rattle.std.specs.Prelude.{◌^◌, ◌==◌, ◌&&◌, not, Result, Ok, Err, slice_index, slice_set, MatchBool}
+use Rattle.std.proofs.lemmas.Bool.{lt-leb}
+use Rattle.std.proofs.lemmas.Bool.Decides.{eqb_tells}
+use Rattle.std.proofs.lemmas.List.{get_or-set_same, get_or-set_other}
+use Rattle.std.proofs.lemmas.List.Sums.{count_by-le-length}
+use Rattle.spec_grid.specs.declared.TileAt.{TileAt}
+use Rattle.spec_grid.specs.Grid.{is_on_grid}
+use Rattle.spec_picture.specs.Picture.{project}
+use Rattle.spec_document.specs.Document.{Document}
+use Rattle.spec_edit.specs.declared.EditRefused.{EditRefused}
+use Rattle.spec_edit.specs.Apply.{At, apply}
+use Rattle.spec_history.specs.Machine as machine
+use Rattle.spec_history.specs.Machine.{Call, Reply, State, latest, document_at, answer, has_stack}
+use Rattle.spec_history.specs.History as history
+use Rattle.spec_history.specs.History.{Entry, asked, replay, next_index, latest_of, document_of}
+use Rattle.spec_history.specs.Kept.{PeekMeetsKept}
+use Rattle.spec_history.proofs.Growing.{replay-snoc, next_index-snoc, IsLegal-snoc}
+use Rattle.spec_history.proofs.Versions.{sound-legal, latest_of-legal}
+use Rattle.xl_edit.specs.Built.{IsBuilt}
+use Rattle.xl_core.specs.declared.standing.Undo.{Undo}
+use Rattle.xl_core.specs.History.{History, most_entries, reply_to, with_call, Answers, Shows}
+use Rattle.xl_core.specs.Now.{Now, Tells, told, made_now, undone_of, now_of, shown, ShowsTile, ShowsNow, Stands}
+use Rattle.xl_core.proofs.Simulates.{follows}
+
+-- a call that is built is no peek, so its answer is the machine's
+may_answer : (base : Document) (s : State) (call : Call) (reply : Reply) → IsBuilt call → reply ≡ (answer base s call []).reply → history.Answers base s call [] reply
+may_answer base s (machine.edit guard edits) reply built e = e
+may_answer base s (machine.undo named) reply built e = e
+may_answer base s machine.redo reply built e = e
+may_answer base s (machine.tile stack at) reply built e = e
+may_answer base s (machine.peek stack at) reply built e = absurd built
+may_answer base s machine.top reply built e = e
+
+no_peek : (base : Document) (earlier : List Entry) (call : Call) (reply : Reply) → IsBuilt call → PeekMeetsKept base earlier (asked call []) reply
+no_peek base earlier (machine.edit guard edits) reply built = tt
+no_peek base earlier (machine.undo named) reply built = tt
+no_peek base earlier machine.redo reply built = tt
+no_peek base earlier (machine.tile stack at) reply built = tt
+no_peek base earlier (machine.peek stack at) reply built = absurd built
+no_peek base earlier machine.top reply built = tt
+
+-- a call takes one number of a group at most
+groups-made : (old : Now) (r : Result At EditRefused) → (made_now old r).now.next_group ≤ old.next_group + 1
+groups-made old (Ok at) = omega arith
+groups-made old (Err cause) = omega arith
+
+groups-undone : (old : Now) (us : List Undo) → (undone_of old us).now.next_group ≤ old.next_group + 1
+groups-undone old [] = omega arith
+groups-undone old (u ∷ us) = omega arith
+
+groups-told : (old : Now) (call : Call) → (told old call).now.next_group ≤ old.next_group + 1
+groups-told old (machine.edit guard []) = groups-undone old old.undo
+groups-told old (machine.edit guard (edit ∷ edits)) = groups-made old (apply (record { document = old.document; next = old.next_id }) edit [])
+groups-told old (machine.tile stack at) = omega arith
+groups-told old (machine.undo named) = groups-undone old old.undo
+groups-told old machine.redo = groups-undone old old.undo
+groups-told old (machine.peek stack at) = groups-undone old old.undo
+groups-told old machine.top = groups-undone old old.undo
+
+-- one call more of a session, and none of the others
+counted : (made : List ℕ) (entries : List Entry) (e : Entry) (call : Call)
+    → length made ≡ 8 → e.session < 8 → e.kind ≡ asked call []
+    → ((s : ℕ) → s < 8 → slice_index made s ≡ next_index entries s)
+    → (s : ℕ) → s < 8 → slice_index (slice_set made e.session (slice_index made e.session + 1)) s ≡ next_index (entries ++ e ∷ []) s
+counted made entries e call eight within kind before s here =
+    let inside : e.session < length made = omega (arith, within, eight) in
+    let n = next_index-snoc entries e s in
+    let test : cond (e.session == s && not (history.is_end_kind e.kind)) 1 0 ≡ cond (e.session == s && true) 1 0 =
+    ap (λ k. cond (e.session == s && not (history.is_end_kind k)) 1 0) kind in
+    elim (eqb_tells e.session s) [
+      | inl same ↦
+          let one : cond (e.session == s && true) 1 0 ≡ 1 = ap (λ b. cond (b && true) 1 0) same.0 in
+          let at : slice_index (slice_set made e.session (slice_index made e.session + 1)) e.session ≡ slice_index made e.session + 1 =
+          get_or-set_same made e.session (slice_index made e.session + 1) 0 inside in
+          ap (λ i. slice_index (slice_set made e.session (slice_index made e.session + 1)) i) (sym same.1)
+          ∙ (at ∙ (ap (λ i. slice_index made i + 1) same.1 ∙ (ap (λ i. i + 1) (before s here) ∙ sym (n ∙ ap (λ i. next_index entries s + i) (test ∙ one)))))
+      | inr other ↦
+          let none : cond (e.session == s && true) 1 0 ≡ 0 = ap (λ b. cond (b && true) 1 0) other.0 in
+          let at : slice_index (slice_set made e.session (slice_index made e.session + 1)) s ≡ slice_index made s =
+          get_or-set_other made e.session s (slice_index made e.session + 1) 0 (λ p. other.1 (sym p)) in
+          at ∙ (before s here ∙ sym (n ∙ (ap (λ i. next_index entries s + i) (test ∙ none) ∙ add-zero (next_index entries s))))
+    ]
+
+-- what a call leaves
+pub record GoesOn (base : Document) (entries : List Entry) (made : List ℕ) (session : ℕ) (call : Call) (reply : Reply) (new : Now) : Type 0 where
+  pub stands : Stands base (entries ++ record { session = session; index = slice_index made session; kind = asked call []; reply = reply } ∷ []) new
+      (slice_set made session (slice_index made session + 1))
+  pub answers : reply ≡ reply_to (record { base = base; entries = entries }) call
+  pub index : slice_index made session ≡ next_index entries session
+
+pub goes_on : (base : Document) (entries : List Entry) (now new : Now) (made : List ℕ) (session : ℕ) (call : Call) (reply : Reply)
+    → Stands base entries now made → length made ≡ 8 → session < 8 → length entries < most_entries → IsBuilt call → Tells (told now call) reply new
+    → GoesOn base entries made session call reply new
+goes_on base entries now new made session call reply stands eight within few built tells =
+    let s = replay base entries in
+    let e : Entry = record { session = session; index = slice_index made session; kind = asked call []; reply = reply } in
+    let sound = sound-legal base entries stands.legal in
+    let goes = follows base s call sound built in
+    let same : told now call ≡ told (now_of base s) call = ap (λ n. told n call) stands.is_now in
+    let answers : reply ≡ (answer base s call []).reply = tells.0 ∙ (ap (λ t. t.reply) same ∙ goes.reply) in
+    let after : new ≡ now_of base (answer base s call []).state = tells.1 ∙ (ap (λ t. t.now) same ∙ goes.now) in
+    let index : slice_index made session ≡ next_index entries session = stands.indices session within in
+    let more : length (entries ++ e ∷ []) ≡ length entries + 1 = length-append entries (e ∷ []) in
+    let groups = groups-told now call in
+    let old_groups = stands.groups in
+    let taken : new.next_group ≡ (told now call).now.next_group = ap (λ n. n.next_group) tells.1 in
+    record {
+      stands = record {
+        legal = IsLegal-snoc base entries e stands.legal (index, may_answer base s call reply built answers) (no_peek base entries call reply built);
+        few = omega (arith, more, few);
+        is_now = after ∙ ap (now_of base) (sym (replay-snoc base entries e));
+        groups = omega arith;
+        indices = counted made entries e call eight within refl stands.indices;
+      };
+      answers = answers;
+      index = index;
+    }
+
+-- where there was room, the answer is the machine's and the call is the last entry
+pub answered : (h new : History) (session : ℕ) (call : Call) (reply : Reply)
+    → length h.entries < most_entries → reply ≡ reply_to h call → new ≡ with_call h session call reply → Answers h session call reply new
+answered h new session call reply few answers last =
+    let P : Bool → Type 0 = λ full.
+    MatchBool full ((reply ≡ machine.history_full) × (new ≡ h)) ((reply ≡ reply_to h call) × (new ≡ with_call h session call reply)) in
+    subst P (sym (lt-leb most_entries (length h.entries) few)) (answers, last)
+
+-- a history stands with few versions and groups
+pub few-versions : (base : Document) (entries : List Entry) (now : Now) (made : List ℕ) → Stands base entries now made → now.version ≤ 2 ^ 20
+few-versions base entries now made stands =
+    let v : now.version ≡ latest (replay base entries) = ap (λ n. n.version) stands.is_now in
+    let l = latest_of-legal base entries stands.legal in
+    let few = stands.few in
+    omega (arith, v, l, few, count_by-le-length (λ e. history.is_changed e.reply) entries)
+
+-- ---- the tile that is shown
+
+is_version : (here there : Bool) (stack version v : ℕ)
+    → machine.tile_of v ≡ cond here (machine.no_stack stack) (cond there machine.outside_tile (machine.tile_of version)) → v ≡ version
+is_version true there stack version v e = cc
+is_version false true stack version v e = cc
+is_version false false stack version v e = cc
+
+shows-tile : (base : Document) (entries : List Entry) (now new : Now) (stack : ℕ) (at : TileAt) (reply : Reply) (bytes : List ℕ)
+    → Tells (shown now stack at) reply new → new ≡ now_of base (replay base entries)
+    → ShowsTile new.document stack at reply bytes → Shows (record { base = base; entries = entries }) (machine.tile stack at) reply bytes
+shows-tile base entries now new stack at (machine.tile_of v) bytes tells is shows =
+    let s = replay base entries in
+    let d = now.document in
+    let version : v ≡ now.version = is_version (not (has_stack d stack)) (not (is_on_grid d.width d.height at)) stack now.version v tells.0 in
+    let last : v ≡ latest s = version ∙ (ap (λ n. n.version) (sym tells.1) ∙ ap (λ n. n.version) is) in
+    let document : new.document ≡ document_of base entries v = ap (λ n. n.document) is ∙ ap (λ n. document_at base s n) (sym last) in
+    shows ∙ ap (λ x. project x stack at) document
+shows-tile base entries now new stack at reply bytes tells is shows = tt
+
+pub shows : (base : Document) (entries : List Entry) (now new : Now) (made : List ℕ) (call : Call) (reply : Reply) (bytes : List ℕ)
+    → Tells (told now call) reply new → Stands base entries new made
+    → ShowsNow new.document call reply bytes → Shows (record { base = base; entries = entries }) call reply bytes
+shows base entries now new made (machine.tile stack at) reply bytes tells stands here = shows-tile base entries now new stack at reply bytes tells stands.is_now here
+shows base entries now new made (machine.edit guard edits) reply bytes tells stands here = tt
+shows base entries now new made (machine.undo named) reply bytes tells stands here = tt
+shows base entries now new made machine.redo reply bytes tells stands here = tt
+shows base entries now new made (machine.peek stack at) reply bytes tells stands here = tt
+shows base entries now new made machine.top reply bytes tells stands here = tt
+
+-- a full history shows nothing
+pub shows-full : (h : History) (call : Call) (bytes : List ℕ) → Shows h call machine.history_full bytes
+shows-full h (machine.tile stack at) bytes = tt
+shows-full h (machine.edit guard edits) bytes = tt
+shows-full h (machine.undo named) bytes = tt
+shows-full h machine.redo bytes = tt
+shows-full h (machine.peek stack at) bytes = tt
+shows-full h machine.top bytes = tt

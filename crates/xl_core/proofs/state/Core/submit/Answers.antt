@@ -1,0 +1,73 @@
+-- The history goes on by the call, or it is full.
+use Rattle.std.proofs.Common.{◌≡◌, ◌+◌, ◌<◌, [], ◌∷◌, ◌++◌, length, slice_index, slice_set, arith, rules, ◌∙◌, ap, subst}
+use Rattle.spec_history.specs.History.{Entry, asked}
+use Rattle.xl_edit.specs.Calls.{call_of}
+use Rattle.xl_edit.specs.Replies.{reply_of}
+use Rattle.xl_core.specs.History.{History, most_entries, with_call, Answers}
+use Rattle.xl_core.specs.Now.{Stands}
+use Rattle.xl_core.proofs.GoesOn.{GoesOn, few-versions, goes_on, answered, shows}
+use Rattle.xl_core.proofs.state.Core.submit.Goals as goal
+use Rattle.xl_core.proofs.state.Core.submit.Given as given
+
+pub answer-requires-clause-versions : goal.answer-requires-clause-versions
+answer-requires-clause-versions g c =
+    omega (arith, few-versions c.self.inside.base c.self.inside.entries.items c.self.inside.standing c.self.inside.made c.self.invariant)
+
+-- the entry that the call becomes
+entry : (g : given.Over) → goal.After-push_reserved g → Entry
+entry g c = record {
+  session = c.args.session;
+  index = slice_index c.self.inside.made c.args.session;
+  kind = asked (call_of c.args.call) [];
+  reply = reply_of c.in_ok-reply.reply;
+}
+
+few : (g : given.Over) (c : goal.After-push_reserved g) → length c.self.inside.entries.items < most_entries
+few g c =
+    let len : length c.self.inside.entries.items ≡ c.len.result = search rules in
+    omega (arith, len, c.if-len-ge-MOST_ENTRIES.false)
+
+-- what stands when the call was answered
+went : (g : given.Over) (c : goal.After-push_reserved g)
+    → GoesOn c.self.inside.base c.self.inside.entries.items c.self.inside.made c.args.session (call_of c.args.call) (reply_of c.in_ok-reply.reply) c.answer.new.self
+went g c =
+    goes_on c.self.inside.base c.self.inside.entries.items c.self.inside.standing c.answer.new.self c.self.inside.made c.args.session
+    (call_of c.args.call) (reply_of c.in_ok-reply.reply) c.self.invariant c.self.told c.requires.session (few g c) c.requires.built c.in_ok-reply.ensures.told
+
+items : (g : given.Over) (c : goal.After-push_reserved g) → c.push_reserved.new.self.items ≡ c.self.inside.entries.items ++ entry g c ∷ []
+unfolding entry
+items g c = c.push_reserved.ensures.items ∙ ap (λ es. es ++ entry g c ∷ []) c.in_ok-reserve.ensures.items
+
+stands : (g : given.Over) (c : goal.After-push_reserved g)
+    → Stands c.self.inside.base c.push_reserved.new.self.items c.answer.new.self
+    (slice_set c.self.inside.made c.args.session (slice_index c.self.inside.made c.args.session + 1))
+unfolding entry
+stands g c = rw (items g c) (went g c).stands
+
+pub invariant_of-self-2 : goal.invariant_of-self-2
+invariant_of-self-2 g c = stands g c
+
+pub returns-clause-legal : goal.returns-clause-legal
+returns-clause-legal g c = (stands g c).legal
+
+pub returns-clause-answered : goal.returns-clause-answered
+unfolding entry
+returns-clause-answered g c =
+    let old : History = record { base = c.self.inside.base; entries = c.self.inside.entries.items } in
+    let new : History = record { base = c.self.inside.base; entries = c.push_reserved.new.self.items } in
+    let session = c.args.session in
+    let call = call_of c.args.call in
+    let reply = reply_of c.in_ok-reply.reply in
+    let P : History → Type 0 = λ h. Answers h session call reply new in
+    let last : new ≡ with_call old session call reply =
+    λ i. record {
+      base = c.self.inside.base;
+      entries = (items g c ∙ ap (λ n. c.self.inside.entries.items ++ record { session = session; index = n; kind = asked call []; reply = reply } ∷ []) (went g c).index) i;
+    } in
+    subst P c.self.view_is (answered old new session call reply (few g c) (went g c).answers last)
+
+pub returns-clause-shown : goal.returns-clause-shown
+returns-clause-shown g c =
+    shows c.self.inside.base c.push_reserved.new.self.items c.self.inside.standing c.answer.new.self
+    (slice_set c.self.inside.made c.args.session (slice_index c.self.inside.made c.args.session + 1))
+    (call_of c.args.call) (reply_of c.in_ok-reply.reply) c.answer.new.desk.out c.in_ok-reply.ensures.told (stands g c) c.in_ok-reply.ensures.shown
