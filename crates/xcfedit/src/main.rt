@@ -1,4 +1,5 @@
-//! Renders a file of GIMP's as a PAM on the standard output: `xcfedit render FILE`.
+//! `xcfedit render FILE` writes a file of GIMP's as a PAM to the standard output. `xcfedit edit FILE` makes the edits of
+//! a script from the standard input on such a file, in memory alone, and writes the replies.
 #![tactic(auto)]
 
 use std::alloc::AllocError;

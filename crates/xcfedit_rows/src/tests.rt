@@ -8,7 +8,7 @@ const EMPTY: [u8; 42] =
     *b"gimp xcf file\0\0\0\0\x01\0\0\0\x01\0\0\0\0\0\0\0\0\0\0\0\0\0\0\0\0\0\0\0\0";
 
 /// A file of one pixel with one layer, named A.
-const ONE: [u8; 193] = [
+pub const ONE: [u8; 193] = [
     103, 105, 109, 112, 32, 120, 99, 102, 32, 102, 105, 108, 101, 0, 0, 0, 0, 1, 0, 0, 0, 1, 0, 0,
     0, 0, 0, 0, 0, 17, 0, 0, 0, 1, 0, 0, 0, 0, 0, 0, 0, 0, 0, 0, 0, 0, 55, 0, 0, 0, 0, 0, 0, 0, 0,
     0, 0, 0, 1, 0, 0, 0, 1, 0, 0, 0, 1, 0, 0, 0, 2, 65, 0, 0, 0, 0, 6, 0, 0, 0, 4, 0, 0, 0, 255, 0,
@@ -40,7 +40,7 @@ fn render(alloc: Global, file: &[u8], sink: &mut MemorySink) -> Result<u8, Alloc
     status_of(alloc, &["render", "f"], file, Vec::new(alloc), sink)
 }
 
-fn plain_sink(alloc: Global) -> MemorySink {
+pub fn plain_sink(alloc: Global) -> MemorySink {
     MemorySink::new(alloc, 1 << 20, Vec::new(alloc))
 }
 
@@ -113,6 +113,9 @@ fn other_words_are_no_command(rt: HostRuntime) -> Result<(), Fail> {
     assert!(rt; is_usage(alloc, &["render", "--help"])?);
     assert!(rt; is_usage(alloc, &["render", "f", "f"])?);
     assert!(rt; is_usage(alloc, &["rendered", "f"])?);
+    assert!(rt; is_usage(alloc, &["edit"])?);
+    assert!(rt; is_usage(alloc, &["edit", "--help"])?);
+    assert!(rt; is_usage(alloc, &["edit", "f", "f"])?);
     Ok(())
 }
 
