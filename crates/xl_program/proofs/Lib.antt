@@ -1,2 +1,7 @@
 pub mod Limits
 pub mod Told
+mod Answered
+mod Plain
+mod Played
+mod Submitted
+mod UnderWay
