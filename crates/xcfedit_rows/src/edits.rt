@@ -29,7 +29,8 @@ fn edit(alloc: Global, script: &[u8], sink: &mut MemorySink) -> Result<u8, Alloc
 fn an_opacity_is_set_and_undone(rt: HostRuntime) -> Result<(), Fail> {
     let mut sink = plain_sink(rt.alloc());
     let script = b"0 opacity 1 0\n0 tile 0 0 0\n0 undo\n0 undo";
-    let text = b"0.0 changed 1 1 2\n0.1 tile 1 df3f619804a92fdb4057192dc43dd748ea778adc52bc498ce80524c014b81119\n0.2 changed 2 1 2\n0.3 nothing to undo\norder 0.0 0.1 0.2 0.3\n";
+    let text =
+        b"0.0 changed 1 1 2\n0.1 tile 1 df3f619804a92fdb4057192dc43dd748ea778adc52bc498ce80524c014b81119\n0.2 changed 2 1 2\n0.3 nothing to undo\norder 0.0 0.1 0.2 0.3\n";
     assert_eq!(rt; edit(rt.alloc(), script, &mut sink)?, 0);
     assert_eq!(rt; sink.held(), text.as_slice());
     Ok(())
@@ -39,7 +40,8 @@ fn an_opacity_is_set_and_undone(rt: HostRuntime) -> Result<(), Fail> {
 fn a_fill_shows_in_the_tile(rt: HostRuntime) -> Result<(), Fail> {
     let mut sink = plain_sink(rt.alloc());
     let script = b"0 fill 1 0 0 1 1 01020304\n0 tile 0 0 0";
-    let text = b"0.0 changed 1 1 2\n0.1 tile 1 9f64a747e1b97f131fabb6b447296c9b6f0201e79fb3c5356e6c77e89b6a806a\norder 0.0 0.1\n";
+    let text =
+        b"0.0 changed 1 1 2\n0.1 tile 1 9f64a747e1b97f131fabb6b447296c9b6f0201e79fb3c5356e6c77e89b6a806a\norder 0.0 0.1\n";
     assert_eq!(rt; edit(rt.alloc(), script, &mut sink)?, 0);
     assert_eq!(rt; sink.held(), text.as_slice());
     Ok(())

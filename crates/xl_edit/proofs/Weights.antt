@@ -58,7 +58,7 @@ byte_more out at n value of old fits is before k =
           (λ i. slice_index (set out (at + n) value) (same i))
           ∙ (get_or-set_same out (at + n) value 0 fits ∙ (is ∙ (sym (after_in at (n + 1) (old (at + n)) (of (at + n)) n (omega arith)) ∙ (λ i. byte_after at (n + 1) (old (sym same i)) (of (sym same i)) (sym same i)))))
       | inr others ↦
-          let other : k ≢ at + n = elim others [ | inl below ↦ (λ e. omega (arith, e, below)) | inr above ↦ (λ e. omega (arith, e, above)) ] in
+          let other : k ≢ at + n = elim others [ inl below ↦ (λ e. omega (arith, e, below)) | inr above ↦ (λ e. omega (arith, e, above)) ] in
           rw get_or-set_other (before k ∙ sym (after_next at n (old k) (of k) k other))
     ]
 

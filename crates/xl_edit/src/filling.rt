@@ -131,15 +131,7 @@ fn weighed_rows(
     let mut weights = vec![in alloc; 0; wide]?;
     let mut line = vec![in alloc; 0; wide * pixel.len()]?;
     let mut bytes = Vec::with_capacity(alloc, line.len() * rect.h as usize)?;
-    fill_rows(
-        doc,
-        layer,
-        rect,
-        pixel,
-        &mut weights,
-        &mut line,
-        &mut bytes,
-    )?;
+    fill_rows(doc, layer, rect, pixel, &mut weights, &mut line, &mut bytes)?;
     Ok(bytes)
 }
 
