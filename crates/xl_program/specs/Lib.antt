@@ -2,3 +2,4 @@ pub mod Command
 pub mod Lines
 pub mod Outcome
 pub mod Parts
+pub mod Playing
