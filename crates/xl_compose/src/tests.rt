@@ -62,7 +62,7 @@ fn a_tile_is_recomposed(rt: HostRuntime) -> Result<(), Fail> {
 }
 
 #[test]
-fn a_group_is_recomposed(rt: HostRuntime) -> Result<(), Fail> {
+fn a_rectangle_is_recomposed(rt: HostRuntime) -> Result<(), Fail> {
     let alloc = rt.alloc();
     let doc = blank(alloc)?;
     let mut out = [7; 24];
