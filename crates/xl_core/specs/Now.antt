@@ -36,18 +36,21 @@ pub record Told : Type 0 where
 abbrev pub Tells : Told → Reply → (new : Now) → Type 0
 Tells told reply new = (reply ≡ told.reply) × (new ≡ told.now)
 
+-- what stands is the next version, which this group, or its undo, has left
+abbrev pub next_version : Now → (group : ℕ) → Told
+next_version now group = record { reply = changed (now.version + 1) group now.next_id; now = record now { version = now.version + 1 } }
+
 abbrev pub made_now : Now → Result At EditRefused → Told
 made_now old (Err cause) = record { reply = refused 0 cause; now = old }
-made_now old (Ok at) = record {
-  reply = changed (old.version + 1) old.next_group at.next;
-  now = record {
-    document = at.document;
-    undo = record { group = old.next_group; before = old.document } ∷ old.undo;
-    next_id = at.next;
-    next_group = old.next_group + 1;
-    version = old.version + 1;
-  };
-}
+made_now old (Ok at) =
+    let mid : Now = record {
+      document = at.document;
+      undo = record { group = old.next_group; before = old.document } ∷ old.undo;
+      next_id = at.next;
+      next_group = old.next_group + 1;
+      version = old.version;
+    } in
+    next_version mid old.next_group
 
 -- an edit, made or refused
 abbrev pub edited : Now → Edit → Told
@@ -55,10 +58,7 @@ edited old edit = made_now old (apply (record { document = old.document; next = 
 
 abbrev pub undone_of : Now → List Undo → Told
 undone_of old [] = record { reply = nothing_to_undo; now = old }
-undone_of old (u ∷ us) = record {
-  reply = changed (old.version + 1) u.group old.next_id;
-  now = record old { document = u.before; undo = us; version = old.version + 1 };
-}
+undone_of old (u ∷ us) = next_version (record old { document = u.before; undo = us }) u.group
 
 -- the undo of the last group
 abbrev pub undone : Now → Told

@@ -2,7 +2,7 @@
 ghost use Rattle.std.specs.Prelude.{◌≡◌, ◌<◌, ◌≤◌, ◌^◌, IfOk, OnErr, not};
 ghost use Rattle.spec_grid.specs.Grid.{is_on_grid};
 ghost use Rattle.spec_history.specs.Machine.{has_stack as document_has_stack};
-ghost use Rattle.xl_core.specs.Now.{first_now, edited, undone, shown, told, Tells, ShowsTile, ShowsNow, HasIds};
+ghost use Rattle.xl_core.specs.Now.{first_now, edited, undone, next_version, shown, told, Tells, ShowsTile, ShowsNow, HasIds};
 ghost use Rattle.xl_doc.specs.Numbered.{AreNumbered};
 ghost use Rattle.xl_edit.specs.Built.{IsBuilt};
 ghost use Rattle.xl_edit.specs.Calls.{call_of};
@@ -144,12 +144,7 @@ impl Standing {
         let group = self.next_group;
         self.undo.push_reserved(Undo { group, before });
         self.next_group += 1;
-        self.version += 1;
-        Ok(Reply::Changed {
-            version: self.version,
-            group,
-            next: self.next_id,
-        })
+        Ok(self.next_version(group))
     }
 
     // Gives back the document before the last group.
@@ -161,6 +156,14 @@ impl Standing {
             return Reply::NothingToUndo;
         };
         self.document = before;
+        self.next_version(group)
+    }
+
+    // The document that a group, or its undo, has left is the next version.
+    fn next_version(&mut self, group: u32) -> Reply
+        requires { self.old.version < 2 ^ 31 }
+        ensures { Tells (next_version self.old group) (reply_of result) self.new }
+    {
         self.version += 1;
         Reply::Changed {
             version: self.version,
@@ -188,8 +191,7 @@ impl Standing {
             return Ok(Reply::OutsideTile);
         }
         recompose_tile(alloc, &self.document, node, at, &mut desk.out, steps)?;
-        Ok(Reply::Tile {
-            version: self.version,
-        })
+        let version = self.version;
+        Ok(Reply::Tile { version })
     }
 }
