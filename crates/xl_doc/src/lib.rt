@@ -10,6 +10,8 @@ mod node;
 mod pictures;
 mod selecting;
 mod sums;
+#[cfg(test)]
+mod tests;
 mod versions;
 
 pub use channel::{Channel, Channels, MAX_CHANNELS, Mask};
