@@ -13,3 +13,4 @@ pub mod Shifted
 pub mod Moved
 pub mod Restacked
 pub mod Ids
+pub mod Indexed

@@ -10,3 +10,4 @@ pub mod Slots
 pub mod Moves
 pub mod Branches
 pub mod Ids
+pub mod Index

@@ -2,7 +2,7 @@ ghost use Rattle.std.specs.Prelude.{◌≡◌, ◌≤◌, ◌<◌, [], ◌∷◌
 ghost use Rattle.spec_forest.specs.Forest.{ancestors};
 ghost use Rattle.xl_tree.specs.Above.{groups_before};
 
-use crate::entries::{Entry, from_id};
+use crate::entries::Entry;
 use crate::forest::Tree;
 use crate::naming::NodeId;
 use std::marker::Model;
@@ -61,7 +61,7 @@ impl<N: Drop> Tree<N> {
         ensures { map (λ i. i.0) result ≡ unwrap_or (ancestors id.0 self.now) [] }
     {
         let entries = self.entries.as_slice();
-        let found = from_id(entries, id.0);
+        let found = self.from_node(id);
         match found.split_first() {
             None => Ancestors::none(),
             Some((entry, _)) => groups_before(&entries[..entries.len() - found.len()], entry.level),

@@ -3,6 +3,7 @@ ghost use Rattle.std.specs.Vec.{vec_capacity};
 
 use crate::entries::Entry;
 use crate::forest::{MAX_NODES, Tree};
+use crate::index::Index;
 use crate::naming::Share;
 use std::alloc::{AllocError, Global};
 
@@ -12,7 +13,9 @@ impl<N: Share + Drop> Tree<N> {
         ensures { IfOk result (λ other. other ≡ self.now) }
     {
         let entries = shared(alloc, self.entries.as_slice())?;
-        Ok(Tree { entries })
+        let mut index = Index::new(alloc)?;
+        index.renew(entries.as_slice());
+        Ok(Tree { entries, index })
     }
 }
 

@@ -43,6 +43,7 @@ impl<N: Shown + Drop> Tree<N> {
             node,
         };
         self.entries.insert(slot.at, entry).unwrap();
+        self.index.renew(self.entries.as_slice());
         Ok(())
     }
 }
@@ -66,6 +67,7 @@ impl<N: Drop> Tree<N> {
         let level = self.entries[at].level;
         take_out(&mut self.entries, at, count, level);
         move_tail(&mut self.entries, &mut branch.entries, count);
+        self.index.renew(self.entries.as_slice());
         Ok(())
     }
 
@@ -92,6 +94,7 @@ impl<N: Drop> Tree<N> {
         let count = branch.entries.len();
         self.entries.append(&mut branch.entries).unwrap();
         put_back(&mut self.entries, slot.at, count, slot.level);
+        self.index.renew(self.entries.as_slice());
         Ok(())
     }
 
@@ -120,6 +123,7 @@ impl<N: Drop> Tree<N> {
         match slot_in(&self.entries[..rest], parent, place) {
             Ok(slot) => {
                 put_back(&mut self.entries, slot.at, count, slot.level);
+                self.index.renew(self.entries.as_slice());
                 Ok(())
             }
             Err(refused) => {

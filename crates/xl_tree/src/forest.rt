@@ -1,10 +1,13 @@
 ghost use Rattle.std.specs.Prelude.{◌≡◌, ◌<◌, ◌≤◌, length, IfNone, IfOk, IfSome, IsSome, is_some};
 ghost use Rattle.spec_forest.specs.Forest.{none, nothing, levels, size, find, stack_at};
 ghost use Rattle.spec_forest.specs.Changes.{put_last};
+ghost use Rattle.xl_tree.specs.Flat.{flat, from_id};
+ghost use Rattle.xl_tree.specs.Kept.{AreSiblings};
 ghost use Rattle.xl_tree.specs.Places.{alone};
 ghost use Rattle.xl_tree.specs.Reads.{IsFound};
 
-use crate::entries::{Entry, deeper, from_id};
+use crate::entries::{Entry, deeper};
+use crate::index::Index;
 use crate::naming::{NodeId, Shown};
 use crate::places::end_at;
 use crate::stacks::Stack;
@@ -14,10 +17,11 @@ use std::marker::Model;
 /// The most nodes that a tree has.
 pub const MAX_NODES: u32 = 512;
 
-/// An ordered forest. Its room is taken when it is made.
+/// An ordered forest, with an index of its nodes by id. Its room is taken when it is made.
 #[derive(Drop)]
 pub struct Tree<N> {
     pub(crate) entries: Vec<Entry<N>>,
+    pub(crate) index: Index,
 }
 
 impl<N> Model for Tree<N> {
@@ -33,7 +37,7 @@ impl<N> Model for Tree<N> {
 
     ghost view = { λ t. forest_of t.entries.items };
 
-    ghost invariant = { λ t. IsKept t.entries };
+    ghost invariant = { λ t. IsKept t.entries t.index };
 }
 
 impl<N: Drop> Tree<N> {
@@ -42,7 +46,8 @@ impl<N: Drop> Tree<N> {
         ensures { IfOk result (λ tree. tree ≡ none) }
     {
         let entries = Vec::with_capacity(alloc, MAX_NODES as usize)?;
-        Ok(Tree { entries })
+        let index = Index::new(alloc)?;
+        Ok(Tree { entries, index })
     }
 
     /// The number of nodes.
@@ -83,13 +88,24 @@ impl<N: Drop> Tree<N> {
         ensures few { IfSome result (λ p. size p.1 ≤ 512) }
         ensures low { IfSome result (λ p. levels p.1 ≤ 8) }
     {
-        let (first, rest) = from_id(self.entries.as_slice(), id.0).split_first()?;
+        let (first, rest) = self.from_node(id).split_first()?;
         if !first.group {
             return Some((first, Stack::empty()));
         }
         let inside = deeper(rest, first.level);
         let children = Stack::of(&rest[..inside], first.level + 1);
         Some((first, children))
+    }
+
+    /// The entries from a node on, none where there is no such node.
+    pub(crate) fn from_node(&self, id: NodeId) -> &[Entry<N>]
+        ensures from { result.now ≡ from_id id.0 (flat 0 self.now) }
+        ensures siblings { AreSiblings 0 (flat 0 self.now) }
+    {
+        match self.index.place(id.0) {
+            None => &[],
+            Some(at) => &self.entries[at..],
+        }
     }
 
     /// Whether a path, by places from the top, names a group. The empty path names the top.
@@ -116,5 +132,6 @@ impl<N: Shown + Drop> Tree<N> {
             node,
         };
         self.entries.insert(at as usize, entry).unwrap();
+        self.index.renew(self.entries.as_slice());
     }
 }

@@ -9,6 +9,7 @@ mod copies;
 mod edits;
 mod entries;
 mod forest;
+mod index;
 mod moves;
 mod naming;
 mod places;

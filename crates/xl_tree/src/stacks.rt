@@ -67,6 +67,16 @@ impl<'a, N: Drop> Stack<'a, N> {
         Stack { entries, level }
     }
 
+    /// The same siblings, lent once more.
+    pub fn again(&self) -> Stack<'a, N>
+        ensures { result ≡ self.now }
+    {
+        Stack {
+            entries: self.entries,
+            level: self.level,
+        }
+    }
+
     /// The topmost node, what is in it, and what is under it.
     pub fn split(self) -> Split<'a, N>
         ensures parts { whole result ≡ self.entry }

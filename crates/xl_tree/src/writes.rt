@@ -7,7 +7,6 @@ ghost use Rattle.xl_tree.specs.Reads.{node_of};
 ghost use Rattle.xl_tree.specs.contracts.forest.Tree.{the_row};
 ghost use Rattle.xl_tree.specs.Writes.{with_node};
 
-use crate::entries::from_id;
 use crate::forest::Tree;
 use crate::naming::NodeId;
 
@@ -38,10 +37,6 @@ impl<N: Drop> Tree<N> {
     pub(crate) fn place(&self, id: NodeId) -> Option<usize>
         ensures { result ≡ place_of id.0 self.now }
     {
-        let rest = from_id(self.entries.as_slice(), id.0).len();
-        if rest == 0 {
-            return None;
-        }
-        Some(self.entries.len() - rest)
+        self.index.place(id.0)
     }
 }

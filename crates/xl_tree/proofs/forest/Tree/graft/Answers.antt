@@ -3,6 +3,7 @@ use Rattle.spec_forest.specs.Forest.{size}
 use Rattle.xl_tree.specs.Flat.{flat, forest_of}
 use Rattle.xl_tree.specs.Refusals.{put_refusal}
 use Rattle.xl_tree.proofs.Flat.{size-forest_of}
+use Rattle.xl_tree.proofs.Indexed.{same_index}
 use Rattle.xl_tree.proofs.Moved.{slot_of, slot_fits, shallow_tail, grafted}
 use Rattle.xl_tree.proofs.forest.Tree.graft.Goals as goal
 
@@ -27,6 +28,17 @@ put_back-requires-clause-low g c =
     let slot = slot_of c.args.parent.0 c.args.place _ _ _ _ c.args.self.now c.as_slice.ensures.value c.self.view_is c.in_ok-slot.ensures.slot in
     (slot_fits c.args.parent.0 c.args.place _ _ _ c.args.self.now c.self.invariant.siblings c.self.view_is slot).low
 
+pub renew-requires-clause-few : goal.renew-requires-clause-few
+renew-requires-clause-few g c =
+    let slot = slot_of c.args.parent.0 c.args.place _ _ _ _ c.args.self.now c.as_slice.ensures.value c.self.view_is c.in_ok-slot.ensures.slot in
+    let met = sym (c.in_ok-slot.ensures.refused ∙ ap (put_refusal c.args.parent.0 c.args.place) (ap forest_of c.as_slice.ensures.value ∙ c.self.view_is)) in
+    let joined = rw c.unwrap.ensures at c.append.ensures.items in
+    let b_is = ap (λ h. h.forest) c.branch.view_is in
+    let parked = joined ∙ (λ j. (c.self.invariant.siblings.flat_is ∙ ap (flat 0) c.self.view_is) j ++ (c.branch.invariant.0.flat_is ∙ ap (flat 0) b_is) j) in
+    let count = c.len-count.ensures ∙ (c.branch.inside.entries.ok.0 ∙ (sym (size-forest_of 0 _ c.branch.invariant.0.flat_is) ∙ ap size b_is)) in
+    let done = grafted c.args.parent.0 c.args.place c.args.self.now c.args.branch.now.forest c.append.new.self.items _ _ _ _ _ parked c.append.new.self.ok.0 count slot (omega (arith, c.requires.few)) (c.requires.low met) c.put_back.ensures.items in
+    omega (arith, done.siblings.few, ap length c.as_slice-2.ensures.value)
+
 pub invariant_of-self : goal.invariant_of-self
 invariant_of-self g c =
     let slot = slot_of c.args.parent.0 c.args.place _ _ _ _ c.args.self.now c.as_slice.ensures.value c.self.view_is c.in_ok-slot.ensures.slot in
@@ -36,7 +48,12 @@ invariant_of-self g c =
     let parked = joined ∙ (λ j. (c.self.invariant.siblings.flat_is ∙ ap (flat 0) c.self.view_is) j ++ (c.branch.invariant.0.flat_is ∙ ap (flat 0) b_is) j) in
     let count = c.len-count.ensures ∙ (c.branch.inside.entries.ok.0 ∙ (sym (size-forest_of 0 _ c.branch.invariant.0.flat_is) ∙ ap size b_is)) in
     let done = grafted c.args.parent.0 c.args.place c.args.self.now c.args.branch.now.forest c.append.new.self.items _ _ _ _ _ parked c.append.new.self.ok.0 count slot (omega (arith, c.requires.few)) (c.requires.low met) c.put_back.ensures.items in
-    record { siblings = done.siblings; room = omega (arith, c.self.invariant.room, c.append.ensures.capacity, c.put_back.ensures.room) }
+    record {
+      siblings = done.siblings;
+      room = omega (arith, c.self.invariant.room, c.append.ensures.capacity, c.put_back.ensures.room);
+      indexed = same_index c.renew.new.self _ _ c.renew.ensures.index c.as_slice-2.ensures.value;
+      index_room = c.renew.ensures.room;
+    }
 
 pub returns-clause-tree : goal.returns-clause-tree
 returns-clause-tree g c =

@@ -1,4 +1,4 @@
-use Rattle.std.proofs.Common.{◌≡◌, ℕ, ◌≤◌, sym, ◌∙◌, subst, ap, arith, None}
+use Rattle.std.proofs.Common.{◌≡◌, ℕ, ◌≤◌, length, sym, ◌∙◌, subst, ap, arith, None}
 use Rattle.std.specs.List.{insert}
 use Rattle.spec_forest.specs.Forest.{size, levels}
 use Rattle.spec_forest.specs.Changes.{put_into}
@@ -7,6 +7,7 @@ use Rattle.xl_tree.specs.Places.{alone}
 use Rattle.xl_tree.specs.Refusals.{put_refusal}
 use Rattle.xl_tree.proofs.Flat.{size-forest_of}
 use Rattle.xl_tree.proofs.FlatHoles.{entry_of}
+use Rattle.xl_tree.proofs.Indexed.{same_index}
 use Rattle.xl_tree.proofs.Moved.{slot_of, slot_fits, put_in_one}
 use Rattle.xl_tree.proofs.forest.Tree.insert.Goals as goal
 
@@ -19,6 +20,15 @@ pub unwrap-requires : goal.unwrap-requires
 unwrap-requires g c =
     c.insert.ensures.succeeds (omega (arith, c.requires.few, size-forest_of 0 _ c.self.invariant.siblings.flat_is, ap size c.self.view_is, c.self.inside.entries.ok.0, c.self.invariant.room))
 
+pub renew-requires-clause-few : goal.renew-requires-clause-few
+renew-requires-clause-few g c =
+    let slot = slot_of c.args.parent.0 c.args.place _ _ _ _ c.args.self.now c.as_slice.ensures.value c.self.view_is c.in-Ok.ensures.slot in
+    let met = sym (c.in-Ok.ensures.refused ∙ ap (put_refusal c.args.parent.0 c.args.place) (ap forest_of c.as_slice.ensures.value ∙ c.self.view_is)) in
+    let new_is = rw c.unwrap.ensures at c.insert.ensures.items in
+    let entry_is = ap (λ m. insert c.self.inside.entries.items c.in-Ok.slot.at (entry_of c.in-Ok.slot.level c.args.id.0 m c.args.node)) c.is_group.ensures in
+    let put = put_in_one c.args.parent.0 c.args.place _ _ c.args.self.now _ _ c.args.id.0 (g.N.Shown.is_group c.args.node) c.args.node (c.self.invariant.siblings.flat_is ∙ ap (flat 0) c.self.view_is) slot c.requires.few (c.requires.low met) (new_is ∙ entry_is) in
+    omega (arith, put.siblings.few, ap length c.as_slice-2.ensures.value)
+
 pub invariant_of-self : goal.invariant_of-self
 invariant_of-self g c =
     let slot = slot_of c.args.parent.0 c.args.place _ _ _ _ c.args.self.now c.as_slice.ensures.value c.self.view_is c.in-Ok.ensures.slot in
@@ -28,6 +38,8 @@ invariant_of-self g c =
     record {
       siblings = (put_in_one c.args.parent.0 c.args.place _ _ c.args.self.now _ _ c.args.id.0 (g.N.Shown.is_group c.args.node) c.args.node (c.self.invariant.siblings.flat_is ∙ ap (flat 0) c.self.view_is) slot c.requires.few (c.requires.low met) (new_is ∙ entry_is)).siblings;
       room = omega (arith, c.self.invariant.room, c.insert.ensures.capacity);
+      indexed = same_index c.renew.new.self _ _ c.renew.ensures.index c.as_slice-2.ensures.value;
+      index_room = c.renew.ensures.room;
     }
 
 pub returns-clause-tree : goal.returns-clause-tree

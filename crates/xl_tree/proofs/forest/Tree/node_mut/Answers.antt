@@ -1,7 +1,8 @@
 use Rattle.std.proofs.Common.{refl, sym, ◌∙◌, ap, arith}
 use Rattle.spec_forest.specs.Forest.{size}
 use Rattle.xl_tree.proofs.Flat.{size-forest_of}
-use Rattle.xl_tree.proofs.Placed.{place_within, written}
+use Rattle.xl_tree.proofs.Indexed.{place_in-set}
+use Rattle.xl_tree.proofs.Placed.{place_within, written, rewritten}
 use Rattle.xl_tree.proofs.forest.Tree.node_mut.Goals as goal
 
 pub index_mut-entry-requires : goal.index_mut-entry-requires
@@ -11,7 +12,12 @@ index_mut-entry-requires g c =
 pub invariant_of-self-lent : goal.invariant_of-self-lent
 invariant_of-self-lent g c = λ w.
     let k = written c.args.id.0 c.args.at _ c.args.self.now c.index_mut-entry.result.now w c.self.invariant.siblings c.self.view_is c.requires.placed c.requires.distinct c.index_mut-entry.ensures.value in
-    record { siblings = k.siblings; room = c.self.invariant.room }
+    record {
+      siblings = k.siblings;
+      room = c.self.invariant.room;
+      indexed = λ id. c.self.invariant.indexed id ∙ sym (place_in-set id c.args.at _ (rewritten c.index_mut-entry.result.now w) c.index_mut-entry.result.now c.index_mut-entry.ensures.value refl);
+      index_room = c.self.invariant.index_room;
+    }
 
 pub returns : goal.returns
 returns g c = (

@@ -1,10 +1,11 @@
-use Rattle.std.proofs.Common.{◌≡◌, ◌+◌, sym, ◌∙◌, ap, arith, Some}
+use Rattle.std.proofs.Common.{◌≡◌, ◌+◌, length, sym, ◌∙◌, ap, arith, Some}
 use Rattle.std.specs.Prelude.{is_some}
 use Rattle.spec_forest.specs.Forest.{none, size}
 use Rattle.spec_forest.specs.Changes.{put_last}
 use Rattle.xl_tree.specs.Places.{end_at, alone}
 use Rattle.xl_tree.proofs.Flat.{size-forest_of}
 use Rattle.xl_tree.proofs.Paths.{end_some}
+use Rattle.xl_tree.proofs.Indexed.{same_index}
 use Rattle.xl_tree.proofs.PutLast.{end_within, put_last_entry}
 use Rattle.xl_tree.proofs.forest.Tree.put_last.Goals as goal
 
@@ -21,6 +22,12 @@ pub unwrap-requires : goal.unwrap-requires
 unwrap-requires g c =
     c.insert.ensures.succeeds (omega (arith, c.requires.few, size-forest_of 0 _ c.self.invariant.siblings.flat_is, ap size c.self.view_is, c.self.inside.entries.ok.0, c.self.invariant.room))
 
+pub renew-requires-clause-few : goal.renew-requires-clause-few
+renew-requires-clause-few g c =
+    let at : end_at c.args.path.now c.args.self.now ≡ Some c.unwrap-at.result = sym (c.end_at.ensures ∙ ap (end_at c.args.path.now) c.top.ensures.value) ∙ c.unwrap-at.ensures in
+    let new_is = rw c.unwrap.ensures at c.insert.ensures.items in
+    omega (arith, (put_last_entry c.args.path.now _ _ c.args.self.now _ c.args.id.0 c.is_group.result c.args.node c.self.invariant.siblings c.self.view_is at c.requires.short c.requires.few new_is).siblings.few, ap length c.as_slice.ensures.value)
+
 pub invariant_of-self : goal.invariant_of-self
 invariant_of-self g c =
     let at : end_at c.args.path.now c.args.self.now ≡ Some c.unwrap-at.result = sym (c.end_at.ensures ∙ ap (end_at c.args.path.now) c.top.ensures.value) ∙ c.unwrap-at.ensures in
@@ -28,6 +35,8 @@ invariant_of-self g c =
     record {
       siblings = (put_last_entry c.args.path.now _ _ c.args.self.now _ c.args.id.0 c.is_group.result c.args.node c.self.invariant.siblings c.self.view_is at c.requires.short c.requires.few new_is).siblings;
       room = omega (arith, c.self.invariant.room, c.insert.ensures.capacity);
+      indexed = same_index c.renew.new.self _ _ c.renew.ensures.index c.as_slice.ensures.value;
+      index_room = c.renew.ensures.room;
     }
 
 pub returns : goal.returns

@@ -1,8 +1,9 @@
-use Rattle.std.proofs.Common.{sym, ◌∙◌, ap, arith}
+use Rattle.std.proofs.Common.{length, sym, ◌∙◌, ap, arith}
 use Rattle.spec_forest.specs.Forest.{size}
 use Rattle.xl_tree.specs.Refusals.{answer_of}
 use Rattle.xl_tree.proofs.Flat.{size-forest_of}
 use Rattle.xl_tree.proofs.Placed.{place_within, is_there, is_not_there}
+use Rattle.xl_tree.proofs.Indexed.{same_index}
 use Rattle.xl_tree.proofs.Moved.{taken, removed, parked_within}
 use Rattle.xl_tree.proofs.forest.Tree.remove.Goals as goal
 
@@ -27,11 +28,22 @@ move_tail-requires-clause-within g c =
     let t = taken c.args.id.0 c.in-Some.at _ _ c.args.self.now c.index.result.now c.self.invariant.siblings c.self.view_is c.in-Some.ensures c.requires.distinct c.size-count.ensures c.index.ensures in
     parked_within c.args.id.0 c.in-Some.at _ _ _ _ _ c.args.self.now t c.take_out.ensures.items c.take_out.new.entries.ok.0
 
+pub renew-requires-clause-few : goal.renew-requires-clause-few
+renew-requires-clause-few g c =
+    let t = taken c.args.id.0 c.in-Some.at _ _ c.args.self.now c.index.result.now c.self.invariant.siblings c.self.view_is c.in-Some.ensures c.requires.distinct c.size-count.ensures c.index.ensures in
+    let r = removed c.args.id.0 c.in-Some.at _ _ _ _ _ _ _ c.args.self.now c.self.invariant.siblings c.self.view_is t c.take_out.ensures.items c.take_out.new.entries.ok.0 c.move_tail.ensures.from c.move_tail.ensures.to in
+    omega (arith, r.from_siblings.few, ap length c.as_slice.ensures.value)
+
 pub invariant_of-self : goal.invariant_of-self
 invariant_of-self g c =
     let t = taken c.args.id.0 c.in-Some.at _ _ c.args.self.now c.index.result.now c.self.invariant.siblings c.self.view_is c.in-Some.ensures c.requires.distinct c.size-count.ensures c.index.ensures in
     let r = removed c.args.id.0 c.in-Some.at _ _ _ _ _ _ _ c.args.self.now c.self.invariant.siblings c.self.view_is t c.take_out.ensures.items c.take_out.new.entries.ok.0 c.move_tail.ensures.from c.move_tail.ensures.to in
-    record { siblings = r.from_siblings; room = omega (arith, c.self.invariant.room, c.take_out.ensures.room, c.move_tail.ensures.from_room) }
+    record {
+      siblings = r.from_siblings;
+      room = omega (arith, c.self.invariant.room, c.take_out.ensures.room, c.move_tail.ensures.from_room);
+      indexed = same_index c.renew.new.self _ _ c.renew.ensures.index c.as_slice.ensures.value;
+      index_room = c.renew.ensures.room;
+    }
 
 pub invariant_of-branch : goal.invariant_of-branch
 invariant_of-branch g c =

@@ -1,4 +1,4 @@
-use Rattle.std.proofs.Common.{◌≡◌, ℕ, ◌-◌, List, take, sym, ◌∙◌, subst, ap, arith, nat_eq}
+use Rattle.std.proofs.Common.{◌≡◌, ℕ, ◌-◌, List, length, take, sym, ◌∙◌, subst, ap, arith, nat_eq}
 use Rattle.std.specs.List.{IsDistinct}
 use Rattle.spec_forest.specs.Forest.{size, levels, ids}
 use Rattle.xl_tree.specs.Flat.{flat, forest_of}
@@ -6,6 +6,7 @@ use Rattle.xl_tree.specs.Kept.{AreSiblings}
 use Rattle.xl_tree.specs.Refusals.{answer_of, put_refusal}
 use Rattle.xl_tree.proofs.Flat.{size-forest_of, forest_of_is}
 use Rattle.xl_tree.proofs.Placed.{place_within, is_there, is_not_there}
+use Rattle.xl_tree.proofs.Indexed.{same_index}
 use Rattle.xl_tree.proofs.Moved.{slot_of, slot_within, slot_low, taken, grafted, restored}
 use Rattle.xl_tree.proofs.Restacked.{is_parked, no_node_refuses, after_node, inside_refuses, place_is_left, answer_met, answer_refused, residual_is, stack_refuses, rest_same, distinct_same}
 use Rattle.xl_tree.proofs.Taken.{siblings}
@@ -84,6 +85,20 @@ put_back-requires-clause-low g c =
     let slot = slot_of c.args.parent.0 c.args.place _ _ _ _ _ rest_is k.rest_is c.in-Ok.ensures.slot in
     slot_low c.args.parent.0 c.args.place _ _ _ (omega (arith, k.rest.low, ap levels k.rest_is)) slot
 
+pub renew-requires-clause-few : goal.renew-requires-clause-few
+renew-requires-clause-few g c =
+    let t = taken c.args.id.0 c.in-Some.at _ _ c.args.self.now c.index.result.now c.self.invariant.siblings c.self.view_is c.in-Some.ensures c.requires.distinct c.size-count.ensures c.index.ensures in
+    let k = is_parked c.args.id.0 c.in-Some.at _ _ _ _ _ c.args.self.now c.self.invariant.siblings c.self.view_is c.requires.distinct t c.take_out.ensures.items c.take_out.new.entries.ok.0 in
+    let rest_is = rest_same c.size-count.result c.len.ensures c.deref.ensures.value in
+    let slot = slot_of c.args.parent.0 c.args.place _ _ _ _ _ rest_is k.rest_is c.in-Ok.ensures.slot in
+    let there = is_there c.args.id.0 c.in-Some.at c.args.self.now c.in-Some.ensures in
+    let holds = answer_met _ c.in_ok-can_hold.ensures in
+    let outside = sym c.stands_in.ensures ∙ c.if-stands_in.false in
+    let left = place_is_left c.args.id.0 c.args.parent.0 c.args.place c.in-Some.at c.args.self.now c.in-Some.ensures c.requires.distinct there holds outside in
+    let met = left ∙ sym (c.in-Ok.ensures.refused ∙ ap (put_refusal c.args.parent.0 c.args.place) (ap forest_of rest_is ∙ k.rest_is)) in
+    let done = grafted c.args.parent.0 c.args.place _ _ c.take_out.new.entries.items _ _ _ _ _ k.flat_is c.take_out.new.entries.ok.0 k.count_is slot (omega (arith, k.size_is, c.self.invariant.siblings.few, size-forest_of 0 _ c.self.invariant.siblings.flat_is, ap size c.self.view_is)) (c.requires.low met) c.put_back.ensures.items in
+    omega (arith, done.siblings.few, ap length c.as_slice.ensures.value)
+
 pub invariant_of-self : goal.invariant_of-self
 invariant_of-self g c =
     let t = taken c.args.id.0 c.in-Some.at _ _ c.args.self.now c.index.result.now c.self.invariant.siblings c.self.view_is c.in-Some.ensures c.requires.distinct c.size-count.ensures c.index.ensures in
@@ -96,7 +111,12 @@ invariant_of-self g c =
     let left = place_is_left c.args.id.0 c.args.parent.0 c.args.place c.in-Some.at c.args.self.now c.in-Some.ensures c.requires.distinct there holds outside in
     let met = left ∙ sym (c.in-Ok.ensures.refused ∙ ap (put_refusal c.args.parent.0 c.args.place) (ap forest_of rest_is ∙ k.rest_is)) in
     let done = grafted c.args.parent.0 c.args.place _ _ c.take_out.new.entries.items _ _ _ _ _ k.flat_is c.take_out.new.entries.ok.0 k.count_is slot (omega (arith, k.size_is, c.self.invariant.siblings.few, size-forest_of 0 _ c.self.invariant.siblings.flat_is, ap size c.self.view_is)) (c.requires.low met) c.put_back.ensures.items in
-    record { siblings = done.siblings; room = omega (arith, c.self.invariant.room, c.take_out.ensures.room, c.put_back.ensures.room) }
+    record {
+      siblings = done.siblings;
+      room = omega (arith, c.self.invariant.room, c.take_out.ensures.room, c.put_back.ensures.room);
+      indexed = same_index c.renew.new.self _ _ c.renew.ensures.index c.as_slice.ensures.value;
+      index_room = c.renew.ensures.room;
+    }
 
 pub put_back-requires-in-Err-clause-within : goal.put_back-requires-in-Err-clause-within
 put_back-requires-in-Err-clause-within g c =
@@ -126,6 +146,8 @@ invariant_of-self-in-Err g c =
           (omega (arith, c.self.invariant.siblings.few, size-forest_of 0 _ c.self.invariant.siblings.flat_is, ap size c.self.view_is))
           (omega (arith, c.self.invariant.siblings.low, ap levels c.self.view_is));
       room = omega (arith, c.self.invariant.room, c.take_out.ensures.room, c.put_back-in-Err.ensures.room);
+      indexed = same_index c.self.inside.index _ _ c.self.invariant.indexed (c.self.invariant.siblings.flat_is ∙ (ap (flat 0) c.self.view_is ∙ sym back));
+      index_room = c.self.invariant.index_room;
     }
 
 pub returns-in-Ok-clause-answer : goal.returns-in-Ok-clause-answer
