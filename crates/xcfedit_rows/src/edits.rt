@@ -4,6 +4,21 @@ use std::test::Fail;
 use xl_ports::fakes::{MemoryShelf, MemorySink, MemorySource};
 use xl_program::run;
 
+/// A file of one pixel with a group of opacity 0, in which a layer is.
+const GROUPED: [u8; 303] = [
+    103, 105, 109, 112, 32, 120, 99, 102, 32, 102, 105, 108, 101, 0, 0, 0, 0, 1, 0, 0, 0, 1, 0, 0,
+    0, 0, 0, 0, 0, 17, 0, 0, 0, 1, 0, 0, 0, 0, 0, 0, 0, 0, 0, 0, 0, 0, 59, 0, 0, 0, 177, 0, 0, 0,
+    0, 0, 0, 0, 0, 0, 0, 0, 1, 0, 0, 0, 1, 0, 0, 0, 1, 0, 0, 0, 2, 71, 0, 0, 0, 0, 29, 0, 0, 0, 0,
+    0, 0, 0, 6, 0, 0, 0, 4, 0, 0, 0, 0, 0, 0, 0, 7, 0, 0, 0, 4, 0, 0, 0, 0, 0, 0, 0, 8, 0, 0, 0, 4,
+    0, 0, 0, 1, 0, 0, 0, 0, 0, 0, 0, 0, 0, 0, 0, 137, 0, 0, 0, 0, 0, 0, 0, 1, 0, 0, 0, 1, 0, 0, 0,
+    4, 0, 0, 0, 157, 0, 0, 0, 0, 0, 0, 0, 1, 0, 0, 0, 1, 0, 0, 0, 173, 0, 0, 0, 0, 0, 0, 0, 0, 0,
+    0, 0, 1, 0, 0, 0, 1, 0, 0, 0, 1, 0, 0, 0, 2, 76, 0, 0, 0, 0, 6, 0, 0, 0, 4, 0, 0, 0, 255, 0, 0,
+    0, 7, 0, 0, 0, 4, 0, 0, 0, 0, 0, 0, 0, 8, 0, 0, 0, 4, 0, 0, 0, 1, 0, 0, 0, 30, 0, 0, 0, 8, 0,
+    0, 0, 0, 0, 0, 0, 0, 0, 0, 0, 0, 0, 0, 0, 0, 0, 0, 1, 7, 0, 0, 0, 0, 0, 0, 0, 1, 0, 0, 0, 1, 0,
+    0, 0, 4, 0, 0, 1, 27, 0, 0, 0, 0, 0, 0, 0, 1, 0, 0, 0, 1, 0, 0, 1, 43, 0, 0, 0, 0, 200, 100,
+    50, 255,
+];
+
 // Runs an edit of a file over a shelf with this one file, f. The script comes in pieces of seven bytes.
 fn status_of(
     alloc: Global,
@@ -63,6 +78,19 @@ fn a_tile_may_not_be_there(rt: HostRuntime) -> Result<(), Fail> {
     let script = b"0 tile 7 0 0\n0 tile 0 1 0";
     let text = b"0.0 no stack 7\n0.1 outside tile\norder 0.0 0.1\n";
     assert_eq!(rt; edit(rt.alloc(), script, &mut sink)?, 0);
+    assert_eq!(rt; sink.held(), text.as_slice());
+    Ok(())
+}
+
+#[test]
+fn a_clear_group_shows_nothing_but_in_its_own_tile(rt: HostRuntime) -> Result<(), Fail> {
+    let alloc = rt.alloc();
+    let mut sink = plain_sink(alloc);
+    let script = b"0 tile 0 0 0\n0 tile 1 0 0";
+    let text =
+        b"0.0 tile 0 df3f619804a92fdb4057192dc43dd748ea778adc52bc498ce80524c014b81119\n0.1 tile 0 0a28758309bf7e82d2258afa38b0251d27ca7a7c168bbdf5912cbdf1975d2c8c\norder 0.0 0.1\n";
+    let status = status_of(alloc, "f", &GROUPED, script, Vec::new(alloc), &mut sink)?;
+    assert_eq!(rt; status, 0);
     assert_eq!(rt; sink.held(), text.as_slice());
     Ok(())
 }

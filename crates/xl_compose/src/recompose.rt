@@ -4,7 +4,6 @@ ghost use Rattle.spec_forest.specs.Forest.{stack_at};
 ghost use Rattle.spec_grid.specs.Rect.{part_above_0};
 ghost use Rattle.spec_picture.specs.Picture.{picture as pixel_of_picture, picture_bytes};
 ghost use Rattle.xl_doc.specs.Canvas.{IsInside};
-ghost use Rattle.xl_compose.specs.Laid.{pixel};
 
 use crate::bytes::write_row;
 use crate::stacks::lay_stack;
@@ -20,27 +19,6 @@ const CLEAR: Pixel = Pixel {
     b: 0,
     a: 0,
 };
-
-// The row of a picture that begins at the point x, y.
-fn compose_row<L: Ledger>(
-    doc: &Document,
-    stack: NodeId,
-    x: u32,
-    y: u32,
-    row: &mut [Pixel],
-    room: &mut [Pixel],
-    steps: &mut Steps<L>,
-)
-    requires stack { IsSome (stack_at stack.0 doc.now.nodes) }
-    requires columns { x + length row.old ≤ doc.now.width }
-    requires row { y < doc.now.height }
-    requires room { 8 * length row.old ≤ length room.old }
-    ensures length { length row.new ≡ length row.old }
-    ensures each { (k : ℕ) → k < length row.old → pixel row.new k ≡ pixel_of_picture doc.now stack.0 (x + k) y }
-{
-    let nodes = doc.tree.stack(stack).unwrap();
-    lay_stack(doc.colours.as_slice(), nodes, x, y, row, room, steps);
-}
 
 // A coordinate on the canvas.
 fn natural(at: i32) -> u32
@@ -74,8 +52,10 @@ fn compose_rows<L: Ledger>(
     let y = natural(rect.y);
     let row = &mut row[..rect.w as usize];
     let size = 4 * row.len();
+    let nodes = doc.tree.stack(stack).unwrap();
+    let colours = doc.colours.as_slice();
     for v in 0..rect.h {
-        compose_row(doc, stack, x, y + v, row, room, steps);
+        lay_stack(colours, nodes.again(), x, y + v, row, room, steps);
         let start = v as usize * size;
         write_row(row, &mut out[start..start + size]);
     }
