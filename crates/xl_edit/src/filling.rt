@@ -4,13 +4,13 @@ ghost use Rattle.spec_edit.specs.Refusal.{is_indexed};
 ghost use Rattle.spec_grid.specs.Rect.{part_above_0};
 ghost use Rattle.xl_doc.specs.Selecting.{IsNear};
 ghost use Rattle.xl_edit.specs.Filling.{weight_at, filled_byte, byte_in, AreRows};
-ghost use Rattle.xl_tiles.specs.Alike.{AreAlike};
 ghost use Rattle.xl_tiles.specs.Sized.{IsSized};
 ghost use Rattle.xl_tiles.specs.Written.{IsWithin, written};
 
 use crate::mixing::{harden, mix_row};
 use std::alloc::{AllocError, Global};
 use xl_doc::{Base, Document, Layer, Plane, Rect};
+use xl_tiles::repeated;
 
 // Whether the pixels are places of a colour map.
 fn is_indexed(doc: &Document) -> bool
@@ -133,18 +133,6 @@ fn weighed_rows(
     let mut bytes = Vec::with_capacity(alloc, line.len() * rect.h as usize)?;
     fill_rows(doc, layer, rect, pixel, &mut weights, &mut line, &mut bytes)?;
     Ok(bytes)
-}
-
-// A piece so many times.
-fn repeated(alloc: Global, piece: &[u8], n: usize) -> Result<Vec<u8>, AllocError>
-    requires { n * length piece.now ≤ 2 ^ 28 }
-    ensures { IfOk result (λ v. AreAlike piece.now n v.items) }
-{
-    let mut all = Vec::with_capacity(alloc, n * piece.len())?;
-    for _i in 0..n {
-        all.extend_from_slice(piece)?;
-    }
-    Ok(all)
 }
 
 // Rows of pixels that are all alike.

@@ -39,6 +39,8 @@ fn put_literal(out: &mut [u8], at: usize, bytes: &[u8], from: usize, len: usize)
 /// Fills a plane from the codes that begin at an offset. Gives the offset after the last code.
 ///
 /// Truncated, or BadRun, at the code that does not fit the file, or the plane. The bytes of the plane are then unspecified.
+// Out of line, so that the loop keeps its state in registers.
+#[inline(never)]
 pub fn decode_plane(bytes: &[u8], at: usize, out: &mut [u8]) -> Result<usize, ReadRefused>
     requires some { 1 ≤ length out.old }
     requires few { length out.old ≤ 4096 }

@@ -1,7 +1,7 @@
 -- The levels of a forest, by the deepest of its entries.
 use Rattle.std.proofs.Common.{◌≡◌, ℕ, zero, suc, ◌+◌, ◌<◌, ◌≤◌, max, false, eqb, List, [], ◌∷◌, ◌++◌, length, get_or, drop, refl, sym, ◌∙◌, ap, arith}
 use Rattle.std.proofs.lemmas.List.{drop_more, drop_all}
-use Rattle.spec_forest.specs.Forest.{Forest, none, leaf, group, size, levels}
+use Rattle.spec_forest.specs.Forest.{Forest, none, leaf, group, levels}
 use Rattle.xl_tree.specs.declared.entries.Entry.{Entry}
 use Rattle.xl_tree.specs.Flat.{flat, deepest, forest_of}
 use Rattle.xl_tree.specs.Kept.{AreSiblings}

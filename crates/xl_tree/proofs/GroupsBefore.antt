@@ -1,13 +1,13 @@
 -- The groups above a node are the groups round its hole.
-use Rattle.std.proofs.Common.{◌≡◌, ℕ, suc, ◌+◌, ◌-◌, ◌<◌, ◌≤◌, min, Bool, true, false, cond, nat_lt, List, [], ◌∷◌, ◌++◌, length, get_or, take, refl, sym, ◌∙◌, ap, arith, length-append}
+use Rattle.std.proofs.Common.{◌≡◌, ℕ, suc, ◌+◌, ◌-◌, ◌<◌, ◌≤◌, min, true, false, cond, nat_lt, List, [], ◌∷◌, ◌++◌, length, get_or, take, refl, sym, ◌∙◌, ap, arith, length-append}
 use Rattle.std.proofs.lemmas.Bool.{lt-ltb}
 use Rattle.std.proofs.lemmas.Bool.Decides.{nat_tests}
 use Rattle.std.proofs.lemmas.List.{take_more, append-nil, append_assoc, take_at}
-use Rattle.std.specs.Prelude.{Some, None, unwrap_or}
-use Rattle.spec_forest.specs.Forest.{Forest, none, leaf, group, size, levels, find, ancestors}
+use Rattle.std.specs.Prelude.{Some, unwrap_or}
+use Rattle.spec_forest.specs.Forest.{Forest, none, leaf, group, levels, ancestors}
 use Rattle.spec_forest.specs.Holes.{Hole, here, under_leaf, under_group, in_group, plug, depth}
 use Rattle.spec_forest.proofs.Holes.{depth_below_levels}
-use Rattle.spec_forest.proofs.Standing.{Fresh, Standing, nowhere, at_leaf, at_group, standing, groups, ancestors-nowhere, ancestors-plug, ancestors-of_leaf, ancestors-of_group}
+use Rattle.spec_forest.proofs.Standing.{Standing, nowhere, at_leaf, at_group, standing, groups, ancestors-nowhere, ancestors-plug, ancestors-of_leaf, ancestors-of_group}
 use Rattle.xl_tree.specs.declared.entries.Entry.{Entry}
 use Rattle.xl_tree.specs.Flat.{flat, forest_of, from_id}
 use Rattle.xl_tree.specs.Kept.{AreSiblings}

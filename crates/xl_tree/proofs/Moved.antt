@@ -1,13 +1,13 @@
 -- What is put into a slot, and what is taken out of its place.
-use Rattle.std.proofs.Common.{◌≡◌, ℕ, zero, suc, ◌+◌, ◌-◌, ◌<◌, ◌≤◌, max, Bool, true, false, nat_eq, List, [], ◌∷◌, ◌++◌, length, get_or, map, take, drop, refl, sym, ◌∙◌, subst, ap, arith, length-append}
-use Rattle.std.proofs.lemmas.List.{append_assoc, append-nil, take_at, drop_at, take-append-le, drop-append-le, length-drop, get_or_at}
+use Rattle.std.proofs.Common.{◌≡◌, ℕ, suc, ◌+◌, ◌-◌, ◌<◌, ◌≤◌, Bool, true, false, nat_eq, List, [], ◌∷◌, ◌++◌, length, get_or, map, take, drop, refl, sym, ◌∙◌, subst, ap, arith, length-append}
+use Rattle.std.proofs.lemmas.List.{append_assoc, take_at, drop_at, take-append-le, drop-append-le, length-drop, get_or_at}
 use Rattle.std.specs.Prelude.{Some}
 use Rattle.std.specs.List.{IsDistinct, insert}
 use Rattle.spec_forest.specs.Forest.{Forest, none, leaf, group, size, levels, ids, find}
 use Rattle.spec_forest.specs.Changes.{above, put_into, without, branch_of}
 use Rattle.spec_forest.specs.Holes.{Hole, plug, depth, passed}
 use Rattle.spec_forest.proofs.Holes.{size-plug, levels-plug, depth_below_levels, passed_within}
-use Rattle.spec_forest.proofs.Standing.{Fresh, find-at_leaf, find-at_group}
+use Rattle.spec_forest.proofs.Standing.{find-at_leaf, find-at_group}
 use Rattle.spec_forest.proofs.Distinct.{lone_leaf, lone_group, without-at_leaf, without-at_group, branch_of-at_leaf, branch_of-at_group}
 use Rattle.xl_tree.specs.declared.entries.Entry.{Entry}
 use Rattle.xl_tree.specs.Flat.{flat, forest_of}

@@ -4,8 +4,8 @@ use Rattle.std.proofs.lemmas.List.{drop_more}
 use Rattle.std.specs.Prelude.{Option, Some, None, option_map, is_some, IsSome}
 use Rattle.spec_forest.specs.Forest.{Forest, none, leaf, group, size}
 use Rattle.spec_forest.specs.Changes.{put_last}
-use Rattle.spec_forest.specs.Holes.{Hole, plug, passed, in_group, under_leaf, under_group}
-use Rattle.spec_forest.proofs.Holes.{at_end, hole_last, passed-at_end, put_last-hole}
+use Rattle.spec_forest.specs.Holes.{plug, passed, in_group, under_leaf, under_group}
+use Rattle.spec_forest.proofs.Holes.{hole_last, passed-at_end, put_last-hole}
 use Rattle.spec_forest.specs.Holes.{from_place}
 use Rattle.xl_tree.specs.Places.{end_at}
 

@@ -1,25 +1,24 @@
 -- A node at its place among the entries, and another in its stead.
-use Rattle.std.proofs.Common.{◌≡◌, ℕ, suc, ◌+◌, ◌-◌, ◌<◌, ◌≤◌, Bool, true, false, cond, eqb, nat_eq, List, [], ◌∷◌, ◌++◌, length, get_or, set, refl, sym, ◌∙◌, subst, ap, eq-eqb, arith, length-append}
+use Rattle.std.proofs.Common.{◌≡◌, ℕ, suc, ◌+◌, ◌<◌, ◌≤◌, Bool, true, false, cond, eqb, nat_eq, List, ◌∷◌, ◌++◌, length, get_or, set, refl, sym, ◌∙◌, subst, ap, eq-eqb, arith}
 use Rattle.std.proofs.lemmas.List.{get_or_at, set_at}
-use Rattle.std.specs.Prelude.{Option, Some, None, option_map}
+use Rattle.std.specs.Prelude.{Some, None, option_map}
 use Rattle.std.specs.List.{IsDistinct}
-use Rattle.spec_forest.specs.Forest.{Forest, none, leaf, group, size, levels, ids, nothing, a_leaf, a_group, find}
-use Rattle.spec_forest.specs.Changes.{with_leaf, with_group}
+use Rattle.spec_forest.specs.Forest.{Forest, none, leaf, group, size, levels, ids, nothing, find}
+use Rattle.spec_forest.specs.Changes.{with_group}
 use Rattle.spec_forest.specs.Holes.{Hole, here, under_leaf, under_group, in_group, plug, depth, passed}
 use Rattle.spec_forest.proofs.Holes.{size-plug, levels-plug, passed_within, depth_below_levels}
 use Rattle.spec_forest.proofs.Standing.{Fresh, Standing, nowhere, at_leaf, at_group, standing, lacks_leaf, lacks_group, find-at_leaf, find-at_group}
 use Rattle.spec_forest.proofs.Distinct.{lone_leaf, lone_group, with_leaf-at_leaf, with_leaf-at_group, with_group-at_leaf, with_group-at_group}
 use Rattle.xl_tree.specs.declared.entries.Entry.{Entry}
-use Rattle.xl_tree.specs.Flat.{flat, forest_of, from_id}
+use Rattle.xl_tree.specs.Flat.{flat, forest_of}
 use Rattle.xl_tree.specs.Kept.{AreSiblings}
 use Rattle.xl_tree.specs.Places.{place_of, first_some}
 use Rattle.xl_tree.specs.Reads.{node_of}
 use Rattle.xl_tree.specs.Refusals.{no_node}
 use Rattle.xl_tree.specs.declared.refused.TreeRefused.TheVariants.{NoNode}
 use Rattle.xl_tree.specs.Writes.{with_node}
-use Rattle.xl_tree.proofs.Flat.{length-flat, forest_of_is, size-forest_of}
+use Rattle.xl_tree.proofs.Flat.{forest_of_is, size-forest_of}
 use Rattle.xl_tree.proofs.FlatHoles.{entry_of, front, back, flat-plug, length-front}
-use Rattle.xl_tree.proofs.Search.{from_id-nowhere, from_id-plug, from_id-leaf, from_id-group}
 use Rattle.xl_tree.proofs.Taken.{siblings}
 
 module _ {L G : Type 0} where
@@ -83,43 +82,6 @@ module _ {L G : Type 0} where
     from (a_group_at h w c u is fresh at) = omega (arith, at, passed_within h (group id w c u), ap size is)
 
 module _ {N : Type 0} where
-  -- the place of what was searched for
-  pub record FoundPlace (id : ℕ) (f : Forest N N) (es found : List (Entry N)) : Type 0 where
-    pub within : length found ≤ length es
-    pub place : place_of id f ≡ Some (length es - length found)
-
-  pub place_absent : (id : ℕ) (es : List (Entry N)) (f : Forest N N) → es ≡ flat 0 f → length (from_id id es) ≡ 0 → place_of id f ≡ None
-  place_absent id es f flat_is h = from (standing id f) where
-    h_flat : length (from_id id (flat 0 f)) ≡ 0
-    h_flat = ap (λ x. length (from_id id x)) (sym flat_is) ∙ h
-
-    from : Standing id f → place_of id f ≡ None
-    from (nowhere n) = place_of-nowhere id f n
-    from (at_leaf g w u is fresh) = absurd (omega (arith, h_flat, ap length (from_id-leaf id f g w u is fresh)))
-    from (at_group g w c u is fresh) = absurd (omega (arith, h_flat, ap length (from_id-group id f g w c u is fresh)))
-
-  pub place_found : (id : ℕ) (es : List (Entry N)) (f : Forest N N) → es ≡ flat 0 f → (length (from_id id es) ≡ 0 → ⊥) → FoundPlace id f es (from_id id es)
-  place_found id es f flat_is some = from (standing id f) where
-    found_is : from_id id es ≡ from_id id (flat 0 f)
-    found_is = ap (from_id id) flat_is
-
-    made : (h : Hole N N) (x : Forest N N) → f ≡ plug h x → place_of id (plug h x) ≡ Some (passed h) → from_id id (flat 0 f) ≡ flat (0 + depth h) x ++ back 0 h → FoundPlace id f es (from_id id es)
-    made h x is place searched =
-        let found : length (from_id id es) ≡ length (flat (0 + depth h) x ++ back 0 h) = ap length (found_is ∙ searched) in
-        let all : length es ≡ passed h + length (flat (0 + depth h) x ++ back 0 h) =
-        ap length (flat_is ∙ (ap (flat 0) is ∙ flat-plug 0 h x)) ∙ omega (arith, length-append (front 0 h) (flat (0 + depth h) x ++ back 0 h), length-front 0 h) in
-        let at : passed h ≡ length es - length (from_id id es) = omega (arith, found, all) in
-        record { within = omega (arith, found, all); place = ap (place_of id) is ∙ (place ∙ ap Some at) }
-
-    from : Standing id f → FoundPlace id f es (from_id id es)
-    from (nowhere n) = absurd (some (ap length (found_is ∙ from_id-nowhere id f n)))
-    from (at_leaf h w u is fresh) =
-        made h (leaf id w u) is (place_of-plug id h (leaf id w u) fresh (place_of-leaf id w u))
-        (ap (λ x. from_id id (flat 0 x)) is ∙ from_id-plug id 0 h (leaf id w u) (entry_of (0 + depth h) id false w) (flat (0 + depth h) u ++ back 0 h) fresh refl (eq-eqb id id refl))
-    from (at_group h w c u is fresh) =
-        made h (group id w c u) is (place_of-plug id h (group id w c u) fresh (place_of-group id w c u))
-        (ap (λ x. from_id id (flat 0 x)) is ∙ from_id-plug id 0 h (group id w c u) (entry_of (0 + depth h) id true w) ((flat (suc (0 + depth h)) c ++ flat (0 + depth h) u) ++ back 0 h) fresh refl (eq-eqb id id refl))
-
   -- the entry at the place, with another node in it
   abbrev pub rewritten : Entry N → N → Entry N
   rewritten e w = record { id = e.id; level = e.level; group = e.group; node = w }

@@ -1,8 +1,8 @@
 -- A node that is put last in a group.
-use Rattle.std.proofs.Common.{◌≡◌, ℕ, ◌+◌, ◌<◌, ◌≤◌, max, Bool, true, false, List, [], ◌∷◌, length, refl, sym, ◌∙◌, ap, arith}
+use Rattle.std.proofs.Common.{◌≡◌, ℕ, ◌+◌, ◌<◌, ◌≤◌, Bool, true, false, List, [], ◌∷◌, length, refl, sym, ◌∙◌, ap, arith}
 use Rattle.std.specs.Prelude.{Option, Some, None, option_map}
 use Rattle.std.specs.List.{insert}
-use Rattle.spec_forest.specs.Forest.{Forest, none, leaf, group, size, levels}
+use Rattle.spec_forest.specs.Forest.{Forest, none, size, levels}
 use Rattle.spec_forest.specs.Changes.{put_last}
 use Rattle.spec_forest.specs.Holes.{Hole, plug, depth, passed}
 use Rattle.spec_forest.proofs.Holes.{hole_last, plug-hole_last, depth-hole_last, put_last-hole, size-plug, levels-plug, passed_within}
@@ -10,7 +10,7 @@ use Rattle.xl_tree.specs.declared.entries.Entry.{Entry}
 use Rattle.xl_tree.specs.Flat.{flat, forest_of}
 use Rattle.xl_tree.specs.Kept.{AreSiblings}
 use Rattle.xl_tree.specs.Places.{end_at, alone}
-use Rattle.xl_tree.proofs.Flat.{length-flat, forest_of_is}
+use Rattle.xl_tree.proofs.Flat.{forest_of_is}
 use Rattle.xl_tree.proofs.FlatHoles.{entry_of, insert-plug}
 use Rattle.xl_tree.proofs.Paths.{end_at-hole}
 use Rattle.xl_tree.proofs.Taken.{siblings}

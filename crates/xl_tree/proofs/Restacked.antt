@@ -1,13 +1,12 @@
 -- A node that moves from one stack to another.
-use Rattle.std.proofs.Common.{◌≡◌, ℕ, ◌+◌, ◌-◌, ◌<◌, ◌≤◌, Bool, true, false, cond, eqb, nat_eq, List, [], ◌∷◌, ◌++◌, length, map, take, drop, refl, sym, ◌∙◌, subst, ap, eq-eqb, arith, length-append}
+use Rattle.std.proofs.Common.{◌≡◌, ℕ, ◌+◌, ◌-◌, ◌≤◌, Bool, true, false, cond, eqb, nat_eq, List, [], ◌∷◌, ◌++◌, length, map, take, drop, refl, sym, ◌∙◌, subst, ap, arith, length-append}
 use Rattle.std.proofs.lemmas.Bool.{eqb-false, ne_eqb}
 use Rattle.std.specs.Result.{IsErrAnd}
 use Rattle.xl_tree.specs.declared.naming.NodeId.{NodeId}
 use Rattle.std.specs.Prelude.{Option, Some, None, Result, Ok, Err, option_map, unwrap_or, ◌||◌}
 use Rattle.std.specs.List.{IsDistinct, list_any}
-use Rattle.spec_forest.specs.Forest.{Forest, none, leaf, group, size, levels, ids, Found, nothing, a_leaf, a_group, or_else, find, ancestors}
-use Rattle.spec_forest.specs.Changes.{above, put_into, without, branch_of}
-use Rattle.spec_forest.specs.Holes.{Hole, plug, depth, passed}
+use Rattle.spec_forest.specs.Forest.{Forest, leaf, group, size, levels, ids, Found, nothing, a_leaf, a_group, or_else, find, ancestors}
+use Rattle.spec_forest.specs.Changes.{above, without, branch_of}
 use Rattle.spec_forest.proofs.Holes.{passed_within, size-plug, depth_below_levels}
 use Rattle.spec_forest.proofs.Distinct.{lone_leaf, lone_group, without-at_leaf, without-at_group, distinct-plug, fewer_under}
 use Rattle.spec_forest.proofs.Outside.{kind, kind-plug, above_inside}
@@ -21,7 +20,7 @@ use Rattle.xl_tree.specs.Places.{place_of, first_some}
 use Rattle.xl_tree.specs.Refusals.{no_node, no_stack, no_group, bad_place, put_refusal, stands_in, inside, restack_refusal, answer_of}
 use Rattle.xl_tree.proofs.Flat.{length-flat, forest_of_is, size-forest_of}
 use Rattle.xl_tree.proofs.Placed.{Spot, a_leaf_at, a_group_at, spot}
-use Rattle.xl_tree.proofs.Moved.{Removal, TakenOut, Taken, Parts, parts, parked_within, size-above}
+use Rattle.xl_tree.proofs.Moved.{Taken, parts, size-above}
 use Rattle.xl_tree.proofs.Shifted.{shallow-flat}
 
 or_false : (a b : Bool) → (a || b) ≡ false → (a ≡ false) × (b ≡ false)

@@ -1,9 +1,9 @@
 -- The first entry with an id, and where its node stands.
-use Rattle.std.proofs.Common.{◌≡◌, ℕ, suc, ◌+◌, ◌<◌, ◌≤◌, Bool, true, false, cond, eqb, nat_lt, List, [], ◌∷◌, ◌++◌, length, get_or, take, drop, refl, sym, ◌∙◌, subst, ap, arith, eq-eqb}
+use Rattle.std.proofs.Common.{◌≡◌, ℕ, suc, ◌+◌, ◌<◌, ◌≤◌, Bool, true, false, cond, eqb, nat_lt, List, [], ◌∷◌, ◌++◌, length, get_or, take, drop, refl, sym, ◌∙◌, ap, arith, eq-eqb}
 use Rattle.std.proofs.lemmas.Bool.{ne_eqb}
 use Rattle.std.proofs.lemmas.Bool.Decides.{nat_tests}
 use Rattle.std.proofs.lemmas.List.{drop_more, drop_all, append_assoc, append-nil, take_at}
-use Rattle.std.specs.Prelude.{Option, Some, None}
+use Rattle.std.specs.Prelude.{Some}
 use Rattle.spec_forest.specs.Forest.{Forest, none, leaf, group, size, levels, Found, nothing, a_leaf, a_group, or_else, find, children_of, stack_at}
 use Rattle.spec_forest.specs.Holes.{Hole, here, under_leaf, under_group, in_group, plug, depth}
 use Rattle.spec_forest.proofs.Holes.{depth_below_levels, passed_within}

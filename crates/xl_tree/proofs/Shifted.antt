@@ -1,8 +1,7 @@
 -- Entries that were moved to another level.
-use Rattle.std.proofs.Common.{◌≡◌, ℕ, zero, suc, ◌+◌, ◌-◌, ◌<◌, ◌≤◌, max, Bool, true, false, List, [], ◌∷◌, ◌++◌, length, get_or, set, map, take, drop, reverse, refl, sym, ◌∙◌, subst, ap, arith, length-append}
-use Rattle.std.specs.List.{AllByRecursion}
-use Rattle.std.proofs.lemmas.List.{map-append, get_or_at, set_at, drop_more, take_more, map_more, length-map, length-take-le, append_assoc, get_or-take}
-use Rattle.spec_forest.specs.Forest.{Forest, none, leaf, group, size, levels}
+use Rattle.std.proofs.Common.{◌≡◌, ℕ, zero, suc, ◌+◌, ◌-◌, ◌<◌, ◌≤◌, Bool, true, false, List, [], ◌∷◌, ◌++◌, length, get_or, set, map, take, drop, refl, sym, ◌∙◌, ap, arith}
+use Rattle.std.proofs.lemmas.List.{map-append, get_or_at, set_at, drop_more, map_more, length-map, length-take-le, append_assoc, get_or-take}
+use Rattle.spec_forest.specs.Forest.{Forest, none, leaf, group, levels}
 use Rattle.xl_tree.specs.declared.entries.Entry.{Entry}
 use Rattle.xl_tree.specs.Flat.{flat}
 use Rattle.xl_tree.specs.Moves.{shifted, AreShallow}

@@ -1,20 +1,20 @@
 -- The nodes of a stack among the entries, and the slot at a place of it.
-use Rattle.std.proofs.Common.{◌≡◌, ℕ, zero, suc, ◌+◌, ◌-◌, ◌<◌, ◌≤◌, Bool, true, false, cond, eqb, nat_eq, nat_le, List, [], ◌∷◌, ◌++◌, length, take, refl, sym, ◌∙◌, subst, ap, eq-eqb, arith, length-append}
+use Rattle.std.proofs.Common.{◌≡◌, ℕ, suc, ◌+◌, ◌-◌, true, false, cond, nat_eq, List, ◌∷◌, ◌++◌, length, take, refl, sym, ◌∙◌, subst, ap, eq-eqb, arith, length-append}
 use Rattle.std.proofs.lemmas.Bool.{ne_eqb}
-use Rattle.std.specs.Prelude.{Option, Some, None, option_map, unwrap_or}
+use Rattle.std.specs.Prelude.{Some, None, option_map, unwrap_or}
 use Rattle.xl_tree.specs.Places.{first_some}
 use Rattle.std.specs.List.{IsDistinct}
-use Rattle.spec_forest.specs.Forest.{Forest, none, leaf, group, size, levels, count, ids, nothing, a_leaf, a_group, find, stack_at, children_of}
-use Rattle.spec_forest.specs.Changes.{above, put_at, put_into, with_children}
-use Rattle.spec_forest.specs.Holes.{Hole, here, under_leaf, under_group, in_group, plug, depth, passed, from_place}
+use Rattle.spec_forest.specs.Forest.{Forest, group, size, count, ids, find, stack_at, children_of}
+use Rattle.spec_forest.specs.Changes.{above, put_at, with_children}
+use Rattle.spec_forest.specs.Holes.{Hole, here, in_group, plug, depth, passed, from_place}
 use Rattle.spec_forest.proofs.Holes.{into, plug-into, depth-into, passed-into, hole_at, plug-hole_at, depth-hole_at, passed-hole_at, put_at-hole}
-use Rattle.spec_forest.proofs.Standing.{Fresh, Standing, nowhere, at_leaf, at_group, standing, find-at_group}
+use Rattle.spec_forest.proofs.Standing.{Standing, nowhere, at_leaf, at_group, standing, find-at_group}
 use Rattle.spec_forest.proofs.Distinct.{lone_group, with_children-at_group}
 use Rattle.xl_tree.specs.declared.entries.Entry.{Entry}
 use Rattle.xl_tree.specs.Flat.{flat, below, forest_of, from_id}
 use Rattle.xl_tree.specs.Kept.{AreSiblings}
-use Rattle.xl_tree.specs.Refusals.{no_stack, no_group, past, put_refusal, bad_place, count_at}
-use Rattle.xl_tree.specs.Slots.{IsStackAt, IsSlot, with_stack}
+use Rattle.xl_tree.specs.Refusals.{no_stack, no_group, past, put_refusal, bad_place}
+use Rattle.xl_tree.specs.Slots.{IsStackAt, IsSlot}
 use Rattle.xl_tree.proofs.FlatHoles.{entry_of, front, back, flat-plug, length-front}
 use Rattle.xl_tree.proofs.Search.{from_id-nowhere, from_id-leaf, from_id-group, found_group}
 

@@ -1,5 +1,5 @@
 -- A stack taken apart at its first entry.
-use Rattle.std.proofs.Common.{◌≡◌, ℕ, suc, ◌+◌, ◌≤◌, max, Bool, true, false, List, [], ◌∷◌, ◌++◌, length, take, drop, refl, sym, subst, ◌∙◌, ap, arith}
+use Rattle.std.proofs.Common.{◌≡◌, ℕ, suc, ◌+◌, ◌≤◌, true, false, List, ◌∷◌, ◌++◌, length, take, drop, sym, subst, ◌∙◌, ap, arith}
 use Rattle.spec_forest.specs.Forest.{Forest, none, leaf, group, size, levels}
 use Rattle.xl_tree.specs.declared.entries.Entry.{Entry}
 use Rattle.xl_tree.specs.Flat.{flat, below, forest_of}

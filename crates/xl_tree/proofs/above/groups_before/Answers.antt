@@ -1,4 +1,4 @@
-use Rattle.std.proofs.Common.{ℕ, ◌++◌, ◌-◌, take, sym, ◌∙◌, ap, arith, map, length}
+use Rattle.std.proofs.Common.{◌++◌, ◌-◌, take, ◌∙◌, ap, arith, map, length}
 use Rattle.std.proofs.lemmas.List.{map_push, length_push}
 use Rattle.xl_tree.specs.declared.naming.NodeId.{NodeId}
 use Rattle.xl_tree.specs.Above.{groups_before}

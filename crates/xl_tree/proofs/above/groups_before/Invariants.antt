@@ -1,4 +1,4 @@
-use Rattle.std.proofs.Common.{◌≡◌, ℕ, ◌+◌, ◌≤◌, ◌++◌, length, map, take}
+use Rattle.std.proofs.Common.{◌≡◌, ◌+◌, ◌≤◌, ◌++◌, length, map, take}
 use Rattle.xl_tree.specs.Above.{groups_before}
 use Rattle.xl_tree.proofs.above.groups_before.Given as goal
 

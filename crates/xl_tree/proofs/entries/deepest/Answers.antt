@@ -1,4 +1,4 @@
-use Rattle.std.proofs.Common.{sym, ◌∙◌, arith}
+use Rattle.std.proofs.Common.{arith}
 use Rattle.xl_tree.proofs.Deepest.{deepest_step, deepest_end}
 use Rattle.xl_tree.proofs.entries.deepest.Goals as goal
 

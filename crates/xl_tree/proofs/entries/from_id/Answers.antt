@@ -1,4 +1,4 @@
-use Rattle.std.proofs.Common.{sym, ◌∙◌, arith}
+use Rattle.std.proofs.Common.{sym, ◌∙◌}
 use Rattle.std.proofs.lemmas.List.{take_rest}
 use Rattle.xl_tree.proofs.Search.{from_id_more, from_id_stop, from_id_end}
 use Rattle.xl_tree.proofs.entries.from_id.Goals as goal

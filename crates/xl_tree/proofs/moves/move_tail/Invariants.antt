@@ -1,4 +1,4 @@
-use Rattle.std.proofs.Common.{◌≡◌, ◌+◌, ◌≤◌, ◌++◌, length, reverse}
+use Rattle.std.proofs.Common.{◌≡◌, ◌≤◌, ◌++◌, length, reverse}
 use Rattle.std.specs.Vec.{vec_capacity}
 use Rattle.xl_tree.proofs.moves.move_tail.Given as goal
 

@@ -1,4 +1,4 @@
-use Rattle.std.proofs.Common.{◌≡◌, ℕ, ◌+◌, get_or, sym, ◌∙◌, ap, arith}
+use Rattle.std.proofs.Common.{ℕ, ◌+◌, get_or, sym, ◌∙◌, ap, arith}
 use Rattle.xl_tree.specs.declared.entries.Entry.{Entry}
 use Rattle.xl_tree.specs.Moves.{shifted}
 use Rattle.xl_tree.proofs.Shifted.{shift_more, shift_fits}

@@ -1,4 +1,4 @@
-use Rattle.std.proofs.Common.{◌≡◌, ◌++◌, length, map, take, drop}
+use Rattle.std.proofs.Common.{◌≡◌, ◌++◌, map, take, drop}
 use Rattle.xl_tree.specs.Moves.{shifted}
 use Rattle.xl_tree.proofs.moves.shift_front.Given as goal
 

@@ -1,6 +1,6 @@
 use Rattle.std.proofs.Common.{◌≡◌, ◌+◌, ◌-◌, get_or, sym, ◌∙◌, ap, arith}
 use Rattle.spec_forest.specs.Forest.{size}
-use Rattle.xl_tree.proofs.Paths.{end_more, end_past, end_in_leaf, passed_within_rest, size-from_place}
+use Rattle.xl_tree.proofs.Paths.{end_more, end_past, end_in_leaf, size-from_place}
 use Rattle.xl_tree.proofs.places.end_at.Goals as goal
 
 pub returns-in-Empty : goal.returns-in-Empty

@@ -1,4 +1,4 @@
-use Rattle.std.proofs.Common.{sym, ◌∙◌, ap, arith}
+use Rattle.std.proofs.Common.{sym, ◌∙◌, arith}
 use Rattle.xl_tree.proofs.Paths.{from_place_past, from_place_under_leaf, from_place_under_group}
 use Rattle.xl_tree.proofs.places.from_place.Goals as goal
 use Rattle.xl_tree.proofs.places.from_place.Goals.{in-Leaf, in-Group}

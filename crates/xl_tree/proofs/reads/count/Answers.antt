@@ -1,4 +1,4 @@
-use Rattle.std.proofs.Common.{sym, ◌∙◌, ap, arith}
+use Rattle.std.proofs.Common.{ap, arith}
 use Rattle.spec_forest.specs.Forest.{size, count}
 use Rattle.xl_tree.proofs.reads.count.Goals as goal
 use Rattle.xl_tree.proofs.reads.count.Goals.{in-Leaf, in-Group}

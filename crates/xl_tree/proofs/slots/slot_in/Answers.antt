@@ -1,4 +1,4 @@
-use Rattle.std.proofs.Common.{refl, sym, ◌∙◌, ap, arith}
+use Rattle.std.proofs.Common.{ap, arith}
 use Rattle.spec_forest.specs.Forest.{size}
 use Rattle.spec_forest.proofs.Holes.{passed_within}
 use Rattle.xl_tree.specs.Flat.{forest_of}

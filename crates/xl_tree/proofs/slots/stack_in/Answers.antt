@@ -1,4 +1,4 @@
-use Rattle.std.proofs.Common.{refl, sym, ◌∙◌, ap, arith, take, length}
+use Rattle.std.proofs.Common.{refl, sym, ◌∙◌, ap, arith, take}
 use Rattle.std.proofs.lemmas.List.{nil_from_length}
 use Rattle.xl_tree.specs.Flat.{forest_of}
 use Rattle.xl_tree.specs.Refusals.{no_group}

@@ -1,4 +1,4 @@
-use Rattle.std.proofs.Common.{◌≡◌, ℕ, ◌-◌, [], take, length, sym, ◌∙◌, ap, arith, map}
+use Rattle.std.proofs.Common.{◌-◌, take, length, sym, ◌∙◌, ap, arith, map}
 use Rattle.std.proofs.lemmas.List.{nil_from_length}
 use Rattle.xl_tree.specs.declared.naming.NodeId.{NodeId}
 use Rattle.xl_tree.specs.Flat.{flat, from_id}

@@ -1,7 +1,5 @@
-use Rattle.std.proofs.Common.{refl, sym, ◌∙◌, ap, arith, take, rules}
+use Rattle.std.proofs.Common.{refl, sym, ◌∙◌, ap, arith, take}
 use Rattle.std.proofs.lemmas.List.{nil_from_length}
-use Rattle.xl_tree.specs.Flat.{flat, from_id, forest_of}
-use Rattle.xl_tree.specs.Reads.{IsFound}
 use Rattle.xl_tree.proofs.Flat.{size-forest_of, forest_of-flat}
 use Rattle.xl_tree.proofs.Search.{found_none, found_leaf, found_group, is_found_leaf, is_found_group}
 use Rattle.xl_tree.proofs.forest.Tree.found.Goals as goal

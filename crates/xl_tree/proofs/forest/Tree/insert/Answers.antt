@@ -1,9 +1,7 @@
-use Rattle.std.proofs.Common.{◌≡◌, ℕ, ◌≤◌, length, sym, ◌∙◌, subst, ap, arith, None}
+use Rattle.std.proofs.Common.{length, sym, ◌∙◌, ap, arith}
 use Rattle.std.specs.List.{insert}
-use Rattle.spec_forest.specs.Forest.{size, levels}
-use Rattle.spec_forest.specs.Changes.{put_into}
+use Rattle.spec_forest.specs.Forest.{size}
 use Rattle.xl_tree.specs.Flat.{flat, forest_of}
-use Rattle.xl_tree.specs.Places.{alone}
 use Rattle.xl_tree.specs.Refusals.{put_refusal}
 use Rattle.xl_tree.proofs.Flat.{size-forest_of}
 use Rattle.xl_tree.proofs.FlatHoles.{entry_of}

@@ -1,4 +1,4 @@
-use Rattle.std.proofs.Common.{◌≡◌, ◌+◌, length, sym, ◌∙◌, ap, arith, Some}
+use Rattle.std.proofs.Common.{◌≡◌, length, sym, ◌∙◌, ap, arith, Some}
 use Rattle.std.specs.Prelude.{is_some}
 use Rattle.spec_forest.specs.Forest.{none, size}
 use Rattle.spec_forest.specs.Changes.{put_last}

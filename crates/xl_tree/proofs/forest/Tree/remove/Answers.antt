@@ -1,4 +1,4 @@
-use Rattle.std.proofs.Common.{length, sym, ◌∙◌, ap, arith}
+use Rattle.std.proofs.Common.{length, sym, ap, arith}
 use Rattle.spec_forest.specs.Forest.{size}
 use Rattle.xl_tree.specs.Refusals.{answer_of}
 use Rattle.xl_tree.proofs.Flat.{size-forest_of}

@@ -1,4 +1,4 @@
-use Rattle.std.proofs.Common.{sym, ◌∙◌, ap, refl, rules}
+use Rattle.std.proofs.Common.{◌∙◌, ap, refl}
 use Rattle.std.specs.List.{list_any}
 use Rattle.xl_tree.proofs.Restacked.{stands_above}
 use Rattle.xl_tree.proofs.forest.Tree.stands_in.Goals as goal

@@ -1,4 +1,4 @@
-use Rattle.std.proofs.Common.{sym, ◌∙◌, ap}
+use Rattle.std.proofs.Common.{ap}
 use Rattle.spec_forest.specs.Forest.{size}
 use Rattle.xl_tree.proofs.Taken.{parted}
 use Rattle.xl_tree.proofs.stacks.Stack.split.Goals as goal
