@@ -5,7 +5,7 @@ use Rattle.std.proofs.lemmas.Bool.{leb-true, ltb-true, false≢true}
 use Rattle.std.proofs.lemmas.Int.{ints}
 use Rattle.spec_grid.specs.declared.Rect.{Rect}
 use Rattle.spec_grid.specs.Rect.{has_point, part_above_0}
-use Rattle.spec_document.specs.Plane.{Plane, byte_at, plane_of}
+use Rattle.spec_document.specs.Plane.{byte_at, plane_of}
 use Rattle.spec_document.specs.Document.{Document}
 use Rattle.spec_document.proofs.PlaneLemmas.{byte_at-plane_of, length-plane_of}
 use Rattle.spec_document.proofs.SamePlane.{plane-ext}
@@ -13,7 +13,7 @@ use Rattle.spec_edit.specs.Effect.{selected, mixed, replaced, through}
 use Rattle.spec_edit.specs.Refusal.{is_indexed}
 use Rattle.xl_doc.specs.Sheet.{Sheet}
 use Rattle.xl_tiles.specs.Written.{IsWithin, from_edge, written}
-use Rattle.xl_edit.specs.Filling.{AreRows, byte_in, filled_byte, weight}
+use Rattle.xl_edit.specs.Filling.{AreRows, byte_in, filled_byte}
 use Rattle.xl_edit.proofs.Weights.{weighed}
 
 -- planes of bytes that agree within the sides are one
