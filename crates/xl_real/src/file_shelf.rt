@@ -1,4 +1,5 @@
-ghost use Rattle.std.specs.Prelude.{◌≤◌, None, IsSome, IfOk, length, option_map, string_bytes};
+ghost use Rattle.std.specs.Prelude.{◌≡◌, ◌≤◌, None, Some, IsSome, IfOk, OnOk, OnErr, length, option_map, string_bytes};
+ghost use Rattle.xl_ports.specs.Faults.{HasCause};
 
 use std::fs::File;
 use std::io;
@@ -16,7 +17,11 @@ pub struct FileShelf {
 }
 
 impl FileShelf {
-    pub fn new(rt: &HostRuntime) -> Self {
+    pub fn new(rt: &HostRuntime) -> Self
+        ensures name { result.name ≡ None }
+        ensures file { result.file ≡ None }
+        ensures faults { result.reading_faults ≡ 0 }
+    {
         FileShelf {
             rt: *rt,
             name: None,
@@ -33,7 +38,12 @@ impl Shelf for FileShelf {
 
     ghost reading_faults = { λ s. s.reading_faults };
 
-    fn select(&mut self, name: &str) -> Result<(), Failed> {
+    fn select(&mut self, name: &str) -> Result<(), Failed>
+        ensures selected { OnOk result (option_map string_bytes self.new.name ≡ Some name.now) }
+        ensures anew { OnOk result (self.new.file ≡ None) }
+        ensures as_before { OnErr result ((self.new.name ≡ self.old.name) × (self.new.file ≡ self.old.file)) }
+        ensures cause { HasCause self.old.reading_faults self.new.reading_faults result }
+    {
         match String::from_str(self.rt.alloc(), name) {
             Ok(name) => {
                 self.name = Some(name);

@@ -1,4 +1,4 @@
-ghost use Rattle.std.specs.Prelude.{None};
+ghost use Rattle.std.specs.Prelude.{◌≡◌, None};
 
 use std::io::{Print, Stdout};
 use xl_ports::{Failed, Sink};
@@ -11,7 +11,9 @@ pub struct StdSink {
 }
 
 impl StdSink {
-    pub fn new(rt: &HostRuntime) -> Self {
+    pub fn new(rt: &HostRuntime) -> Self
+        ensures { result.faults ≡ 0 }
+    {
         StdSink {
             out: rt.stdout(),
             faults: 0,

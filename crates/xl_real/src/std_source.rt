@@ -1,4 +1,4 @@
-ghost use Rattle.std.specs.Prelude.{None};
+ghost use Rattle.std.specs.Prelude.{◌≡◌, None};
 
 use std::io::{Read, Stdin};
 use xl_ports::{Failed, Source};
@@ -11,7 +11,9 @@ pub struct StdSource {
 }
 
 impl StdSource {
-    pub fn new(rt: &HostRuntime) -> Self {
+    pub fn new(rt: &HostRuntime) -> Self
+        ensures { result.faults ≡ 0 }
+    {
         StdSource {
             input: rt.stdin(),
             faults: 0,

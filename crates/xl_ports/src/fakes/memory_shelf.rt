@@ -76,6 +76,7 @@ impl Shelf for MemoryShelf {
         ensures cause { HasCause self.old.calls.faults self.new.calls.faults result }
         ensures fails { NextFails self.old.calls → IsErr result }
         ensures starved { OnErr result (NextFails self.old.calls ⊎ Rose self.old.starved self.new.starved) }
+        ensures not_starved { OnOk result (self.new.starved ≡ self.old.starved) }
         ensures calls { self.new.calls ≡ with_call (is_err result) self.old.calls }
     {
         let failed = self.calls.next_fails();
@@ -100,6 +101,7 @@ impl Shelf for MemoryShelf {
         ensures cause { HasCause self.old.calls.faults self.new.calls.faults result }
         ensures fails { NextFails self.old.calls → IsErr result }
         ensures absent { OnErr result (NextFails self.old.calls ⊎ (shown self.old ≡ Some absent)) }
+        ensures not_starved { self.new.starved ≡ self.old.starved }
         ensures calls { self.new.calls ≡ with_call (is_err result) self.old.calls }
     {
         let failed = self.calls.next_fails();

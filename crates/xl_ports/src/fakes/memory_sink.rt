@@ -1,4 +1,4 @@
-ghost use Rattle.std.specs.Prelude.{◌≡◌, ◌⊎◌, ◌<◌, ◌≤◌, ◌++◌, [], Some, length, take, IfOk, OnErr, IsErr, is_err};
+ghost use Rattle.std.specs.Prelude.{◌≡◌, ◌⊎◌, ◌<◌, ◌≤◌, ◌++◌, [], Some, length, take, IfOk, OnOk, OnErr, IsErr, is_err};
 ghost use Rattle.xl_ports.specs.Faults.{HasCause, Rose};
 ghost use Rattle.xl_ports.specs.Fakes.{NextFails, with_call, no_calls};
 
@@ -71,6 +71,8 @@ impl Sink for MemorySink {
         ensures fails { NextFails self.old.calls → IsErr result }
         ensures starved { OnErr result (NextFails self.old.calls ⊎ Rose self.old.starved self.new.starved) }
         ensures step { IfOk result (λ k. k ≤ self.old.step) }
+        ensures same_step { self.new.step ≡ self.old.step }
+        ensures not_starved { OnOk result (self.new.starved ≡ self.old.starved) }
         ensures calls { self.new.calls ≡ with_call (is_err result) self.old.calls }
     {
         let failed = self.calls.next_fails();

@@ -55,6 +55,7 @@ impl Source for MemorySource {
         ensures cause { HasCause self.old.calls.faults self.new.calls.faults result }
         ensures fails { IsErr result ↔ NextFails self.old.calls }
         ensures step { IfOk result (λ k. k ≤ self.old.step) }
+        ensures same_step { self.new.step ≡ self.old.step }
         ensures calls { self.new.calls ≡ with_call (is_err result) self.old.calls }
     {
         let failed = self.calls.next_fails();
