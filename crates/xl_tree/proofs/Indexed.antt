@@ -44,15 +44,15 @@ module _ {N : Type 0} where
   place_in-append id [] ys = sym (mapped_none (place_in id ys))
   place_in-append id (e ∷ xs) ys =
       by_case (eqb id e.id) (place_in-append id xs ys) ∙ counted where
-    counted : first_some (place_in id (e ∷ xs)) (option_map (λ k. 1 + length xs + k) (place_in id ys)) ≡ first_some (place_in id (e ∷ xs)) (option_map (λ k. length (e ∷ xs) + k) (place_in id ys))
-    counted = let more : 1 + length xs ≡ length (e ∷ xs) = omega arith in ap (λ n. first_some (place_in id (e ∷ xs)) (option_map (λ k. n + k) (place_in id ys))) more
+        counted : first_some (place_in id (e ∷ xs)) (option_map (λ k. 1 + length xs + k) (place_in id ys)) ≡ first_some (place_in id (e ∷ xs)) (option_map (λ k. length (e ∷ xs) + k) (place_in id ys))
+        counted = let more : 1 + length xs ≡ length (e ∷ xs) = omega arith in ap (λ n. first_some (place_in id (e ∷ xs)) (option_map (λ k. n + k) (place_in id ys))) more
 
-    by_case : (b : Bool) → place_in id (xs ++ ys) ≡ first_some (place_in id xs) (option_map (λ k. length xs + k) (place_in id ys)) → cond b (Some 0) (option_map (λ k. 1 + k) (place_in id (xs ++ ys)))
-        ≡ first_some (cond b (Some 0) (option_map (λ k. 1 + k) (place_in id xs))) (option_map (λ k. 1 + length xs + k) (place_in id ys))
-    by_case true rest = refl
-    by_case false rest =
-        ap (option_map (λ k. 1 + k)) rest
-        ∙ (mapped_first (λ k. 1 + k) (place_in id xs) _ ∙ ap (first_some (option_map (λ k. 1 + k) (place_in id xs))) (mapped_more (length xs) (place_in id ys)))
+        by_case : (b : Bool) → place_in id (xs ++ ys) ≡ first_some (place_in id xs) (option_map (λ k. length xs + k) (place_in id ys)) → cond b (Some 0) (option_map (λ k. 1 + k) (place_in id (xs ++ ys)))
+            ≡ first_some (cond b (Some 0) (option_map (λ k. 1 + k) (place_in id xs))) (option_map (λ k. 1 + length xs + k) (place_in id ys))
+        by_case true rest = refl
+        by_case false rest =
+            ap (option_map (λ k. 1 + k)) rest
+            ∙ (mapped_first (λ k. 1 + k) (place_in id xs) _ ∙ ap (first_some (option_map (λ k. 1 + k) (place_in id xs))) (mapped_more (length xs) (place_in id ys)))
 
   -- among the entries of a forest, a node stands where it stands in the forest
   place_in-flat : (id level : ℕ) (f : Forest N N) → place_in id (flat level f) ≡ place_of id f
@@ -107,35 +107,35 @@ module _ {N : Type 0} where
       ap (place_in id) (take_more es i e h)
       ∙ (place_in-append id (take i es) (get_or es i e ∷ [])
       ∙ ap (first_some (place_in id (take i es))) ((λ j. option_map (λ k. length_take i es h j + k) (place_in id (sym is j ∷ []))) ∙ last (eqb id e.id))) where
-    length_take : (n : ℕ) (xs : List (Entry N)) → n < length xs → length (take n xs) ≡ n
-    length_take n xs k = search (rules)
+        length_take : (n : ℕ) (xs : List (Entry N)) → n < length xs → length (take n xs) ≡ n
+        length_take n xs k = search (rules)
 
-    last : (b : Bool) → option_map (λ k. i + k) (cond b (Some 0) (option_map (λ k. 1 + k) None)) ≡ cond b (Some i) None
-    last true = ap Some (omega arith)
-    last false = refl
+        last : (b : Bool) → option_map (λ k. i + k) (cond b (Some 0) (option_map (λ k. 1 + k) None)) ≡ cond b (Some i) None
+        last true = ap Some (omega arith)
+        last false = refl
 
   -- an entry whose id has no place yet gets the next one
   pub placed_new : (i : ℕ) (es : List (Entry N)) (e : Entry N) (old new : ℕ → Option ℕ) → i < length es → e ≡ get_or es i e → ((id : ℕ) → old id ≡ place_in id (take i es)) → is_some (old e.id) ≡ false → ((id : ℕ) → new id ≡ cond (eqb e.id id) (Some i) (old id)) → (id : ℕ) → new id ≡ place_in id (take (i + 1) es)
   placed_new i es e old new h is told absent put id =
       put id ∙ (by_case (eqb e.id id) refl ∙ sym (last_place id i es e h is)) where
-    by_case : (b : Bool) → eqb e.id id ≡ b → cond b (Some i) (old id) ≡ first_some (place_in id (take i es)) (cond (eqb id e.id) (Some i) None)
-    by_case true same =
-        let id_is : e.id ≡ id = eqb-true e.id id same in
-        let before : place_in id (take i es) ≡ None = sym (told id) ∙ (ap old (sym id_is) ∙ none_there (old e.id) absent) in
-        sym ((λ j. first_some (before j) (cond (eq-eqb id e.id (sym id_is) j) (Some i) None)))
-    by_case false other =
-        let differs : eqb id e.id ≡ false = grind (other, arith, nat_tests) in
-        told id ∙ sym (ap (λ b. first_some (place_in id (take i es)) (cond b (Some i) None)) differs ∙ first_some_none (place_in id (take i es)))
+        by_case : (b : Bool) → eqb e.id id ≡ b → cond b (Some i) (old id) ≡ first_some (place_in id (take i es)) (cond (eqb id e.id) (Some i) None)
+        by_case true same =
+            let id_is : e.id ≡ id = eqb-true e.id id same in
+            let before : place_in id (take i es) ≡ None = sym (told id) ∙ (ap old (sym id_is) ∙ none_there (old e.id) absent) in
+            sym ((λ j. first_some (before j) (cond (eq-eqb id e.id (sym id_is) j) (Some i) None)))
+        by_case false other =
+            let differs : eqb id e.id ≡ false = grind (other, arith, nat_tests) in
+            told id ∙ sym (ap (λ b. first_some (place_in id (take i es)) (cond b (Some i) None)) differs ∙ first_some_none (place_in id (take i es)))
 
   -- an entry whose id has a place changes none
   pub placed_old : (i : ℕ) (es : List (Entry N)) (e : Entry N) (old : ℕ → Option ℕ) → i < length es → e ≡ get_or es i e → ((id : ℕ) → old id ≡ place_in id (take i es)) → is_some (old e.id) ≡ true → (id : ℕ) → old id ≡ place_in id (take (i + 1) es)
   placed_old i es e old h is told there id =
       told id ∙ (by_case (eqb id e.id) refl ∙ sym (last_place id i es e h is)) where
-    by_case : (b : Bool) → eqb id e.id ≡ b → place_in id (take i es) ≡ first_some (place_in id (take i es)) (cond b (Some i) None)
-    by_case true same =
-        let id_is : id ≡ e.id = eqb-true id e.id same in
-        sym (first_there (place_in id (take i es)) (Some i) (ap is_some (sym (told id) ∙ ap old id_is) ∙ there))
-    by_case false other = sym (first_some_none (place_in id (take i es)))
+        by_case : (b : Bool) → eqb id e.id ≡ b → place_in id (take i es) ≡ first_some (place_in id (take i es)) (cond b (Some i) None)
+        by_case true same =
+            let id_is : id ≡ e.id = eqb-true id e.id same in
+            sym (first_there (place_in id (take i es)) (Some i) (ap is_some (sym (told id) ∙ ap old id_is) ∙ there))
+        by_case false other = sym (first_some_none (place_in id (take i es)))
 
   -- an index of entries is one of the same entries
   pub same_index : (index : Index) (xs es : List (Entry N)) → IsIndex index xs → xs ≡ es → IsIndex index es
