@@ -1,0 +1,27 @@
+-- The limits that a call keeps by its type, and those of a history.
+use Rattle.std.specs.Prelude.{ℕ, ◌^◌, ◌≤◌, List, length}
+use Rattle.std.specs.List.{AllByRecursion}
+use Rattle.spec_edit.specs.Edit.{Edit, IsEdit}
+use Rattle.spec_history.specs.Machine.{Call, edit, undo, redo, tile, peek, top}
+
+-- edits in a group
+abbrev pub most_edits : ℕ
+most_edits = 1024
+
+-- entries in a history
+abbrev pub most_entries : ℕ
+most_entries = 2 ^ 20
+
+-- a group has 1 to 1024 edits, each within its type
+pub record IsGroupOfEdits (edits : List Edit) : Type 0 where
+  pub some : 1 ≤ length edits
+  pub few : length edits ≤ most_edits
+  pub each : AllByRecursion IsEdit edits
+
+abbrev pub IsCall : Call → Type 0
+IsCall (edit guard edits) = IsGroupOfEdits edits
+IsCall (undo named) = Unit {0}
+IsCall redo = Unit {0}
+IsCall (tile stack at) = Unit {0}
+IsCall (peek stack at) = Unit {0}
+IsCall top = Unit {0}
