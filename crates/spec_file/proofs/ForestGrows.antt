@@ -7,29 +7,18 @@ use Rattle.std.proofs.lemmas.Bool.{ne_eqb}
 use Rattle.std.proofs.lemmas.Map.Keys.{IsDistinct-head, IsDistinct-tail, IsDistinct-cons}
 use Rattle.spec_forest.specs.Forest.{Forest, none, leaf, group, size, levels, ids}
 use Rattle.spec_forest.specs.Changes.{above, put_last}
+use Rattle.spec_forest.proofs.Distinct.{ids-above}
+use Rattle.spec_forest.proofs.Changed.{size-above, levels-above}
 
 module _ {L G : Type 0} where
   -- an option that was mapped to something
-  mapped : (f : Forest L G → Forest L G) (o : Option (Forest L G)) (new : Forest L G) → option_map f o ≡ Some new → (x : Forest L G) × (o ≡ Some x) × (f x ≡ new)
+  mapped : (f : Forest L G → Forest L G) (o : Option (Forest L G)) (new : Forest L G) → option_map f o ≡ Some new
+      → (x : Forest L G) × (o ≡ Some x) × (f x ≡ new)
   mapped f None new e = cc
   mapped f (Some x) new e = (x, refl, cc)
 
-  size-above : (a b : Forest L G) → size (above a b) ≡ size a + size b
-  size-above none b = omega arith
-  size-above (leaf id w u) b = omega (arith, size-above u b)
-  size-above (group id w c u) b = omega (arith, size-above u b)
-
-  levels-above : (a b : Forest L G) → levels (above a b) ≡ max (levels a) (levels b)
-  levels-above none b = omega arith
-  levels-above (leaf id w u) b = omega (arith, levels-above u b)
-  levels-above (group id w c u) b = omega (arith, levels-above u b)
-
-  ids-above : (a b : Forest L G) → ids (above a b) ≡ ids a ++ ids b
-  ids-above none b = refl
-  ids-above (leaf id w u) b = ap (λ xs. id ∷ xs) (ids-above u b)
-  ids-above (group id w c u) b = ap (λ xs. id ∷ xs) (ap (λ xs. ids c ++ xs) (ids-above u b) ∙ sym (append_assoc (ids c) (ids u) (ids b)))
-
-  pub size-put_last : (path : List ℕ) (branch old new : Forest L G) → put_last path branch old ≡ Some new → size new ≡ size old + size branch
+  pub size-put_last : (path : List ℕ) (branch old new : Forest L G) → put_last path branch old ≡ Some new
+      → size new ≡ size old + size branch
   size-put_last [] branch old new e = let is : above old branch ≡ new = cc in ap size (sym is) ∙ size-above old branch
   size-put_last (place ∷ path) branch none new e = cc
   size-put_last (zero ∷ path) branch (leaf id w u) new e = cc
@@ -40,7 +29,8 @@ module _ {L G : Type 0} where
   size-put_last (suc place ∷ path) branch (group id w c u) new e =
       let m = mapped (group id w c) (put_last (place ∷ path) branch u) new e in ap size (sym m.2) ∙ omega (arith, size-put_last (place ∷ path) branch u m.0 m.1)
 
-  pub levels-put_last : (path : List ℕ) (branch old new : Forest L G) → put_last path branch old ≡ Some new → levels new ≤ max (levels old) (length path + levels branch)
+  pub levels-put_last : (path : List ℕ) (branch old new : Forest L G) → put_last path branch old ≡ Some new
+      → levels new ≤ max (levels old) (length path + levels branch)
   levels-put_last [] branch old new e =
       let is : above old branch ≡ new = cc in omega (arith, ap levels is, levels-above old branch)
   levels-put_last (place ∷ path) branch none new e = cc
@@ -82,7 +72,8 @@ module _ {L G : Type 0} where
       )
 
 -- one more element among the others
-all_with : (P : ℕ → Type 0) (before after : List ℕ) (n : ℕ) → AllByRecursion P (before ++ after) → P n → AllByRecursion P (before ++ (n ∷ after))
+all_with : (P : ℕ → Type 0) (before after : List ℕ) (n : ℕ) → AllByRecursion P (before ++ after) → P n
+    → AllByRecursion P (before ++ (n ∷ after))
 all_with P [] after n h p = (p, h)
 all_with P (x ∷ before) after n h p = (h.0, all_with P before after n h.1 p)
 
@@ -96,7 +87,8 @@ all_other : (n : ℕ) (xs : List ℕ) → AllByRecursion (λ x. x < n) xs → Al
 all_other n [] h = tt
 all_other n (x ∷ xs) h = (other_back n x h.0, all_other n xs h.1)
 
-distinct_with : (before after : List ℕ) (n : ℕ) → IsDistinct nat_eq (before ++ after) → AllByRecursion (λ x. x < n) (before ++ after) → IsDistinct nat_eq (before ++ (n ∷ after))
+distinct_with : (before after : List ℕ) (n : ℕ) → IsDistinct nat_eq (before ++ after)
+    → AllByRecursion (λ x. x < n) (before ++ after) → IsDistinct nat_eq (before ++ (n ∷ after))
 distinct_with [] after n d h = IsDistinct-cons nat_eq n after (all_other n after h) d
 distinct_with (x ∷ before) after n d h =
     IsDistinct-cons nat_eq x (before ++ (n ∷ after))
@@ -116,7 +108,8 @@ below_next : (n : ℕ) (xs : List ℕ) → AllByRecursion (λ id. (1 ≤ id) × 
 below_next n [] h = tt
 below_next n (x ∷ xs) h = (omega (arith, h.0.1), below_next n xs h.1)
 
-up_to_next : (n : ℕ) (xs : List ℕ) → AllByRecursion (λ id. (1 ≤ id) × (id ≤ n)) xs → AllByRecursion (λ id. (1 ≤ id) × (id ≤ n + 1)) xs
+up_to_next : (n : ℕ) (xs : List ℕ) → AllByRecursion (λ id. (1 ≤ id) × (id ≤ n)) xs
+    → AllByRecursion (λ id. (1 ≤ id) × (id ≤ n + 1)) xs
 up_to_next n [] h = tt
 up_to_next n (x ∷ xs) h = ((h.0.0, omega (arith, h.0.1)), up_to_next n xs h.1)
 

@@ -9,6 +9,7 @@ use Rattle.spec_document.specs.declared.Owner.TheVariants as owners
 use Rattle.spec_document.specs.Document.{Document, Nodes, Channel}
 use Rattle.spec_document.specs.Limits.{AreBytes, IsSide, IsLayer, IsGroup, IsChannelIfAny, MayHaveGroups, AreNodes}
 use Rattle.spec_document.specs.Limits as limits
+use Rattle.spec_document.proofs.NodesChanged.{are-above}
 use Rattle.spec_props.proofs.Within.{stand, opacity_within, x_within, y_within, kept_within}
 use Rattle.spec_file.specs.Header.{is_indexed}
 use Rattle.spec_file.specs.Placing.{path_to}
@@ -17,18 +18,14 @@ use Rattle.spec_file.specs.Holds.{HasHead, HasMaskIfAny, Places, AddsGroup, Adds
 use Rattle.spec_file.proofs.NamesWithin.{name_within}
 use Rattle.spec_file.proofs.ForestGrows.{size-put_last, levels-put_last, ids-put_last, AreUpTo, next_among}
 
-are_above : (base : Base) (a b : Nodes) → AreNodes base a → AreNodes base b → AreNodes base (above a b)
-are_above base none b p q = q
-are_above base (leaf id w u) b p q = (p.0, are_above base u b p.1 q)
-are_above base (group id w c u) b p q = (p.0, (p.1.0, are_above base u b p.1.1 q))
-
 mapped : (f : Nodes → Nodes) (o : Option Nodes) (new : Nodes) → option_map f o ≡ Some new → (x : Nodes) × (o ≡ Some x) × (f x ≡ new)
 mapped f None new e = cc
 mapped f (Some x) new e = (x, refl, cc)
 
-are_put : (base : Base) (path : List ℕ) (branch old new : Nodes) → AreNodes base branch → AreNodes base old → put_last path branch old ≡ Some new → AreNodes base new
+are_put : (base : Base) (path : List ℕ) (branch old new : Nodes) → AreNodes base branch → AreNodes base old
+    → put_last path branch old ≡ Some new → AreNodes base new
 are_put base [] branch old new b p e =
-    let is : above old branch ≡ new = cc in subst (AreNodes base) is (are_above base old branch p b)
+    let is : above old branch ≡ new = cc in subst (AreNodes base) is (are-above base old branch p b)
 are_put base (place ∷ path) branch none new b p e = cc
 are_put base (zero ∷ path) branch (leaf id w u) new b p e = cc
 are_put base (zero ∷ path) branch (group id w c u) new b p e =
@@ -60,7 +57,8 @@ record IsSingle (id : ℕ) (base : Base) (branch : Nodes) : Type 0 where
   ids_is : ids branch ≡ id ∷ []
   is : AreNodes base branch
 
-places_grown : (old : Document) (h : Head) (branch : Nodes) (new : Document) → length (path_to h.props.list) < 8 → IsSingle (1 + size old.nodes) old.base branch → IsGrown old
+places_grown : (old : Document) (h : Head) (branch : Nodes) (new : Document) → length (path_to h.props.list) < 8
+    → IsSingle (1 + size old.nodes) old.base branch → IsGrown old
     → Places old h branch new → GrowsTo 1 old new
 places_grown old h branch new short single g (nodes, put, is) =
     let path = path_to h.props.list in
@@ -79,7 +77,8 @@ places_grown old h branch new short single g (nodes, put, is) =
       count = count;
     })
 
-mask_within : (file : List ℕ) (pointer width height compression : ℕ) (mask : Option Channel) → AreBytes file → HasMaskIfAny file pointer width height compression mask
+mask_within : (file : List ℕ) (pointer width height compression : ℕ) (mask : Option Channel) → AreBytes file
+    → HasMaskIfAny file pointer width height compression mask
     → IsChannelIfAny owners.Mask width height mask
 mask_within file pointer width height compression None all h = tt
 mask_within file pointer width height compression (Some m) all (some, h) = record {
@@ -88,7 +87,8 @@ mask_within file pointer width height compression (Some m) all (some, h) = recor
   plane = h.plane_is;
 }
 
-layer_within : (file : List ℕ) (at : ℕ) (old : Document) (h : Head) (new : Document) → AreBytes file → HasHead file at old h → (a : AddsLayer file old h new) → IsLayer old.base (layer_of h a.plane a.mask)
+layer_within : (file : List ℕ) (at : ℕ) (old : Document) (h : Head) (new : Document) → AreBytes file → HasHead file at old h
+    → (a : AddsLayer file old h new) → IsLayer old.base (layer_of h a.plane a.mask)
 layer_within file at old h new all head a =
     let list = stand file owners.Layer h.text.next h.props.list h.props.end head.props.follow in
     let wide : h.width ≡ a.plane.width = sym a.plane_is.width_is in
@@ -120,7 +120,8 @@ may_have Rgb e = tt
 may_have Grey e = tt
 may_have Indexed e = cc
 
-node_by : (file : List ℕ) (at : ℕ) (old : Document) (h : Head) (new : Document) (b : Bool) → AreBytes file → HasHead file at old h → length (path_to h.props.list) < 8 → IsGrown old
+node_by : (file : List ℕ) (at : ℕ) (old : Document) (h : Head) (new : Document) (b : Bool) → AreBytes file
+    → HasHead file at old h → length (path_to h.props.list) < 8 → IsGrown old
     → MatchBool b (AddsGroup old h new) (AddsLayer file old h new) → GrowsTo 1 old new
 node_by file at old h new true all head short g a =
     places_grown old h (group (1 + size old.nodes) (group_of h) none none) new short
@@ -129,7 +130,8 @@ node_by file at old h new false all head short g a =
     places_grown old h (leaf (1 + size old.nodes) (layer_of h a.plane a.mask) none) new short
     (record { size_is = omega arith; levels_is = omega arith; ids_is = refl; is = (layer_within file at old h new all head a, tt) }) g a.places
 
-pub nodes_within : (file : List ℕ) (pointers : List ℕ) (at : ℕ) (old new : Document) → AreBytes file → IsGrown old → AddNodes file at pointers old new → GrowsTo (length pointers) old new
+pub nodes_within : (file : List ℕ) (pointers : List ℕ) (at : ℕ) (old new : Document) → AreBytes file → IsGrown old
+    → AddNodes file at pointers old new → GrowsTo (length pointers) old new
 nodes_within file [] at old new all g a =
     subst (GrowsTo 0 old) (sym a.1) (record { grown = g; same = refl; count = omega arith })
 nodes_within file (pointer ∷ pointers) at old new all g (word, some, (mid, node, rest)) =

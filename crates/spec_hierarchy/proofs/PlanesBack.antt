@@ -16,8 +16,8 @@ use Rattle.spec_fields.specs.Field.{bytes_at, HasWord, HasBytes}
 use Rattle.spec_fields.proofs.Back.{bind_back, wants_back}
 use Rattle.spec_fields.proofs.All.{all_append, all_at, all_flat_map, all_map}
 use Rattle.spec_fields.proofs.FieldsBack.{word_first, has_bytes, length-bytes_at, bytes_below}
-use Rattle.spec_plane.specs.Reading.{plane_at}
-use Rattle.spec_plane.proofs.SpelledBack.{spelled_has, spelled_below}
+use Rattle.spec_rle.specs.Reading.{plane_at}
+use Rattle.spec_rle.proofs.SpelledBack.{spelled_has, spelled_below}
 use Rattle.spec_hierarchy.specs.Tiles.{tile_width, tile_height, interleaved, plane_of_tiles}
 use Rattle.spec_hierarchy.specs.Reading.{same_word_at, pointer_at, plain_at, spelled_at, tile_at, tiles_at, hierarchy_at}
 use Rattle.spec_hierarchy.specs.Holds.{HasSpelled, IsSpelledTile, HasTile, HaveTiles, HasPlane}
@@ -82,7 +82,7 @@ interleaved_below n planes h = all_flat_map (λ b. b < 256) (λ k. map (λ plane
     each k [] h = tt
     each k (p ∷ ps) h = (all_at (λ b. b < 256) p k 0 h.0 (omega arith), each k ps h.1)
 
-tile_has : (file : List ℕ) (at n bpp compression : ℕ) (tile : List ℕ) → AreBytes file → 0 < n → tile_at file at n bpp compression ≡ Ok tile → HasSome file at n bpp compression tile
+pub tile_has : (file : List ℕ) (at n bpp compression : ℕ) (tile : List ℕ) → AreBytes file → 0 < n → tile_at file at n bpp compression ≡ Ok tile → HasSome file at n bpp compression tile
 unfolding tile_at
 tile_has file at n bpp compression tile all some e = by (compression == 0) refl e
   where

@@ -4,7 +4,7 @@ use Rattle.spec_grid.specs.declared.TileAt.{TileAt}
 use Rattle.spec_grid.specs.Grid.{all_tiles}
 use Rattle.spec_fields.specs.declared.Kind.TheVariants.{Truncated, BadHierarchy}
 use Rattle.spec_fields.specs.Reading.{fault}
-use Rattle.spec_plane.specs.Reading.{codes_at, code_at}
+use Rattle.spec_rle.specs.Reading.{codes_at, code_at}
 use Rattle.spec_hierarchy.specs.Tiles.{tile_width}
 use Rattle.spec_hierarchy.specs.Reading.{plain_at, spelled_at, tile_at, tiles_at, hierarchy_at}
 

@@ -11,9 +11,10 @@ use Rattle.spec_fields.proofs.Steps.{chosen_true, chosen_false}
 use Rattle.spec_fields.proofs.Back.{bind_back, wants_back}
 use Rattle.spec_fields.proofs.All.{all_append, all_replicate}
 use Rattle.spec_fields.proofs.FieldsBack.{length-bytes_at, has_bytes, has_both, byte_below, bytes_below}
-use Rattle.spec_plane.specs.Codes.{Code, short_run, long_run, long_literal, short_literal, IsCode, code_bytes, code_pixels, EndsWithBytes, Spells}
-use Rattle.spec_plane.specs.Reading.{Head, head_of, body_length, body_pixels, Part, code_at, codes_at, plane_at}
-use Rattle.spec_plane.proofs.Spelled.{Fits, part_of}
+use Rattle.spec_rle.specs.Codes.{Code, short_run, long_run, long_literal, short_literal, IsCode, code_bytes, code_pixels, EndsWithBytes, Spells}
+use Rattle.spec_rle.specs.Reading.{Head, head_of, body_length, body_pixels, Part, code_at, codes_at, plane_at}
+use Rattle.spec_rle.specs.Standing.{IsSpelledAt}
+use Rattle.spec_rle.proofs.Spelled.{Fits, part_of, spelled_is}
 
 -- a byte before bytes
 has_byte : (file : List ℕ) (at b : ℕ) (bytes : List ℕ) → at < length file → slice_index file at ≡ b → HasBytes file (at + 1) bytes → HasBytes file at (b ∷ bytes)
@@ -231,15 +232,7 @@ begins_within (suc budget) file at (suc room) part all some e =
     let a = bind_back (code_at file at (suc budget) (suc room)) _ part e in
     omega (arith, (fits_back file at (suc budget) (suc room) a.0 a.1).starts)
 
--- a spelling stands at the offset, and spells n bytes
-pub record HasPart (file : List ℕ) (at n : ℕ) (part : Part) : Type 0 where
-  pub bytes : List ℕ
-  pub spells : Spells bytes part.pixels
-  pub full : length part.pixels ≡ n
-  pub has : HasBytes file at bytes
-  pub next : part.next ≡ at + length bytes
-
-pub spelled_has : (file : List ℕ) (at n : ℕ) (part : Part) → AllByRecursion (λ b. b < 256) file → 0 < n → plane_at file at n ≡ Ok part → HasPart file at n part
+pub spelled_has : (file : List ℕ) (at n : ℕ) (part : Part) → AllByRecursion (λ b. b < 256) file → 0 < n → plane_at file at n ≡ Ok part → IsSpelledAt file at n part
 spelled_has file at n part all some e =
     let h = codes_has 8192 file at n part all e in
     record {
@@ -249,6 +242,11 @@ spelled_has file at n part all some e =
       has = h.bytes (begins_within 8192 file at n part all some e);
       next = h.next;
     }
+
+-- it is read where it stands
+pub spelled_read : (file : List ℕ) (at n : ℕ) (part : Part) → IsSpelledAt file at n part → plane_at file at n ≡ Ok part
+spelled_read file at n part h =
+    ap (plane_at file at) (sym h.full) ∙ (spelled_is file at h.bytes part.pixels h.spells h.has ∙ (λ i. Ok (record { pixels = part.pixels; next = sym h.next i })))
 
 code_pixels_below : (c : Code) → IsCode c → AllByRecursion (λ b. b < 256) (code_pixels c)
 code_pixels_below (short_run n v) p = all_replicate (λ b. b < 256) n v p.2

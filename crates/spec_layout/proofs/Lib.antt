@@ -1,0 +1,5 @@
+pub mod Following
+pub mod AnyCoder
+pub mod OnePlain
+mod Rows
+mod WholeRows

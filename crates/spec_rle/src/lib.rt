@@ -1,0 +1,19 @@
+//! A plane of bytes spelled by run-length codes.
+#![tactic(auto)]
+
+ghost use Rattle.std.specs.Prelude.{◌≡◌, ◌↔◌, ℕ, ◌<◌, List, Ok};
+ghost use Rattle.std.specs.List.{AllByRecursion};
+ghost use Rattle.spec_rle.specs.Codes.{Spells};
+ghost use Rattle.spec_rle.specs.Reading.{Part, plane_at};
+ghost use Rattle.spec_rle.specs.Standing.{IsSpelledAt};
+
+/// A spelling spells one plane of a length.
+pub fn spells_one_plane()
+    ensures { (bytes a b : List ℕ) → Spells bytes a → Spells bytes b → a ≡ b }
+{}
+
+/// A plane is read from an offset of a file exactly where the bytes from there to the next offset are a spelling of it.
+pub fn planes_are_read_where_they_are_spelled()
+    ensures { (file : List ℕ) (at n : ℕ) (part : Part) → AllByRecursion (λ b. b < 256) file → 0 < n
+        → (plane_at file at n ≡ Ok part) ↔ IsSpelledAt file at n part }
+{}
