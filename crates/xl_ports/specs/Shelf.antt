@@ -6,6 +6,11 @@ pub data Content : Type 0 where
   absent : Content
   file : List ℕ → Content
 
+-- there is a file
+abbrev pub IsFile : Content → Type 0
+IsFile absent = ⊥
+IsFile (file bytes) = Unit {0}
+
 -- what the selected name stands for
 abbrev pub selected_content : (selected : Option (List ℕ)) → (content : List ℕ → Option Content) → Option Content
 selected_content None content = None

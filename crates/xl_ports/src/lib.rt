@@ -1,20 +1,17 @@
 //! The outside as the engine sees it: a source of bytes, a sink for bytes, and a shelf of files.
 //!
 //! Each is a trait with a count of its faults, so that whoever calls it can say that a failure was the outside's.
-//! What it holds is told where the implementation knows it, as the fakes in memory do. Here are also the loops over
+//! What it holds is known where the implementation says so, as those in memory do. Here are also the loops over
 //! these calls that take all the bytes.
 #![tactic(auto)]
 
 mod failed;
-pub mod fakes;
 mod loading;
 mod reading;
 mod room;
 mod shelf;
 mod sink;
 mod source;
-#[cfg(test)]
-mod tests;
 mod writing;
 
 pub use failed::{Failed, FailedOrMemory};

@@ -6,7 +6,7 @@ use crate::failed::Failed;
 
 /// A place for bytes outside.
 pub trait Sink {
-    /// The bytes taken so far, where they are told.
+    /// The bytes taken so far, where they are known.
     ghost held: { Self → Option (List ℕ) };
 
     /// How often it has failed. It never falls.

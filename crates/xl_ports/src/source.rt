@@ -6,7 +6,7 @@ use crate::failed::Failed;
 
 /// Bytes that come from outside.
 pub trait Source {
-    /// The bytes not yet given, where they are told.
+    /// The bytes not yet given, where they are known.
     ghost left: { Self → Option (List ℕ) };
 
     /// How often it has failed. It never falls.

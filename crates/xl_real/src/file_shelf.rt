@@ -1,56 +1,116 @@
-ghost use Rattle.std.specs.Prelude.{◌≡◌, ◌≤◌, None, Some, IsSome, IfOk, OnOk, OnErr, length, option_map, string_bytes};
+ghost use Rattle.std.specs.Prelude.{◌≡◌, ◌≤◌, None, Some, IsSome, is_some, is_ok, false, true, refl, IfOk, OnOk, OnErr, length, option_map, string_bytes};
 ghost use Rattle.xl_ports.specs.Faults.{HasCause};
 
+use crate::drafts::{discard_draft, new_draft, rename_draft};
+use crate::places::{folder_of, place_of};
 use std::fs::File;
 use std::io;
+use std::io::Write;
 use std::os::unix::fs::FileExt;
 use xl_ports::{Failed, Shelf};
 
-/// The files of the system by their paths. What is in them is not told.
+/// The files of the system by their paths. What is in them is not known to contracts.
+///
+/// A name is the path of its file. Where that is a symbolic link, the file is the one that the link names, through as
+/// many as 40 links, and the links stay. They are followed by `select` alone. The draft stands beside the file, under
+/// its path with `.draft` behind it.
+///
+/// - `select` reads links, and answers `Failed` where a link cannot be followed.
+/// - `load` opens the file once and reads at the offset that is asked for.
+/// - `draft_new` removes an older draft, makes a new one that must not be there, and gives it the permission bits of the
+///   file, where there is one.
+/// - `draft_add` writes, and `draft_sync` syncs the draft.
+/// - `swap_in` renames the draft over the file.
+/// - `settle` syncs the file's folder.
+///
+/// A call on the draft that fails removes the draft, where that can be done, so that none is left.
 #[derive(Drop)]
 pub struct FileShelf {
     rt: HostRuntime,
     name: Option<String>,
-    // The file of the name, from the first load on.
+    // Where the file of the name is.
+    place: String,
+    // That file, from the first load on.
     file: Option<File>,
+    draft: Option<File>,
     reading_faults: u64,
+    saving_faults: u64,
 }
 
 impl FileShelf {
+    /// A shelf with no name selected and no fault counted.
     pub fn new(rt: &HostRuntime) -> Self
         ensures name { result.name ≡ None }
         ensures file { result.file ≡ None }
-        ensures faults { result.reading_faults ≡ 0 }
+        ensures draft { result.draft ≡ None }
+        ensures reading { result.reading_faults ≡ 0 }
+        ensures saving { result.saving_faults ≡ 0 }
     {
         FileShelf {
             rt: *rt,
             name: None,
+            place: String::new(rt.alloc()),
             file: None,
+            draft: None,
             reading_faults: 0,
+            saving_faults: 0,
         }
+    }
+
+    // Counts a fault where a call that saves failed.
+    fn conclude(&mut self, done: io::Result<()>) -> Result<(), Failed>
+        ensures name { self.new.name ≡ self.old.name }
+        ensures draft { self.new.draft ≡ self.old.draft }
+        ensures reading { self.new.reading_faults ≡ self.old.reading_faults }
+        ensures cause { HasCause self.old.saving_faults self.new.saving_faults result }
+        ensures ok { is_ok result ≡ is_ok done }
+    {
+        if done.is_err() {
+            self.saving_faults = self.saving_faults.saturating_add(1);
+            return Err(Failed);
+        }
+        Ok(())
+    }
+
+    // The same of a call on the draft, which is removed where that call failed.
+    fn conclude_draft(&mut self, done: io::Result<()>) -> Result<(), Failed>
+        ensures name { self.new.name ≡ self.old.name }
+        ensures draft { self.new.draft ≡ self.old.draft }
+        ensures reading { self.new.reading_faults ≡ self.old.reading_faults }
+        ensures cause { HasCause self.old.saving_faults self.new.saving_faults result }
+        ensures ok { is_ok result ≡ is_ok done }
+    {
+        if done.is_err() {
+            discard_draft(&self.rt, &self.place);
+        }
+        self.conclude(done)
     }
 }
 
 impl Shelf for FileShelf {
     ghost selected = { λ s. option_map string_bytes s.name };
 
+    ghost is_open = { λ s. is_some s.draft };
+
     ghost content = { λ s name. None };
+
+    ghost disk = { λ s. None };
 
     ghost reading_faults = { λ s. s.reading_faults };
 
-    fn select(&mut self, name: &str) -> Result<(), Failed>
-        ensures selected { OnOk result (option_map string_bytes self.new.name ≡ Some name.now) }
-        ensures anew { OnOk result (self.new.file ≡ None) }
-        ensures as_before { OnErr result ((self.new.name ≡ self.old.name) × (self.new.file ≡ self.old.file)) }
-        ensures cause { HasCause self.old.reading_faults self.new.reading_faults result }
-    {
-        match String::from_str(self.rt.alloc(), name) {
-            Ok(name) => {
+    ghost saving_faults = { λ s. s.saving_faults };
+
+    fn select(&mut self, name: &str) -> Result<(), Failed> {
+        let place = place_of(&self.rt, name);
+        match (place, String::from_str(self.rt.alloc(), name)) {
+            (Ok(place), Ok(name)) => {
                 self.name = Some(name);
+                self.place = place;
                 self.file = None;
+                self.draft = None;
                 Ok(())
             }
-            Err(_) => {
+            _ => {
                 self.reading_faults = self.reading_faults.saturating_add(1);
                 Err(Failed)
             }
@@ -58,8 +118,7 @@ impl Shelf for FileShelf {
     }
 
     fn load(&mut self, at: u64, buf: &mut [u8]) -> Result<usize, Failed> {
-        let name = self.name.as_ref().unwrap().as_str();
-        match load_at(&self.rt, name, &mut self.file, at, buf) {
+        match load_at(&self.rt, &self.place, &mut self.file, at, buf) {
             Ok(given) => Ok(given),
             Err(_) => {
                 self.reading_faults = self.reading_faults.saturating_add(1);
@@ -67,12 +126,51 @@ impl Shelf for FileShelf {
             }
         }
     }
+
+    fn draft_new(&mut self) -> Result<(), Failed> {
+        self.draft = None;
+        let done = match new_draft(&self.rt, &self.place) {
+            Ok(draft) => {
+                self.draft = Some(draft);
+                Ok(())
+            }
+            Err(error) => Err(error),
+        };
+        self.conclude(done)
+    }
+
+    fn draft_add(&mut self, bytes: &[u8]) -> Result<(), Failed> {
+        let mut draft = self.draft.take().unwrap();
+        let done = draft.write_all(bytes);
+        self.draft = Some(draft);
+        self.conclude_draft(done)
+    }
+
+    fn draft_sync(&mut self) -> Result<(), Failed> {
+        let done = self.draft.as_ref().unwrap().sync_all();
+        self.conclude_draft(done)
+    }
+
+    fn swap_in(&mut self) -> Result<(), Failed> {
+        self.draft = None;
+        // What was open is the old file.
+        self.file = None;
+        let done = rename_draft(&self.rt, &self.place);
+        self.conclude_draft(done)
+    }
+
+    fn settle(&mut self) -> Result<(), Failed> {
+        let done = sync_folder(&self.rt, &self.place);
+        self.conclude(done)
+    }
+
+    ghost reads = { λ s name. refl };
 }
 
 // Reads at an offset of the file, which is opened first where it is not open.
 fn load_at(
     rt: &HostRuntime,
-    name: &str,
+    place: &str,
     file: &mut Option<File>,
     at: u64,
     buf: &mut [u8],
@@ -81,9 +179,14 @@ fn load_at(
 {
     let open = match file.take() {
         Some(open) => open,
-        None => File::open(rt, name)?,
+        None => File::open(rt, place)?,
     };
     let given = open.read_at(buf, at);
     *file = Some(open);
     given
+}
+
+// Brings the names in the file's folder to the disk.
+fn sync_folder(rt: &HostRuntime, place: &str) -> io::Result<()> {
+    File::open(rt, folder_of(place))?.sync_all()
 }

@@ -1,9 +1,11 @@
 //! The real devices: standard input, standard output, and files by their paths.
 //!
-//! They count their faults and tell nothing of contents, so what they hold is not proved.
+//! They count their faults. What they hold is not known to contracts, and nothing of it is proved.
 #![tactic(auto)]
 
+mod drafts;
 mod file_shelf;
+mod places;
 mod std_sink;
 mod std_source;
 

@@ -1,0 +1,91 @@
+// What the calls of a shelf in memory do to its parts.
+ghost use Rattle.std.specs.Prelude.{◌≡◌, ◌⊎◌, ◌++◌, ◌∷◌, [], Some, true, false, OnOk, OnErr, is_err};
+ghost use Rattle.xl_ports.specs.Faults.{HasCause, Rose};
+ghost use Rattle.xl_fakes.specs.Fakes.{CountsStarved};
+ghost use Rattle.xl_fakes.specs.Calls.{with_reading, with_saving};
+ghost use Rattle.xl_fakes.specs.Kept.{Notes};
+
+use crate::kept::Kept;
+use crate::settled::Settled;
+use crate::shelf_calls::ShelfCalls;
+use std::alloc::{AllocError, Global};
+use xl_ports::Failed;
+
+/// Records a call that lets nothing go.
+pub fn note(log: &mut Vec<Option<Settled>>) -> Result<(), AllocError>
+    ensures ok { OnOk result (Notes log.old.items log.new.items) }
+    ensures err { OnErr result (log.new.items ≡ log.old.items) }
+{
+    log.push(None)?;
+    Ok(())
+}
+
+/// Lets all go but what a read gives, and records that.
+pub fn settle_kept(
+    alloc: Global,
+    kept: &mut Kept,
+    log: &mut Vec<Option<Settled>>,
+) -> Result<(), AllocError>
+    ensures kept { OnOk result (kept.new ≡ record { name = kept.old.name; read = kept.old.read; others = [] }) }
+    ensures log { OnOk result (log.new.items ≡ log.old.items ++ Some (record { name = kept.old.name; gone = kept.old.others }) ∷ []) }
+    ensures kept_err { OnErr result (kept.new ≡ kept.old) }
+    ensures log_err { OnErr result (log.new.items ≡ log.old.items) }
+{
+    let name = String::from_str(alloc, kept.name())?;
+    log.reserve(1)?;
+    let gone = kept.settle(alloc)?;
+    log.push_reserved(Some(Settled::new(name, gone)));
+    Ok(())
+}
+
+/// Counts a call that reads, and answers for it.
+pub fn conclude_reading(
+    calls: &mut ShelfCalls,
+    starved: &mut u64,
+    failed: bool,
+    is_starved: bool,
+) -> Result<(), Failed>
+    ensures ok { OnOk result ((failed ≡ false) × (is_starved ≡ false)) }
+    ensures err { OnErr result ((failed ≡ true) ⊎ (is_starved ≡ true)) }
+    ensures calls { calls.new ≡ with_reading (is_err result) calls.old }
+    ensures rose { is_starved ≡ true → Rose starved.old starved.new }
+    ensures not_starved { is_starved ≡ false → starved.new ≡ starved.old }
+    ensures counted { CountsStarved starved.old starved.new }
+    ensures cause { HasCause calls.old.reading calls.new.reading result }
+{
+    if is_starved {
+        *starved = starved.saturating_add(1);
+    }
+    if failed || is_starved {
+        calls.count_reading(true);
+        return Err(Failed);
+    }
+    calls.count_reading(false);
+    Ok(())
+}
+
+/// Counts a call that saves, and answers for it.
+pub fn conclude_saving(
+    calls: &mut ShelfCalls,
+    starved: &mut u64,
+    failed: bool,
+    is_starved: bool,
+) -> Result<(), Failed>
+    ensures ok { OnOk result ((failed ≡ false) × (is_starved ≡ false)) }
+    ensures err { OnErr result ((failed ≡ true) ⊎ (is_starved ≡ true)) }
+    ensures calls { calls.new ≡ with_saving (is_err result) calls.old }
+    ensures rose { is_starved ≡ true → Rose starved.old starved.new }
+    ensures not_starved { is_starved ≡ false → starved.new ≡ starved.old }
+    ensures counted { CountsStarved starved.old starved.new }
+    ensures cause { HasCause calls.old.saving calls.new.saving result }
+{
+    if is_starved {
+        *starved = starved.saturating_add(1);
+    }
+    if failed || is_starved {
+        calls.count_saving(true);
+        return Err(Failed);
+    }
+    calls.count_saving(false);
+    Ok(())
+}
