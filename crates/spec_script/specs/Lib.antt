@@ -1,4 +1,6 @@
 pub mod Words
 pub mod Commands
-pub mod Built
+pub mod Served
 pub mod Script
+pub mod Limits
+pub mod First

@@ -1,5 +1,5 @@
 -- A script: the lines of each session, or the first line that is refused.
-use Rattle.std.specs.Prelude.{ℕ, suc, ◌+◌, ◌^◌, Bool, true, false, ◌&&◌, not, ◌==◌, nat_lt, nat_le, if◌then◌else◌, List, [], ◌∷◌, ◌++◌, length, map, take, count_by, Option, Some, None, option_map, Result, Ok, Err, slice_get, unwrap_or}
+use Rattle.std.specs.Prelude.{ℕ, suc, ◌+◌, ◌^◌, Bool, true, false, ◌&&◌, not, ◌==◌, min, nat_lt, nat_le, if◌then◌else◌, List, [], ◌∷◌, ◌++◌, length, map, take, count_by, Option, Some, None, option_map, Result, Ok, Err, slice_get, unwrap_or}
 use Rattle.spec_grid.specs.Rect.{count_from}
 use Rattle.std.specs.List.{list_any}
 use Rattle.spec_edit.specs.Edit as edits
@@ -8,8 +8,8 @@ use Rattle.spec_edit.specs.Effect.{changed_at}
 use Rattle.spec_history.specs.Machine as machine
 use Rattle.spec_history.specs.Machine.{Call}
 use Rattle.spec_script.specs.Words.{◌>>=◌, if_holds, lines_of, words_of}
-use Rattle.spec_script.specs.Commands.{Command, an_edit, begins, ends, a_call, saves, forgets, command_of}
-use Rattle.spec_script.specs.Built.{is_built}
+use Rattle.spec_script.specs.Commands.{Command, Asked, an_edit, begins, ends, a_call, saves, forgets, command_of}
+use Rattle.spec_script.specs.Served.{is_served}
 
 -- what a session does, line by line
 pub data Line : Type 0 where
@@ -62,7 +62,7 @@ take_outside number s ends = None
 take_outside number s (a_call c) = add_line s (call c)
 take_outside number s saves = add_line s save
 take_outside number s (forgets slot) =
-    if has_filter s slot then takes (record s { lines = s.lines ++ forget slot ∷ []; dropped = slot ∷ s.dropped }) 0 else None
+    if has_filter s slot then takes (record s { lines = s.lines ++ forget slot ∷ []; dropped = s.dropped ++ slot ∷ [] }) 0 else None
 
 -- a command inside a group: only its edits, up to 1024 of them, and its end after at least one
 abbrev pub take_inside : Open → Session → Command → Option Taken
@@ -87,34 +87,37 @@ abbrev pub is_skipped : List ℕ → Bool
 is_skipped [] = true
 is_skipped (b ∷ bytes) = b == 35
 
--- what the words of a line ask for, done
-abbrev pub take_asked : (number : ℕ) → List (List ℕ) → Parsed → Option Parsed
-take_asked number words p = do
-  asked ← command_of words
+-- what a line asks for, done
+abbrev pub take_by : (number : ℕ) → Asked → Parsed → Option Parsed
+take_by number asked p = do
   session ← slice_get p.sessions asked.session
   taken ← take_command number session session.open_group asked.command
   put_session p asked.session taken
 
--- one line that is not skipped
-abbrev pub take_words : (number : ℕ) → List ℕ → Parsed → Option Parsed
-take_words number line p = if_holds (is_built (words_of line)) (words_of line) >>= λ words. take_asked number words p
+-- what is not served is refused
+abbrev pub take_asked : (serves : Asked → Bool) (number : ℕ) → List (List ℕ) → Parsed → Option Parsed
+take_asked serves number words p = do
+  asked ← command_of words
+  served ← if_holds (serves asked) asked
+  take_by number served p
 
-abbrev pub take_line : (number : ℕ) → List ℕ → Parsed → Option Parsed
-take_line number line p = let taken = take_words number line p in if is_skipped line then Some p else taken
+-- one line
+abbrev pub take_line : (serves : Asked → Bool) (number : ℕ) → List ℕ → Parsed → Option Parsed
+take_line serves number line p = let taken = take_asked serves number (words_of line) p in if is_skipped line then Some p else taken
 
 abbrev pub or_refused : {B : Type 0} → (number : ℕ) → Option Parsed → (Parsed → Result B ℕ) → Result B ℕ
 or_refused number None rest = Err number
 or_refused number (Some p) rest = rest p
 
 -- the lines from a number on; the first that is refused
-abbrev pub take_lines : (number : ℕ) → List (List ℕ) → Parsed → Result Parsed ℕ
-take_lines number [] p = Ok p
-take_lines number (line ∷ lines) p = or_refused number (take_line number line p) (λ q. take_lines (suc number) lines q)
+abbrev pub take_lines : (serves : Asked → Bool) (number : ℕ) → List (List ℕ) → Parsed → Result Parsed ℕ
+take_lines serves number [] p = Ok p
+take_lines serves number (line ∷ lines) p = or_refused number (take_line serves number line p) (λ q. take_lines serves (suc number) lines q)
 
 abbrev pub least : Option ℕ → Option ℕ → Option ℕ
 least None other = other
 least (Some a) None = Some a
-least (Some a) (Some b) = if nat_le a b then Some a else Some b
+least (Some a) (Some b) = Some (min a b)
 
 -- the least line of a begin that is never ended
 abbrev pub never_ended : List Session → Option ℕ
@@ -141,10 +144,18 @@ abbrev pub start : (chests : List ℕ) → Parsed
 start chests = record { sessions = map (λ s. blank (unwrap_or (slice_get chests s) 0)) (count_from 0 8); calls = 0 }
 
 -- The lines of each of the eight sessions, or the refused line. chests are the numbers of their filters.
-abbrev pub script : (text : List ℕ) → (chests : List ℕ) → Result (List (List Line)) ℕ
-script text chests =
-    let parsed = closed (take_lines 1 (lines_of text) (start chests)) in
+abbrev pub script_of : (serves : Asked → Bool) → (text : List ℕ) → (chests : List ℕ) → Result (List (List Line)) ℕ
+script_of serves text chests =
+    let parsed = closed (take_lines serves 1 (lines_of text) (start chests)) in
     if nat_le (length text) (2 ^ 24) then parsed else Err (line_of_byte text (2 ^ 24))
+
+-- the grammar with all its lines
+abbrev pub whole_script : (text : List ℕ) → (chests : List ℕ) → Result (List (List Line)) ℕ
+whole_script text chests = script_of (λ asked. true) text chests
+
+-- the grammar with the lines that are served so far
+abbrev pub script : (text : List ℕ) → (chests : List ℕ) → Result (List (List Line)) ℕ
+script text chests = script_of is_served text chests
 
 abbrev pub is_call : Line → Bool
 is_call (call c) = true

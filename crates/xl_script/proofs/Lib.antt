@@ -1,6 +1,8 @@
 pub mod Splits
 pub mod Decimals
 pub mod HexPairs
-pub mod Keywords
-pub mod Taking
-pub mod Few
+pub mod Looking
+pub mod Asking
+pub mod Steps
+pub mod Counted
+mod Built

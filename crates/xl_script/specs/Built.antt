@@ -1,17 +1,10 @@
--- The lines that are built.
+-- The lines that are served so far, as code.
 use Rattle.std.specs.Prelude.{◌≡◌, ◌≤◌, ◌^◌, List, [], ◌∷◌, length, replicate}
 use Rattle.std.specs.List.{AllByRecursion}
 use Rattle.xl_edit.specs.Built.{IsBuilt}
 use Rattle.xl_edit.specs.Calls.{call_of}
-use Rattle.xl_script.specs.declared.commands.Command.{Command}
-use Rattle.xl_script.specs.declared.commands.Command.TheVariants as commands
 use Rattle.xl_script.specs.declared.script.Line.{Line}
 use Rattle.xl_script.specs.declared.script.Line.TheVariants.{Call, Save, Forget}
-
--- an edit, or a call that is built
-abbrev pub IsBuiltCommand : Command → Type 0
-IsBuiltCommand (commands.Edit edit) = Unit {0}
-IsBuiltCommand (commands.Call call) = IsBuilt (call_of call)
 
 -- a call that is built
 abbrev pub IsBuiltLine : Line → Type 0

@@ -2,13 +2,22 @@
 #![tactic(auto)]
 
 mod bad_line;
+mod calls;
+mod command;
 mod commands;
 mod digits;
+mod fields;
+mod keywords;
 mod numbers;
+mod painting;
 mod parsing;
 mod printing;
 mod script;
+mod served;
+mod session;
+mod sessions;
 mod splitting;
+mod structure;
 mod words;
 
 pub use bad_line::{BadLine, BadLineOrMemory};

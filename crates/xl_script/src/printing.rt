@@ -1,10 +1,10 @@
-ghost use Rattle.std.specs.Prelude.{◌≡◌, ◌++◌, OnOk, string_bytes};
+ghost use Rattle.std.specs.Prelude.{◌≡◌, ◌++◌, IfOk, OnOk, OnErr, string_bytes};
 ghost use Rattle.spec_text.specs.Printed.{refusal_number, refusal_value, refusal_text, or_none, reply_text, line_text, order_word, order_line};
 ghost use Rattle.xl_edit.specs.Replies.{reply_of};
 ghost use Rattle.xl_script.specs.Printed.{HasText};
 
 use spec_text::OrderWord;
-use std::alloc::AllocError;
+use std::alloc::{AllocError, Global};
 use xl_edit::{EditRefused, Reply};
 
 fn number_of(cause: EditRefused) -> u32
@@ -114,8 +114,27 @@ fn print_text(out: &mut String, reply: &Reply, digest: &str) -> Result<(), Alloc
     }
 }
 
+// The line of a call.
+fn reply_line(
+    alloc: Global,
+    session: u8,
+    index: u32,
+    reply: &Reply,
+    digest: &str,
+) -> Result<String, AllocError>
+    requires { HasText reply.now }
+    ensures { IfOk result (λ line. string_bytes line ≡ line_text session index digest.now (reply_of reply.now)) }
+{
+    let mut line = String::new(alloc);
+    write!(line, "{session}.{index} ")?;
+    print_text(&mut line, reply, digest)?;
+    line.push('\n')?;
+    Ok(line)
+}
+
 /// Appends the line of a call. The digest is that of the tile, where the reply is one.
 pub fn print_reply(
+    alloc: Global,
     out: &mut String,
     session: u8,
     index: u32,
@@ -123,11 +142,11 @@ pub fn print_reply(
     digest: &str,
 ) -> Result<(), AllocError>
     requires { HasText reply.now }
-    ensures { OnOk result (string_bytes out.new ≡ string_bytes out.old ++ line_text session index digest.now (reply_of reply.now)) }
+    ensures ok { OnOk result (string_bytes out.new ≡ string_bytes out.old ++ line_text session index digest.now (reply_of reply.now)) }
+    ensures err { OnErr result (string_bytes out.new ≡ string_bytes out.old) }
 {
-    write!(out, "{session}.{index} ")?;
-    print_text(out, reply, digest)?;
-    out.push('\n')
+    let line = reply_line(alloc, session, index, reply, digest)?;
+    out.push_str(line.as_str())
 }
 
 fn print_word(out: &mut String, word: OrderWord) -> Result<(), AllocError>
@@ -142,13 +161,24 @@ fn print_word(out: &mut String, word: OrderWord) -> Result<(), AllocError>
     if end { out.push('e') } else { Ok(()) }
 }
 
-/// Appends the order line, which names the entries of a history in their order.
-pub fn print_order(out: &mut String, entries: &[OrderWord]) -> Result<(), AllocError>
-    ensures { OnOk result (string_bytes out.new ≡ string_bytes out.old ++ order_line entries.now) }
+// The order line.
+fn order_text(alloc: Global, entries: &[OrderWord]) -> Result<String, AllocError>
+    ensures { IfOk result (λ line. string_bytes line ≡ order_line entries.now) }
 {
-    out.push_str("order")?;
+    let mut line = String::new(alloc);
+    line.push_str("order")?;
     for word in entries {
-        print_word(out, *word)?;
+        print_word(&mut line, *word)?;
     }
-    out.push('\n')
+    line.push('\n')?;
+    Ok(line)
+}
+
+/// Appends the order line, which names the entries of a history in their order.
+pub fn print_order(alloc: Global, out: &mut String, entries: &[OrderWord]) -> Result<(), AllocError>
+    ensures ok { OnOk result (string_bytes out.new ≡ string_bytes out.old ++ order_line entries.now) }
+    ensures err { OnErr result (string_bytes out.new ≡ string_bytes out.old) }
+{
+    let line = order_text(alloc, entries)?;
+    out.push_str(line.as_str())
 }

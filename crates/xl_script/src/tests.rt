@@ -2,10 +2,13 @@ use super::*;
 use std::test::Fail;
 use xl_edit::{EditRefused, NodeId};
 
+const CHESTS: [u32; 8] = [4; 8];
+
 #[test]
 fn lines_are_parsed(rt: HostRuntime) -> Result<(), Fail> {
-    let text = b"# hide it\n\n0 opacity 1 0\n0 tile 0 0 0\n0 undo";
-    let script = parse(rt.alloc(), text, &[])?;
+    let text =
+        b"# hide it\n\n0 opacity 1 0\n0 tile 0 0 0\n0 undo\n3 peek 2 1 4\n7 save\n7 forget 2\n";
+    let script = parse(rt.alloc(), text, &CHESTS)?;
     assert!(rt;
         matches!(
             script.lines(0),
@@ -16,33 +19,96 @@ fn lines_are_parsed(rt: HostRuntime) -> Result<(), Fail> {
             ]
         )
     );
+    assert!(rt; matches!(script.lines(3), [Line::Call(Call::Peek(NodeId(2), _))]));
+    assert!(rt; matches!(script.lines(7), [Line::Save, Line::Forget(2)]));
+    assert!(rt; script.lines(1).is_empty());
     Ok(())
 }
 
 #[test]
+fn group_is_one_call(rt: HostRuntime) -> Result<(), Fail> {
+    let text = b"0 begin 7\n1 top\n0 offset 1 -3 4\n0 rename 1 0aFF\n0 end";
+    let script = parse(rt.alloc(), text, &[])?;
+    let [Line::Call(Call::Edit(group))] = script.lines(0) else {
+        assert!(rt; false);
+        return Ok(());
+    };
+    assert_eq!(rt; group.guard, Some(7));
+    assert!(rt;
+        matches!(
+            group.edits.as_slice(),
+            [
+                Edit::SetOffset {
+                    id: NodeId(1),
+                    x: -3,
+                    y: 4
+                },
+                Edit::Rename { .. },
+            ]
+        )
+    );
+    Ok(())
+}
+
+// The line that is refused, 0 where none is.
+fn bad_line(rt: HostRuntime, text: &[u8]) -> u32 {
+    match parse(rt.alloc(), text, &CHESTS) {
+        Err(BadLineOrMemory::Refused(bad)) => bad.line,
+        Err(BadLineOrMemory::Memory) | Ok(_) => 0,
+    }
+}
+
+#[test]
+fn each_keyword_is_taken(rt: HostRuntime) {
+    let text =
+        b"0 fill 1 0 0 1 1 00\n0 write 1 0 0 1 1 00\n0 filter 1 0 0 1 1 3\n0 copy 1 0 0 1 1 2 0 0\n\
+        0 fillmask 1 0 0 1 1 9\n0 fillchannel 0 0 0 1 1 9\n0 opacity 1 9\n0 mode 1 22\n0 visible 1 1\n0 offset 1 0 -1\n\
+        0 rename 1 -\n0 applymask 1 0\n0 addmask 1\n0 dropmask 1\n0 newlayer 0 0 -1 1 8192 1 5 41\n0 newgroup 0 0 -\n\
+        0 delete 1\n0 restack 1 0 0\n0 select 0 0 1 1 255\n0 selectnone\n0 addchannel 41\n0 dropchannel 0\n\
+        0 colours 000102\n0 begin\n0 delete 1\n0 end\n0 undo 1\n0 redo\n0 top\n0 save\n0 tile 0 0 0\n0 peek 0 0 0\n0 forget 3";
+    assert_eq!(rt; bad_line(rt, text), 0);
+}
+
+#[test]
 fn bad_line_is_named(rt: HostRuntime) {
-    let parsed = parse(rt.alloc(), b"# a\n0 undo\n0 blur 1\n0 blur 2", &[]);
-    assert!(rt; matches!(parsed, Err(BadLineOrMemory::Refused(BadLine { line: 3 }))));
+    assert_eq!(rt; bad_line(rt, b"# a\n0 undo\n0 blur 1\n0 blur 2"), 3);
+    assert_eq!(rt; bad_line(rt, b"8 top"), 1);
+    assert_eq!(rt; bad_line(rt, b"0 end"), 1);
+    assert_eq!(rt; bad_line(rt, b"0 begin\n# none\n0 end"), 3);
+    assert_eq!(rt; bad_line(rt, b"1 begin\n0 begin\n1 delete 1\n1 end"), 2);
+    assert_eq!(rt; bad_line(rt, b"0 begin\n0 top"), 2);
+    assert_eq!(rt; bad_line(rt, b"0 forget 3\n0 filter 1 0 0 1 1 3"), 2);
+    assert_eq!(rt; bad_line(rt, b"0 filter 1 0 0 1 1 4"), 1);
+    assert_eq!(rt; bad_line(rt, b"0 offset 1 -0 0"), 1);
+    assert_eq!(rt; bad_line(rt, b"0 newlayer 0 0 0 0 0 1 1 -"), 1);
 }
 
 #[test]
 fn replies_are_printed(rt: HostRuntime) -> Result<(), Fail> {
-    let mut out = String::new(rt.alloc());
+    let alloc = rt.alloc();
+    let mut out = String::new(alloc);
     let changed = Reply::Changed {
         version: 1,
         group: 1,
         next: 2,
     };
-    print_reply(&mut out, 0, 0, &changed, "")?;
+    print_reply(alloc, &mut out, 0, 0, &changed, "")?;
     let cause = EditRefused::NoNode(99);
-    print_reply(&mut out, 0, 1, &Reply::Refused { index: 0, cause }, "")?;
-    print_reply(&mut out, 0, 2, &Reply::Tile { version: 1 }, "df3f")?;
+    print_reply(
+        alloc,
+        &mut out,
+        0,
+        1,
+        &Reply::Refused { index: 0, cause },
+        "",
+    )?;
+    print_reply(alloc, &mut out, 0, 2, &Reply::Tile { version: 1 }, "df3f")?;
     let word = OrderWord {
         session: 0,
         index: 0,
         end: false,
     };
-    print_order(&mut out, &[word, OrderWord { end: true, ..word }])?;
+    print_order(alloc, &mut out, &[word, OrderWord { end: true, ..word }])?;
     let text = "0.0 changed 1 1 2\n0.1 refused 0 1 99\n0.2 tile 1 df3f\norder 0.0 0.0e\n";
     assert_eq!(rt; out.as_str(), text);
     Ok(())
