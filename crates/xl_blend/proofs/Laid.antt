@@ -1,5 +1,5 @@
 -- One pixel over another, where one of them is opaque or clear.
-use Rattle.std.proofs.Common.{◌≡◌, ℕ, ◌+◌, ◌-◌, ◌*◌, ◌/◌, ◌%◌, ◌≤◌, ◌<◌, Bool, true, false, cond, nat_eq, min, refl, sym, ◌∙◌, ap, arith}
+use Rattle.std.proofs.Common.{◌≡◌, ℕ, ◌+◌, ◌-◌, ◌*◌, ◌/◌, ◌%◌, ◌≤◌, ◌<◌, Bool, true, false, cond, nat_eq, min, max, refl, sym, ◌∙◌, ap, arith}
 use Rattle.std.proofs.Math.Nat.{mul-add}
 use Rattle.std.proofs.lemmas.Bool.{eqb-true, eqb-false}
 use Rattle.std.proofs.lemmas.Nat.{div-mul-add}
@@ -7,9 +7,9 @@ use Rattle.spec_blend.specs.declared.Mode.{Mode}
 use Rattle.spec_blend.specs.declared.Pixel.{Pixel}
 use Rattle.spec_blend.specs.Blend.{mul, blend}
 use Rattle.spec_blend.specs.Over.{over_normal, over_blended, clear, mean, IsPixel}
-use Rattle.spec_blend.proofs.OverLemmas.{mean-is_byte}
+use Rattle.spec_blend.proofs.OverLemmas.{mean-is_byte, mul-le_left}
 use Rattle.xl_blend.specs.Shown.{shown}
-use Rattle.xl_blend.specs.Words.{pair, mixed_pair, alpha_over}
+use Rattle.xl_blend.specs.Words.{pair, mixed_pair, alpha_over, weight}
 
 pub mixed_pair-pairs : (part x y u v : ℕ) → x < 65536 → u < 65536 → mixed_pair part (pair x y) (pair u v) ≡ pair (mean 255 part x u) (mean 255 part y v)
 mixed_pair-pairs part x y u v x_small u_small =
@@ -33,9 +33,9 @@ opaque_stays part small = omega arith
 abbrev pixel_by : (r g b a : ℕ) → Pixel
 pixel_by r g b a = record { r = r; g = g; b = b; a = a }
 
-pub over_opaque_is : (below above : Pixel) → IsPixel above → below.a ≡ 255
+pub over_opaque_is : (below above : Pixel) → above.a ≤ 255 → below.a ≡ 255
     → over_normal below above ≡ record { r = mean 255 above.a above.r below.r; g = mean 255 above.a above.g below.g; b = mean 255 above.a above.b below.b; a = 255 }
-over_opaque_is below above pa opaque = rw (opaque, opaque_stays above.a pa.a) refl
+over_opaque_is below above small opaque = rw (opaque, opaque_stays above.a small) refl
 
 of_halves : (outer inner r g b : ℕ) → r ≤ 255 → g ≤ 255 → outer ≡ pair r b → inner ≡ pair g 255
     → pixel_by (outer % 65536) (inner % 65536) (outer / 65536) (inner / 65536) ≡ pixel_by r g b 255
@@ -62,7 +62,7 @@ over_opaque_by_pairs below above result outer inner pb pa opaque outer_is inner_
     let inner_pairs : inner ≡ pair (mean 255 above.a above.g below.g) (mean 255 above.a 255 below.a) =
     inner_is ∙ mixed_pair-pairs above.a above.g 255 below.g below.a (omega arith) (omega arith) in
     result_is ∙ of_halves outer inner (mean 255 above.a above.r below.r) (mean 255 above.a above.g below.g) (mean 255 above.a above.b below.b) red green outer_pairs (inner_pairs ∙ ap (λ n. pair (mean 255 above.a above.g below.g) n) whole)
-    ∙ sym (over_opaque_is below above pa opaque)
+    ∙ sym (over_opaque_is below above pa.a opaque)
 
 chosen_second : (test : Bool) (p q : Pixel) → (test ≡ true → q ≡ p) → cond test p q ≡ q
 chosen_second true p q same = sym (same refl)
@@ -169,11 +169,43 @@ blended_over_opaque mode below above small opaque =
     rw (bare, mean-all_below 255 (blend mode below.r above.r) below.r some, mean-all_below 255 (blend mode below.g above.g) below.g some, mean-all_below 255 (blend mode below.b above.b) below.b some) refl) in
     first ∙ second ∙ third ∙ ap (λ n. pixel_by (mean 255 above.a (blend mode below.r above.r) below.r) (mean 255 above.a (blend mode below.g above.g) below.g) (mean 255 above.a (blend mode below.b above.b) below.b) n) opaque
 
--- the same by three means
-pub blended_by_means : (mode : Mode) (below above result : Pixel) (r g b : ℕ) → above.a ≤ 255 → below.a ≡ 255
-    → r ≡ mean 255 above.a (blend mode below.r above.r) below.r → g ≡ mean 255 above.a (blend mode below.g above.g) below.g → b ≡ mean 255 above.a (blend mode below.b above.b) below.b
-    → result ≡ record { r = r; g = g; b = b; a = 255 }
+-- the same as the blended colours in the normal mode
+pub blended_by_normal : (mode : Mode) (below above blended result : Pixel) → above.a ≤ 255 → below.a ≡ 255
+    → blended ≡ record { r = blend mode below.r above.r; g = blend mode below.g above.g; b = blend mode below.b above.b; a = above.a }
+    → result ≡ over_normal below blended
     → result ≡ over_blended mode below above
-blended_by_means mode below above result r g b small opaque r_is g_is b_is result_is =
-    let parts : pixel_by r g b 255 ≡ pixel_by (mean 255 above.a (blend mode below.r above.r) below.r) (mean 255 above.a (blend mode below.g above.g) below.g) (mean 255 above.a (blend mode below.b above.b) below.b) 255 = rw (r_is, g_is, b_is) refl in
-    result_is ∙ parts ∙ sym (blended_over_opaque mode below above small opaque)
+blended_by_normal mode below above blended result small opaque blended_is result_is =
+    let colours = pixel_by (blend mode below.r above.r) (blend mode below.g above.g) (blend mode below.b above.b) above.a in
+    result_is ∙ ap (over_normal below) blended_is ∙ over_opaque_is below colours small opaque ∙ sym (blended_over_opaque mode below above small opaque)
+
+chosen_either : (test : Bool) (p q r : Pixel) → (test ≡ true → r ≡ p) → (test ≡ false → q ≡ r) → cond test p q ≡ r
+chosen_either true p q r first second = sym (first refl)
+chosen_either false p q r first second = second refl
+
+one_at_least : (total whole : ℕ) → whole ≡ max 1 total → (0 < whole) × (0 < total → total ≡ whole)
+one_at_least total whole is = (omega arith, λ some. omega arith)
+
+-- over any pixel by three means, by what weighs the colours
+pub blended_by_weight : (mode : Mode) (below above result : Pixel) (whole r g b : ℕ) → whole ≡ weight below above
+    → r ≡ mean whole (min above.a below.a) (blend mode below.r above.r) below.r → g ≡ mean whole (min above.a below.a) (blend mode below.g above.g) below.g → b ≡ mean whole (min above.a below.a) (blend mode below.b above.b) below.b
+    → result ≡ record { r = r; g = g; b = b; a = below.a }
+    → result ≡ over_blended mode below above
+blended_by_weight mode below above result whole r g b whole_is r_is g_is b_is result_is =
+    let part = min above.a below.a in
+    let total = below.a + mul (255 - below.a) part in
+    let by = λ (n : ℕ). pixel_by (mean n part (blend mode below.r above.r) below.r) (mean n part (blend mode below.g above.g) below.g) (mean n part (blend mode below.b above.b) below.b) below.a in
+    let least = one_at_least total whole whole_is in
+    let parts : pixel_by r g b below.a ≡ by whole = rw (r_is, g_is, b_is) refl in
+    let chosen : cond (nat_eq part 0) below (by total) ≡ by whole = chosen_either (nat_eq part 0) below (by total) (by whole)
+    (λ test.
+    let bare : part ≡ 0 = eqb-true part 0 test in
+    rw (bare, mean-all_below whole (blend mode below.r above.r) below.r least.0, mean-all_below whole (blend mode below.g above.g) below.g least.0, mean-all_below whole (blend mode below.b above.b) below.b least.0) refl)
+    (λ test.
+    let some : 0 < part = positive_of part test in
+    ap by (least.1 (omega arith))) in
+    result_is ∙ parts ∙ sym chosen
+
+pub weight-is_byte : (below above : Pixel) (whole : ℕ) → below.a ≤ 255 → whole ≡ weight below above → whole ≤ 255
+weight-is_byte below above whole small is =
+    let part : min above.a below.a ≤ 255 = omega (arith, small) in
+    omega (arith, is, small, mul-le_left (255 - below.a) (min above.a below.a) part)

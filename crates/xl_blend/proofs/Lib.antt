@@ -1,5 +1,6 @@
 pub mod Laid
 pub mod Pairs
+pub mod Products
 pub mod Quotients
 pub mod RowLemmas
 pub mod SoFar

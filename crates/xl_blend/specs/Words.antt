@@ -1,5 +1,5 @@
 -- Pixels and pairs of bytes as words of 32 bits, and reciprocals.
-use Rattle.std.specs.Prelude.{ℕ, ◌+◌, ◌-◌, ◌*◌, ◌/◌, ◌%◌}
+use Rattle.std.specs.Prelude.{ℕ, ◌+◌, ◌-◌, ◌*◌, ◌/◌, ◌%◌, min, max}
 use Rattle.spec_blend.specs.declared.Pixel.{Pixel}
 use Rattle.spec_blend.specs.Blend.{mul}
 use Rattle.spec_blend.specs.Over.{mean}
@@ -28,3 +28,7 @@ reciprocal_of n = (16777216 + (n - 1)) / n
 -- the alpha of a pixel over another in the normal mode
 abbrev pub alpha_over : (below above : Pixel) → ℕ
 alpha_over below above = above.a + mul below.a (255 - above.a)
+
+-- what weighs the colours of a pixel and the one below it in any mode but the normal one, and 1 where that is nothing
+abbrev pub weight : (below above : Pixel) → ℕ
+weight below above = max 1 (below.a + mul (255 - below.a) (min above.a below.a))

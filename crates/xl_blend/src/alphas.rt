@@ -2,9 +2,10 @@
 ghost use Rattle.std.specs.Prelude.{◌≡◌, ℕ, ◌<◌, ◌≤◌, length, slice_index, slice_index_or};
 ghost use Rattle.std.specs.Bool.{OnTrue};
 ghost use Rattle.spec_blend.specs.Over.{clear, IsPixel};
-ghost use Rattle.xl_blend.specs.Words.{word_of, alpha_over, reciprocal_of};
+ghost use Rattle.xl_blend.specs.Words.{word_of, alpha_over, reciprocal_of, weight};
 
 use crate::normal::alpha_of;
+use crate::pixels::weight_of;
 use crate::reciprocals::reciprocal;
 use crate::words::word;
 use spec_blend::Pixel;
@@ -73,6 +74,19 @@ pub fn wholes_of(below: &[Pixel], above: &[Pixel], wholes: &mut [u32])
     }
 }
 
+/// What weighs the colours of each pixel and the one below it in any mode but the normal one.
+#[inline]
+pub fn weights_of(below: &[Pixel], above: &[Pixel], weights: &mut [u32])
+    requires above { length below.now ≡ length above.now }
+    requires weights { length below.now ≡ length weights.old }
+    ensures each { (k : ℕ) → k < length below.now → slice_index weights.new k ≡ weight (slice_index_or below.now k clear) (slice_index_or above.now k clear) }
+    ensures bytes { (k : ℕ) → k < length below.now → slice_index weights.new k ≤ 255 }
+{
+    for i in 0..below.len() {
+        weights[i] = weight_of(below[i], above[i]);
+    }
+}
+
 /// The reciprocal of each whole.
 #[inline]
 pub fn reciprocals_of(wholes: &[u32], reciprocals: &mut [u32])
@@ -81,6 +95,6 @@ pub fn reciprocals_of(wholes: &[u32], reciprocals: &mut [u32])
     ensures { (k : ℕ) → k < length wholes.now → slice_index reciprocals.new k ≡ reciprocal_of (slice_index wholes.now k) }
 {
     for i in 0..wholes.len() {
-        reciprocals[i] = reciprocal(wholes[i] as u8);
+        reciprocals[i] = reciprocal(wholes[i]);
     }
 }

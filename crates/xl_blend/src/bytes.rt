@@ -41,7 +41,7 @@ pub fn mean(total: u32, weight: u32, above: u8, below: u8) -> u8
     requires byte { total ≤ 255 }
     ensures { result ≡ laid_mean total weight above below }
 {
-    let reciprocal = reciprocal(total as u8);
+    let reciprocal = reciprocal(total);
     mean_by(
         total,
         reciprocal,
@@ -49,16 +49,4 @@ pub fn mean(total: u32, weight: u32, above: u8, below: u8) -> u8
         u32::from(above),
         u32::from(below),
     ) as u8
-}
-
-/// The mean of two bytes, where the upper one has the weight `part` of 255.
-#[inline(always)]
-pub fn mix(part: u32, above: u8, below: u32) -> u32
-    requires part { part ≤ 255 }
-    requires below { below ≤ 255 }
-    ensures value { result ≡ laid_mean 255 part above below }
-    ensures byte { result ≤ 255 }
-{
-    let sum = u32::from(above) * part + below * (255 - part) + 128;
-    sum + (sum >> 8) >> 8
 }

@@ -2,7 +2,8 @@
 ghost use Rattle.std.specs.Prelude.{◌≡◌};
 ghost use Rattle.spec_blend.specs.Blend.{blend as blended};
 
-use crate::bytes::mul;
+use crate::lights::{overlay, screen, soft_light};
+use crate::reciprocals::scaled_quotient;
 use crate::words::mul_bytes;
 use spec_blend::Mode;
 
@@ -16,16 +17,16 @@ pub fn blend(mode: Mode, i: u8, m: u8) -> u8
     let value = match mode {
         Mode::Normal => m,
         Mode::Multiply => mul_bytes(i, m),
-        Mode::Screen => 255 - mul_bytes(255 - i, 255 - m),
-        Mode::Overlay => mul(i, i + mul(2 * m, 255 - i)),
+        Mode::Screen => screen(i, m),
+        Mode::Overlay => overlay(i, m),
         Mode::Difference => i.abs_diff(m),
         Mode::Addition => i + m,
         Mode::Subtract => i.saturating_sub(m),
         Mode::DarkenOnly => i.min(m),
         Mode::LightenOnly => i.max(m),
-        Mode::Divide => 256 * i / (m + 1),
-        Mode::Dodge => 256 * i / (256 - m),
-        Mode::Burn => 255u32.saturating_sub(256 * (255 - i) / (m + 1)),
+        Mode::Divide => scaled_quotient(i, m + 1),
+        Mode::Dodge => scaled_quotient(i, 256 - m),
+        Mode::Burn => 255 - scaled_quotient(255 - i, m + 1),
         Mode::HardLight => {
             if m > 128 {
                 255 - (255 - i) * (255 - 2 * (m - 128)) / 256
@@ -33,10 +34,7 @@ pub fn blend(mode: Mode, i: u8, m: u8) -> u8
                 2 * i * m / 256
             }
         }
-        Mode::SoftLight => {
-            let screen = 255 - mul_bytes(255 - i, 255 - m);
-            mul_bytes(255 - i, mul_bytes(i, m)) + mul_bytes(i, screen)
-        }
+        Mode::SoftLight => soft_light(i, m),
         Mode::GrainExtract => (i + 128).saturating_sub(m),
         Mode::GrainMerge => (i + m).saturating_sub(128),
     };

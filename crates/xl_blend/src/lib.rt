@@ -8,6 +8,7 @@ mod codes;
 mod colours;
 mod count;
 mod fades;
+mod lights;
 mod normal;
 mod normal_rows;
 mod pixels;

@@ -63,5 +63,5 @@ pub fn over_normal(below: Pixel, above: Pixel) -> Pixel
     ensures { result ≡ laid_normal below above }
 {
     let whole = alpha_of(below, above);
-    over_by(below, above, whole, reciprocal(whole as u8))
+    over_by(below, above, whole, reciprocal(whole))
 }

@@ -1,12 +1,13 @@
 //! One pixel laid over another.
-ghost use Rattle.std.specs.Prelude.{◌≡◌, ◌+◌};
+ghost use Rattle.std.specs.Prelude.{◌≡◌, ◌+◌, ◌≤◌};
 ghost use Rattle.spec_blend.specs.Over.{over as laid_over, over_blended as laid_blended};
+ghost use Rattle.xl_blend.specs.Words.{reciprocal_of, weight};
 
-use crate::bytes::{mean, mix};
+use crate::bytes::{mean, mean_by};
 use crate::colours::blend;
 use crate::count::Steps;
-use crate::normal::over_normal;
-use crate::words::{mul_bytes, of_bytes, wide_of};
+use crate::normal::{over_normal, over_opaque};
+use crate::words::{alpha, mul_bytes, of_bytes, wide_of};
 use spec_blend::{Mode, Pixel};
 use std::sync::ledger::Ledger;
 
@@ -29,6 +30,36 @@ pub fn over_blended(mode: Mode, below: Pixel, above: Pixel) -> Pixel
     }
 }
 
+/// What weighs the colours of two pixels in any other mode, and 1 where that is nothing.
+#[inline(always)]
+pub fn weight_of(below: Pixel, above: Pixel) -> u32
+    ensures value { result ≡ weight below above }
+    ensures byte { result ≤ 255 }
+{
+    let lower = alpha(below);
+    let part = alpha(above).min(lower);
+    (lower + mul_bytes(255 - lower, part)).max(1)
+}
+
+/// The same by what weighs the colours and the reciprocal of that.
+#[inline(always)]
+pub fn blend_by(mode: Mode, below: Pixel, above: Pixel, whole: u32, reciprocal: u32) -> Pixel
+    requires whole { whole ≡ weight below above }
+    requires is { reciprocal ≡ reciprocal_of whole }
+    ensures { result ≡ laid_blended mode below above }
+{
+    let lower = wide_of(below);
+    let upper = wide_of(above);
+    let part = upper.a.min(lower.a);
+    let red = u32::from(blend(mode, lower.r as u8, upper.r as u8));
+    let green = u32::from(blend(mode, lower.g as u8, upper.g as u8));
+    let blue = u32::from(blend(mode, lower.b as u8, upper.b as u8));
+    let r = mean_by(whole, reciprocal, part, red, lower.r);
+    let g = mean_by(whole, reciprocal, part, green, lower.g);
+    let b = mean_by(whole, reciprocal, part, blue, lower.b);
+    of_bytes(r, g, b, lower.a)
+}
+
 /// The same over an opaque pixel.
 #[inline(always)]
 pub fn blend_opaque(mode: Mode, below: Pixel, above: Pixel) -> Pixel
@@ -37,10 +68,10 @@ pub fn blend_opaque(mode: Mode, below: Pixel, above: Pixel) -> Pixel
 {
     let lower = wide_of(below);
     let upper = wide_of(above);
-    let r = mix(upper.a, blend(mode, lower.r as u8, upper.r as u8), lower.r);
-    let g = mix(upper.a, blend(mode, lower.g as u8, upper.g as u8), lower.g);
-    let b = mix(upper.a, blend(mode, lower.b as u8, upper.b as u8), lower.b);
-    of_bytes(r, g, b, 255)
+    let r = u32::from(blend(mode, lower.r as u8, upper.r as u8));
+    let g = u32::from(blend(mode, lower.g as u8, upper.g as u8));
+    let b = u32::from(blend(mode, lower.b as u8, upper.b as u8));
+    over_opaque(below, of_bytes(r, g, b, upper.a))
 }
 
 /// A pixel laid over another in a mode.

@@ -1,9 +1,9 @@
 //! Division by a byte as a multiplication.
-ghost use Rattle.std.specs.Prelude.{◌≡◌, ◌*◌, ◌/◌, ◌≤◌};
+ghost use Rattle.std.specs.Prelude.{◌≡◌, ◌*◌, ◌/◌, ◌≤◌, ◌<◌, min};
 ghost use Rattle.xl_blend.specs.Words.{reciprocal_of};
 
-/// At each number the quotient of 2 ^ 24 by it, rounded up, and 0 at 0.
-static RECIPROCALS: [u32; 256] = [
+/// At each number to 256 the quotient of 2 ^ 24 by it, rounded up, and 0 at 0.
+static RECIPROCALS: [u32; 257] = [
     0, 16777216, 8388608, 5592406, 4194304, 3355444, 2796203, 2396746, 2097152, 1864136, 1677722,
     1525202, 1398102, 1290556, 1198373, 1118482, 1048576, 986896, 932068, 883012, 838861, 798916,
     762601, 729445, 699051, 671089, 645278, 621379, 599187, 578525, 559241, 541201, 524288, 508401,
@@ -24,12 +24,13 @@ static RECIPROCALS: [u32; 256] = [
     81841, 81443, 81050, 80660, 80274, 79892, 79513, 79138, 78767, 78399, 78034, 77673, 77315,
     76960, 76609, 76261, 75916, 75574, 75235, 74899, 74566, 74236, 73909, 73585, 73263, 72945,
     72629, 72316, 72006, 71698, 71393, 71090, 70790, 70493, 70198, 69906, 69616, 69328, 69043,
-    68760, 68479, 68201, 67924, 67651, 67379, 67109, 66842, 66577, 66314, 66053, 65794,
+    68760, 68479, 68201, 67924, 67651, 67379, 67109, 66842, 66577, 66314, 66053, 65794, 65536,
 ];
 
 /// The quotient of 2 ^ 24 by a number, rounded up, and 0 by 0.
 #[inline]
-pub fn reciprocal(of: u8) -> u32
+pub fn reciprocal(of: u32) -> u32
+    requires { of ≤ 256 }
     ensures { result ≡ reciprocal_of of }
 {
     RECIPROCALS[of as usize]
@@ -44,4 +45,15 @@ pub fn quotient(dividend: u32, divisor: u32, reciprocal: u32) -> u32
     ensures { result ≡ dividend / divisor }
 {
     dividend * reciprocal >> 24
+}
+
+/// The quotient of 256 times a byte, cut to a byte.
+#[inline(always)]
+pub fn scaled_quotient(byte: u32, divisor: u32) -> u32
+    requires byte { byte ≤ 255 }
+    requires some { 0 < divisor }
+    requires small { divisor ≤ 256 }
+    ensures { result ≡ min 255 (256 * byte / divisor) }
+{
+    (byte * reciprocal(divisor) >> 16).min(255)
 }

@@ -23,4 +23,4 @@ agree_at f g (suc n) h k lt =
 
 pub returns : goal.returns
 unfolding agree_below
-returns c = agree_at (λ k. get_or RECIPROCALS k 0) reciprocal_of 256 refl c.args.of (omega arith)
+returns c = agree_at (λ k. get_or RECIPROCALS k 0) reciprocal_of 257 refl c.args.of (omega arith)
