@@ -3,6 +3,8 @@ pub mod Parts
 pub mod NeatPixels
 pub mod Sources
 pub mod Layers
+pub mod BandRows
 pub mod StackRows
 pub mod Recomposed
 pub mod PictureRows
+pub mod Costs

@@ -16,6 +16,7 @@ pub fn lay_part<L: Ledger>(
     requires { skip + length above.now ≤ length row.old }
     ensures length { length row.new ≡ length row.old }
     ensures laid { AreLaid mode skip above.now row.old row.new }
+    ensures cost { steps.new ≡ steps.old + length above.now }
 {
     over_row(mode, &mut row[skip..skip + above.len()], above, steps);
 }

@@ -1,17 +1,22 @@
 //! The picture of a stack over a rectangle of the canvas.
 ghost use Rattle.std.specs.Prelude.{◌≡◌, ◌+◌, ◌*◌, ◌<◌, ◌≤◌, ◌≤ℤ◌, pos, ℕ, length, IfOk, OnOk, IsSome};
-ghost use Rattle.spec_forest.specs.Forest.{stack_at};
+ghost use Rattle.spec_forest.specs.Forest.{levels, stack_at};
 ghost use Rattle.spec_grid.specs.Rect.{part_above_0};
 ghost use Rattle.spec_picture.specs.Picture.{picture as pixel_of_picture, picture_bytes};
 ghost use Rattle.xl_doc.specs.Canvas.{IsInside};
+ghost use Rattle.xl_doc.specs.Nodes.{MarksAgree, nodes_of};
+ghost use Rattle.xl_compose.specs.Cost.{visible_in, visible_below};
+ghost use Rattle.xl_compose.specs.Rows.{ShowsBand};
 
 use crate::bytes::write_row;
+use crate::span::Band;
 use crate::stacks::lay_stack;
 use std::alloc::{AllocError, Global};
 use std::marker::Model;
 use std::sync::ledger::Ledger;
 use xl_blend::{Pixel, Steps};
-use xl_doc::{Document, MAX_SIDE, NodeId, Rect};
+use xl_doc::{Document, MAX_SIDE, Node, NodeId, Rect};
+use xl_tree::Stack;
 
 const CLEAR: Pixel = Pixel {
     r: 0,
@@ -28,54 +33,103 @@ fn natural(at: i32) -> u32
     at as u32
 }
 
-// The rows of a picture, one after another.
-fn compose_rows<L: Ledger>(
+// The picture of a stack over a band, as bytes.
+fn compose_band<L: Ledger>(
+    colours: &[[u8; 3]],
+    nodes: Stack<'_, Node>,
+    band: Band,
+    picture: &mut [Pixel],
+    room: &mut [Pixel],
+    bytes: &mut [u8],
+    out: &mut [u8],
+    steps: &mut Steps<L>,
+)
+    requires agree { MarksAgree nodes }
+    requires right { band.x + band.w ≤ 8192 }
+    requires below { band.y + band.h ≤ 8192 }
+    requires high { band.h ≤ 64 }
+    requires some { 1 ≤ band.h }
+    requires levels { levels nodes ≤ 8 }
+    requires picture { 64 * band.w ≤ length picture.old }
+    requires room { 512 * band.w ≤ length room.old }
+    requires bytes { 32768 + 320 * band.w ≤ length bytes.old }
+    requires out { length out.old ≡ 4 * (band.h * band.w) }
+    ensures length { length out.new ≡ 4 * (band.h * band.w) }
+    ensures shows { ShowsBand colours.now (nodes_of nodes.entry) band out.new }
+    ensures cost { steps.new ≤ steps.old + visible_in (nodes_of nodes.entry) * (band.h * band.w) }
+{
+    let picture = &mut picture[..band.h as usize * band.w as usize];
+    lay_stack(colours, nodes, band, picture, room, bytes, steps);
+    write_row(picture, out);
+}
+
+// The picture of a stack, a band after another.
+fn compose_bands<L: Ledger>(
     doc: &Document,
     stack: NodeId,
     rect: Rect,
-    row: &mut [Pixel],
+    picture: &mut [Pixel],
     room: &mut [Pixel],
+    bytes: &mut [u8],
     out: &mut [u8],
     steps: &mut Steps<L>,
 )
     requires stack { IsSome (stack_at stack.0 doc.now.nodes) }
     requires inside { IsInside doc.now.width doc.now.height rect }
-    requires row { rect.w ≤ length row.old }
-    requires room { 8 * rect.w ≤ length room.old }
+    requires picture { 64 * rect.w ≤ length picture.old }
+    requires room { 512 * rect.w ≤ length room.old }
+    requires bytes { 32768 + 320 * rect.w ≤ length bytes.old }
     requires out { length out.old ≡ 4 * (rect.w * rect.h) }
-    ensures row { length row.new ≡ length row.old }
-    ensures room { length room.new ≡ length room.old }
     ensures picture { out.new ≡ picture_bytes doc.now stack.0 (part_above_0 rect.x) (part_above_0 rect.y) rect.w rect.h }
+    ensures cost { steps.new ≤ steps.old + visible_below doc.now stack.0 * (rect.w * rect.h) }
 {
     prove!(doc.height <= MAX_SIDE);
     let x = natural(rect.x);
     let y = natural(rect.y);
-    let row = &mut row[..rect.w as usize];
-    let size = 4 * row.len();
+    let size = 4 * rect.w as usize;
     let nodes = doc.tree.stack(stack).unwrap();
     let colours = doc.colours.as_slice();
-    for v in 0..rect.h {
-        lay_stack(colours, nodes.again(), x, y + v, row, room, steps);
-        let start = v as usize * size;
-        write_row(row, &mut out[start..start + size]);
+    for b in 0..(rect.h + 63) / 64 {
+        let top = 64 * b;
+        let band = Band {
+            x,
+            y: y + top,
+            w: rect.w,
+            h: (rect.h - top).min(64),
+        };
+        let start = top as usize * size;
+        let part = &mut out[start..start + band.h as usize * size];
+        compose_band(
+            colours,
+            nodes.again(),
+            band,
+            picture,
+            room,
+            bytes,
+            part,
+            steps,
+        );
     }
 }
 
-/// Room for composing pictures row by row. It is taken once, and composing takes none. Contracts see the longest row, in pixels.
+/// Room for composing pictures in bands of 64 rows. It is taken once, and composing takes none. Contracts see the longest row, in
+/// pixels.
 #[derive(Drop)]
 pub struct Composer {
-    row: Vec<Pixel>,
+    width: u32,
+    picture: Vec<Pixel>,
     room: Vec<Pixel>,
+    bytes: Vec<u8>,
 }
 
 impl Model for Composer {
-    ghost use Rattle.std.specs.Prelude.{◌≡◌, ◌*◌, ℕ, vec_len};
+    ghost use Rattle.std.specs.Prelude.{◌≡◌, ◌+◌, ◌*◌, ℕ, vec_len};
 
     ghost Value = { ℕ };
 
-    ghost view = { λ c. vec_len c.row };
+    ghost view = { λ c. c.width };
 
-    ghost invariant = { λ c. vec_len c.room ≡ 8 * vec_len c.row };
+    ghost invariant = { λ c. (vec_len c.picture ≡ 64 * c.width) × (vec_len c.room ≡ 512 * c.width) × (vec_len c.bytes ≡ 32768 + 320 * c.width) };
 }
 
 impl Composer {
@@ -84,12 +138,15 @@ impl Composer {
         ensures { IfOk result (λ c. c ≡ width) }
     {
         Ok(Composer {
-            row: vec![in alloc; CLEAR; width as usize]?,
-            room: vec![in alloc; CLEAR; 8 * width as usize]?,
+            width,
+            picture: vec![in alloc; CLEAR; 64 * width as usize]?,
+            room: vec![in alloc; CLEAR; 512 * width as usize]?,
+            bytes: vec![in alloc; 0; 32768 + 320 * width as usize]?,
         })
     }
 
-    /// The picture of a stack over a rectangle of the canvas: RGBA bytes, row by row.
+    /// The picture of a stack over a rectangle of the canvas: RGBA bytes, row by row. It takes at most one step for each point and
+    /// each visible node below the stack.
     pub fn compose<L: Ledger>(
         &mut self,
         doc: &Document,
@@ -104,14 +161,17 @@ impl Composer {
         requires room { length out.old ≡ 4 * (rect.w * rect.h) }
         ensures same { self.new ≡ self.old }
         ensures picture { out.new ≡ picture_bytes doc.now stack.0 (part_above_0 rect.x) (part_above_0 rect.y) rect.w rect.h }
+        ensures cost { steps.new ≤ steps.old + visible_below doc.now stack.0 * (rect.w * rect.h) }
     {
-        let row = self.row.as_mut_slice();
+        let picture = self.picture.as_mut_slice();
         let room = self.room.as_mut_slice();
-        compose_rows(doc, stack, rect, row, room, out, steps);
+        let bytes = self.bytes.as_mut_slice();
+        compose_bands(doc, stack, rect, picture, room, bytes, out, steps);
     }
 }
 
-/// The picture of a stack over a rectangle of the canvas: RGBA bytes, row by row. After want of memory `out` holds any bytes.
+/// The picture of a stack over a rectangle of the canvas: RGBA bytes, row by row. After out of memory `out` holds any bytes. It takes
+/// at most one step for each point and each visible node below the stack.
 pub fn picture<L: Ledger>(
     alloc: Global,
     doc: &Document,
@@ -123,7 +183,8 @@ pub fn picture<L: Ledger>(
     requires stack { IsSome (stack_at stack.0 doc.now.nodes) }
     requires inside { IsInside doc.now.width doc.now.height rect }
     requires room { length out.old ≡ 4 * (rect.w * rect.h) }
-    ensures { OnOk result (out.new ≡ picture_bytes doc.now stack.0 (part_above_0 rect.x) (part_above_0 rect.y) rect.w rect.h) }
+    ensures picture { OnOk result (out.new ≡ picture_bytes doc.now stack.0 (part_above_0 rect.x) (part_above_0 rect.y) rect.w rect.h) }
+    ensures cost { steps.new ≤ steps.old + visible_below doc.now stack.0 * (rect.w * rect.h) }
 {
     let mut composer = Composer::new(alloc, rect.w)?;
     composer.compose(doc, stack, rect, out, steps);

@@ -1,80 +1,206 @@
-//! The pixels of a layer with its opacity and its mask, and the layer laid over a row of the canvas.
-ghost use Rattle.std.specs.Prelude.{◌≡◌, ◌+◌, ◌<◌, ◌≤◌, ℕ, length};
+//! The pixels of a layer with its opacity and its mask, and the layer laid over a band of the canvas.
+ghost use Rattle.std.specs.Prelude.{◌≡◌, ◌+◌, ◌*◌, ◌<◌, ◌≤◌, ℕ, length};
 ghost use Rattle.spec_blend.specs.Over.{over};
+ghost use Rattle.spec_grid.specs.Rect.{part_above_0};
 ghost use Rattle.spec_picture.specs.Source.{mask_part};
+ghost use Rattle.xl_tiles.specs.Area.{bytes_in};
+ghost use Rattle.xl_tiles.specs.Written.{IsWithin};
 ghost use Rattle.xl_compose.specs.Laid.{pixel};
-ghost use Rattle.xl_compose.specs.Source.{sheet_source, sheet_pixel};
+ghost use Rattle.xl_compose.specs.Masks.{AreMasks};
+ghost use Rattle.xl_compose.specs.Source.{at_place, sheet_source, sheet_pixel};
+ghost use Rattle.xl_compose.specs.Span.{place_by};
 ghost use Rattle.xl_compose.specs.Neat.{IsNeat};
 
 use crate::lay::lay_part;
 use crate::own::own_row;
-use crate::span::overlap;
+use crate::span::{Band, Span, overlap};
 use std::sync::ledger::Ledger;
 use xl_blend::{Mode, Pixel, Steps, fade_row, fade_row_by};
-use xl_doc::Layer;
+use xl_doc::{Layer, Rect};
 
-// Fades a row by the mask, where there is one and it is applied.
-fn mask_row(layer: &Layer, x: u32, y: u32, row: &mut [Pixel])
-    requires columns { x + length row.old ≤ layer.now.plane.width }
-    requires row { y < layer.now.plane.height }
-    requires short { length row.old ≤ 8192 }
+/// The bytes of one tile in runs, the room for reading a plane.
+const TILE_ROOM: usize = 32768;
+
+// Fades a row by the mask, where there is one and it is applied. The bytes are those of a part of the mask.
+fn mask_row(layer: &Layer, part: Rect, masks: &[u8], y: u32, row: &mut [Pixel])
+    requires within { IsWithin layer.now.plane.width layer.now.plane.height part }
+    requires masks { AreMasks layer.now.mask layer.now.apply_mask part masks.now }
+    requires row { y < part.h }
+    requires wide { length row.old ≡ part.w }
     ensures length { length row.new ≡ length row.old }
-    ensures each { (k : ℕ) → k < length row.old → pixel row.new k ≡ mask_part layer.now.mask layer.now.apply_mask (x + k) y (pixel row.old k) }
+    ensures each { (k : ℕ) → k < length row.old → pixel row.new k ≡ mask_part layer.now.mask layer.now.apply_mask (part_above_0 part.x + k) (part_above_0 part.y + y) (pixel row.old k) }
 {
     if !layer.apply_mask {
         return;
     }
     if let Some(mask) = &layer.mask {
-        fade_row_by(row, mask.plane.row(x, y, row.len() as u32));
+        fade_row_by(row, mask.plane.row_in(part, masks, y));
     }
 }
 
-// The pixels of a layer in its own coordinates, as many as the row has, from a column on.
-fn source_row(colours: &[[u8; 3]], opacity: u8, layer: &Layer, x: u32, y: u32, row: &mut [Pixel])
-    requires columns { x + length row.old ≤ layer.now.plane.width }
-    requires row { y < layer.now.plane.height }
-    requires short { length row.old ≤ 8192 }
+// The pixels of a row of a part of a layer, whose bytes and those of its mask are given.
+fn source_row(
+    colours: &[[u8; 3]],
+    opacity: u8,
+    layer: &Layer,
+    part: Rect,
+    bytes: &[u8],
+    masks: &[u8],
+    y: u32,
+    row: &mut [Pixel],
+)
+    requires within { IsWithin layer.now.plane.width layer.now.plane.height part }
+    requires bytes { bytes.now ≡ bytes_in layer.now.plane part }
+    requires masks { AreMasks layer.now.mask layer.now.apply_mask part masks.now }
+    requires row { y < part.h }
+    requires wide { length row.old ≡ part.w }
     ensures length { length row.new ≡ length row.old }
-    ensures each { (k : ℕ) → k < length row.old → pixel row.new k ≡ sheet_pixel colours.now opacity layer.now (x + k) y }
+    ensures each { (k : ℕ) → k < length row.old → pixel row.new k ≡ sheet_pixel colours.now opacity layer.now (part_above_0 part.x + k) (part_above_0 part.y + y) }
 {
-    own_row(
-        layer.kind,
-        colours,
-        layer.plane.row(x, y, row.len() as u32),
-        row,
-    );
+    own_row(layer.kind, colours, layer.plane.row_in(part, bytes, y), row);
     if opacity < 255 {
         fade_row(row, opacity);
     }
-    mask_row(layer, x, y, row);
+    mask_row(layer, part, masks, y, row);
 }
 
-/// Lays the part of a layer that lies in a row of the canvas over the row, which begins at the point x, y. `source` has room for
-/// as many pixels.
+// Reads a part of a layer's mask, where there is one and it is applied.
+fn read_mask(layer: &Layer, part: Rect, masks: &mut [u8], tile: &mut [u8])
+    requires within { IsWithin layer.now.plane.width layer.now.plane.height part }
+    requires masks { length masks.old ≡ part.w * part.h }
+    requires tile { length tile.old ≡ 32768 }
+    ensures { AreMasks layer.now.mask layer.now.apply_mask part masks.new }
+{
+    if !layer.apply_mask {
+        return;
+    }
+    if let Some(mask) = &layer.mask {
+        mask.plane.read_rect(part, masks, tile);
+    }
+}
+
+// Lays the rows of a part of a layer, whose bytes are given, over a band, from a column and a row of the band on.
+fn lay_rows<L: Ledger>(
+    mode: Mode,
+    colours: &[[u8; 3]],
+    opacity: u8,
+    layer: &Layer,
+    part: Rect,
+    bytes: &[u8],
+    masks: &[u8],
+    left: u32,
+    top: u32,
+    band: Band,
+    picture: &mut [Pixel],
+    source: &mut [Pixel],
+    steps: &mut Steps<L>,
+)
+    requires within { IsWithin layer.now.plane.width layer.now.plane.height part }
+    requires bytes { bytes.now ≡ bytes_in layer.now.plane part }
+    requires masks { AreMasks layer.now.mask layer.now.apply_mask part masks.now }
+    requires across { left + part.w ≤ band.w }
+    requires down { top + part.h ≤ band.h }
+    requires wide { band.w ≤ 8192 }
+    requires high { band.h ≤ 64 }
+    requires picture { length picture.old ≡ band.h * band.w }
+    requires source { part.w ≤ length source.old }
+    requires neat { (v k : ℕ) → v < band.h → k < band.w → IsNeat (pixel picture.old (v * band.w + k)) }
+    ensures length { length picture.new ≡ length picture.old }
+    ensures each { (v k : ℕ) → v < band.h → k < band.w → pixel picture.new (v * band.w + k)
+        ≡ over mode (pixel picture.old (v * band.w + k)) (at_place (place_by left (part_above_0 part.x) part.w k) (place_by top (part_above_0 part.y) part.h v) (sheet_pixel colours.now opacity layer.now)) }
+    ensures cost { steps.new ≡ steps.old + part.h * part.w }
+{
+    let row = &mut source[..part.w as usize];
+    for r in 0..part.h {
+        source_row(colours, opacity, layer, part, bytes, masks, r, row);
+        let at = (top + r) as usize * band.w as usize + left as usize;
+        lay_part(mode, picture, at, row, steps);
+    }
+}
+
+// The common part of a band and a layer, in the layer's own coordinates.
+fn common(layer: &Layer, across: Span, down: Span) -> Rect
+    requires columns { across.from + across.count ≤ layer.now.plane.width }
+    requires rows { down.from + down.count ≤ layer.now.plane.height }
+    ensures within { IsWithin layer.now.plane.width layer.now.plane.height result }
+    ensures x { part_above_0 result.x ≡ across.from }
+    ensures y { part_above_0 result.y ≡ down.from }
+    ensures w { result.w ≡ across.count }
+    ensures h { result.h ≡ down.count }
+{
+    prove!(layer.plane.width() <= 8192);
+    prove!(layer.plane.height() <= 8192);
+    Rect {
+        x: across.from as i32,
+        y: down.from as i32,
+        w: across.count,
+        h: down.count,
+    }
+}
+
+// How many pixels a part of a layer has, and how many bytes.
+fn size_of(layer: &Layer, part: Rect, band: Band) -> (usize, usize)
+    requires across { part.w ≤ band.w }
+    requires down { part.h ≤ 64 }
+    requires wide { band.w ≤ 8192 }
+    ensures pixels { result.0 ≡ part.w * part.h }
+    ensures bytes { result.1 ≡ part.w * part.h * layer.now.plane.bpp }
+    ensures few { result.0 ≤ 64 * band.w }
+    ensures room { result.1 ≤ 256 * band.w }
+{
+    let pixels = part.w as usize * part.h as usize;
+    (pixels, pixels * layer.plane.bpp() as usize)
+}
+
+/// Lays the part of a layer that lies in a band of the canvas over the band's picture, row by row. `source` has room for a row, and
+/// `bytes` for a tile and for the bytes of the part and of its mask. Each tile is unpacked once.
 pub fn lay_layer<L: Ledger>(
     mode: Mode,
     colours: &[[u8; 3]],
     opacity: u8,
     layer: &Layer,
-    x: u32,
-    y: u32,
-    row: &mut [Pixel],
+    band: Band,
+    picture: &mut [Pixel],
     source: &mut [Pixel],
+    bytes: &mut [u8],
     steps: &mut Steps<L>,
 )
-    requires canvas { x + length row.old ≤ 8192 }
-    requires below { y < 8192 }
-    requires room { length row.old ≤ length source.old }
-    requires neat { (k : ℕ) → IsNeat (pixel row.old k) }
-    ensures length { length row.new ≡ length row.old }
-    ensures each { (k : ℕ) → k < length row.old → pixel row.new k ≡ over mode (pixel row.old k) (sheet_source colours.now opacity layer.now (x + k) y) }
+    requires right { band.x + band.w ≤ 8192 }
+    requires below { band.y + band.h ≤ 8192 }
+    requires high { band.h ≤ 64 }
+    requires picture { length picture.old ≡ band.h * band.w }
+    requires source { band.w ≤ length source.old }
+    requires bytes { 32768 + 320 * band.w ≤ length bytes.old }
+    requires neat { (v k : ℕ) → v < band.h → k < band.w → IsNeat (pixel picture.old (v * band.w + k)) }
+    ensures length { length picture.new ≡ length picture.old }
+    ensures each { (v k : ℕ) → v < band.h → k < band.w → pixel picture.new (v * band.w + k) ≡ over mode (pixel picture.old (v * band.w + k)) (sheet_source colours.now opacity layer.now (band.x + k) (band.y + v)) }
+    ensures cost { steps.new ≤ steps.old + band.h * band.w }
 {
-    let down = overlap(layer.y, layer.plane.height(), y, 1);
-    let across = overlap(layer.x, layer.plane.width(), x, row.len() as u32);
+    let down = overlap(layer.y, layer.plane.height(), band.y, band.h);
+    let across = overlap(layer.x, layer.plane.width(), band.x, band.w);
     if down.count == 0 || across.count == 0 {
         return;
     }
-    let part = &mut source[..across.count as usize];
-    source_row(colours, opacity, layer, across.from, down.from, part);
-    lay_part(mode, row, across.skip as usize, part, steps);
+    let part = common(layer, across, down);
+    let (tile, rest) = bytes.split_at_mut(TILE_ROOM);
+    let (count, size) = size_of(layer, part, band);
+    let (masks, rest) = rest.split_at_mut(count);
+    let pixels = &mut rest[..size];
+    layer.plane.read_rect(part, pixels, tile);
+    read_mask(layer, part, masks, tile);
+    lay_rows(
+        mode,
+        colours,
+        opacity,
+        layer,
+        part,
+        pixels,
+        masks,
+        across.skip,
+        down.skip,
+        band,
+        picture,
+        source,
+        steps,
+    );
 }

@@ -1,15 +1,17 @@
-//! Stacks of layers and groups over a row of the canvas.
+//! Stacks of layers and groups over a band of the canvas.
 ghost use Rattle.std.specs.Prelude.{◌≡◌, ◌+◌, ◌*◌, ◌<◌, ◌≤◌, ℕ, length, true};
 ghost use Rattle.spec_blend.specs.Over.{clear};
 ghost use Rattle.spec_forest.specs.Forest.{levels};
 ghost use Rattle.spec_picture.specs.Source.{faded, layer_source};
 ghost use Rattle.spec_picture.specs.Picture.{any_visible, laid, stack_pixel, mode_above as mode_over};
 ghost use Rattle.xl_doc.specs.Nodes.{IsLeaf, MarksAgree, layer_of, nodes_of};
+ghost use Rattle.xl_compose.specs.Cost.{one_if, visible_in};
 ghost use Rattle.xl_compose.specs.Laid.{pixel};
 ghost use Rattle.xl_compose.specs.Neat.{IsNeat};
 
 use crate::lay::lay_part;
 use crate::source::lay_layer;
+use crate::span::Band;
 use std::sync::ledger::Ledger;
 use xl_blend::{Mode, Pixel, Steps, fade_row};
 use xl_doc::{Body, Node};
@@ -43,27 +45,41 @@ fn lay_leaf<L: Ledger>(
     colours: &[[u8; 3]],
     node: &Node,
     some_under: bool,
-    x: u32,
-    y: u32,
-    row: &mut [Pixel],
+    band: Band,
+    picture: &mut [Pixel],
     room: &mut [Pixel],
+    bytes: &mut [u8],
     steps: &mut Steps<L>,
 )
     requires leaf { IsLeaf node.now.body }
-    requires canvas { x + length row.old ≤ 8192 }
-    requires below { y < 8192 }
-    requires room { length row.old ≤ length room.old }
-    requires neat { (k : ℕ) → IsNeat (pixel row.old k) }
-    ensures length { length row.new ≡ length row.old }
-    ensures each { (k : ℕ) → k < length row.old → pixel row.new k
-        ≡ laid node.now.visible (mode_over some_under node.now.mode) (pixel row.old k) (layer_source colours.now (layer_of node.now) (x + k) y) }
+    requires right { band.x + band.w ≤ 8192 }
+    requires below { band.y + band.h ≤ 8192 }
+    requires high { band.h ≤ 64 }
+    requires picture { length picture.old ≡ band.h * band.w }
+    requires room { band.w ≤ length room.old }
+    requires bytes { 32768 + 320 * band.w ≤ length bytes.old }
+    requires neat { (v k : ℕ) → v < band.h → k < band.w → IsNeat (pixel picture.old (v * band.w + k)) }
+    ensures length { length picture.new ≡ length picture.old }
+    ensures each { (v k : ℕ) → v < band.h → k < band.w → pixel picture.new (v * band.w + k)
+        ≡ laid node.now.visible (mode_over some_under node.now.mode) (pixel picture.old (v * band.w + k)) (layer_source colours.now (layer_of node.now) (band.x + k) (band.y + v)) }
+    ensures cost { steps.new ≤ steps.old + one_if node.now.visible * (band.h * band.w) }
 {
     if !node.visible {
         return;
     }
     let mode = mode_above(some_under, node.mode);
     match &node.body {
-        Body::Leaf(layer) => lay_layer(mode, colours, node.opacity, layer, x, y, row, room, steps),
+        Body::Leaf(layer) => lay_layer(
+            mode,
+            colours,
+            node.opacity,
+            layer,
+            band,
+            picture,
+            room,
+            bytes,
+            steps,
+        ),
         Body::Group => unreachable!(),
     }
 }
@@ -72,45 +88,51 @@ fn lay_leaf<L: Ledger>(
 fn lay_children<L: Ledger>(
     mode: Mode,
     opacity: u8,
-    row: &mut [Pixel],
+    picture: &mut [Pixel],
     children: &mut [Pixel],
     steps: &mut Steps<L>,
 )
-    requires same { length children.old ≡ length row.old }
-    ensures length { length row.new ≡ length row.old }
-    ensures each { (k : ℕ) → k < length row.old → pixel row.new k ≡ laid true mode (pixel row.old k) (faded opacity (pixel children.old k)) }
+    requires same { length children.old ≡ length picture.old }
+    ensures length { length picture.new ≡ length picture.old }
+    ensures each { (k : ℕ) → k < length picture.old → pixel picture.new k ≡ laid true mode (pixel picture.old k) (faded opacity (pixel children.old k)) }
+    ensures cost { steps.new ≡ steps.old + length picture.old }
 {
     fade_row(children, opacity);
-    lay_part(mode, row, 0, children, steps);
+    lay_part(mode, picture, 0, children, steps);
 }
 
-/// The row of a stack's picture that begins at the point x, y of the canvas. `room` has a row for each level of the stack. Answers
-/// whether some node is visible.
+/// The picture of a stack over a band of the canvas, row by row. `room` has a picture for each level of the stack, and `bytes` room
+/// for a tile and for the bytes of a layer and its mask in the band. Answers whether some node is visible.
 pub fn lay_stack<L: Ledger>(
     colours: &[[u8; 3]],
     nodes: Stack<'_, Node>,
-    x: u32,
-    y: u32,
-    row: &mut [Pixel],
+    band: Band,
+    picture: &mut [Pixel],
     room: &mut [Pixel],
+    bytes: &mut [u8],
     steps: &mut Steps<L>,
 ) -> bool
     requires agree { MarksAgree nodes }
-    requires canvas { x + length row.old ≤ 8192 }
-    requires below { y < 8192 }
-    requires room { levels nodes * length row.old ≤ length room.old }
-    ensures length { length row.new ≡ length row.old }
+    requires right { band.x + band.w ≤ 8192 }
+    requires below { band.y + band.h ≤ 8192 }
+    requires high { band.h ≤ 64 }
+    requires some { 1 ≤ band.h }
+    requires picture { length picture.old ≡ band.h * band.w }
+    requires room { levels nodes * length picture.old ≤ length room.old }
+    requires bytes { 32768 + 320 * band.w ≤ length bytes.old }
+    ensures length { length picture.new ≡ length picture.old }
     ensures any { result ≡ any_visible (nodes_of nodes.entry) }
-    ensures each { (k : ℕ) → k < length row.old → pixel row.new k ≡ stack_pixel colours.now (x + k) y (nodes_of nodes.entry) }
+    ensures each { (v k : ℕ) → v < band.h → k < band.w → pixel picture.new (v * band.w + k) ≡ stack_pixel colours.now (band.x + k) (band.y + v) (nodes_of nodes.entry) }
+    ensures cost { steps.new ≤ steps.old + visible_in (nodes_of nodes.entry) * (band.h * band.w) }
 {
     match nodes.split() {
         Split::Empty => {
-            clear_row(row);
+            clear_row(picture);
             false
         }
         Split::Leaf { node, under, .. } => {
-            let some_under = lay_stack(colours, under, x, y, row, room, steps);
-            lay_leaf(colours, node, some_under, x, y, row, room, steps);
+            let some_under = lay_stack(colours, under, band, picture, room, bytes, steps);
+            lay_leaf(colours, node, some_under, band, picture, room, bytes, steps);
             node.visible || some_under
         }
         Split::Group {
@@ -119,16 +141,16 @@ pub fn lay_stack<L: Ledger>(
             under,
             ..
         } => {
-            let some_under = lay_stack(colours, under, x, y, row, room, steps);
+            let some_under = lay_stack(colours, under, band, picture, room, bytes, steps);
             if !node.visible {
                 return some_under;
             }
-            let (level, rest) = room.split_at_mut(row.len());
-            lay_stack(colours, children, x, y, level, rest, steps);
+            let (level, rest) = room.split_at_mut(picture.len());
+            lay_stack(colours, children, band, level, rest, bytes, steps);
             lay_children(
                 mode_above(some_under, node.mode),
                 node.opacity,
-                row,
+                picture,
                 level,
                 steps,
             );

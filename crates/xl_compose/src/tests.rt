@@ -12,15 +12,19 @@ use xl_doc::{Base, Channels, ColourMap, Document, NodeId, Pictures, PropList, Re
 fn blank(alloc: Global) -> Result<Document, AllocError>
     ensures { IfOk result (λ d. (d.width ≡ 100) × (d.height ≡ 70)) }
 {
+    let colours = ColourMap::new(alloc);
+    let kept = PropList::new(alloc);
+    let tree = Tree::new(alloc)?;
+    let channels = Channels::new(alloc)?;
     Ok(Document {
         width: 100,
         height: 70,
         base: Base::Rgb,
         compression: 0,
-        colours: ColourMap::new(alloc),
-        kept: PropList::new(alloc),
-        tree: Tree::new(alloc)?,
-        channels: Channels::new(alloc)?,
+        colours,
+        kept,
+        tree,
+        channels,
         selection: None,
     })
 }

@@ -1,10 +1,11 @@
 //! The picture of one tile.
-ghost use Rattle.std.specs.Prelude.{◌≡◌, ◌≤◌, [], length, IfOk, OnOk, IsSome, IsTrue};
+ghost use Rattle.std.specs.Prelude.{◌≡◌, ◌+◌, ◌*◌, ◌≤◌, [], length, IfOk, OnOk, OnErr, IsSome, IsTrue};
 ghost use Rattle.spec_forest.specs.Forest.{stack_at};
 ghost use Rattle.spec_grid.specs.Grid.{is_on_grid};
 ghost use Rattle.spec_picture.specs.Picture.{project};
+ghost use Rattle.xl_compose.specs.Cost.{visible_below};
 
-use crate::recompose::picture;
+use crate::recompose::Composer;
 use std::alloc::{AllocError, Global};
 use std::marker::Model;
 use std::sync::ledger::Ledger;
@@ -66,7 +67,8 @@ impl Picture {
     }
 }
 
-/// The picture of a stack at the points of a tile, recomposed. After want of memory `out` holds any bytes.
+/// The picture of a stack at the points of a tile, recomposed. After out of memory `out` is as before. It takes at most one step for each of
+/// 4096 points and each visible node below the stack.
 pub fn recompose_tile<L: Ledger>(
     alloc: Global,
     doc: &Document,
@@ -77,11 +79,15 @@ pub fn recompose_tile<L: Ledger>(
 ) -> Result<(), AllocError>
     requires stack { IsSome (stack_at stack.0 doc.now.nodes) }
     requires on_grid { IsTrue (is_on_grid doc.now.width doc.now.height at) }
-    ensures { OnOk result (out.new ≡ project doc.now stack.0 at) }
+    ensures picture { OnOk result (out.new ≡ project doc.now stack.0 at) }
+    ensures as_before { OnErr result (out.new ≡ out.old) }
+    ensures cost { steps.new ≤ steps.old + visible_below doc.now stack.0 * 4096 }
 {
     prove!(doc.width <= MAX_SIDE);
     prove!(doc.height <= MAX_SIDE);
     let rect = tile_rect(doc.width, doc.height, at);
+    let mut composer = Composer::new(alloc, rect.w)?;
     out.set_len(4 * (rect.w as usize * rect.h as usize));
-    picture(alloc, doc, stack, rect, out.bytes.as_mut_slice(), steps)
+    composer.compose(doc, stack, rect, out.bytes.as_mut_slice(), steps);
+    Ok(())
 }

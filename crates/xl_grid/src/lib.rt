@@ -1,9 +1,11 @@
 //! Rectangles of pixels, and the grid of 64 by 64 tiles.
 #![tactic(auto)]
 
+mod covering;
 mod rects;
 mod tiling;
 
-pub use rects::meet;
+pub use covering::tiles_of;
+pub use rects::{hull, is_empty, meet};
 pub use spec_grid::{Rect, TileAt};
 pub use tiling::{MAX_SIDE, TILE_SIDE, grid, tile_rect};

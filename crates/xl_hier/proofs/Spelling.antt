@@ -3,10 +3,10 @@ use Rattle.std.proofs.Common.{◌≡◌, ℕ, zero, suc, ◌+◌, ◌≤◌, Lis
 use Rattle.spec_grid.specs.declared.TileAt.{TileAt}
 use Rattle.spec_grid.specs.Rect.{count_from}
 use Rattle.spec_document.specs.Plane.{Plane}
-use Rattle.spec_plane.specs.Codes.{Spells}
+use Rattle.spec_rle.specs.Codes.{Spells}
 use Rattle.spec_hierarchy.specs.Tiles.{tile_plane}
 use Rattle.xl_rle.specs.Appends.{Appends}
-use Rattle.xl_hier.specs.Layout.{AreSpelled}
+use Rattle.spec_hierarchy.specs.Layout.{AreSpelled}
 
 -- the first c planes are spelled
 pub record Spelling (fits : List ℕ → List ℕ → Type 0) (p : Plane) (t : TileAt) (c : ℕ) (old new : List ℕ) : Type 0 where

@@ -8,10 +8,11 @@ use Rattle.spec_grid.specs.Grid.{tiles_along, all_tiles}
 use Rattle.spec_document.specs.Plane.{Plane}
 use Rattle.spec_fields.specs.Field.{HasBytes}
 use Rattle.spec_hierarchy.specs.Holds.{HasPlane}
+use Rattle.xl_fields.specs.Behind.{BeginsWith}
 use Rattle.xl_tiles.specs.Sized.{IsSized}
 use Rattle.xl_hier.specs.Appended.{PlaneAppended}
 use Rattle.xl_hier.specs.Filled.{TilesFilled}
-use Rattle.xl_hier.specs.Layout.{words, places_from, AreTiles, plane_layout}
+use Rattle.spec_hierarchy.specs.Layout.{words, places_from, AreTiles, plane_layout}
 use Rattle.xl_hier.proofs.Filling.{words_more, length_of_words, length_of_places, tile_small}
 use Rattle.xl_hier.proofs.Held.{plane_stands}
 use Rattle.xl_hier.proofs.TilesRead.{length_of_tiles}
@@ -24,6 +25,10 @@ room_behind table n m old new size end is =
     let zeros : m - table ≡ n = omega (arith, end) in
     let whole : new ≡ old ++ replicate n 0 = is ∙ (λ i. front i ++ replicate (zeros i) 0) in
     (ap (take table) whole ∙ take_at old (replicate n 0) table size, ap (drop table) whole ∙ drop_at old (replicate n 0) table size)
+
+-- the part in front of a table stands in front of the whole
+pub front_begins : (table : ℕ) (front old new : List ℕ) → length front ≡ table → take table old ≡ front → take table new ≡ take table old → BeginsWith new front
+front_begins table front old new size is stays = ap (λ n. take n new) size ∙ (stays ∙ is)
 
 abbrev heads : ℕ → Plane → List ℕ
 heads at p = words (p.width ∷ p.height ∷ p.bpp ∷ (at + 20) ∷ 0 ∷ p.width ∷ p.height ∷ [])

@@ -1,8 +1,5 @@
 pub mod Appended
 pub mod Filled
 pub mod Frame
-pub mod Joined
-pub mod Layout
 pub mod Level
-pub mod Placed
 pub mod SoFar

@@ -1,4 +1,4 @@
-ghost use Rattle.std.specs.Prelude.{◌≡◌, ℕ, ◌+◌, ◌-◌, ◌*◌, ◌<◌, ◌≤◌, ◌++◌, length, min, slice_index, OnOk};
+ghost use Rattle.std.specs.Prelude.{◌≡◌, ℕ, ◌+◌, ◌-◌, ◌*◌, ◌<◌, ◌≤◌, ◌++◌, length, min, slice_index, OnOk, OnErr};
 ghost use Rattle.spec_grid.specs.Grid as grid;
 ghost use Rattle.spec_hierarchy.specs.Tiles as tiles;
 
@@ -18,49 +18,43 @@ fn span(side: u32, at: u32) -> (u32, u32)
     (first, (side - first).min(64))
 }
 
-/// Appends the pixels of a tile, row by row.
-pub fn append_tile(plane: &Plane, spot: TileAt, out: &mut Vec<u8>) -> Result<(), AllocError>
+/// Appends the pixels of a tile, row by row. The room is for a tile.
+pub fn append_tile(
+    plane: &Plane,
+    spot: TileAt,
+    out: &mut Vec<u8>,
+    room: &mut [u8],
+) -> Result<(), AllocError>
     requires column { spot.col < grid.tiles_along plane.now.width }
     requires row { spot.row < grid.tiles_along plane.now.height }
-    ensures { OnOk result (out.new.items ≡ out.old.items ++ tiles.tile_bytes plane.now spot) }
+    requires room { length room.old ≡ 32768 }
+    ensures ok { OnOk result (out.new.items ≡ out.old.items ++ tiles.tile_bytes plane.now spot) }
+    ensures err { OnErr result (out.new.items ≡ out.old.items) }
 {
-    let (left, across) = span(plane.width(), spot.col);
-    let (top, down) = span(plane.height(), spot.row);
-    for r in 0..down {
-        out.extend_from_slice(plane.row(left, top + r, across))?;
-    }
-    Ok(())
+    out.extend_from_slice(plane.tile_bytes(spot, room))
 }
 
-// Byte c of each pixel of a row, from a place on.
-fn gather_row(row: &[u8], bpp: usize, c: usize, out: &mut [u8], at: usize, n: usize)
-    requires row { length row.now ≡ n * bpp }
+// Byte c of each pixel.
+fn gather_pixels(tile: &[u8], bpp: usize, c: usize, out: &mut [u8])
+    requires tile { length tile.now ≡ length out.old * bpp }
     requires byte { c < bpp }
-    requires out { at + n ≤ length out.old }
-    ensures before { (j : ℕ) → j < at → slice_index out.new j ≡ slice_index out.old j }
-    ensures each { (k : ℕ) → k < n → slice_index out.new (at + k) ≡ slice_index row.now (k * bpp + c) }
+    ensures { (k : ℕ) → k < length out.old → slice_index out.new k ≡ slice_index tile.now (k * bpp + c) }
 {
-    for k in 0..n {
-        out[at + k] = row[k * bpp + c];
+    for k in 0..out.len() {
+        out[k] = tile[k * bpp + c];
     }
 }
 
-/// Byte c of each pixel of a tile, row by row.
-pub fn gather(plane: &Plane, spot: TileAt, c: u32, out: &mut [u8])
+/// Byte c of each pixel of a tile, whose bytes are given, row by row.
+pub fn gather(plane: &Plane, spot: TileAt, tile: &[u8], c: u32, out: &mut [u8])
     requires column { spot.col < grid.tiles_along plane.now.width }
     requires row { spot.row < grid.tiles_along plane.now.height }
+    requires tile { tile.now ≡ tiles.tile_bytes plane.now spot }
     requires byte { c < plane.now.bpp }
     requires out { length out.old ≡ tiles.tile_width plane.now.width spot * tiles.tile_height plane.now.height spot }
     ensures { out.new ≡ tiles.tile_plane plane.now spot c }
 {
-    let (left, across) = span(plane.width(), spot.col);
-    let (top, down) = span(plane.height(), spot.row);
-    let bpp = plane.bpp() as usize;
-    let n = across as usize;
-    for r in 0..down {
-        let row = plane.row(left, top + r, across);
-        gather_row(row, bpp, c as usize, out, r as usize * n, n);
-    }
+    gather_pixels(tile, plane.bpp() as usize, c as usize, out);
 }
 
 /// How many pixels a tile has.

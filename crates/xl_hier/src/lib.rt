@@ -4,14 +4,14 @@
 mod band;
 mod frame;
 mod gather;
-mod join;
+mod laws;
 mod level;
 mod reading;
-mod spelled;
 mod tile;
 mod writing;
 mod written_tile;
 
+pub use laws::written_planes_are_read;
 pub use reading::read_hierarchy;
 pub use writing::write_hierarchy;
 pub use xl_fields::ReadRefusedOrMemory;

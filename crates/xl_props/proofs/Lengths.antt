@@ -1,9 +1,11 @@
 -- How many bytes the payloads have that are written.
-use Rattle.std.proofs.Common.{◌≡◌, ℕ, ◌+◌, ◌*◌, List, [], ◌∷◌, ◌++◌, length, Result, refl, subst, ap, ◌∙◌, arith, length-append, append_assoc}
+use Rattle.std.proofs.Common.{◌≡◌, ℕ, ◌+◌, ◌*◌, List, [], ◌∷◌, ◌++◌, length, Result, refl, sym, subst, ap, ◌∙◌, arith, length-append, append_assoc, append-nil}
 use Rattle.std.specs.Prelude.{OnOk}
 use Rattle.std.specs.List.{AllByRecursion}
+use Rattle.std.proofs.lemmas.Grind.{flat_map-append}
+use Rattle.spec_document.specs.Document.{Kept}
 use Rattle.spec_document.specs.Limits.{IsColour}
-use Rattle.xl_props.specs.Written.{word, words, all_colours, colour_bytes, raw, spelled}
+use Rattle.xl_props.specs.Written.{word, words, all_colours, colour_bytes, raw, spelled, all_spelled}
 
 pub length_word : (n : ℕ) → length (word n) ≡ 4
 unfolding word
@@ -36,3 +38,11 @@ headed_parts out before more a b kind len e f same =
 
 pub onto : {A E : Type 0} (r : Result A E) (new a b : List ℕ) → a ≡ b → OnOk r (new ≡ a) → OnOk r (new ≡ b)
 onto r new a b e h = subst (λ (xs : List ℕ). OnOk r (new ≡ xs)) e h
+
+-- properties behind others
+pub joined : (out mid new : List ℕ) (a b : List Kept) → mid ≡ out ++ all_spelled a → new ≡ mid ++ all_spelled b → new ≡ out ++ all_spelled (a ++ b)
+joined out mid new a b first second =
+    second ∙ (ap (λ xs. xs ++ all_spelled b) first ∙ (append_assoc out (all_spelled a) (all_spelled b) ∙ ap (λ xs. out ++ xs) (sym (flat_map-append spelled a b))))
+
+pub ended : (mid new : List ℕ) (k : Kept) → new ≡ mid ++ spelled k → new ≡ mid ++ all_spelled (k ∷ [])
+ended mid new k is = is ∙ ap (λ xs. mid ++ xs) (sym (append-nil (spelled k)))

@@ -44,7 +44,7 @@ fn a_layer_is_written(rt: HostRuntime) -> Result<(), Fail> {
         payload: Bytes::from_slice(alloc, &[0, 0, 0, 7])?,
     })?;
     let mut out = Vec::new(alloc);
-    write_props(&mut out, &known, &kept)?;
+    write_props(alloc, &mut out, &known, &kept)?;
     assert_eq!(rt; out.as_slice(), LAYER.as_slice());
     Ok(())
 }

@@ -5,8 +5,8 @@ use Rattle.std.proofs.lemmas.Bool.{eqb-true}
 use Rattle.std.proofs.lemmas.List.{drop_all, drop-drop, length-replicate, take_at}
 use Rattle.std.specs.List.{prefix_len}
 use Rattle.std.proofs.lemmas.List.Folds.{length-prefix_len}
-use Rattle.spec_plane.specs.Codes.{short_run, long_run, short_literal, long_literal, code_bytes, code_pixels}
-use Rattle.spec_plane.specs.Greedy.{run_length, begins_run, up_to_run, run_code, literal_code, first_code, greedy_codes, greedy}
+use Rattle.spec_rle.specs.Codes.{short_run, long_run, short_literal, long_literal, code_bytes, code_pixels}
+use Rattle.spec_rle.specs.Greedy.{run_length, begins_run, up_to_run, run_code, literal_code, first_code, greedy_codes, greedy}
 
 literal_of : (xs ys : List ℕ) (x : ℕ) → xs ≡ x ∷ ys → begins_run xs ≡ false → length (up_to_run xs) ≡ suc (length (up_to_run ys))
 literal_of xs ys x e off =

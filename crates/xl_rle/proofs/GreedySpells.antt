@@ -4,8 +4,8 @@ use Rattle.std.specs.Prelude.{flat_map, nat_le}
 use Rattle.std.specs.List.{AllByRecursion}
 use Rattle.std.proofs.lemmas.Bool.{leb-true, leb-false, false≢true}
 use Rattle.std.proofs.lemmas.List.{length-replicate}
-use Rattle.spec_plane.specs.Codes.{Code, short_run, long_run, short_literal, long_literal, IsCode, code_bytes, code_pixels, EndsWithBytes, Spells}
-use Rattle.spec_plane.specs.Greedy.{run_length, begins_run, up_to_run, run_code, literal_code, first_code, greedy_codes, greedy}
+use Rattle.spec_rle.specs.Codes.{Code, short_run, long_run, short_literal, long_literal, IsCode, code_bytes, code_pixels, EndsWithBytes, Spells}
+use Rattle.spec_rle.specs.Greedy.{run_length, begins_run, up_to_run, run_code, literal_code, first_code, greedy_codes, greedy}
 use Rattle.xl_rle.proofs.GreedyCodes.{pixels_of_run, pixels_of_literal, first_gives, first_is_run, first_is_literal, literal_some, literal_parts, run_parts, spell}
 
 abbrev AreBytes : List ℕ → Type 0

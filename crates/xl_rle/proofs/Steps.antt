@@ -9,7 +9,7 @@ use Rattle.spec_fields.specs.declared.ReadRefused.{ReadRefused}
 use Rattle.spec_fields.specs.Reading.{Read, ◌>>=◌, fault, wants}
 use Rattle.spec_fields.specs.Field.{bytes_at}
 use Rattle.spec_fields.proofs.Steps.{pass, onward}
-use Rattle.spec_plane.specs.Reading.{Head, head_of, body_length, body_pixels, Part, code_at, codes_at, plane_at}
+use Rattle.spec_rle.specs.Reading.{Head, head_of, body_length, body_pixels, Part, code_at, codes_at, plane_at}
 
 -- a rule that fails ends the reading
 fails : {A : Type 0} (test : Bool) (refused : ReadRefused) (rest : Unit {0} → Read A) → test ≡ false → (wants test refused >>= rest) ≡ Err refused
@@ -163,7 +163,7 @@ pub stops : {so_far file : List ℕ} {from at room filled left : ℕ} {e : ReadR
 stops {so_far = so_far} {file = file} {at = at} {room = room} {filled = filled} {left = left} {e = e} reading some h =
     reading.reads ∙ ap (prepend so_far) (ended left file at (room - filled) e (omega (arith, some)) h)
 
-goes_on : {so_far file : List ℕ} {from at room filled left : ℕ} → Reading so_far file from at room filled left → (h : Head) → Begins file at h → 0 < left → filled < room
+pub goes_on : {so_far file : List ℕ} {from at room filled left : ℕ} → Reading so_far file from at room filled left → (h : Head) → Begins file at h → 0 < left → filled < room
     → h.count ≤ room - filled → h.body + body_length h ≤ length file → (front : List ℕ) (next : ℕ) → front ≡ so_far ++ body_pixels file h → length (body_pixels file h) ≡ h.count
     → next ≡ h.body + body_length h → Reading front file from next room (filled + h.count) (left - 1)
 goes_on {so_far = so_far} {file = file} {from = from} {at = at} {room = room} {filled = filled} {left = left} reading h b some more fits whole front next front_is count next_is =

@@ -1,6 +1,6 @@
 -- What a coder of planes appends.
 use Rattle.std.specs.Prelude.{◌≡◌, ℕ, ◌+◌, ◌≤◌, List, ◌++◌, length}
-use Rattle.spec_plane.specs.Codes.{Spells}
+use Rattle.spec_rle.specs.Codes.{Spells}
 
 -- a spelling that fits the plane, at most 64 bytes longer than it
 pub record Appends (fits : List ℕ → List ℕ → Type 0) (plane old new : List ℕ) : Type 0 where

@@ -1,7 +1,7 @@
 -- The head of a code in code.
 use Rattle.std.specs.Prelude.{◌≡◌, ℕ, ◌<◌, ◌≤◌, List, length, slice_index, Option, Some, None}
-use Rattle.spec_plane.specs.Reading as plane
-use Rattle.spec_plane.specs.Reading.{head_of}
+use Rattle.spec_rle.specs.Reading as plane
+use Rattle.spec_rle.specs.Reading.{head_of}
 use Rattle.xl_rle.specs.declared.head.Head.{Head}
 
 abbrev pub as_read : Head → plane.Head

@@ -2,7 +2,7 @@
 use Rattle.std.specs.Prelude.{◌≡◌, ℕ, List, Result, Ok, Err}
 use Rattle.spec_fields.specs.declared.ReadRefused.{ReadRefused}
 use Rattle.spec_fields.specs.Reading.{Read}
-use Rattle.spec_plane.specs.Reading.{Part}
+use Rattle.spec_rle.specs.Reading.{Part}
 
 -- the plane and the offset after its last code, or the first fault
 abbrev pub PlaneOf : Result ℕ ReadRefused → (out : List ℕ) → Read Part → Type 0

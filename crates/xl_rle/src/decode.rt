@@ -1,12 +1,12 @@
 ghost use Rattle.std.specs.Prelude.{◌≡◌, ◌≤◌, ◌+◌, ◌++◌, length, take, drop, replicate};
-ghost use Rattle.spec_plane.specs.Reading.{plane_at};
+ghost use Rattle.spec_rle.specs.Reading.{plane_at};
 ghost use Rattle.xl_rle.specs.PlaneOf.{PlaneOf};
 
 use crate::head::head_at;
 use xl_fields::{Kind, ReadRefused, refused};
 
 // A plane has at most so many codes.
-const MAX_CODES: u32 = 8192;
+pub const MAX_CODES: u32 = 8192;
 
 // A short code is put by one write of so many bytes, where the plane has them: the codes behind it put the rest.
 const BLOCK: usize = 32;

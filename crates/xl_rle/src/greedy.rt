@@ -1,6 +1,7 @@
-ghost use Rattle.std.specs.Prelude.{◌≡◌, ◌<◌, ◌≤◌, ◌++◌, length, OnOk};
-ghost use Rattle.spec_plane.specs.Codes.{code_bytes, short_literal};
-ghost use Rattle.spec_plane.specs.Greedy as coder;
+ghost use Rattle.std.specs.Prelude.{◌≡◌, ◌<◌, ◌≤◌, ◌++◌, length, OnOk, OnErr};
+ghost use Rattle.spec_rle.specs.Codes.{code_bytes, short_literal};
+ghost use Rattle.spec_rle.specs.Greedy as coder;
+ghost use Rattle.xl_fields.specs.Behind.{BeginsWith};
 
 use std::alloc::AllocError;
 
@@ -52,7 +53,8 @@ fn literal_length(bytes: &[u8]) -> usize
 fn push_run(out: &mut Vec<u8>, count: usize, value: u8) -> Result<(), AllocError>
     requires some { 0 < count }
     requires few { count ≤ 4096 }
-    ensures { OnOk result (out.new.items ≡ out.old.items ++ code_bytes (coder.run_code count value)) }
+    ensures ok { OnOk result (out.new.items ≡ out.old.items ++ code_bytes (coder.run_code count value)) }
+    ensures err { OnErr result (out.new.items ≡ out.old.items) }
 {
     if count <= MAX_SHORT {
         out.extend_from_slice(&[(count - 1) as u8, value])
@@ -64,7 +66,8 @@ fn push_run(out: &mut Vec<u8>, count: usize, value: u8) -> Result<(), AllocError
 fn push_literal(out: &mut Vec<u8>, bytes: &[u8]) -> Result<(), AllocError>
     requires some { 0 < length bytes.now }
     requires few { length bytes.now ≤ 4096 }
-    ensures { OnOk result (out.new.items ≡ out.old.items ++ code_bytes (coder.literal_code bytes.now)) }
+    ensures ok { OnOk result (out.new.items ≡ out.old.items ++ code_bytes (coder.literal_code bytes.now)) }
+    ensures front { BeginsWith out.new.items out.old.items }
 {
     let count = bytes.len();
     if count <= MAX_SHORT {
@@ -75,10 +78,11 @@ fn push_literal(out: &mut Vec<u8>, bytes: &[u8]) -> Result<(), AllocError>
     out.extend_from_slice(bytes)
 }
 
-/// Appends the spelling that takes each run of three or more bytes whole, and what lies between as it is.
-pub fn encode_greedy(plane: &[u8], out: &mut Vec<u8>) -> Result<(), AllocError>
+// Out of memory, some of the codes may stand behind what was there.
+fn append_codes(plane: &[u8], out: &mut Vec<u8>) -> Result<(), AllocError>
     requires { length plane.now ≤ 4096 }
-    ensures { OnOk result (out.new.items ≡ out.old.items ++ coder.greedy plane.now) }
+    ensures whole { OnOk result (out.new.items ≡ out.old.items ++ coder.greedy plane.now) }
+    ensures front { BeginsWith out.new.items out.old.items }
 {
     let mut at = 0;
     while at < plane.len() {
@@ -94,4 +98,20 @@ pub fn encode_greedy(plane: &[u8], out: &mut Vec<u8>) -> Result<(), AllocError>
         }
     }
     Ok(())
+}
+
+/// Appends the spelling that takes each run of three or more bytes whole, and what lies between as it is.
+///
+/// Out of memory, `out` is as before.
+pub fn encode_greedy(plane: &[u8], out: &mut Vec<u8>) -> Result<(), AllocError>
+    requires { length plane.now ≤ 4096 }
+    ensures ok { OnOk result (out.new.items ≡ out.old.items ++ coder.greedy plane.now) }
+    ensures err { OnErr result (out.new.items ≡ out.old.items) }
+{
+    let before = out.len();
+    let put = append_codes(plane, out);
+    if put.is_err() {
+        out.truncate(before);
+    }
+    put
 }

@@ -1,4 +1,14 @@
 pub mod AlikeRows
+pub mod Blocks
+pub mod Decoded
+pub mod FreshTiles
+pub mod JoinedTiles
+pub mod OtherTile
+pub mod PackedTiles
 pub mod Places
-pub mod RowsOfPart
-pub mod WrittenRows
+pub mod Plain
+pub mod ReadParts
+pub mod Rects
+pub mod Tables
+pub mod WrittenParts
+pub mod WholePlane

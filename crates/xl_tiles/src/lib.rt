@@ -1,11 +1,22 @@
 //! Planes of pixels.
 #![tactic(auto)]
 
+mod alike;
+mod area;
+mod block;
 mod fill;
+mod join;
+mod packed;
 mod plane;
+mod reading;
 mod rows;
+mod spelled;
+#[cfg(test)]
+mod tests;
+mod tile;
+mod writing;
 
 pub use fill::repeated;
 pub use plane::Plane;
-pub use rows::{Part, put_part};
+pub use tile::{ROOM, TileRef};
 pub use xl_grid::{Rect, TileAt};

@@ -1,37 +1,58 @@
-ghost use Rattle.std.specs.Prelude.{◌≡◌, ℕ, ◌+◌, ◌*◌, ◌<◌, ◌≤◌, length, take, drop, vec_len, slice_index, IfOk, OnOk, OnErr};
-ghost use Rattle.spec_document.specs.Limits.{IsSide};
+ghost use Rattle.std.specs.Prelude.{◌≡◌, ℕ, ◌+◌, ◌-◌, ◌*◌, ◌<◌, ◌≤◌, [], length, min, slice_index, slice_index_or, slice_set, IfOk, OnOk, OnErr};
+ghost use Rattle.spec_grid.specs.Grid as grid;
+ghost use Rattle.spec_grid.specs.Rect.{part_above_0};
+ghost use Rattle.spec_document.specs.Limits.{IsSide, AreBytes};
 ghost use Rattle.spec_document.specs.Plane.{byte_at, plane_of};
+ghost use Rattle.spec_hierarchy.specs.Tiles as sheet;
+ghost use Rattle.xl_tiles.specs.Area.{bytes_in};
 ghost use Rattle.xl_tiles.specs.Sized.{IsSized};
-ghost use Rattle.xl_tiles.specs.Written.{IsWithin, written};
+ghost use Rattle.xl_tiles.specs.Written.{IsWithin, with_tile, written};
+ghost use Rattle.xl_tiles.specs.Table.{AreTiled};
 
-use crate::fill::repeated;
-use crate::rows::{Part, byte, natural, piece, put_part, told};
-use spec_grid::Rect;
+use crate::alike::alike_tiles;
+use crate::area::{Area, Sheet, area_of};
+use crate::reading::{point_byte, read_area, row_of, tile_bytes};
+use crate::tile::{ROOM, TileRef, replace_item, share_item};
+use crate::writing::write_area;
 use std::alloc::{AllocError, Global};
 use std::marker::Model;
+use xl_grid::{Rect, TileAt};
 
-/// The pixels of a plane, row by row, each of 1 to 4 bytes.
+/// The pixels of a plane, row by row, each of 1 to 4 bytes. They are kept in tiles of 64 by 64, which several planes may hold.
 #[derive(Drop)]
 pub struct Plane {
     width: u32,
     height: u32,
     bpp: u32,
-    bytes: Vec<u8>,
+    tiles: Vec<TileRef>,
 }
 
 impl Model for Plane {
     ghost use Rattle.spec_document.specs.Plane as doc;
-    ghost use Rattle.xl_tiles.specs.Sized.{IsSized};
+    ghost use Rattle.xl_tiles.specs.Table.{bytes_of, AreTiled};
 
     ghost Value = { doc.Plane };
 
-    ghost view = { λ p. record { width = p.width; height = p.height; bpp = p.bpp; bytes = p.bytes.items } };
+    ghost view = { λ p. record { width = p.width; height = p.height; bpp = p.bpp; bytes = bytes_of p.width p.height p.bpp p.tiles.items } };
 
-    ghost invariant = { λ p. IsSized (record { width = p.width; height = p.height; bpp = p.bpp; bytes = p.bytes.items }) };
+    ghost invariant = { λ p. AreTiled p.width p.height p.bpp p.tiles.items };
 }
 
 impl Plane {
-    /// A plane whose pixels are all alike.
+    /// The plane of these tiles, row by row.
+    pub fn of_tiles(w: u32, h: u32, bpp: u32, tiles: Vec<TileRef>) -> Plane
+        requires { AreTiled w h bpp tiles.items }
+        ensures { result ≡ sheet.plane_of_tiles w h bpp tiles.items }
+    {
+        Plane {
+            width: w,
+            height: h,
+            bpp,
+            tiles,
+        }
+    }
+
+    /// A plane whose pixels are all alike. Its tiles share their bytes.
     pub fn new(alloc: Global, w: u32, h: u32, bpp: u32, pixel: &[u8]) -> Result<Plane, AllocError>
         requires width { IsSide w }
         requires height { IsSide h }
@@ -40,26 +61,40 @@ impl Plane {
         requires pixel { length pixel.now ≡ bpp }
         ensures { IfOk result (λ p. p ≡ plane_of w h bpp (λ x y c. slice_index pixel.now c)) }
     {
-        let row = repeated(alloc, pixel, w as usize)?;
-        let bytes = repeated(alloc, &row, h as usize)?;
-        Ok(Plane::of_bytes(w, h, bpp, bytes))
+        let sheet = Sheet {
+            width: w as usize,
+            height: h as usize,
+            bpp: bpp as usize,
+        };
+        let tiles = alike_tiles(alloc, sheet, pixel)?;
+        Ok(Plane {
+            width: w,
+            height: h,
+            bpp,
+            tiles,
+        })
     }
 
-    /// The plane of these bytes: its pixels row by row, the bytes of a pixel side by side.
-    pub fn of_bytes(w: u32, h: u32, bpp: u32, bytes: Vec<u8>) -> Plane
+    /// The plane whose pixels are these bytes, row by row.
+    pub fn of_pixels(
+        alloc: Global,
+        w: u32,
+        h: u32,
+        bpp: u32,
+        bytes: &[u8],
+    ) -> Result<Plane, AllocError>
         requires width { IsSide w }
         requires height { IsSide h }
         requires some { 1 ≤ bpp }
         requires few { bpp ≤ 4 }
-        requires full { vec_len bytes ≡ w * h * bpp }
-        ensures { result ≡ record { width = w; height = h; bpp = bpp; bytes = bytes.items } }
+        requires full { length bytes.now ≡ w * h * bpp }
+        ensures { IfOk result (λ p. p ≡ record { width = w; height = h; bpp = bpp; bytes = bytes.now }) }
     {
-        Plane {
-            width: w,
-            height: h,
-            bpp,
-            bytes,
-        }
+        let clear = [0; 4];
+        let mut plane = Plane::new(alloc, w, h, bpp, &clear[..bpp as usize])?;
+        let whole = Rect { x: 0, y: 0, w, h };
+        plane.write_rect(alloc, whole, bytes)?;
+        Ok(plane)
     }
 
     pub fn width(&self) -> u32
@@ -84,60 +119,156 @@ impl Plane {
         self.bpp
     }
 
-    /// Byte c of the pixel in column x of row y.
+    /// The same pixels: one count for each tile.
+    pub fn share(&self, alloc: Global) -> Result<Plane, AllocError>
+        ensures { IfOk result (λ p. p ≡ self.now) }
+    {
+        let mut tiles = Vec::with_capacity(alloc, self.tiles.len())?;
+        for tile in &self.tiles {
+            tiles.push(tile.share()?)?;
+        }
+        Ok(Plane {
+            width: self.width,
+            height: self.height,
+            bpp: self.bpp,
+            tiles,
+        })
+    }
+
+    /// Byte c of the pixel in column x of row y. It unpacks the pixel's tile, if a file has it in runs.
     pub fn get(&self, x: u32, y: u32, c: u32) -> u8
         requires column { x < self.now.width }
         requires row { y < self.now.height }
         requires byte { c < self.now.bpp }
         ensures { result ≡ byte_at self.now x y c }
     {
-        let at = (y as usize * self.width as usize + x as usize) * self.bpp as usize + c as usize;
-        byte(&self.bytes, at)
+        let mut room = [0; ROOM];
+        let sheet = Sheet {
+            width: self.width as usize,
+            height: self.height as usize,
+            bpp: self.bpp as usize,
+        };
+        point_byte(
+            sheet,
+            &self.tiles,
+            x as usize,
+            y as usize,
+            c as usize,
+            &mut room,
+        )
     }
 
-    /// The bytes of n pixels of row y, from column x on.
-    pub fn row(&self, x: u32, y: u32, n: u32) -> &[u8]
+    /// The bytes of the pixels of a rectangle, row by row. The room is for a tile.
+    pub fn read_rect(&self, rect: Rect, out: &mut [u8], room: &mut [u8])
+        requires within { IsWithin self.now.width self.now.height rect }
+        requires out { length out.old ≡ rect.w * rect.h * self.now.bpp }
+        requires room { length room.old ≡ 32768 }
+        ensures { out.new ≡ bytes_in self.now rect }
+    {
+        let area = area_of(rect);
+        let sheet = Sheet {
+            width: self.width as usize,
+            height: self.height as usize,
+            bpp: self.bpp as usize,
+        };
+        read_area(sheet, &self.tiles, area, out, room);
+    }
+
+    /// The bytes of n pixels of row y, from column x on. The room is for a tile: each call unpacks the tiles that it meets.
+    pub fn read_row(&self, x: u32, y: u32, n: u32, out: &mut [u8], room: &mut [u8])
         requires columns { x + n ≤ self.now.width }
         requires row { y < self.now.height }
-        ensures part { result.now ≡ take (n * self.now.bpp) (drop ((y * self.now.width + x) * self.now.bpp) self.now.bytes) }
-        ensures length { length result.now ≡ n * self.now.bpp }
-        ensures each { (k c : ℕ) → k < n → c < self.now.bpp → slice_index result.now (k * self.now.bpp + c) ≡ byte_at self.now (x + k) y c }
+        requires out { length out.old ≡ n * self.now.bpp }
+        requires room { length room.old ≡ 32768 }
+        ensures { (k c : ℕ) → k < n → c < self.now.bpp → slice_index out.new (k * self.now.bpp + c) ≡ byte_at self.now (x + k) y c }
     {
-        let bpp = self.bpp as usize;
-        let start = (y as usize * self.width as usize + x as usize) * bpp;
-        piece(&self.bytes, start, n as usize * bpp)
+        let area = Area {
+            x: x as usize,
+            y: y as usize,
+            w: n as usize,
+            h: 1,
+        };
+        let sheet = Sheet {
+            width: self.width as usize,
+            height: self.height as usize,
+            bpp: self.bpp as usize,
+        };
+        read_area(sheet, &self.tiles, area, out, room);
     }
 
-    /// Writes the pixels of a rectangle, row by row. All others stay.
-    pub fn write_rect(&mut self, rect: Rect, bytes: &[u8]) -> Result<(), AllocError>
+    /// The bytes of a row of a rectangle whose bytes were read.
+    pub fn row_in<'a>(&self, rect: Rect, bytes: &'a [u8], y: u32) -> &'a [u8]
+        requires within { IsWithin self.now.width self.now.height rect }
+        requires bytes { bytes.now ≡ bytes_in self.now rect }
+        requires row { y < rect.h }
+        ensures length { length result.now ≡ rect.w * self.now.bpp }
+        ensures each { (k c : ℕ) → k < rect.w → c < self.now.bpp → slice_index result.now (k * self.now.bpp + c) ≡ byte_at self.now (part_above_0 rect.x + k) (part_above_0 rect.y + y) c }
+    {
+        let area = area_of(rect);
+        row_of(area, self.bpp as usize, bytes, y as usize)
+    }
+
+    /// Writes the pixels of a rectangle, row by row. All memory is taken first, and all other pixels stay.
+    pub fn write_rect(&mut self, alloc: Global, rect: Rect, bytes: &[u8]) -> Result<(), AllocError>
         requires within { IsWithin self.old.width self.old.height rect }
         requires bytes { length bytes.now ≡ rect.w * rect.h * self.old.bpp }
         ensures ok { OnOk result (self.new ≡ written self.old rect bytes.now) }
         ensures err { OnErr result (self.new ≡ self.old) }
     {
-        let bpp = self.bpp as usize;
-        let stride = self.width as usize * bpp;
-        let part = Part {
-            x: natural(rect.x) * bpp,
-            y: natural(rect.y),
-            w: rect.w as usize * bpp,
-            h: rect.h as usize,
+        let area = area_of(rect);
+        let sheet = Sheet {
+            width: self.width as usize,
+            height: self.height as usize,
+            bpp: self.bpp as usize,
         };
-        put_part(&mut self.bytes, stride, part, bytes);
-        told(&self.bytes);
-        Ok(())
+        write_area(alloc, sheet, &mut self.tiles, area, bytes)
     }
 
-    /// The same pixels.
-    pub fn share(&self, alloc: Global) -> Result<Plane, AllocError>
-        ensures { IfOk result (λ p. p ≡ self.now) }
+    /// The bytes of a tile, in the room where a file has them in runs.
+    pub fn tile_bytes<'a>(&'a self, at: TileAt, room: &'a mut [u8]) -> &'a [u8]
+        requires column { at.col < grid.tiles_along self.now.width }
+        requires row { at.row < grid.tiles_along self.now.height }
+        requires room { length room.old ≡ 32768 }
+        ensures { result.now ≡ sheet.tile_bytes self.now at }
     {
-        let bytes = Vec::from_slice(alloc, &self.bytes)?;
-        Ok(Plane {
-            width: self.width,
-            height: self.height,
-            bpp: self.bpp,
-            bytes,
-        })
+        let sheet = Sheet {
+            width: self.width as usize,
+            height: self.height as usize,
+            bpp: self.bpp as usize,
+        };
+        tile_bytes(sheet, &self.tiles, at.col as usize, at.row as usize, room)
+    }
+
+    /// How many tiles it has.
+    pub fn tile_count(&self) -> u32
+        ensures { result ≡ grid.tiles_along self.now.height * grid.tiles_along self.now.width }
+    {
+        self.tiles.len() as u32
+    }
+
+    /// A share of a tile.
+    pub fn tile(&self, at: TileAt) -> Result<TileRef, AllocError>
+        requires column { at.col < grid.tiles_along self.now.width }
+        requires row { at.row < grid.tiles_along self.now.height }
+        ensures { IfOk result (λ t. t ≡ sheet.tile_bytes self.now at) }
+    {
+        let columns = (self.width as usize + 63) / 64;
+        share_item(&self.tiles, at.row as usize * columns + at.col as usize)
+    }
+
+    /// Puts a tile of the same size in the place of one, which it hands out. It takes no memory.
+    pub fn swap_tile(&mut self, at: TileAt, tile: TileRef) -> TileRef
+        requires column { at.col < grid.tiles_along self.old.width }
+        requires row { at.row < grid.tiles_along self.old.height }
+        requires size { length tile ≡ sheet.tile_width self.old.width at * sheet.tile_height self.old.height at * self.old.bpp }
+        ensures result { result ≡ sheet.tile_bytes self.old at }
+        ensures after { self.new ≡ with_tile self.old at tile }
+    {
+        let columns = (self.width as usize + 63) / 64;
+        replace_item(
+            &mut self.tiles,
+            at.row as usize * columns + at.col as usize,
+            tile,
+        )
     }
 }

@@ -5,8 +5,8 @@ use Rattle.xl_props.specs.Written.{word}
 use Rattle.xl_props.proofs.Lengths.{length_word, headed_parts, onto}
 use Rattle.xl_props.proofs.put.put_point.Goals as goal
 
-pub returns : goal.returns
-returns c =
+pub returns-clause-ok : goal.returns-clause-ok
+returns-clause-ok c =
     let head = c.put_head.new.out.items in
     let first = c.put_word.new.out.items in
     let m = cast_unsigned w32 c.args.x in
@@ -16,4 +16,4 @@ returns c =
     let long : 8 ≡ length (word m ++ word n) = omega (arith, length-append (word m) (word n), length_word m, length_word n) in
     onto c.put_word-2.result _ _ _
     (ap (λ k. first ++ word k) y
-    ∙ headed_parts c.args.out.now.items head first (word m) (word n) 15 8 c.in_ok-put_head.ensures (c.in_ok-put_word.ensures ∙ ap (λ k. head ++ word k) x) long) c.put_word-2.ensures
+    ∙ headed_parts c.args.out.now.items head first (word m) (word n) 15 8 c.in_ok-put_head.ensures.ok (c.in_ok-put_word.ensures.ok ∙ ap (λ k. head ++ word k) x) long) c.put_word-2.ensures.ok

@@ -1,6 +1,10 @@
 use Rattle.std.proofs.Common.{◌≡◌, ◌++◌, take}
+use Rattle.xl_fields.specs.Behind.{BeginsWith}
 use Rattle.xl_props.specs.Written.{all_spelled}
 use Rattle.xl_props.proofs.write.put_kept.Given as goal
 
 abbrev pub invariant-loop-property : goal.invariant-loop-property
-invariant-loop-property l = l.out.items ≡ l.initial.out.items ++ all_spelled (take l.property-index l.kept)
+invariant-loop-property l = record {
+  ok : l.out.items ≡ l.initial.out.items ++ all_spelled (take l.property-index l.kept);
+  front : BeginsWith l.out.items l.initial.out.items;
+}

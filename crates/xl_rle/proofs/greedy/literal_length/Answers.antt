@@ -1,5 +1,5 @@
 use Rattle.std.proofs.Common.{arith, length, drop, sym, ◌∙◌, ◌≡◌, take_all, take, ◌-◌, ap, false, length-drop}
-use Rattle.spec_plane.specs.Greedy.{begins_run}
+use Rattle.spec_rle.specs.Greedy.{begins_run}
 use Rattle.xl_rle.proofs.GreedyCodes.{literal_more}
 use Rattle.xl_rle.proofs.greedy.literal_length.Goals as goal
 

@@ -1,5 +1,5 @@
 use Rattle.std.proofs.Common.{◌≡◌, ◌+◌, ◌-◌, ◌≤◌, length, drop}
-use Rattle.spec_plane.specs.Greedy.{up_to_run}
+use Rattle.spec_rle.specs.Greedy.{up_to_run}
 use Rattle.xl_rle.proofs.greedy.literal_length.Given as goal
 
 abbrev pub invariant-loop-n : goal.invariant-loop-n

@@ -1,6 +1,6 @@
 use Rattle.std.proofs.Common.{◌≡◌, ◌+◌, ◌-◌, ◌≤◌, length, drop}
 use Rattle.std.specs.Prelude.{take_while, ◌==◌}
-use Rattle.spec_plane.specs.Greedy.{run_length}
+use Rattle.spec_rle.specs.Greedy.{run_length}
 use Rattle.xl_rle.proofs.greedy.run_length.Given as goal
 
 abbrev pub invariant-loop-n : goal.invariant-loop-n

@@ -1,0 +1,13 @@
+use Rattle.std.proofs.Common.{◌≡◌, ◌+◌, ◌*◌, length}
+use Rattle.spec_grid.specs.Rect.{part_above_0}
+use Rattle.xl_compose.specs.Source.{sheet_pixel}
+use Rattle.xl_compose.proofs.BandRows.{AreLaidTo}
+use Rattle.xl_compose.proofs.source.lay_rows.Given as goal
+
+-- the rows so far are laid
+abbrev pub invariant-loop-r : goal.invariant-loop-r
+invariant-loop-r g l = record {
+  row : length l.row ≡ l.fn.part.w;
+  cost : l.steps ≡ l.fn.steps + l.r * l.fn.part.w;
+  laid : AreLaidTo l.fn.mode l.fn.left (part_above_0 l.fn.part.x) l.fn.part.w l.fn.top (part_above_0 l.fn.part.y) l.r l.fn.band.w l.fn.band.h (sheet_pixel l.colours l.fn.opacity l.layer) l.fn.picture l.picture;
+}

@@ -1,7 +1,0 @@
-use Rattle.std.proofs.Common.{[], ◌∷◌}
-use Rattle.xl_hier.specs.Joined.{IsJoined}
-use Rattle.xl_hier.proofs.join.join_two.Given as goal
-
--- the pixels so far are joined
-abbrev pub invariant-loop-k : goal.invariant-loop-k
-invariant-loop-k l = IsJoined 2 l.k (l.first ∷ l.second ∷ []) l.tile
