@@ -1,6 +1,5 @@
 -- What stands now, as far as calls ask for it.
-use Rattle.std.specs.Prelude.{◌≡◌, ℕ, ◌+◌, ◌≤◌, ◌<◌, max, List, [], ◌∷◌, length, map, fold, slice_index, nat_eq, Result, Ok, Err}
-use Rattle.std.specs.List.{AllByRecursion, IsDistinct}
+use Rattle.std.specs.Prelude.{◌≡◌, ℕ, ◌+◌, ◌≤◌, ◌<◌, max, List, [], ◌∷◌, length, map, fold, slice_index, Result, Ok, Err}
 use Rattle.spec_grid.specs.declared.TileAt.{TileAt}
 use Rattle.spec_forest.specs.Forest.{ids}
 use Rattle.spec_document.specs.Document.{Document}
@@ -9,7 +8,7 @@ use Rattle.spec_edit.specs.declared.EditRefused.{EditRefused}
 use Rattle.spec_edit.specs.Edit.{Edit}
 use Rattle.spec_edit.specs.Apply.{At, apply}
 use Rattle.spec_history.specs.Machine as machine
-use Rattle.spec_history.specs.Machine.{Call, Reply, changed, refused, nothing_to_undo, tile_of, tile_reply, State, Done, latest, document_at}
+use Rattle.spec_history.specs.Machine.{Call, Reply, changed, refused, moved, nothing_to_undo, nothing_to_redo, not_top, tile_of, stale, no_stack, outside_tile, top_is, saved, save_fault, save_memory, history_full, tile_reply, State, Done, latest, document_at}
 use Rattle.spec_history.specs.History.{Entry, replay, next_index}
 use Rattle.spec_history.specs.Kept.{IsLegal}
 use Rattle.xl_core.specs.History.{most_entries}
@@ -82,16 +81,25 @@ abbrev pub ShowsNow : Document → Call → Reply → (bytes : List ℕ) → Typ
 ShowsNow d (machine.tile stack at) reply bytes = ShowsTile d stack at reply bytes
 ShowsNow d call reply bytes = Unit {0}
 
--- ---- what always holds
+-- a tile that is handed out leaves its bytes in the desk; after any other reply the desk is as before
+abbrev pub KeepsDesk : Reply → (old new : List ℕ) → Type 0
+KeepsDesk (tile_of version) old new = Unit {0}
+KeepsDesk (changed version group next) old new = new ≡ old
+KeepsDesk (refused index cause) old new = new ≡ old
+KeepsDesk (moved now) old new = new ≡ old
+KeepsDesk nothing_to_undo old new = new ≡ old
+KeepsDesk nothing_to_redo old new = new ≡ old
+KeepsDesk (not_top top) old new = new ≡ old
+KeepsDesk (stale have seen) old new = new ≡ old
+KeepsDesk (no_stack node) old new = new ≡ old
+KeepsDesk outside_tile old new = new ≡ old
+KeepsDesk (top_is group version) old new = new ≡ old
+KeepsDesk (saved version) old new = new ≡ old
+KeepsDesk (save_fault version) old new = new ≡ old
+KeepsDesk (save_memory version) old new = new ≡ old
+KeepsDesk history_full old new = new ≡ old
 
--- no two nodes of a document have one id
-abbrev pub HasIds : Document → Type 0
-HasIds d = IsDistinct nat_eq (ids d.nodes)
-
--- so it is with the last document and those that an undo gives back
-pub record HaveIds (document : Document) (undo : List Undo) : Type 0 where
-  pub last : HasIds document
-  pub kept : AllByRecursion (λ u. HasIds u.before) undo
+-- ---- what stands in the machine
 
 abbrev pub undo_of : Document → State → Done → Undo
 undo_of base s d = record { group = d.group; before = document_at base s d.before }

@@ -2,9 +2,9 @@
 ghost use Rattle.std.specs.Prelude.{◌≡◌, ◌<◌, ◌≤◌, ◌^◌, IfOk, OnErr, not};
 ghost use Rattle.spec_grid.specs.Grid.{is_on_grid};
 ghost use Rattle.spec_history.specs.Machine.{has_stack as document_has_stack};
-ghost use Rattle.xl_core.specs.Now.{first_now, edited, undone, next_version, shown, told, Tells, ShowsTile, ShowsNow, HasIds};
+ghost use Rattle.xl_core.specs.Now.{first_now, edited, undone, next_version, shown, told, Tells, ShowsTile, ShowsNow, KeepsDesk};
 ghost use Rattle.xl_doc.specs.Numbered.{AreNumbered};
-ghost use Rattle.xl_edit.specs.Built.{IsBuilt};
+ghost use Rattle.xl_edit.specs.Built.{IsBuilt, IsBuiltEdit};
 ghost use Rattle.xl_edit.specs.Calls.{call_of};
 ghost use Rattle.xl_edit.specs.Edits.{edit_of};
 ghost use Rattle.xl_edit.specs.Replies.{reply_of};
@@ -40,7 +40,7 @@ impl Model for Standing {
     ghost use Rattle.std.specs.Prelude.{reverse};
     ghost use Rattle.std.specs.Coded.{codes};
     ghost use Rattle.spec_document.specs.Code.{coded_document};
-    ghost use Rattle.xl_core.specs.Now.{Now, HaveIds};
+    ghost use Rattle.xl_core.specs.Now.{Now};
 
     ghost Value = { Now };
 
@@ -53,8 +53,6 @@ impl Model for Standing {
       next_group = s.next_group;
       version = s.version;
     } };
-
-    ghost invariant = { λ s. HaveIds s.document (reverse s.undo.items) };
 }
 
 // Whether the document has this stack.
@@ -102,7 +100,7 @@ impl Standing {
         &self.document
     }
 
-    /// Answers a call. After want of memory all is as before, and the desk holds any bytes.
+    /// Answers a call. A tile leaves its bytes in the desk; no other answer touches it. After out of memory all is as before.
     pub(crate) fn answer<L: Ledger>(
         &mut self,
         alloc: Global,
@@ -115,7 +113,9 @@ impl Standing {
         requires groups { self.old.next_group < 2 ^ 31 }
         ensures told { IfOk result (λ reply. Tells (told self.old (call_of call.now)) (reply_of reply) self.new) }
         ensures shown { IfOk result (λ reply. ShowsNow self.new.document (call_of call.now) (reply_of reply) desk.new.out) }
+        ensures desk { IfOk result (λ reply. KeepsDesk (reply_of reply) desk.old.out desk.new.out) }
         ensures as_before { OnErr result (self.new ≡ self.old) }
+        ensures desk_as_before { OnErr result (desk.new ≡ desk.old) }
     {
         match call {
             Call::Edit(group) => self.edit(alloc, &group.edits.as_slice()[0]),
@@ -127,6 +127,7 @@ impl Standing {
 
     // Makes an edit, which is a group of its own.
     fn edit(&mut self, alloc: Global, edit: &Edit) -> Result<Reply, AllocError>
+        requires built { IsBuiltEdit (edit_of edit.now) }
         requires versions { self.old.version < 2 ^ 31 }
         requires groups { self.old.next_group < 2 ^ 31 }
         ensures told { IfOk result (λ reply. Tells (edited self.old (edit_of edit.now)) (reply_of reply) self.new) }
@@ -183,6 +184,8 @@ impl Standing {
     ) -> Result<Reply, AllocError>
         ensures told { IfOk result (λ reply. Tells (shown self.now node.0 at) (reply_of reply) self.now) }
         ensures shown { IfOk result (λ reply. ShowsTile self.now.document node.0 at (reply_of reply) desk.new.out) }
+        ensures desk { IfOk result (λ reply. KeepsDesk (reply_of reply) desk.old.out desk.new.out) }
+        ensures desk_as_before { OnErr result (desk.new ≡ desk.old) }
     {
         if !has_stack(&self.document, node) {
             return Ok(Reply::NoStack { node: node.0 });

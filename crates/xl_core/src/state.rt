@@ -1,6 +1,7 @@
 ghost use Rattle.std.specs.Prelude.{◌≡◌, ◌<◌, ◌≤◌, ◌^◌, length, [], IfOk, IfErr, OnOk, OnErr};
 ghost use Rattle.spec_history.specs.Kept.{IsLegal};
 ghost use Rattle.xl_core.specs.History.{most_entries, version, document, Answers, Shows};
+ghost use Rattle.xl_core.specs.Now.{KeepsDesk};
 ghost use Rattle.xl_doc.specs.Numbered.{AreNumbered};
 ghost use Rattle.xl_edit.specs.Built.{IsBuilt};
 ghost use Rattle.xl_edit.specs.Calls.{call_of};
@@ -63,24 +64,28 @@ impl Core {
         }
     }
 
-    /// Makes a call of a session.
+    /// Makes a call of a session, which has seen the versions up to `seen`.
     ///
-    /// A tile leaves its bytes in the desk. After want of memory the history is as before, and the desk holds any bytes.
+    /// A tile leaves its bytes in the desk; no other answer touches it. After out of memory the history and the desk are as before.
     pub fn submit<L: Ledger>(
         &mut self,
         alloc: Global,
         session: u8,
         call: Call,
+        seen: u32,
         desk: &mut Desk,
         steps: &mut Steps<L>,
     ) -> Result<Reply, AllocError>
         requires session { session < 8 }
+        requires seen { seen ≤ version self.old }
         requires built { IsBuilt (call_of call) }
         ensures answered { IfOk result (λ reply. Answers self.old session (call_of call) (reply_of reply) self.new) }
         ensures shown { IfOk result (λ reply. Shows self.new (call_of call) (reply_of reply) desk.new.out) }
         ensures legal { IsLegal self.new.base self.new.entries }
         ensures few { length self.new.entries ≤ most_entries }
+        ensures desk { IfOk result (λ reply. KeepsDesk (reply_of reply) desk.old.out desk.new.out) }
         ensures as_before { OnErr result (self.new ≡ self.old) }
+        ensures desk_as_before { OnErr result (desk.new ≡ desk.old) }
     {
         if self.entries.len() >= MOST_ENTRIES {
             return Ok(Reply::HistoryFull);

@@ -1,2 +1,5 @@
 pub mod NodesOf
+pub mod Hulls
 pub mod SelectedRows
+pub mod Sample
+pub mod Blank

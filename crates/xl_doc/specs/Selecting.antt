@@ -8,11 +8,6 @@ use Rattle.spec_document.specs.Document.{Channel}
 abbrev pub IsOver : (width height : ℕ) → Plane → Type 0
 IsOver width height plane = (plane.width ≡ width) × (plane.height ≡ height)
 
--- a selection, where there is one, has the sides of the canvas
-abbrev pub FitsCanvas : (width height : ℕ) → Option Channel → Type 0
-FitsCanvas width height None = Unit {0}
-FitsCanvas width height (Some s) = IsOver width height s.plane
-
 -- the byte of a plane at a point, and 0 outside it
 abbrev pub byte_or_0 : Plane → (x y : ℤ) → ℕ
 byte_or_0 p x y = if has_point (sheet p.width p.height) x y then byte_at p (part_above_0 x) (part_above_0 y) 0 else 0

@@ -1,4 +1,7 @@
-ghost use Rattle.std.specs.Prelude.{◌≡◌, ◌<◌, ◌≤◌, ◌++◌, ◌∷◌, [], length, IfOk};
+ghost use Rattle.std.specs.Prelude.{◌≡◌, ◌<◌, ◌≤◌, ◌++◌, ◌∷◌, [], length, insert, remove, slice_index_or, slice_set, IfOk};
+ghost use Rattle.std.specs.Borrow.{Lends, sem};
+ghost use Rattle.xl_doc.specs.contracts.channel.Channel.{the_row as channel_row};
+ghost use Rattle.xl_doc.specs.contracts.channel.Channels.{the_row};
 
 use std::alloc::{AllocError, Global};
 use std::marker::Model;
@@ -8,7 +11,7 @@ use xl_tiles::Plane;
 /// How many channels a document has at most, beside the selection.
 pub const MAX_CHANNELS: u32 = 64;
 
-/// A plane of one byte per pixel over the whole canvas, with a name: a channel, or the selection.
+/// A plane of one byte per pixel, with a name. A channel and the selection have the sides of the canvas.
 #[derive(Drop)]
 pub struct Channel {
     pub name: Bytes,
@@ -40,35 +43,19 @@ impl Channel {
     }
 }
 
-/// The mask of a layer: a plane of one byte per pixel, with the layer's sides.
-#[derive(Drop)]
-pub struct Mask {
-    pub name: Bytes,
-    pub kept: PropList,
-    pub plane: Plane,
-}
+/// The mask of a layer: a channel with the layer's sides.
+pub type Mask = Channel;
 
-impl Model for Mask {
-    ghost use Rattle.std.specs.Prelude.{◌≡◌};
-    ghost use Rattle.spec_document.specs.Document as doc;
-
-    ghost Value = { doc.Channel };
-
-    ghost view = { λ c. record { name = c.name; kept = c.kept; plane = c.plane } };
-
-    ghost invariant = { λ c. c.plane.bpp ≡ 1 };
-}
-
-impl Mask {
-    /// The same mask again.
-    pub fn share(&self, alloc: Global) -> Result<Mask, AllocError>
-        ensures { IfOk result (λ other. other ≡ self.now) }
-    {
-        Ok(Mask {
-            name: self.name.share(alloc)?,
-            kept: self.kept.share(alloc)?,
-            plane: self.plane.share(alloc)?,
-        })
+/// The same channel, selection or mask again, if there is one.
+pub(crate) fn shared_if_any(
+    alloc: Global,
+    channel: &Option<Channel>,
+) -> Result<Option<Channel>, AllocError>
+    ensures { IfOk result (λ other. other ≡ channel.now) }
+{
+    match channel {
+        None => Ok(None),
+        Some(channel) => Ok(Some(channel.share(alloc)?)),
     }
 }
 
@@ -107,7 +94,8 @@ impl Channels {
 
     /// How many channels there are.
     pub fn len(&self) -> usize
-        ensures { result ≡ length self.now }
+        ensures value { result ≡ length self.now }
+        ensures few { result ≤ 64 }
     {
         self.list.len()
     }
@@ -137,5 +125,33 @@ impl Channels {
         ensures { self.new ≡ self.old ++ channel ∷ [] }
     {
         self.list.push(channel).unwrap();
+    }
+
+    /// A channel, to be written.
+    pub fn get_mut(&mut self, index: u32) -> &mut Channel
+        requires { index < length self.old }
+        ensures* writes_back { sem 𝓛 (Lends the_row channel_row self.entry result
+            (λ channel. slice_set self.old index channel)) }
+        ensures value { result.now ≡ slice_index_or self.old index result.now }
+    {
+        &mut self.list[index as usize]
+    }
+
+    /// Puts a channel at an index. Those from there on move up by one.
+    pub fn insert(&mut self, index: u32, channel: Channel)
+        requires room { length self.old < 64 }
+        requires index { index ≤ length self.old }
+        ensures { self.new ≡ insert self.old index channel }
+    {
+        self.list.insert(index as usize, channel).unwrap();
+    }
+
+    /// Hands out the channel at an index. Those after it move down by one.
+    pub fn remove(&mut self, index: u32) -> Channel
+        requires { index < length self.old }
+        ensures channel { result ≡ slice_index_or self.old index result }
+        ensures others { self.new ≡ remove self.old index }
+    {
+        self.list.remove(index as usize)
     }
 }

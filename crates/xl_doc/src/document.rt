@@ -2,7 +2,7 @@ ghost use Rattle.std.specs.Prelude.{◌≡◌, ◌≤◌, IfOk};
 ghost use Rattle.spec_document.specs.Document.{area, selection_count};
 ghost use Rattle.spec_written.specs.Version.{least_version};
 
-use crate::channel::{Channel, Channels};
+use crate::channel::{Channel, Channels, shared_if_any};
 use crate::node::Node;
 use crate::sums::nodes_area;
 use crate::versions::{has_group, has_late_mode, indexed_version};
@@ -12,7 +12,7 @@ use std::marker::Model;
 use xl_props::{ColourMap, PropList};
 use xl_tree::Tree;
 
-/// A document. `compression` is 0 for plain tiles and 1 for run-length tiles.
+/// A document, within its limits. `compression` is 0 for plain tiles and 1 for run-length tiles.
 #[derive(Drop)]
 pub struct Document {
     pub width: u32,
@@ -34,9 +34,8 @@ impl Model for Document {
 
     ghost coded = { coded_document };
 
-    ghost use Rattle.xl_doc.specs.Nodes.{nodes_of, MarksAgree};
-    ghost use Rattle.xl_doc.specs.Selecting.{FitsCanvas};
-    ghost use Rattle.spec_document.specs.Limits.{IsSide};
+    ghost use Rattle.xl_doc.specs.Nodes.{nodes_of};
+    ghost use Rattle.xl_doc.specs.Sound.{IsSound};
 
     ghost view = { λ d. record {
       width = d.width;
@@ -50,7 +49,17 @@ impl Model for Document {
       selection = d.selection;
     } };
 
-    ghost invariant = { λ d. IsSide d.width × IsSide d.height × MarksAgree d.tree × FitsCanvas d.width d.height d.selection };
+    ghost invariant = { λ d. IsSound d.tree (record {
+      width = d.width;
+      height = d.height;
+      base = d.base;
+      compression = d.compression;
+      colours = d.colours;
+      kept = d.kept;
+      nodes = nodes_of d.tree;
+      channels = d.channels;
+      selection = d.selection;
+    }) };
 }
 
 impl Document {
@@ -67,7 +76,7 @@ impl Document {
             kept: self.kept.share(alloc)?,
             tree: self.tree.share(alloc)?,
             channels: self.channels.share(alloc)?,
-            selection: shared_selection(alloc, &self.selection)?,
+            selection: shared_if_any(alloc, &self.selection)?,
         })
     }
 
@@ -91,19 +100,6 @@ impl Document {
         } else {
             indexed_version(self.base)
         }
-    }
-}
-
-/// The same selection again, if there is one.
-fn shared_selection(
-    alloc: Global,
-    selection: &Option<Channel>,
-) -> Result<Option<Channel>, AllocError>
-    ensures { IfOk result (λ other. other ≡ selection.now) }
-{
-    match selection {
-        None => Ok(None),
-        Some(channel) => Ok(Some(channel.share(alloc)?)),
     }
 }
 

@@ -1,7 +1,7 @@
 ghost use Rattle.std.specs.Prelude.{◌≡◌, ◌+◌, ◌^◌, ◌≤◌, IfOk};
 ghost use Rattle.spec_document.specs.Document.{mask_area, plane_area};
 
-use crate::channel::Mask;
+use crate::channel::{Mask, shared_if_any};
 use crate::sums::{mask_area, plane_area};
 use std::alloc::{AllocError, Global};
 use std::marker::Model;
@@ -41,26 +41,16 @@ impl Layer {
             x: self.x,
             y: self.y,
             plane: self.plane.share(alloc)?,
-            mask: shared_mask(alloc, &self.mask)?,
+            mask: shared_if_any(alloc, &self.mask)?,
             apply_mask: self.apply_mask,
         })
     }
 
     /// The pixels of the layer and its mask.
-    pub(crate) fn area(&self) -> u64
+    pub fn area(&self) -> u64
         ensures value { result ≡ plane_area self.now.plane + mask_area self.now.mask }
         ensures small { result ≤ 2 ^ 27 }
     {
         plane_area(&self.plane) + mask_area(&self.mask)
-    }
-}
-
-/// The same mask again, if there is one.
-fn shared_mask(alloc: Global, mask: &Option<Mask>) -> Result<Option<Mask>, AllocError>
-    ensures { IfOk result (λ other. other ≡ mask.now) }
-{
-    match mask {
-        None => Ok(None),
-        Some(mask) => Ok(Some(mask.share(alloc)?)),
     }
 }

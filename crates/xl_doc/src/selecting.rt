@@ -1,9 +1,10 @@
 //! How much of the points of a canvas is selected.
-ghost use Rattle.std.specs.Prelude.{◌≡◌, ℕ, ◌+◌, ◌-◌, ◌<◌, ◌≤◌, pos, negsuc, ◌+ℤ◌, ◌-ℤ◌, ◌≤ℤ◌, length, slice_index};
-ghost use Rattle.spec_edit.specs.Effect.{selected};
+ghost use Rattle.std.specs.Prelude.{◌≡◌, ℕ, ◌+◌, ◌-◌, ◌*◌, ◌<◌, ◌≤◌, pos, negsuc, ◌+ℤ◌, ◌-ℤ◌, ◌≤ℤ◌, length, slice_index};
+ghost use Rattle.spec_document.specs.Plane.{byte_at};
+ghost use Rattle.spec_document.specs.Selection.{selected};
 ghost use Rattle.spec_grid.specs.Rect.{has_point, part_above_0, sheet};
 ghost use Rattle.xl_doc.specs.Selecting.{byte_or_0, IsNear};
-ghost use Rattle.xl_tiles.specs.Part.{byte_after};
+ghost use Rattle.xl_tiles.specs.Block.{byte_after};
 
 use crate::document::Document;
 use xl_tiles::Plane;
@@ -39,9 +40,29 @@ fn put(out: &mut [u8], at: usize, row: &[u8])
     out[at..at + row.len()].copy_from_slice(row);
 }
 
-// The bytes of a row of points, from a point on. Outside the plane they are 0.
-fn plane_row(plane: &Plane, x: i32, y: i32, out: &mut [u8])
+/// The room that `selected_row` needs: a row, and a tile of the selection.
+pub const ROW_ROOM: usize = 40960;
+
+// The bytes of n pixels of row y, from column x on, in the room.
+fn row_of<'a>(plane: &Plane, x: u32, y: u32, n: u32, room: &'a mut [u8]) -> &'a [u8]
     requires bpp { plane.now.bpp ≡ 1 }
+    requires columns { x + n ≤ plane.now.width }
+    requires row { y < plane.now.height }
+    requires few { n ≤ 8192 }
+    requires room { length room.old ≡ 40960 }
+    ensures length { length result.now ≡ n * plane.now.bpp }
+    ensures each { (k c : ℕ) → k < n → c < plane.now.bpp → slice_index result.now (k * plane.now.bpp + c) ≡ byte_at plane.now (x + k) y c }
+{
+    let (line, tile) = room.split_at_mut(8192);
+    let row = &mut line[..n as usize];
+    plane.read_row(x, y, n, row, tile);
+    row
+}
+
+// The bytes of a row of points, from a point on. Outside the plane they are 0.
+fn plane_row(plane: &Plane, x: i32, y: i32, out: &mut [u8], room: &mut [u8])
+    requires bpp { plane.now.bpp ≡ 1 }
+    requires room { length room.old ≡ 40960 }
     requires near { IsNear x }
     requires short { length out.old ≤ 8192 }
     ensures length { length out.new ≡ length out.old }
@@ -54,7 +75,7 @@ fn plane_row(plane: &Plane, x: i32, y: i32, out: &mut [u8])
         return;
     }
     let count = (plane.width() - from).min((out.len() - skip) as u32);
-    put(out, skip, plane.row(from, y as u32, count));
+    put(out, skip, row_of(plane, from, y as u32, count, room));
 }
 
 impl Document {
@@ -74,7 +95,8 @@ impl Document {
     }
 
     /// The same for a row of points, from a point on.
-    pub fn selected_row(&self, x: i32, y: i32, out: &mut [u8])
+    pub fn selected_row(&self, x: i32, y: i32, out: &mut [u8], room: &mut [u8])
+        requires room { length room.old ≡ 40960 }
         requires near { IsNear x }
         requires short { length out.old ≤ 8192 }
         ensures length { length out.new ≡ length out.old }
@@ -82,7 +104,7 @@ impl Document {
     {
         match &self.selection {
             None => out.fill(255),
-            Some(selection) => plane_row(&selection.plane, x, y, out),
+            Some(selection) => plane_row(&selection.plane, x, y, out, room),
         }
     }
 }

@@ -1,5 +1,5 @@
 ghost use Rattle.std.specs.Prelude.{◌≡◌, IfOk};
-ghost use Rattle.xl_doc.specs.Nodes.{IsLeaf};
+ghost use Rattle.xl_doc.specs.Sample.{hat, sheet};
 
 use crate::{
     Base, Body, Bytes, Channel, Channels, ColourMap, Document, Layer, Mask, Mode, Node, NodeId,
@@ -10,7 +10,7 @@ use std::test::Fail;
 
 /// A hidden layer of three columns and two rows in soft light, with a mask.
 fn layer(alloc: Global) -> Result<Node, AllocError>
-    ensures { IfOk result (λ node. IsLeaf node.body) }
+    ensures { IfOk result (λ node. node ≡ hat) }
 {
     let mask = Mask {
         name: Bytes::new(alloc),
@@ -37,7 +37,7 @@ fn layer(alloc: Global) -> Result<Node, AllocError>
 
 /// A selection of a canvas of ten times ten pixels.
 fn selection(alloc: Global) -> Result<Channel, AllocError>
-    ensures { IfOk result (λ c. (c.plane.width ≡ 10) × (c.plane.height ≡ 10)) }
+    ensures { IfOk result (λ c. c ≡ sheet 10 10 0) }
 {
     Ok(Channel {
         name: Bytes::new(alloc),
@@ -48,18 +48,23 @@ fn selection(alloc: Global) -> Result<Channel, AllocError>
 
 /// The layer on a canvas of ten times ten pixels with a selection.
 fn document(alloc: Global) -> Result<Document, AllocError> {
+    let colours = ColourMap::new(alloc);
+    let kept = PropList::new(alloc);
+    let channels = Channels::new(alloc)?;
+    let hat = layer(alloc)?;
     let mut tree = Tree::new(alloc)?;
-    tree.put_last(&[], NodeId(7), layer(alloc)?);
+    tree.put_last(&[], NodeId(7), hat);
+    let blank = selection(alloc)?;
     Ok(Document {
         width: 10,
         height: 10,
         base: Base::Rgb,
         compression: 1,
-        colours: ColourMap::new(alloc),
-        kept: PropList::new(alloc),
+        colours,
+        kept,
         tree,
-        channels: Channels::new(alloc)?,
-        selection: Some(selection(alloc)?),
+        channels,
+        selection: Some(blank),
     })
 }
 
@@ -70,5 +75,28 @@ fn a_shared_document_is_the_same(rt: HostRuntime) -> Result<(), Fail> {
     assert_eq!(rt; other.area(), 6 + 6 + 100);
     assert_eq!(rt; other.least_version(), 2);
     assert_eq!(rt; other.tree.greatest_id(), 7);
+    Ok(())
+}
+
+/// A channel of ten times ten pixels with this name, all of this value.
+fn channel(alloc: Global, name: &[u8], value: u8) -> Result<Channel, AllocError> {
+    Ok(Channel {
+        name: Bytes::from_slice(alloc, name)?,
+        kept: PropList::new(alloc),
+        plane: Plane::new(alloc, 10, 10, 1, &[value])?,
+    })
+}
+
+#[test]
+fn channels_come_and_go(rt: HostRuntime) -> Result<(), Fail> {
+    let alloc = rt.alloc();
+    let mut channels = Channels::new(alloc)?;
+    channels.push(channel(alloc, b"last", 1)?);
+    channels.insert(0, channel(alloc, b"first", 2)?);
+    channels.get_mut(1).name = Bytes::from_slice(alloc, b"new")?;
+    let other = channels.share(alloc)?;
+    let _first = channels.remove(0);
+    assert_eq!(rt; channels.len(), 1);
+    assert_eq!(rt; other.len(), 2);
     Ok(())
 }

@@ -9,7 +9,8 @@ use Rattle.spec_document.specs.Plane.{byte_at, plane_of}
 use Rattle.spec_document.specs.Document.{Document}
 use Rattle.spec_document.proofs.PlaneLemmas.{byte_at-plane_of, length-plane_of}
 use Rattle.spec_document.proofs.SamePlane.{plane-ext}
-use Rattle.spec_edit.specs.Effect.{selected, mixed, replaced, through}
+use Rattle.spec_document.specs.Selection.{selected}
+use Rattle.spec_edit.specs.Effect.{mixed, replaced, through}
 use Rattle.spec_edit.specs.Refusal.{is_indexed}
 use Rattle.xl_doc.specs.Sheet.{Sheet}
 use Rattle.xl_tiles.specs.Written.{IsWithin, from_edge, written}

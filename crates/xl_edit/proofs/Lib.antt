@@ -7,3 +7,4 @@ pub mod Made
 mod Weights
 mod FilledRows
 mod FilledPlanes
+pub mod Limited

@@ -5,8 +5,9 @@ use Rattle.std.proofs.lemmas.Bool.{cases_lt, cases_order, false≢true}
 use Rattle.std.proofs.lemmas.Bool.Decides.{nat_tests}
 use Rattle.std.proofs.lemmas.Nat.{mul-add-lt}
 use Rattle.spec_document.specs.Document.{Document, Channel}
-use Rattle.spec_edit.specs.Effect.{selected, selected_in, mixed, replaced}
-use Rattle.xl_tiles.specs.Part.{byte_after}
+use Rattle.spec_document.specs.Selection.{selected, selected_in}
+use Rattle.spec_edit.specs.Effect.{mixed, replaced}
+use Rattle.xl_tiles.specs.Block.{byte_after}
 use Rattle.xl_edit.specs.Filling.{weight}
 
 -- the whole of a new byte replaces the old one

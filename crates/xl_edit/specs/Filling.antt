@@ -4,7 +4,8 @@ use Rattle.spec_grid.specs.declared.Rect.{Rect}
 use Rattle.spec_grid.specs.Rect.{part_above_0}
 use Rattle.spec_document.specs.Plane.{byte_at}
 use Rattle.spec_document.specs.Document.{Document}
-use Rattle.spec_edit.specs.Effect.{selected, mixed}
+use Rattle.spec_document.specs.Selection.{selected}
+use Rattle.spec_edit.specs.Effect.{mixed}
 use Rattle.spec_edit.specs.Refusal.{is_indexed}
 use Rattle.xl_doc.specs.Sheet.{Sheet}
 

@@ -1,7 +1,5 @@
-ghost use Rattle.std.specs.Prelude.{nat_eq};
-ghost use Rattle.std.specs.List.{IsDistinct};
-ghost use Rattle.spec_forest.specs.Forest.{ids};
 ghost use Rattle.xl_edit.specs.Applied.{at, Applies};
+ghost use Rattle.xl_edit.specs.Built.{IsBuiltEdit};
 ghost use Rattle.xl_edit.specs.Edits.{edit_of};
 
 use crate::edit::Edit;
@@ -20,12 +18,12 @@ pub fn apply(
     next_id: &mut u32,
     edit: &Edit,
 ) -> Result<(), EditRefusedOrMemory>
-    requires ids { IsDistinct nat_eq (ids doc.old.nodes) }
-    ensures applied { Applies (at doc.old next_id.old) (at doc.new next_id.new) (edit_of edit.now) result }
-    ensures ids { IsDistinct nat_eq (ids doc.new.nodes) }
+    requires { IsBuiltEdit (edit_of edit.now) }
+    ensures { Applies (at doc.old next_id.old) (at doc.new next_id.new) (edit_of edit.now) result }
 {
     match edit {
         Edit::Fill { id, rect, pixel } => fill(alloc, doc, *id, *rect, pixel.as_slice()),
         Edit::SetOpacity { id, value } => set_opacity(doc, *id, *value),
+        _ => unreachable!(),
     }
 }

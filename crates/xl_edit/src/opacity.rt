@@ -22,9 +22,7 @@ pub(crate) fn set_opacity(
     id: NodeId,
     value: u8,
 ) -> Result<(), EditRefusedOrMemory>
-    requires ids { IsDistinct nat_eq (ids doc.old.nodes) }
-    ensures made { Makes doc.old doc.new (edits.set_opacity id.0 value) result }
-    ensures ids { IsDistinct nat_eq (ids doc.new.nodes) }
+    ensures { Makes doc.old doc.new (edits.set_opacity id.0 value) result }
 {
     set_opacity_in(&mut doc.tree, id, value)?;
     Ok(())

@@ -24,12 +24,10 @@ pub(crate) fn fill(
     rect: Rect,
     pixel: &[u8],
 ) -> Result<(), EditRefusedOrMemory>
-    requires ids { IsDistinct nat_eq (ids doc.old.nodes) }
-    ensures made { Makes doc.old doc.new (edits.fill id.0 rect pixel.now) result }
-    ensures ids { IsDistinct nat_eq (ids doc.new.nodes) }
+    ensures { Makes doc.old doc.new (edits.fill id.0 rect pixel.now) result }
 {
     let bytes = paint(alloc, doc, id, rect, pixel)?;
-    write_at(&mut doc.tree, id, rect, &bytes)?;
+    write_at(alloc, &mut doc.tree, id, rect, &bytes)?;
     Ok(())
 }
 
@@ -51,7 +49,13 @@ fn paint(
 }
 
 /// Writes the bytes of a rectangle of a layer, row by row. After want of memory all is as before.
-fn write_at(tree: &mut Tree<Node>, id: NodeId, rect: Rect, bytes: &[u8]) -> Result<(), AllocError>
+fn write_at(
+    alloc: Global,
+    tree: &mut Tree<Node>,
+    id: NodeId,
+    rect: Rect,
+    bytes: &[u8],
+) -> Result<(), AllocError>
     requires ids { IsDistinct nat_eq (ids tree.old) }
     requires marks { MarksAgree tree.old }
     requires layer { IsLayer (IsPiece rect bytes.now) (find id.0 (nodes_of tree.old)) }
@@ -62,10 +66,10 @@ fn write_at(tree: &mut Tree<Node>, id: NodeId, rect: Rect, bytes: &[u8]) -> Resu
     let Some(node) = tree.find_mut(id) else {
         unreachable!();
     };
-    write_node(node, rect, bytes)
+    write_node(alloc, node, rect, bytes)
 }
 
-fn write_node(node: &mut Node, rect: Rect, bytes: &[u8]) -> Result<(), AllocError>
+fn write_node(alloc: Global, node: &mut Node, rect: Rect, bytes: &[u8]) -> Result<(), AllocError>
     requires leaf { IsLeaf node.old.body }
     requires piece { IsPiece rect bytes.now (layer_of node.old) }
     ensures leaf { IsLeaf node.new.body }
@@ -73,16 +77,16 @@ fn write_node(node: &mut Node, rect: Rect, bytes: &[u8]) -> Result<(), AllocErro
     ensures err { OnErr result (node.new ≡ node.old) }
 {
     match &mut node.body {
-        Body::Leaf(layer) => write_layer(layer, rect, bytes),
+        Body::Leaf(layer) => write_layer(alloc, layer, rect, bytes),
         Body::Group => unreachable!(),
     }
 }
 
-fn write_layer(layer: &mut Layer, rect: Rect, bytes: &[u8]) -> Result<(), AllocError>
+fn write_layer(alloc: Global, layer: &mut Layer, rect: Rect, bytes: &[u8]) -> Result<(), AllocError>
     requires within { IsWithin layer.old.plane.width layer.old.plane.height rect }
     requires size { length bytes.now ≡ rect.w * rect.h * layer.old.plane.bpp }
     ensures ok { OnOk result (layer.new ≡ record layer.old { plane = written layer.old.plane rect bytes.now }) }
     ensures err { OnErr result (layer.new ≡ layer.old) }
 {
-    layer.plane.write_rect(rect, bytes)
+    layer.plane.write_rect(alloc, rect, bytes)
 }

@@ -3,11 +3,14 @@ ghost use Rattle.xl_edit.specs.declared.refused.EditRefusedOrMemory.TheVariants.
 
 use spec_edit::EditRefused;
 use std::alloc::AllocError;
+use thiserror::Error;
 
 /// Why an edit was not applied: memory ran out, or the edit is refused.
-#[derive(Debug, Drop)]
+#[derive(Debug, Drop, Error)]
 pub enum EditRefusedOrMemory {
+    #[error("out of memory")]
     Memory,
+    #[error("refused: {0}")]
     Refused(EditRefused),
 }
 

@@ -1,5 +1,5 @@
 -- What is said of reading, of what a call of it gave.
-use Rattle.std.proofs.Common.{◌≡◌, ℕ, List}
+use Rattle.std.proofs.Common.{◌≡◌, ℕ, List, subst}
 use Rattle.std.specs.Prelude.{Result, Ok, Err, IfOk}
 use Rattle.spec_document.specs.Document.{Document}
 use Rattle.spec_document.specs.Limits.{AreBytes, IsDocument}
@@ -32,6 +32,10 @@ module _ (file : List ℕ) where
   pub limits : (r : Result Document ReadRefusedOrMemory) → AreBytes file → Gives r (reading file) → IfOk r (λ d. IsDocument d)
   limits (Ok d) bytes e = held_document file d bytes (read_held file d bytes e)
   limits (Err x) bytes e = tt
+
+  pub read_limits : (r : Result Document ReadRefusedOrMemory) (d : Document) → AreBytes file → Gives r (reading file) → r ≡ Ok d → IsDocument d
+  read_limits (Ok e) d bytes gives is = let same : e ≡ d = cc in subst IsDocument same (limits (Ok e) bytes gives)
+  read_limits (Err x) d bytes gives is = cc
 
   pub numbered : (r : Result Document ReadRefusedOrMemory) → AreBytes file → Gives r (reading file) → IfOk r (λ d. AreNumbered d.nodes)
   numbered (Ok d) bytes e = numbered_nodes file d bytes (read_held file d bytes e)

@@ -7,7 +7,6 @@ pub mod Paths
 pub mod Pointers
 pub mod Branches
 pub mod Channels
-pub mod ByteLists
 pub mod NumberedNodes
 pub mod Decoded
 pub mod Placed

@@ -1,5 +1,6 @@
 pub mod Listing
 pub mod Draft
+pub mod Parts
 pub mod Head
 pub mod Room
 pub mod Yields

@@ -1,7 +1,7 @@
 ghost use Rattle.std.specs.Prelude.{◌≡◌, ◌+◌, ◌*◌, ◌≤◌, ◌<◌, ◌^◌, ◌||◌, not, is_none, nat_lt, length, IsTrue};
+ghost use Rattle.std.specs.Arc.{arc_value};
 ghost use Rattle.spec_document.specs.Document.{area, all_kept, kept_bytes};
 ghost use Rattle.spec_file.specs.Channels.{with_channel, channel_at};
-ghost use Rattle.xl_doc.specs.Selecting.{IsOver};
 ghost use Rattle.xl_read.specs.Yields.{Yields};
 
 use crate::draft::{Draft, MAX_AREA};
@@ -9,6 +9,7 @@ use crate::listing::Listing;
 use crate::owners::OfChannel;
 use crate::words::{Shape, plane_at, pointer_at, same_word_at};
 use std::alloc::Global;
+use std::sync::Arc;
 use xl_doc::{Bytes, Channel, MAX_CHANNELS};
 use xl_fields::{Kind, ReadRefusedOrMemory, refused, string_at};
 
@@ -30,7 +31,6 @@ fn has_place(draft: &Draft, selection: bool) -> bool
 fn put(draft: &mut Draft, selection: bool, channel: Channel)
     requires first { IsTrue (not selection || is_none draft.old.selection) }
     requires few { IsTrue (selection || nat_lt (length draft.old.channels) 64) }
-    requires over { IsOver draft.old.width draft.old.height channel.plane }
     requires area { area draft.old + draft.old.width * draft.old.height ≤ 2 ^ 28 }
     requires kept { all_kept draft.old + kept_bytes channel.kept ≤ 2 ^ 28 }
     ensures { draft.new ≡ with_channel draft.old selection channel }
@@ -47,11 +47,13 @@ fn put(draft: &mut Draft, selection: bool, channel: Channel)
 pub fn channel_at(
     alloc: Global,
     file: &[u8],
+    shared: &Arc<Vec<u8>>,
     at: usize,
     place: usize,
     draft: &mut Draft,
 ) -> Result<(), ReadRefusedOrMemory>
     requires file { length file.now ≤ 2 ^ 31 }
+    requires shared { file.now ≡ (arc_value shared.now).items }
     requires at { at < 2 ^ 32 }
     ensures { Yields result (λ _. draft.new) (channel_at file.now at place draft.old) }
 {
@@ -71,7 +73,7 @@ pub fn channel_at(
     if draft.area() + draft.canvas() > MAX_AREA {
         return Err(refused(Kind::TooLarge, at).into());
     }
-    let plane = plane_at(alloc, file, hierarchy, Shape::of_canvas(draft))?;
+    let plane = plane_at(alloc, file, shared, hierarchy, Shape::of_canvas(draft))?;
     let name = Bytes::from_slice(alloc, &file[name.start..name.start + name.len])?;
     let kept = props.into_kept();
     put(draft, selection, Channel { name, kept, plane });

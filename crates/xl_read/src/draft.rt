@@ -1,13 +1,13 @@
 ghost use Rattle.std.specs.Prelude.{◌≡◌, ◌+◌, ◌*◌, ◌<◌, ◌≤◌, ◌^◌, [], ◌∷◌, ◌++◌, None, Some, length, is_some, is_none, IfOk, IsSome};
 ghost use Rattle.spec_document.specs.Document.{area, all_kept, kept_bytes};
-ghost use Rattle.spec_document.specs.Limits.{IsSide};
+ghost use Rattle.spec_document.specs.Limits.{IsDocument, IsSide};
 ghost use Rattle.spec_forest.specs.Forest.{none, size};
 ghost use Rattle.spec_forest.specs.Changes.{put_last};
-ghost use Rattle.xl_doc.specs.Selecting.{IsOver};
 ghost use Rattle.xl_read.specs.Draft.{body_area, node_kept, Places};
 
 use crate::header::Header;
 use crate::kept::payload_bytes;
+use crate::parts::Parts;
 use crate::placing::{leads, put_last};
 use crate::sums::{body_area, node_kept};
 use std::alloc::{AllocError, Global};
@@ -20,7 +20,7 @@ pub const MAX_AREA: u64 = 1 << 28;
 /// The document as far as it was read, with the totals that its limits are about.
 #[derive(Drop)]
 pub struct Draft {
-    document: Document,
+    parts: Parts,
     area: u64,
     kept_bytes: u64,
 }
@@ -35,9 +35,9 @@ impl Model for Draft {
 
     ghost use Rattle.xl_read.specs.Draft.{IsDraft};
 
-    ghost view = { λ d. d.document };
+    ghost view = { λ d. d.parts };
 
-    ghost invariant = { λ d. IsDraft d.document d.area d.kept_bytes };
+    ghost invariant = { λ d. IsDraft d.parts d.area d.kept_bytes };
 }
 
 impl Draft {
@@ -66,7 +66,7 @@ impl Draft {
         }) }
     {
         let kept_bytes = payload_bytes(&kept);
-        let document = Document {
+        let parts = Parts {
             width: header.width,
             height: header.height,
             base: header.base,
@@ -78,7 +78,7 @@ impl Draft {
             selection: None,
         };
         Ok(Draft {
-            document,
+            parts,
             area: 0,
             kept_bytes,
         })
@@ -88,27 +88,27 @@ impl Draft {
         ensures value { result ≡ self.now.width }
         ensures side { IsSide result }
     {
-        self.document.width
+        self.parts.width
     }
 
     pub fn height(&self) -> u32
         ensures value { result ≡ self.now.height }
         ensures side { IsSide result }
     {
-        self.document.height
+        self.parts.height
     }
 
     pub fn base(&self) -> Base
         ensures { result ≡ self.now.base }
     {
-        self.document.base
+        self.parts.base
     }
 
     pub fn compression(&self) -> u8
         ensures value { result ≡ self.now.compression }
         ensures known { result ≤ 1 }
     {
-        self.document.compression
+        self.parts.compression
     }
 
     /// The pixels of the canvas.
@@ -116,7 +116,7 @@ impl Draft {
         ensures value { result ≡ self.now.width * self.now.height }
         ensures small { result ≤ 2 ^ 26 }
     {
-        u64::from(self.document.width) * u64::from(self.document.height)
+        u64::from(self.parts.width) * u64::from(self.parts.height)
     }
 
     /// The pixels of all planes, and a canvas for each group.
@@ -139,7 +139,7 @@ impl Draft {
     pub fn leads(&self, path: &[u32]) -> bool
         ensures { result ≡ is_some (put_last path.now none self.now.nodes) }
     {
-        leads(&self.document.tree, path)
+        leads(&self.parts.tree, path)
     }
 
     /// Puts a node last under the group that a path names.
@@ -155,7 +155,7 @@ impl Draft {
     {
         let area = self.area + body_area(&node.body, self.canvas());
         let kept_bytes = self.kept_bytes + node_kept(&node);
-        put_last(&mut self.document.tree, path, node);
+        put_last(&mut self.parts.tree, path, node);
         self.area = area;
         self.kept_bytes = kept_bytes;
     }
@@ -164,7 +164,7 @@ impl Draft {
     pub fn channel_count(&self) -> usize
         ensures { result ≡ length self.now.channels }
     {
-        self.document.channels.len()
+        self.parts.channels.len()
     }
 
     /// Puts a channel last.
@@ -176,7 +176,7 @@ impl Draft {
     {
         let area = self.area + self.canvas();
         let kept_bytes = self.kept_bytes + payload_bytes(&channel.kept);
-        self.document.channels.push(channel);
+        self.parts.channels.push(channel);
         self.area = area;
         self.kept_bytes = kept_bytes;
     }
@@ -184,33 +184,33 @@ impl Draft {
     pub fn has_selection(&self) -> bool
         ensures { result ≡ is_some self.now.selection }
     {
-        self.document.selection.is_some()
+        self.parts.selection.is_some()
     }
 
     /// Makes a channel the selection.
     pub fn set_selection(&mut self, channel: Channel)
         requires first { self.old.selection ≡ None }
-        requires over { IsOver self.old.width self.old.height channel.plane }
         requires area { area self.old + self.old.width * self.old.height ≤ 2 ^ 28 }
         requires kept { all_kept self.old + kept_bytes channel.kept ≤ 2 ^ 28 }
         ensures { self.new ≡ record self.old { selection = Some channel } }
     {
         let area = self.area + self.canvas();
         let kept_bytes = self.kept_bytes + payload_bytes(&channel.kept);
-        self.document.selection = Some(channel);
+        self.parts.selection = Some(channel);
         self.area = area;
         self.kept_bytes = kept_bytes;
     }
 
-    /// The whole document.
+    /// The whole document, once it is within its limits.
     pub fn finish(self) -> Document
+        requires { IsDocument self }
         ensures { result ≡ self }
     {
         let Draft {
-            document,
+            parts,
             area: _,
             kept_bytes: _,
         } = self;
-        document
+        parts.into_document()
     }
 }

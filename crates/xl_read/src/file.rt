@@ -1,4 +1,5 @@
 ghost use Rattle.std.specs.Prelude.{◌≡◌, ◌≤◌, ◌^◌, length, IfOk};
+ghost use Rattle.std.specs.Arc.{arc_value};
 ghost use Rattle.spec_document.specs.Document.{Document as Plain};
 ghost use Rattle.spec_document.specs.declared.Owner.TheVariants as owners;
 ghost use Rattle.spec_document.specs.Document.{kept_bytes};
@@ -16,6 +17,7 @@ use crate::listing::Listing;
 use crate::lists::{channels_at, nodes_at};
 use crate::owners::OfImage;
 use std::alloc::{AllocError, Global};
+use std::sync::Arc;
 use xl_doc::{ColourMap, Document};
 use xl_fields::{Kind, ReadRefusedOrMemory, refused};
 
@@ -39,10 +41,11 @@ fn blank(alloc: Global, header: Header, props: Listing<OfImage>) -> Result<Draft
     Draft::new(alloc, header, compression, colours, kept)
 }
 
-/// The document that reading a file in order gives, or its first fault.
+/// What reading a file in order gives, or its first fault.
 #[tactic(auto, unfolding(spec_file::specs::Reading::reading))]
-fn read(alloc: Global, bytes: &[u8]) -> Result<Document, ReadRefusedOrMemory>
-    requires { length bytes.now ≤ 2 ^ 31 }
+fn read(alloc: Global, bytes: &[u8], shared: &Arc<Vec<u8>>) -> Result<Draft, ReadRefusedOrMemory>
+    requires length { length bytes.now ≤ 2 ^ 31 }
+    requires shared { bytes.now ≡ (arc_value shared.now).items }
     ensures { Gives result (reading bytes.now) }
 {
     let header = header_at(bytes)?;
@@ -53,14 +56,33 @@ fn read(alloc: Global, bytes: &[u8]) -> Result<Document, ReadRefusedOrMemory>
     }
     let layers = props.end() + 8;
     let mut draft = blank(alloc, header, props)?;
-    let channels = nodes_at(alloc, bytes, layers, &mut draft)?;
-    channels_at(alloc, bytes, channels, &mut draft)?;
+    let channels = nodes_at(alloc, bytes, shared, layers, &mut draft)?;
+    channels_at(alloc, bytes, shared, channels, &mut draft)?;
+    Ok(draft)
+}
+
+/// The document that reading a file in order gives, or its first fault.
+fn whole(
+    alloc: Global,
+    bytes: &[u8],
+    shared: &Arc<Vec<u8>>,
+) -> Result<Document, ReadRefusedOrMemory>
+    requires length { length bytes.now ≤ 2 ^ 31 }
+    requires shared { bytes.now ≡ (arc_value shared.now).items }
+    ensures { Gives result (reading bytes.now) }
+{
+    let draft = read(alloc, bytes, shared)?;
     Ok(draft.finish())
 }
 
-/// The document that a file holds, or its first fault in the order of reading.
-pub fn decode(alloc: Global, bytes: &[u8]) -> Result<Document, ReadRefusedOrMemory>
-    requires { length bytes.now ≤ 2 ^ 31 }
+// The document that these bytes hold, or their first fault in the order of reading.
+fn decode_shared(
+    alloc: Global,
+    bytes: &[u8],
+    shared: &Arc<Vec<u8>>,
+) -> Result<Document, ReadRefusedOrMemory>
+    requires length { length bytes.now ≤ 2 ^ 31 }
+    requires shared { bytes.now ≡ (arc_value shared.now).items }
     ensures exact { Gives result (reading bytes.now) }
     ensures held { IfOk result (λ document. Holds bytes.now document) }
     ensures only { IfOk result (λ document. (other : Plain) → Holds bytes.now other → other ≡ document) }
@@ -68,5 +90,18 @@ pub fn decode(alloc: Global, bytes: &[u8]) -> Result<Document, ReadRefusedOrMemo
     ensures limits { IfOk result (λ document. IsDocument document) }
     ensures numbered { IfOk result (λ document. AreNumbered document.nodes) }
 {
-    read(alloc, bytes)
+    whole(alloc, bytes, shared)
+}
+
+/// The document that a file holds, or its first fault in the order of reading. Its tiles share the file's bytes.
+pub fn decode(alloc: Global, file: &Arc<Vec<u8>>) -> Result<Document, ReadRefusedOrMemory>
+    requires { length (arc_value file.now).items ≤ 2 ^ 31 }
+    ensures exact { Gives result (reading (arc_value file.now).items) }
+    ensures held { IfOk result (λ document. Holds (arc_value file.now).items document) }
+    ensures only { IfOk result (λ document. (other : Plain) → Holds (arc_value file.now).items other → other ≡ document) }
+    ensures refused { OnRefused result ((document : Plain) → ¬ (Holds (arc_value file.now).items document)) }
+    ensures limits { IfOk result (λ document. IsDocument document) }
+    ensures numbered { IfOk result (λ document. AreNumbered document.nodes) }
+{
+    decode_shared(alloc, file.as_slice(), file)
 }

@@ -4,10 +4,8 @@ ghost use Rattle.spec_file.specs.Header.{begins, version_of, base_of, is_indexed
 
 use spec_document::Base;
 use std::marker::Model;
+use xl_doc::MAX_SIDE;
 use xl_fields::{Kind, ReadRefused, refused, u32_at};
-
-/// The largest side of a canvas or a layer.
-const MAX_SIDE: u32 = 8192;
 
 /// How many bytes the magic and the version take.
 const VERSION_END: usize = 14;

@@ -12,6 +12,7 @@ mod listing;
 mod lists;
 mod mask;
 mod owners;
+mod parts;
 mod placing;
 mod sums;
 mod words;

@@ -1,4 +1,5 @@
 ghost use Rattle.std.specs.Prelude.{◌≡◌, ◌≤◌, ◌^◌, length, OnOk, IfOk};
+ghost use Rattle.std.specs.Arc.{arc_value};
 ghost use Rattle.spec_forest.specs.Forest.{size};
 ghost use Rattle.spec_file.specs.Layers.{nodes_at};
 ghost use Rattle.spec_file.specs.Channels.{channels_at};
@@ -8,10 +9,9 @@ use crate::channel::channel_at;
 use crate::draft::Draft;
 use crate::layer::node_at;
 use std::alloc::Global;
+use std::sync::Arc;
+use xl_doc::MAX_NODES;
 use xl_fields::{Kind, ReadRefusedOrMemory, refused, u32_at};
-
-/// How many layers and groups a document has at most.
-const MAX_NODES: usize = 512;
 
 /// How many channel pointers are looked at: of 64 channels and the selection, and the zero behind them.
 const CHANNEL_POINTERS: usize = 66;
@@ -21,24 +21,26 @@ const CHANNEL_POINTERS: usize = 66;
 pub fn nodes_at(
     alloc: Global,
     file: &[u8],
+    shared: &Arc<Vec<u8>>,
     at: usize,
     draft: &mut Draft,
 ) -> Result<usize, ReadRefusedOrMemory>
     requires file { length file.now ≤ 2 ^ 31 }
+    requires shared { file.now ≡ (arc_value shared.now).items }
     requires place { at ≤ 2 ^ 33 }
     requires empty { size draft.old.nodes ≡ 0 }
     ensures read { Yields result (λ next. record { document = draft.new; next = next }) (nodes_at 512 file.now at draft.old) }
     ensures within { IfOk result (λ next. next ≤ length file.now) }
 {
-    for i in 0..MAX_NODES {
+    for i in 0..MAX_NODES as usize {
         let place = at + 4 * i;
         let pointer = u32_at(file, place)?;
         if pointer == 0 {
             return Ok(place + 4);
         }
-        node_at(alloc, file, pointer as usize, draft)?;
+        node_at(alloc, file, shared, pointer as usize, draft)?;
     }
-    let place = at + 4 * MAX_NODES;
+    let place = at + 4 * MAX_NODES as usize;
     if u32_at(file, place)? != 0 {
         return Err(refused(Kind::TooMany, place).into());
     }
@@ -50,10 +52,12 @@ pub fn nodes_at(
 pub fn channels_at(
     alloc: Global,
     file: &[u8],
+    shared: &Arc<Vec<u8>>,
     at: usize,
     draft: &mut Draft,
 ) -> Result<(), ReadRefusedOrMemory>
     requires file { length file.now ≤ 2 ^ 31 }
+    requires shared { file.now ≡ (arc_value shared.now).items }
     requires place { at ≤ 2 ^ 33 }
     ensures { Yields result (λ _. draft.new) (channels_at 66 file.now at draft.old) }
 {
@@ -63,7 +67,7 @@ pub fn channels_at(
         if pointer == 0 {
             return Ok(());
         }
-        channel_at(alloc, file, pointer as usize, place, draft)?;
+        channel_at(alloc, file, shared, pointer as usize, place, draft)?;
     }
     Err(refused(Kind::TooMany, at + 4 * CHANNEL_POINTERS).into())
 }

@@ -2,7 +2,8 @@ ghost use Rattle.std.specs.Prelude.{◌≡◌, ◌+◌, ◌<◌, Some, length, i
 ghost use Rattle.spec_forest.specs.Forest.{none, size};
 ghost use Rattle.spec_forest.specs.Changes.{put_last};
 ghost use Rattle.xl_tree.specs.Places.{alone};
-ghost use Rattle.xl_doc.specs.Nodes.{nodes_of, is_group_body, MarksAgree};
+ghost use Rattle.xl_doc.specs.Nodes.{nodes_of, is_group_body};
+ghost use Rattle.xl_read.specs.Parts.{AreParts};
 
 use xl_doc::{Node, NodeId, Tree};
 
@@ -19,8 +20,9 @@ pub fn put_last(tree: &mut Tree<Node>, path: &[u32], node: Node)
     requires leads { IsSome (put_last path.now none (nodes_of tree.old)) }
     requires short { length path.now < 8 }
     requires few { size (nodes_of tree.old) < 512 }
+    requires parts { AreParts tree.old }
     ensures put { put_last path.now (nodes_of (alone (is_group_body node.body) (1 + size (nodes_of tree.old)) node)) (nodes_of tree.old) ≡ Some (nodes_of tree.new) }
-    ensures marks { MarksAgree tree.old → MarksAgree tree.new }
+    ensures parts { AreParts tree.new }
 {
     let id = NodeId(tree.len() + 1);
     tree.put_last(path, id, node);

@@ -1,29 +1,15 @@
-ghost use Rattle.std.specs.Prelude.{◌≡◌, ◌*◌, ◌≤◌, ◌^◌};
+ghost use Rattle.std.specs.Prelude.{◌≡◌, ◌≤◌, ◌^◌};
 ghost use Rattle.xl_read.specs.Draft.{body_area, body_kept, node_kept};
 
 use crate::kept::payload_bytes;
-use xl_doc::{Body, Node, Plane};
-
-/// The pixels of a plane.
-pub fn plane_area(plane: &Plane) -> u64
-    ensures value { result ≡ plane.now.width * plane.now.height }
-    ensures small { result ≤ 2 ^ 26 }
-{
-    u64::from(plane.width()) * u64::from(plane.height())
-}
+use xl_doc::{Body, Node};
 
 /// The pixels of a layer and its mask, or a canvas for a group.
 pub fn body_area(body: &Body, canvas: u64) -> u64
     ensures { result ≡ body_area canvas body.now }
 {
     match body {
-        Body::Leaf(layer) => {
-            let mask = match &layer.mask {
-                Some(mask) => plane_area(&mask.plane),
-                None => 0,
-            };
-            plane_area(&layer.plane) + mask
-        }
+        Body::Leaf(layer) => layer.area(),
         Body::Group => canvas,
     }
 }

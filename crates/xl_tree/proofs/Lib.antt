@@ -13,4 +13,5 @@ pub mod Shifted
 pub mod Moved
 pub mod Restacked
 pub mod Ids
+pub mod Own
 pub mod Indexed

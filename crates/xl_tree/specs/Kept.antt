@@ -2,10 +2,11 @@
 use Rattle.std.specs.Prelude.{◌≡◌, ℕ, ◌+◌, ◌≤◌, List, length}
 use Rattle.std.specs.Vec.{vec_capacity}
 use Rattle.std.specs.declared.vec.Vec.{Vec}
-use Rattle.spec_forest.specs.Forest.{levels}
+use Rattle.spec_forest.specs.Forest.{ids, levels}
 use Rattle.xl_tree.specs.declared.entries.Entry.{Entry}
 use Rattle.xl_tree.specs.declared.index.Index.{Index}
 use Rattle.xl_tree.specs.Flat.{flat, forest_of}
+use Rattle.xl_tree.specs.Ids.{AreOwn}
 use Rattle.xl_tree.specs.Index.{HasRoom, IsIndex}
 
 -- these are the entries of siblings at a level, in preorder, with all below them, within the limits
@@ -14,9 +15,10 @@ pub record AreSiblings {N : Type 0} (level : ℕ) (entries : List (Entry N)) : T
   pub few : length entries ≤ 512
   pub low : level + levels (forest_of entries) ≤ 8
 
--- the entries of a forest within the limits, an index of them, and room for all that may come
+-- the entries of a forest within the limits, each node with an id of its own, an index of them, and room for all that may come
 pub record IsKept {N Z : Type 0} (entries : Vec (Entry N) Z) (index : Index) : Type 0 where
   pub siblings : AreSiblings 0 entries.items
+  pub own : AreOwn (ids (forest_of entries.items))
   pub room : 512 ≤ vec_capacity entries
   pub indexed : IsIndex index entries.items
   pub index_room : HasRoom index

@@ -14,6 +14,7 @@ pub struct Branch<N> {
 
 impl<N> Model for Branch<N> {
     ghost use Rattle.std.specs.Prelude.{◌≤◌};
+    ghost use Rattle.spec_forest.specs.Forest.{ids};
     ghost use Rattle.std.specs.Vec.{vec_capacity};
     ghost use Rattle.xl_tree.specs.Branches.{Held, held_code};
 
@@ -22,11 +23,12 @@ impl<N> Model for Branch<N> {
     ghost coded = { held_code N.code };
 
     ghost use Rattle.xl_tree.specs.Flat.{forest_of};
+    ghost use Rattle.xl_tree.specs.Ids.{AreOwn};
     ghost use Rattle.xl_tree.specs.Kept.{AreSiblings};
 
     ghost view = { λ b. record { forest = forest_of b.entries.items; room = b.room } };
 
-    ghost invariant = { λ b. AreSiblings 0 b.entries.items × (b.room ≤ vec_capacity b.entries) };
+    ghost invariant = { λ b. AreSiblings 0 b.entries.items × (b.room ≤ vec_capacity b.entries) × AreOwn (ids (forest_of b.entries.items)) };
 }
 
 impl<N> Branch<N> {

@@ -1,7 +1,8 @@
-ghost use Rattle.std.specs.Prelude.{◌≡◌, ◌+◌, ◌<◌, ◌≤◌, None, nat_eq, is_ok, if◌then◌else◌};
+ghost use Rattle.std.specs.Prelude.{◌≡◌, ◌+◌, ◌<◌, ◌≤◌, ◌++◌, None, nat_eq, is_ok, if◌then◌else◌};
 ghost use Rattle.std.specs.List.{IsDistinct};
 ghost use Rattle.spec_forest.specs.Forest.{none, find, ids, levels, size};
 ghost use Rattle.spec_forest.specs.Changes.{branch_of, put_into, without};
+ghost use Rattle.xl_tree.specs.Ids.{IsNew};
 ghost use Rattle.xl_tree.specs.Places.{alone};
 ghost use Rattle.xl_tree.specs.Reads.{size_of};
 ghost use Rattle.xl_tree.specs.Refusals.{answer_of, answer_with, no_node, no_stack, put_refusal, restack_refusal, stands_in};
@@ -15,7 +16,8 @@ use crate::refused::TreeRefused;
 use crate::slots::slot_in;
 
 impl<N: Shown + Drop> Tree<N> {
-    /// Puts a node into a stack, before the child at a place. A refused node comes back.
+    /// Puts a node into a stack, before the child at a place. A refused node comes back. Its id is
+    /// one that no node has, and not 0.
     pub fn insert(
         &mut self,
         parent: NodeId,
@@ -23,7 +25,7 @@ impl<N: Shown + Drop> Tree<N> {
         id: NodeId,
         node: N,
     ) -> Result<(), (TreeRefused, N)>
-        requires distinct { IsDistinct nat_eq (ids self.old) }
+        requires new { IsNew id.0 self.old }
         requires few { size self.old < 512 }
         requires low { put_refusal parent.0 place self.old ≡ None
             → levels (put_into parent.0 place (alone (N.is_group node) id.0 node) self.old) ≤ 8 }
@@ -51,7 +53,6 @@ impl<N: Shown + Drop> Tree<N> {
 impl<N: Drop> Tree<N> {
     /// Moves a node with all below it into a branch.
     pub fn remove(&mut self, id: NodeId, branch: &mut Branch<N>) -> Result<(), TreeRefused>
-        requires distinct { IsDistinct nat_eq (ids self.old) }
         requires empty { branch.old.forest ≡ none }
         requires room { size_of (find id.0 self.old) ≤ branch.old.room }
         ensures answer { result ≡ answer_of (no_node id.0 (find id.0 self.old)) }
@@ -71,14 +72,15 @@ impl<N: Drop> Tree<N> {
         Ok(())
     }
 
-    /// Puts what a branch holds into a stack, before the child at a place.
+    /// Puts what a branch holds into a stack, before the child at a place. No node of the branch has
+    /// the id of a node of the tree.
     pub fn graft(
         &mut self,
         parent: NodeId,
         place: u32,
         branch: &mut Branch<N>,
     ) -> Result<(), TreeRefused>
-        requires distinct { IsDistinct nat_eq (ids self.old) }
+        requires apart { IsDistinct nat_eq (ids branch.old.forest ++ ids self.old) }
         requires few { size branch.old.forest + size self.old ≤ 512 }
         requires low { put_refusal parent.0 place self.old ≡ None
             → levels (put_into parent.0 place branch.old.forest self.old) ≤ 8 }
@@ -101,7 +103,6 @@ impl<N: Drop> Tree<N> {
     /// Moves a node with all below it into a stack, before the child at a place, which counts
     /// after the node is taken out.
     pub fn restack(&mut self, id: NodeId, parent: NodeId, place: u32) -> Result<(), TreeRefused>
-        requires distinct { IsDistinct nat_eq (ids self.old) }
         requires low { restack_refusal id.0 parent.0 place self.old ≡ None
             → levels (put_into parent.0 place (branch_of id.0 self.old) (without id.0 self.old)) ≤ 8 }
         ensures answer { result ≡ answer_of (restack_refusal id.0 parent.0 place self.old) }

@@ -1,7 +1,8 @@
 ghost use Rattle.std.specs.Prelude.{◌≡◌, ◌<◌, ◌≤◌, length, IfNone, IfOk, IfSome, IsSome, is_some};
-ghost use Rattle.spec_forest.specs.Forest.{none, nothing, levels, size, find, stack_at};
+ghost use Rattle.spec_forest.specs.Forest.{none, nothing, ids, levels, size, find, stack_at};
 ghost use Rattle.spec_forest.specs.Changes.{put_last};
 ghost use Rattle.xl_tree.specs.Flat.{flat, from_id};
+ghost use Rattle.xl_tree.specs.Ids.{AreOwn, IsNew};
 ghost use Rattle.xl_tree.specs.Kept.{AreSiblings};
 ghost use Rattle.xl_tree.specs.Places.{alone};
 ghost use Rattle.xl_tree.specs.Reads.{IsFound};
@@ -17,7 +18,8 @@ use std::marker::Model;
 /// The most nodes that a tree has.
 pub const MAX_NODES: u32 = 512;
 
-/// An ordered forest, with an index of its nodes by id. Its room is taken when it is made.
+/// An ordered forest, with an index of its nodes by id. Each node has an id of its own, which is not
+/// 0. Its room is taken when it is made.
 #[derive(Drop)]
 pub struct Tree<N> {
     pub(crate) entries: Vec<Entry<N>>,
@@ -63,6 +65,7 @@ impl<N: Drop> Tree<N> {
         ensures value { result ≡ self.now }
         ensures few { size self.now ≤ 512 }
         ensures low { levels self.now ≤ 8 }
+        ensures own { AreOwn (ids self.now) }
     {
         Stack::of(self.entries.as_slice(), 0)
     }
@@ -117,9 +120,11 @@ impl<N: Drop> Tree<N> {
 }
 
 impl<N: Shown + Drop> Tree<N> {
-    /// Puts a node under the last child of the group that a path names.
+    /// Puts a node under the last child of the group that a path names. Its id is one that no node
+    /// has, and not 0.
     pub fn put_last(&mut self, path: &[u32], id: NodeId, node: N)
         requires leads { IsSome (put_last path.now none self.old) }
+        requires new { IsNew id.0 self.old }
         requires short { length path.now < 8 }
         requires few { size self.old < 512 }
         ensures { put_last path.now (alone (N.is_group node) id.0 node) self.old ≡ Some self.new }

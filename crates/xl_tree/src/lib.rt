@@ -17,6 +17,8 @@ mod reads;
 mod refused;
 mod slots;
 mod stacks;
+#[cfg(test)]
+mod tests;
 mod writes;
 
 pub use above::Ancestors;

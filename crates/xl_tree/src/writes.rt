@@ -1,7 +1,6 @@
-ghost use Rattle.std.specs.Prelude.{◌≡◌, Some, nat_eq, option_map};
-ghost use Rattle.std.specs.List.{IsDistinct};
+ghost use Rattle.std.specs.Prelude.{◌≡◌, Some, option_map};
 ghost use Rattle.std.specs.Borrow.{Lends, LendsIf, sem};
-ghost use Rattle.spec_forest.specs.Forest.{find, ids};
+ghost use Rattle.spec_forest.specs.Forest.{find};
 ghost use Rattle.xl_tree.specs.Places.{place_of};
 ghost use Rattle.xl_tree.specs.Reads.{node_of};
 ghost use Rattle.xl_tree.specs.contracts.forest.Tree.{the_row};
@@ -13,7 +12,6 @@ use crate::naming::NodeId;
 impl<N: Drop> Tree<N> {
     /// What is in a node, to be written. None where there is no such node.
     pub fn find_mut(&mut self, id: NodeId) -> Option<&mut N>
-        requires { IsDistinct nat_eq (ids self.old) }
         ensures* writes_back { sem 𝓛 (LendsIf (the_row N.row) N.row self.entry result
             (λ node. with_node id.0 node self.old) self.old) }
         ensures value { option_map (λ node. node.now) result ≡ node_of (find id.0 self.old) }
@@ -23,8 +21,7 @@ impl<N: Drop> Tree<N> {
     }
 
     fn node_mut(&mut self, id: NodeId, at: usize) -> &mut N
-        requires placed { place_of id.0 self.old ≡ Some at }
-        requires distinct { IsDistinct nat_eq (ids self.old) }
+        requires { place_of id.0 self.old ≡ Some at }
         ensures* writes_back { sem 𝓛 (Lends (the_row N.row) N.row self.entry result
             (λ node. with_node id.0 node self.old)) }
         ensures value { Some result.now ≡ node_of (find id.0 self.old) }

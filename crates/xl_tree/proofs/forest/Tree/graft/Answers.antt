@@ -5,6 +5,7 @@ use Rattle.xl_tree.specs.Refusals.{put_refusal}
 use Rattle.xl_tree.proofs.Flat.{size-forest_of}
 use Rattle.xl_tree.proofs.Indexed.{same_index}
 use Rattle.xl_tree.proofs.Moved.{slot_of, slot_fits, shallow_tail, grafted}
+use Rattle.xl_tree.proofs.Own.{own_same, own_in_slot, none_own, none_siblings}
 use Rattle.xl_tree.proofs.forest.Tree.graft.Goals as goal
 
 pub unwrap-requires : goal.unwrap-requires
@@ -50,6 +51,9 @@ invariant_of-self g c =
     let done = grafted c.args.parent.0 c.args.place c.args.self.now c.args.branch.now.forest c.append.new.self.items _ _ _ _ _ parked c.append.new.self.ok.0 count slot (omega (arith, c.requires.few)) (c.requires.low met) c.put_back.ensures.items in
     record {
       siblings = done.siblings;
+      own = own_same _ _ (sym done.view)
+          (own_in_slot c.args.parent.0 c.args.place c.args.self.now c.args.branch.now.forest _ _ slot (own_same _ _ b_is c.branch.invariant.2)
+          (own_same _ c.args.self.now c.self.view_is c.self.invariant.own) c.requires.apart);
       room = omega (arith, c.self.invariant.room, c.append.ensures.capacity, c.put_back.ensures.room);
       indexed = same_index c.renew.new.self _ _ c.renew.ensures.index c.as_slice-2.ensures.value;
       index_room = c.renew.ensures.room;
@@ -65,3 +69,11 @@ returns-clause-tree g c =
     let count = c.len-count.ensures ∙ (c.branch.inside.entries.ok.0 ∙ (sym (size-forest_of 0 _ c.branch.invariant.0.flat_is) ∙ ap size b_is)) in
     let done = grafted c.args.parent.0 c.args.place c.args.self.now c.args.branch.now.forest c.append.new.self.items _ _ _ _ _ parked c.append.new.self.ok.0 count slot (omega (arith, c.requires.few)) (c.requires.low met) c.put_back.ensures.items in
     done.view
+
+pub invariant_of-branch : goal.invariant_of-branch
+invariant_of-branch g c =
+    let empty = rw c.unwrap.ensures at c.append.ensures.other_items in (
+      none_siblings c.append.new.other.items empty,
+      omega (arith, c.branch.invariant.1, c.append.ensures.other_capacity),
+      none_own c.append.new.other.items empty,
+    )

@@ -7,6 +7,7 @@ use Rattle.xl_tree.proofs.Flat.{size-forest_of}
 use Rattle.xl_tree.proofs.FlatHoles.{entry_of}
 use Rattle.xl_tree.proofs.Indexed.{same_index}
 use Rattle.xl_tree.proofs.Moved.{slot_of, slot_fits, put_in_one}
+use Rattle.xl_tree.proofs.Own.{own_same, own_alone, alone_apart, own_in_slot}
 use Rattle.xl_tree.proofs.forest.Tree.insert.Goals as goal
 
 pub insert-requires : goal.insert-requires
@@ -33,7 +34,13 @@ invariant_of-self g c =
     let met = sym (c.in-Ok.ensures.refused ∙ ap (put_refusal c.args.parent.0 c.args.place) (ap forest_of c.as_slice.ensures.value ∙ c.self.view_is)) in
     let new_is = rw c.unwrap.ensures at c.insert.ensures.items in
     let entry_is = ap (λ m. insert c.self.inside.entries.items c.in-Ok.slot.at (entry_of c.in-Ok.slot.level c.args.id.0 m c.args.node)) c.is_group.ensures in
+    let own = own_same _ c.args.self.now c.self.view_is c.self.invariant.own in
+    let put = put_in_one c.args.parent.0 c.args.place _ _ c.args.self.now _ _ c.args.id.0 (g.N.Shown.is_group c.args.node) c.args.node (c.self.invariant.siblings.flat_is ∙ ap (flat 0) c.self.view_is) slot c.requires.few (c.requires.low met) (new_is ∙ entry_is) in
     record {
+      own = own_same _ _ (sym put.view)
+          (own_in_slot c.args.parent.0 c.args.place c.args.self.now _ _ _ slot
+          (own_alone (g.N.Shown.is_group c.args.node) c.args.id.0 c.args.node c.args.self.now c.requires.new) own
+          (alone_apart (g.N.Shown.is_group c.args.node) c.args.id.0 c.args.node c.args.self.now c.requires.new own));
       siblings = (put_in_one c.args.parent.0 c.args.place _ _ c.args.self.now _ _ c.args.id.0 (g.N.Shown.is_group c.args.node) c.args.node (c.self.invariant.siblings.flat_is ∙ ap (flat 0) c.self.view_is) slot c.requires.few (c.requires.low met) (new_is ∙ entry_is)).siblings;
       room = omega (arith, c.self.invariant.room, c.insert.ensures.capacity);
       indexed = same_index c.renew.new.self _ _ c.renew.ensures.index c.as_slice-2.ensures.value;

@@ -7,6 +7,7 @@ use Rattle.xl_tree.proofs.Flat.{size-forest_of}
 use Rattle.xl_tree.proofs.Paths.{end_some}
 use Rattle.xl_tree.proofs.Indexed.{same_index}
 use Rattle.xl_tree.proofs.PutLast.{end_within, put_last_entry}
+use Rattle.xl_tree.proofs.Own.{own_same, own_last}
 use Rattle.xl_tree.proofs.forest.Tree.put_last.Goals as goal
 
 pub unwrap-at-requires : goal.unwrap-at-requires
@@ -32,7 +33,9 @@ pub invariant_of-self : goal.invariant_of-self
 invariant_of-self g c =
     let at : end_at c.args.path.now c.args.self.now ≡ Some c.unwrap-at.result = sym (c.end_at.ensures ∙ ap (end_at c.args.path.now) c.top.ensures.value) ∙ c.unwrap-at.ensures in
     let new_is = rw c.unwrap.ensures at c.insert.ensures.items in
+    let last = put_last_entry c.args.path.now _ _ c.args.self.now _ c.args.id.0 c.is_group.result c.args.node c.self.invariant.siblings c.self.view_is at c.requires.short c.requires.few new_is in
     record {
+      own = own_last c.args.path.now c.args.self.now _ c.is_group.result c.args.id.0 c.args.node last.view c.requires.new (own_same _ c.args.self.now c.self.view_is c.self.invariant.own);
       siblings = (put_last_entry c.args.path.now _ _ c.args.self.now _ c.args.id.0 c.is_group.result c.args.node c.self.invariant.siblings c.self.view_is at c.requires.short c.requires.few new_is).siblings;
       room = omega (arith, c.self.invariant.room, c.insert.ensures.capacity);
       indexed = same_index c.renew.new.self _ _ c.renew.ensures.index c.as_slice.ensures.value;
