@@ -1,0 +1,177 @@
+//! Files read and written again, at the compression that they have and at the other one.
+//!
+//! For each file its name, and for each of the two copies its length and its SHA-256. A copy is shown only where it is read back
+//! with the same picture, and where a copy of it has the same digest. `data/` has the files, and `stdout` what each must give: the
+//! lengths and digests are those of `bench/xcf_written.py`, which knows nothing of the engine.
+#![tactic(auto)]
+
+ghost use Rattle.std.specs.Prelude.{IfSome};
+ghost use Rattle.spec_document.specs.Limits.{IsDocument};
+
+use sha2::{Digest, Sha256};
+use std::alloc::{AllocError, Global};
+use std::process::ExitCode;
+use std::sync::Arc;
+use std::{fs, io};
+use xl_compose::Recompose;
+use xl_doc::{Document, NodeId, Pictures, Rect};
+use xl_read::decode;
+use xl_write::{Greedy, encode};
+
+/// No file of more bytes is read.
+const MOST_BYTES: usize = 1 << 31;
+
+const NAMES: [&str; 28] = [
+    "one.xcf",
+    "forms.xcf",
+    "all-hidden.xcf",
+    "bottom-multiply.xcf",
+    "channels.xcf",
+    "grey-64x64.xcf",
+    "greya-63x65.xcf",
+    "groups-3.xcf",
+    "groups-empty.xcf",
+    "groups-grey.xcf",
+    "indexed-200x200.xcf",
+    "indexed-layers.xcf",
+    "indexeda-200x200.xcf",
+    "mask-applied.xcf",
+    "mask-grey.xcf",
+    "mask-not-applied.xcf",
+    "mode-00-alpha.xcf",
+    "mode-03-alpha.xcf",
+    "names.xcf",
+    "no-layers.xcf",
+    "parasites-200.xcf",
+    "props-image.xcf",
+    "props-layer.xcf",
+    "props-userunit.xcf",
+    "rgb-1x1.xcf",
+    "rgb-63x65.xcf",
+    "rgba-65x1.xcf",
+    "selection-soft.xcf",
+];
+
+// The document that a file holds, or None.
+fn document_of(alloc: Global, bytes: Vec<u8>) -> Option<Document>
+    ensures { IfSome result (λ document. IsDocument document) }
+{
+    if bytes.len() > MOST_BYTES {
+        return None;
+    }
+    let Ok(file) = Arc::new(alloc, bytes) else {
+        return None;
+    };
+    decode(alloc, &file).ok()
+}
+
+fn file_of(alloc: Global, document: &Document) -> Option<Vec<u8>>
+    requires { IsDocument document.now }
+{
+    encode(alloc, document, &mut Greedy, &mut Recompose::new()).ok()
+}
+
+// The picture of the image.
+fn picture(alloc: Global, document: &Document) -> Option<Vec<u8>>
+    requires { IsDocument document.now }
+{
+    let rect = Rect {
+        x: 0,
+        y: 0,
+        w: document.width,
+        h: document.height,
+    };
+    let count = 4 * (document.width as usize * document.height as usize);
+    let Ok(mut bytes) = vec![in alloc; 0; count] else {
+        return None;
+    };
+    let mut pictures = Recompose::new();
+    match pictures.fill(alloc, document, NodeId(0), rect, bytes.as_mut_slice()) {
+        Ok(()) => Some(bytes),
+        Err(AllocError) => None,
+    }
+}
+
+fn same_picture(alloc: Global, document: &Document, other: &Document) -> bool
+    requires document { IsDocument document.now }
+    requires other { IsDocument other.now }
+{
+    match (picture(alloc, document), picture(alloc, other)) {
+        (Some(bytes), Some(others)) => bytes == others,
+        _ => false,
+    }
+}
+
+// The digest of the file of a document, or none where there is none.
+fn digest_of(alloc: Global, document: &Document) -> Option<String>
+    requires { IsDocument document.now }
+{
+    match file_of(alloc, document) {
+        Some(file) => hex::encode(alloc, &Sha256::digest(&file)).ok(),
+        None => None,
+    }
+}
+
+// Whether a file of a document is read back: with the same picture, and so that it is written with the same digest.
+fn is_read_back(alloc: Global, file: Vec<u8>, document: &Document, digest: &str) -> bool
+    requires { IsDocument document.now }
+{
+    let Some(other) = document_of(alloc, file) else {
+        return false;
+    };
+    match digest_of(alloc, &other) {
+        Some(again) => again.as_str() == digest && same_picture(alloc, document, &other),
+        None => false,
+    }
+}
+
+// The length and the digest of the file of a document.
+fn copy_text(alloc: Global, document: &Document) -> Result<String, AllocError>
+    requires { IsDocument document.now }
+{
+    let Some(file) = file_of(alloc, document) else {
+        return Err(AllocError);
+    };
+    let digest = hex::encode(alloc, &Sha256::digest(&file))?;
+    let length = file.len();
+    if is_read_back(alloc, file, document, digest.as_str()) {
+        format!(in alloc; "{length} {digest}")
+    } else {
+        format!(in alloc; "{length} differs")
+    }
+}
+
+fn at_other_compression(document: Document) -> Document
+    requires { IsDocument document }
+    ensures { IsDocument result }
+{
+    let mut document = document;
+    document.compression = 1 - document.compression;
+    document
+}
+
+// The line of a file.
+fn line_of(alloc: Global, name: &str, bytes: Vec<u8>) -> Result<String, AllocError> {
+    let Some(document) = document_of(alloc, bytes) else {
+        return format!(in alloc; "{name} is refused");
+    };
+    let own = copy_text(alloc, &document)?;
+    let other = copy_text(alloc, &at_other_compression(document))?;
+    format!(in alloc; "{name} {own} {other}")
+}
+
+fn show_all(rt: &HostRuntime) -> io::Result<()> {
+    for name in NAMES {
+        let bytes = fs::read(rt, name)?;
+        let line = line_of(rt.alloc(), name, bytes)?;
+        rt.println(line.as_str())?;
+    }
+    Ok(())
+}
+
+fn main(rt: HostRuntime) -> ExitCode {
+    match show_all(&rt) {
+        Ok(()) => ExitCode::SUCCESS,
+        Err(_) => ExitCode::FAILURE,
+    }
+}
