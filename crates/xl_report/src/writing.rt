@@ -11,10 +11,8 @@ use std::sync::ledger::{Blank, Ledger};
 use xl_blend::Steps;
 use xl_compose::Composer;
 use xl_doc::{Document, NodeId, Rect};
+use xl_grid::TILE_SIDE;
 use xl_ports::{Failed, Sink, write_all};
-
-// The bytes that are written in one piece, at least.
-const PIECE: usize = 65536;
 
 fn head(alloc: Global, width: u32, height: u32) -> Result<String, AllocError>
     ensures { IfOk result (λ text. string_bytes text ≡ pam_head width height) }
@@ -26,16 +24,6 @@ fn head(alloc: Global, width: u32, height: u32) -> Result<String, AllocError>
     text.push_str(height.to_string(alloc)?.as_str())?;
     text.push_str("\nDEPTH 4\nMAXVAL 255\nTUPLTYPE RGB_ALPHA\nENDHDR\n")?;
     Ok(text)
-}
-
-// How many rows of the canvas go into one piece.
-fn rows_in_piece(width: u32) -> u32
-    requires some { 1 ≤ width }
-    requires small { width ≤ 8192 }
-    ensures some { 1 ≤ result }
-    ensures small { result ≤ 16384 }
-{
-    (PIECE as u32).div_ceil(4 * width)
 }
 
 // Rows of the canvas.
@@ -84,12 +72,12 @@ fn write_rows<L: Ledger, K: Sink>(
 
 /// Writes the picture of a document as a PAM: a head of lines, and then RGBA bytes, row by row.
 ///
-/// All memory is taken before the first byte is written.
+/// All memory is taken before the first byte is written. A piece is a row of tiles, so that each tile is unpacked once.
 pub fn pam<K: Sink>(alloc: Global, doc: &Document, sink: &mut K) -> Result<(), PamFaultOrMemory>
     ensures { WritesText K.held K.faults sink.old sink.new (pam_of doc.now) result }
 {
     let head = head(alloc, doc.width, doc.height)?;
-    let rows = rows_in_piece(doc.width).min(doc.height);
+    let rows = TILE_SIDE.min(doc.height);
     let mut composer = Composer::new(alloc, doc.width)?;
     let mut piece = vec![in alloc; 0; 4 * (doc.width as usize * rows as usize)]?;
     write_all(sink, head.as_bytes())?;

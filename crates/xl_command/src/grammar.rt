@@ -1,0 +1,53 @@
+//! The commands as clap takes them.
+ghost use Rattle.std.specs.Prelude.{◌≡◌, ◌^◌, ◌-◌, true, false, IfOk, codes};
+ghost use Rattle.clap.specs.Words.{app_of, rule_of};
+ghost use Rattle.spec_command.specs.Grammar.{file_rule, number_rule, plain_app, edit_app, make_app};
+
+use clap::{Arg, Command, value_parser};
+use std::alloc::{AllocError, Global};
+
+// The name of the file, which has to be there.
+fn file<'a>(alloc: Global) -> Arg<'a>
+    ensures rule { rule_of result ≡ file_rule }
+    ensures local { result.global ≡ false }
+{
+    Arg::new(alloc, "file").required(true)
+}
+
+fn workers<'a>(alloc: Global) -> Arg<'a>
+    ensures rule { rule_of result ≡ number_rule (codes "workers") 8 false }
+    ensures local { result.global ≡ false }
+{
+    Arg::new(alloc, "workers")
+        .long("workers")
+        .value_parser(value_parser!(u32).range(0..=8))
+}
+
+fn seed<'a>(alloc: Global) -> Arg<'a>
+    ensures rule { rule_of result ≡ number_rule (codes "seed") (2 ^ 32 - 1) true }
+    ensures local { result.global ≡ false }
+{
+    Arg::new(alloc, "seed")
+        .long("seed")
+        .required(true)
+        .value_parser(value_parser!(u32))
+}
+
+/// A command with a file alone.
+pub fn plain_command<'a>(alloc: Global, name: &'a str) -> Result<Command<'a>, AllocError>
+    ensures { IfOk result (λ c. app_of c ≡ plain_app name.entry.now) }
+{
+    Command::new(alloc, name).arg(file(alloc))
+}
+
+pub fn edit_command<'a>(alloc: Global) -> Result<Command<'a>, AllocError>
+    ensures { IfOk result (λ c. app_of c ≡ edit_app) }
+{
+    plain_command(alloc, "edit")?.arg(workers(alloc))
+}
+
+pub fn make_command<'a>(alloc: Global) -> Result<Command<'a>, AllocError>
+    ensures { IfOk result (λ c. app_of c ≡ make_app) }
+{
+    plain_command(alloc, "make")?.arg(seed(alloc))
+}

@@ -1,0 +1,13 @@
+//! The arguments of the program, read by clap: four commands, each with the name of a file.
+//!
+//! Each command is a simple command of clap's own, picked by the first argument.
+#![tactic(auto)]
+
+mod command;
+mod grammar;
+mod reading;
+#[cfg(test)]
+mod tests;
+
+pub use command::Command;
+pub use reading::command_of;

@@ -1,0 +1,167 @@
+ghost use Rattle.std.specs.Prelude.{◌≡◌, nat_abs, ◌^◌, ◌-◌, ℕ, List, true, false, pos, Some, IfOk, MatchOption, option_map, codes};
+ghost use Rattle.clap.specs.Words.{app_of, found_of, rows_of, matches_of, first_of, is_simple_and_free, IsParsedFrom, IsSignedIn};
+ghost use Rattle.spec_command.specs.Grammar.{edit_app, edit_of, is_faultless, make_app, make_of, number_of, plain_app, plain_of, asked_in, asked_where};
+ghost use Rattle.spec_command.specs.Arguments.{Argument, Asked};
+ghost use Rattle.spec_command.specs.Arguments as definition;
+ghost use Rattle.std.specs.Str.Parse.{signed_digits_value};
+ghost use Rattle.xl_command.specs.Asking.{asked_of, plain_name, arguments_of};
+
+use crate::command::Command;
+use crate::grammar::{edit_command, make_command, plain_command};
+use clap::ArgMatches;
+use clap::error::ErrorKind;
+use std::alloc::{AllocError, Global};
+
+// The matches of arguments where the command takes them.
+fn matches_in<'a>(
+    command: clap::Command<'a>,
+    arguments: &'a [&'a str],
+) -> Result<Option<ArgMatches<'a>>, AllocError>
+    requires simple { is_simple_and_free (app_of command) ≡ true }
+    ensures ok { IfOk result (λ found. MatchOption found
+        (is_faultless (app_of command.entry) (arguments_of arguments.entry.now) ≡ false)
+        (λ m. (is_faultless (app_of command.entry) (arguments_of arguments.entry.now) ≡ true)
+        × (rows_of (found_of m) ≡ matches_of (app_of command.entry) (arguments_of arguments.entry.now))
+        × IsParsedFrom command.entry m)) }
+{
+    match command.try_get_matches_from(arguments) {
+        Ok(matches) => Ok(Some(matches)),
+        Err(error) => {
+            if error.kind() == ErrorKind::OutOfMemory {
+                Err(AllocError)
+            } else {
+                Ok(None)
+            }
+        }
+    }
+}
+
+// The name, unless it begins with a minus.
+fn unless_option<'a>(name: &'a str) -> Option<&'a str>
+    ensures { option_map (λ name. name.now) result ≡ plain_name (Some name.now) }
+{
+    match name.as_bytes() {
+        [b'-', ..] => None,
+        _ => Some(name),
+    }
+}
+
+// The name of the file, unless it begins with a minus.
+fn file_in<'a>(matches: &ArgMatches<'a>) -> Option<&'a str>
+    ensures { option_map (λ name. name.now) result
+        ≡ plain_name (first_of (codes "file") (rows_of (found_of matches.now))) }
+{
+    match matches.get_str("file") {
+        None => None,
+        Some(name) => unless_option(name),
+    }
+}
+
+// A number that clap let through.
+fn number(text: &str) -> u32
+    requires { IsSignedIn (pos 0) (pos (2 ^ 32 - 1)) text.now }
+    ensures { result ≡ nat_abs (signed_digits_value 10 text.now) }
+{
+    match text.parse::<i64>() {
+        Ok(number) => number.unsigned_abs() as u32,
+        Err(_) => unreachable!(),
+    }
+}
+
+// The number of an option, or another where it is not given.
+fn number_in(matches: &ArgMatches<'_>, id: &str, default: u32) -> u32
+    requires { (text : List ℕ) → first_of id.now (rows_of (found_of matches.now)) ≡ Some text
+        → IsSignedIn (pos 0) (pos (2 ^ 32 - 1)) text }
+    ensures { result ≡ number_of (rows_of (found_of matches.now)) id.now default }
+{
+    match matches.get_str(id) {
+        None => default,
+        Some(text) => number(text),
+    }
+}
+
+// The name of the file of a command without an option.
+fn plain_file<'a>(
+    alloc: Global,
+    verb: &'a str,
+    arguments: &'a [&'a str],
+) -> Result<Option<&'a str>, AllocError>
+    ensures { IfOk result (λ name. (ask : Argument → Asked) → option_map (λ name. ask name.now) name
+        ≡ asked_where (plain_app verb.entry.now) (arguments_of arguments.entry.now) (plain_of ask)) }
+{
+    let Some(matches) = matches_in(plain_command(alloc, verb)?, arguments)? else {
+        return Ok(None);
+    };
+    Ok(file_in(&matches))
+}
+
+fn render<'a>(
+    alloc: Global,
+    verb: &'a str,
+    arguments: &'a [&'a str],
+) -> Result<Option<Command<'a>>, AllocError>
+    ensures { IfOk result (λ command. option_map asked_of command
+        ≡ asked_where (plain_app verb.entry.now) (arguments_of arguments.entry.now) (plain_of definition.render)) }
+{
+    match plain_file(alloc, verb, arguments)? {
+        Some(name) => Ok(Some(Command::Render(name))),
+        None => Ok(None),
+    }
+}
+
+fn info<'a>(
+    alloc: Global,
+    verb: &'a str,
+    arguments: &'a [&'a str],
+) -> Result<Option<Command<'a>>, AllocError>
+    ensures { IfOk result (λ command. option_map asked_of command
+        ≡ asked_where (plain_app verb.entry.now) (arguments_of arguments.entry.now) (plain_of definition.info)) }
+{
+    match plain_file(alloc, verb, arguments)? {
+        Some(name) => Ok(Some(Command::Info(name))),
+        None => Ok(None),
+    }
+}
+
+fn edit<'a>(alloc: Global, arguments: &'a [&'a str]) -> Result<Option<Command<'a>>, AllocError>
+    ensures { IfOk result (λ command. option_map asked_of command ≡ asked_where edit_app (arguments_of arguments.entry.now) edit_of) }
+{
+    let Some(matches) = matches_in(edit_command(alloc)?, arguments)? else {
+        return Ok(None);
+    };
+    let Some(name) = file_in(&matches) else {
+        return Ok(None);
+    };
+    Ok(Some(Command::Edit(name, number_in(&matches, "workers", 2))))
+}
+
+fn make<'a>(alloc: Global, arguments: &'a [&'a str]) -> Result<Option<Command<'a>>, AllocError>
+    ensures { IfOk result (λ command. option_map asked_of command ≡ asked_where make_app (arguments_of arguments.entry.now) make_of) }
+{
+    let Some(matches) = matches_in(make_command(alloc)?, arguments)? else {
+        return Ok(None);
+    };
+    let Some(name) = file_in(&matches) else {
+        return Ok(None);
+    };
+    Ok(Some(Command::Make(name, number_in(&matches, "seed", 0))))
+}
+
+/// The command that the arguments are. No other arguments are one.
+pub fn command_of<'a>(
+    alloc: Global,
+    arguments: &'a [&'a str],
+) -> Result<Option<Command<'a>>, AllocError>
+    ensures { IfOk result (λ command. option_map asked_of command ≡ asked_in (arguments_of arguments.entry.now)) }
+{
+    let Some(verb) = arguments.first() else {
+        return Ok(None);
+    };
+    match *verb {
+        "edit" => edit(alloc, arguments),
+        "render" => render(alloc, *verb, arguments),
+        "info" => info(alloc, *verb, arguments),
+        "make" => make(alloc, arguments),
+        _ => Ok(None),
+    }
+}
