@@ -20,8 +20,12 @@ fn words_given(rt: &HostRuntime) -> io::Result<Vec<String>> {
 
 fn started(rt: &HostRuntime) -> Result<u8, AllocError> {
     let alloc = rt.alloc();
-    // Words that are no text are no command, like none at all.
-    let given = words_given(rt).unwrap_or(Vec::new(alloc));
+    let given = match words_given(rt) {
+        Ok(words) => words,
+        Err(error) if error.kind() == io::ErrorKind::OutOfMemory => return Err(AllocError),
+        // Words that cannot be read are no command, like none at all.
+        Err(_) => Vec::new(alloc),
+    };
     let mut words = Vec::new(alloc);
     for word in &given {
         words.push(word.as_str())?;

@@ -9,7 +9,7 @@ use Rattle.spec_edit.specs.Edit.{Edit}
 use Rattle.spec_history.specs.Machine.{Call, edit, undo, redo, tile, peek, top, Reply, changed, tile_of, stale, save_memory, State, latest, answer}
 use Rattle.spec_history.specs.History.{Entry, Kind, asked, starts, ends, is_changed, is_end_kind, next_index, after_kind, after_entry, replay_from, IsStep, MayBe, RunFrom, mine}
 use Rattle.spec_history.specs.Kept.{IsFreshReply, IsFreshFrom}
-use Rattle.spec_text.specs.Filters.{Filter}
+use Rattle.spec_filters.specs.declared.FilterState.{FilterState}
 use Rattle.spec_text.specs.Text.{HaveTables, tables_for, used_by, is_save_memory, expected_tables, filters_after, tables_in}
 use Rattle.xl_edit.specs.Built.{IsBuilt}
 use Rattle.xl_program.specs.Playing.{IsBuiltKind, IsPlain}
@@ -29,7 +29,7 @@ record IsAnswered (base : Document) (s : State) (reply : Reply) (new : State) : 
 kind_answered : (base : Document) (s : State) (earlier : List Entry) (e : Entry) (k : Kind) → IsBuiltKind k → MayBe base s earlier e k → IsAnswered base s e.reply (after_kind base s e k)
 kind_answered base s earlier e (asked (edit None (one ∷ [])) tables) built step = record {
   call = edit None (one ∷ []);
-  built = tt;
+  built = built.0;
   replied = step.1 ∙ ap (λ (t : List (List ℕ)). (answer base s (edit None (one ∷ [])) t).reply) built.1;
   left = ap (λ (t : List (List ℕ)). (answer base s (edit None (one ∷ [])) t).state) built.1;
 }
@@ -155,4 +155,4 @@ kind_filters ends r built = absurd built
 pub have_none : (es : List Entry) → AllByRecursion IsPlain es → HaveTables [] es
 have_none [] plain = tt
 have_none (e ∷ es) plain =
-    (kind_tables e.kind e.reply plain.0.kind, subst (λ (filters : List Filter). HaveTables filters es) (sym (kind_filters e.kind e.reply plain.0.kind)) (have_none es plain.1))
+    (kind_tables e.kind e.reply plain.0.kind, subst (λ (filters : List FilterState). HaveTables filters es) (sym (kind_filters e.kind e.reply plain.0.kind)) (have_none es plain.1))

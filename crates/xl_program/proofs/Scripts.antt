@@ -1,5 +1,5 @@
 -- A script that is read up to one byte more than it may have is read as a whole.
-use Rattle.std.proofs.Common.{◌≡◌, inl, inr, ℕ, ◌+◌, ◌^◌, ◌≤◌, false, List, [], ◌++◌, length, take, Option, Some, None, Err, refl, sym, ◌∙◌, ap, arith, length-append, ◌⊎◌}
+use Rattle.std.proofs.Common.{◌≡◌, inl, inr, ℕ, ◌+◌, ◌^◌, ◌≤◌, false, List, [], ◌++◌, length, take, Option, Some, None, Ok, Err, refl, sym, subst, ◌∙◌, ap, arith, length-append, ◌⊎◌}
 use Rattle.std.specs.Prelude.{IfSome, Result, nat_le, slice_index_or}
 use Rattle.std.proofs.lemmas.Bool.Decides.{nat_tests}
 use Rattle.std.proofs.lemmas.List.{append-nil, take-append-le}
@@ -43,3 +43,13 @@ pub lines_taken : (lists : List (List code.Line)) (lines : List code.Line) → I
 lines_taken lists lines only taken =
     let same : lines ≡ only.first = taken ∙ ap (λ (ls : List (List code.Line)). slice_index_or ls 0 []) only.alone in
     rw same (ap lists_of only.alone)
+
+abbrev IsRead : Result (List (List Line)) ℕ → Type 0
+IsRead (Ok lists) = Unit {0}
+IsRead (Err number) = ⊥
+
+-- a script that is in the grammar was read to the end of its source
+pub ended_of_source : (front : List ℕ) (lists : List (List Line)) (after : Option (List ℕ)) → (length front ≡ 2 ^ 24 + 1) ⊎ IsEnded after
+    → script front [] ≡ Ok lists → IsEnded after
+ended_of_source front lists after (inl full) reads = absurd (subst IsRead (sym reads ∙ too_long front (omega (arith, full))) tt)
+ended_of_source front lists after (inr ended) reads = ended

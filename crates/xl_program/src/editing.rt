@@ -1,6 +1,6 @@
-ghost use Rattle.std.specs.Prelude.{◌≡◌, ◌⊎◌, ℕ, List, Some, IfOk};
+ghost use Rattle.std.specs.Prelude.{◌≡◌, ◌⊎◌, ℕ, List, Some, IfOk, OnOk};
 ghost use Rattle.xl_doc.specs.Numbered.{AreNumbered};
-ghost use Rattle.xl_ports.specs.Source.{led_by};
+ghost use Rattle.xl_ports.specs.Source.{led_by, IsEnded};
 ghost use Rattle.xl_program.specs.Outcome.{IsReplies, Writes, SourceCause, ShelfCause};
 ghost use Rattle.xl_program.specs.Parts.{ReadsScript, Replies, StopsEdit};
 ghost use Rattle.xl_script.specs.Built.{AreBuilt};
@@ -30,6 +30,7 @@ pub fn edit<S: Source, K: Sink, D: Shelf>(
     ensures writes { Writes K.held K.faults (IsReplies (S.left source.old) (D.content shelf.old name.now)) sink.old sink.new result }
     ensures stops { StopsEdit (S.left source.old) (D.content shelf.old name.now) result }
     ensures takes { (bytes : List ℕ) × (S.left source.old ≡ led_by bytes (S.left source.new)) }
+    ensures ended { OnOk result (IsEnded (S.left source.new)) }
     ensures source_cause { SourceCause (S.faults source.old) (S.faults source.new) result }
     ensures shelf_cause { ShelfCause (D.reading_faults shelf.old) (D.reading_faults shelf.new) result }
     ensures contents { D.content shelf.new ≡ D.content shelf.old }
@@ -49,6 +50,7 @@ fn read_script<S: Source>(alloc: Global, source: &mut S) -> Result<Vec<Line>, St
     ensures reads { ReadsScript (S.left source.old) result }
     ensures built { IfOk result (λ lines. AreBuilt lines.items) }
     ensures takes { (bytes : List ℕ) × (S.left source.old ≡ led_by bytes (S.left source.new)) }
+    ensures ended { OnOk result (IsEnded (S.left source.new)) }
     ensures cause { SourceCause (S.faults source.old) (S.faults source.new) result }
 {
     let text = match read_all(alloc, source, MOST_BYTES) {

@@ -5,6 +5,7 @@ ghost use Rattle.xl_program.specs.Parts.{Loads};
 
 use crate::stopped::Stopped;
 use std::alloc::Global;
+use std::sync::Arc;
 use xl_doc::Document;
 use xl_fields::ReadRefusedOrMemory;
 use xl_ports::{Failed, FailedOrMemory, Shelf, load_all};
@@ -34,7 +35,10 @@ pub fn read_document<D: Shelf>(
         Err(FailedOrMemory::Failed) => return Err(Stopped::ShelfFault),
         Err(FailedOrMemory::Memory) => return Err(Stopped::Memory),
     };
-    match decode(alloc, &bytes) {
+    let Ok(file) = Arc::new(alloc, bytes) else {
+        return Err(Stopped::Memory);
+    };
+    match decode(alloc, &file) {
         Ok(document) => Ok(document),
         Err(ReadRefusedOrMemory::Refused(refused)) => Err(Stopped::Refused(refused)),
         Err(ReadRefusedOrMemory::Memory) => Err(Stopped::Memory),

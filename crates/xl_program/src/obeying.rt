@@ -1,5 +1,6 @@
-ghost use Rattle.std.specs.Prelude.{◌≡◌, ◌⊎◌, Some};
-ghost use Rattle.xl_program.specs.Command.{asked_of, name_of};
+ghost use Rattle.std.specs.Prelude.{◌≡◌, ◌⊎◌, Some, OnOk};
+ghost use Rattle.xl_ports.specs.Source.{IsEnded};
+ghost use Rattle.xl_program.specs.Command.{asked_of, name_of, IsEdit};
 ghost use Rattle.xl_program.specs.Outcome.{IsOutput, Writes, SourceCause, ShelfCause, Takes};
 ghost use Rattle.xl_program.specs.Parts.{StopsFor};
 
@@ -22,6 +23,7 @@ pub fn obey<S: Source, K: Sink, D: Shelf>(
         sink.old sink.new result }
     ensures stops { StopsFor (S.left source.old) (D.content shelf.old) (asked_of command.entry) result }
     ensures takes { Takes S.left S.faults source.old source.new (Some (asked_of command.entry)) }
+    ensures ended { OnOk result (IsEdit (Some (asked_of command.entry)) → IsEnded (S.left source.new)) }
     ensures source_cause { SourceCause (S.faults source.old) (S.faults source.new) result }
     ensures shelf_cause { ShelfCause (D.reading_faults shelf.old) (D.reading_faults shelf.new) result }
     ensures contents { D.content shelf.new ≡ D.content shelf.old }

@@ -44,9 +44,10 @@ fn play_call<L: Ledger>(
     ensures called { OnOk result (IsCalled core.old (call_of call) core.new) }
     ensures played { OnOk result (ArePlayed core.new.base core.new.entries (string_bytes text.new)) }
 {
-    let reply = core.submit(alloc, 0, call, desk, steps)?;
+    let seen = core.version();
+    let reply = core.submit(alloc, 0, call, seen, desk, steps)?;
     let digest = shown_digest(alloc, &reply, desk)?;
-    print_reply(text, 0, index, &reply, digest.as_str())
+    print_reply(alloc, text, 0, index, &reply, digest.as_str())
 }
 
 // Makes the calls of the first session one after another, and answers their lines.
@@ -95,7 +96,11 @@ fn order_word(entry: &Entry) -> OrderWord
 fn order_words(alloc: Global, entries: &[Entry]) -> Result<Vec<OrderWord>, AllocError>
     ensures { IfOk result (λ words. words.items ≡ map word_of_entry entries.now) }
 {
-    entries.iter().map(order_word).collect(alloc)
+    let mut words = Vec::with_capacity(alloc, entries.len())?;
+    for entry in entries {
+        words.push(order_word(entry))?;
+    }
+    Ok(words)
 }
 
 /// Makes the calls of the first session one after another. Answers the text of the run: a line for each reply, and the order line.
@@ -106,6 +111,6 @@ pub fn play(alloc: Global, mut core: Core, lines: Vec<Line>) -> Result<String, A
 {
     let mut text = play_lines::<Brand>(alloc, &mut core, lines, Blank::new(1))?;
     let words = order_words(alloc, core.entries())?;
-    print_order(&mut text, words.as_slice())?;
+    print_order(alloc, &mut text, words.as_slice())?;
     Ok(text)
 }

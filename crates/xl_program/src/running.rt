@@ -3,6 +3,7 @@ ghost use Rattle.spec_fields.specs.declared.ReadRefused.{ReadRefused};
 ghost use Rattle.xl_ports.specs.Faults.{Rose};
 ghost use Rattle.xl_ports.specs.Shelf.{selected_content};
 ghost use Rattle.xl_ports.specs.Sink.{WritesAll, WritesPart};
+ghost use Rattle.xl_ports.specs.Source.{IsEnded};
 ghost use Rattle.xl_program.specs.Command.{words_of, asked, name_of, IsEdit};
 ghost use Rattle.xl_program.specs.Lines.{usage_line, source_fault_line, bad_line, shelf_fault_line, refused_line, Tells};
 ghost use Rattle.xl_program.specs.Outcome.{IsOutput, IsBadLine, InGrammar, HasFault, Keeps, Takes, IsStatus};
@@ -62,6 +63,7 @@ pub fn run<S: Source, K: Sink, D: Shelf>(
         × WritesPart K.held K.faults sink.old sink.new out }
     ensures memory { result.status ≡ 8 → Keeps K.held K.faults sink.old sink.new }
     ensures source_taken { Takes S.left S.faults source.old source.new (asked (words_of words.now)) }
+    ensures source_ended { result.status ≡ 0 → IsEdit (asked (words_of words.now)) → IsEnded (S.left source.new) }
     ensures contents { D.content result.shelf ≡ D.content shelf }
     ensures selected { (D.selected result.shelf ≡ D.selected shelf)
         ⊎ (D.selected result.shelf ≡ option_map name_of (asked (words_of words.now))) }

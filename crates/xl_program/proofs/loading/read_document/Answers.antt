@@ -17,7 +17,8 @@ returns-in-Ok-decode-clause-loads g c =
     let loaded = c.in-Ok-load_all.ensures in
     let bytes : List ℕ = c.in-Ok-load_all.bytes.items in
     let front = of_name _ _ _ _ bytes selected.selected selected.contents loaded.front in
-    front_holds _ bytes c.in-Ok-decode.document front (subst (λ (l : List ℕ). Holds l c.in-Ok-decode.document) c.deref.ensures.value c.in-Ok-decode.ensures.held)
+    let file = ap (λ v. v.items) c.in-Ok-new.ensures.ok in
+    front_holds _ bytes c.in-Ok-decode.document front (subst (λ (l : List ℕ). Holds l c.in-Ok-decode.document) file c.in-Ok-decode.ensures.held)
 
 pub returns-in-Err-Refused-clause-loads : goal.returns-in-Err-Refused-clause-loads
 returns-in-Err-Refused-clause-loads g c =
@@ -26,4 +27,5 @@ returns-in-Err-Refused-clause-loads g c =
     let bytes : List ℕ = c.in-Ok-load_all.bytes.items in
     let front = of_name _ _ _ _ bytes selected.selected selected.contents loaded.front in
     let fails = rw c.in-Err-Refused.field-0-is at c.in-Err-Refused.ensures.exact in
-    front_faults _ bytes c.in-Err-Refused.refused front (ap reading (sym c.deref.ensures.value) ∙ fails)
+    let file = ap (λ v. v.items) c.in-Ok-new.ensures.ok in
+    front_faults _ bytes c.in-Err-Refused.refused front (ap reading (sym file) ∙ fails)

@@ -11,7 +11,7 @@ returns-clause-called g c =
     let room : length c.args.core.now.entries < most_entries = omega arith in
     on_ok_weaker c.print_reply.result
     (λ e. submitted_called c.args.core.now (call_of c.args.call) (reply_of c.in_ok-reply.reply) c.submit.new.self room c.in_ok-reply.ensures.answered)
-    c.print_reply.ensures
+    c.print_reply.ensures.ok
 
 pub returns-clause-played : goal.returns-clause-played
 returns-clause-played g c =
@@ -20,4 +20,4 @@ returns-clause-played g c =
     (λ e. submitted_printed c.args.core.now (call_of c.args.call) (reply_of c.in_ok-reply.reply) c.submit.new.self c.submit.new.desk.out (string_bytes c.args.text.now)
     c.args.index c.as_str.result.now (string_bytes c.print_reply.new.out) room c.requires.built c.requires.played
     c.in_ok-reply.ensures.answered c.in_ok-reply.ensures.legal c.in_ok-reply.ensures.shown c.requires.index (c.as_str.ensures.value ∙ c.in_ok-digest.ensures) e)
-    c.print_reply.ensures
+    c.print_reply.ensures.ok
