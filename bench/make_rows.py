@@ -21,7 +21,7 @@ MODES = {0: "Normal", 3: "Multiply", 4: "Screen", 5: "Overlay", 6: "Difference",
          9: "DarkenOnly", 10: "LightenOnly", 15: "Divide", 16: "Dodge", 17: "Burn", 18: "HardLight", 19: "SoftLight",
          20: "GrainExtract", 21: "GrainMerge"}
 LONGEST, LARGEST, ROWS_A_FILE = 900, 40, 25
-DEPENDENCIES = ("spec_blend spec_grid spec_forest spec_document spec_fields spec_plane spec_props spec_hierarchy spec_file "
+DEPENDENCIES = ("spec_blend spec_grid spec_forest spec_document spec_fields spec_rle spec_props spec_hierarchy spec_file "
                 "spec_picture")
 
 FILES_HEAD = """-- Files, with their pictures or their refusals.
@@ -29,7 +29,7 @@ use Rattle.std.specs.Prelude.{◌≡◌, ℕ, List, [], ◌∷◌, refl, Ok, Err
 use Rattle.spec_fields.specs.declared.Kind.TheVariants.{%s}
 use Rattle.spec_fields.specs.Reading.{Read, ◌>>=◌, fault_with}
 use Rattle.spec_fields.specs.Field.{name_at}
-use Rattle.spec_plane.specs.Reading.{codes_at, code_at}
+use Rattle.spec_rle.specs.Reading.{codes_at, code_at}
 use Rattle.spec_props.specs.Unit.{names_end, named_end}
 use Rattle.spec_props.specs.Reading.{payload_length_at, property_at, end_at, list_at}
 use Rattle.spec_hierarchy.specs.Reading.{plain_at, spelled_at, tile_at, tiles_at, hierarchy_at}

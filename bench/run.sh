@@ -84,6 +84,14 @@ for file in plain.xcf layers.xcf; do
     fi
 done
 
+# ten layers of one colour each
+made flat.xcf make_flat.py
+best flat.xcf xcfedit "$bin" render "$folder/flat.xcf"
+
+# 1000 fills of up to 64 by 64 with a tile after each ten, on the ten layers: the first node is a group, so its layer is 2
+[ -e "$folder/fills.txt" ] || python3 "$here/make_edits.py" "$folder/fills.txt" --size 4000 3000 --fills 1000 --up-to 64 --layer 2
+best layers.xcf "xcfedit edit" sh -c '"$0" edit "$1" < "$2"' "$bin" "$folder/layers.xcf" "$folder/fills.txt"
+
 # 200 fills of 32 by 32 with a tile after each ten, on a document of 512 by 512 with three layers
 [ -e "$folder/small.xcf" ] || python3 "$here/make_plain.py" "$folder/small.xcf" --size 512 512
 made edits.txt make_edits.py

@@ -234,9 +234,14 @@ def hierarchy(data, at, width, height, bpp, compression):
 
 # The document.
 
+def kept_list(props):
+    """The kept properties: (type, payload) in order."""
+    return [(kind, payload) for kind, _, payload in props.kept()]
+
+
 class Channel:
-    def __init__(self, text, plane):
-        self.name, self.plane = text, plane
+    def __init__(self, text, props, plane):
+        self.name, self.kept, self.plane = text, kept_list(props), plane
 
 
 class Node:
@@ -244,6 +249,7 @@ class Node:
 
     def __init__(self, number, text, props):
         self.id, self.name, self.children, self.mask = number, text, None, None
+        self.kept = kept_list(props)
         self.opacity = min(255, props.number(6, 255))
         self.mode = props.number(7, 0)
         self.visible = props.number(8, 1) != 0
@@ -304,7 +310,7 @@ def image_properties(data, doc):
     colours = props.last(1)
     if doc.base == 2 and colours is None:
         raise Refused("NoColourMap", props.end)
-    doc.compression = props.number(17, 0)
+    doc.compression, doc.kept_list = props.number(17, 0), kept_list(props)
     payload = colours[2][4:] if colours and doc.base == 2 else b""
     doc.colours = [payload[i:i + 3] for i in range(0, len(payload), 3)]
     return props.end + 8
@@ -326,7 +332,7 @@ def read_mask(data, at, doc, width, height):
     doc.keep(props)
     place = pointer(data, props.end + 8)
     doc.add_area(width * height, at)
-    return Channel(text, hierarchy(data, place, width, height, 1, doc.compression))
+    return Channel(text, props, hierarchy(data, place, width, height, 1, doc.compression))
 
 
 def read_layer(data, at, doc):
@@ -372,7 +378,7 @@ def read_channel(data, at, doc, place):
     if not selection and len(doc.channels) == 64:
         raise Refused("TooMany", place)
     doc.add_area(doc.width * doc.height, at)
-    channel = Channel(text, hierarchy(data, pixels_at, doc.width, doc.height, 1, doc.compression))
+    channel = Channel(text, props, hierarchy(data, pixels_at, doc.width, doc.height, 1, doc.compression))
     if selection:
         doc.selection = channel
     else:
