@@ -1,0 +1,4 @@
+pub mod Bounds
+pub mod Staying
+pub mod Ending
+mod Rows

@@ -1,0 +1,48 @@
+-- Worked saves.
+use Rattle.std.specs.Prelude.{◌≡◌, ℕ, [], ◌∷◌, None, refl}
+use Rattle.spec_document.specs.Document.{Document}
+use Rattle.spec_history.specs.Machine.{edit, Reply, changed, saved, save_fault, save_memory}
+use Rattle.spec_history.specs.History.{Entry, Kind, asked, starts, ends}
+use Rattle.spec_saves.specs.Names.{the_old, version, names, files, saved_versions, save_faults, out_version}
+
+abbrev entry : (index : ℕ) → Kind → Reply → Entry
+entry index kind reply = record { session = 0; index = index; kind = kind; reply = reply }
+
+-- before any save the file is the old one
+no_save : (base : Document) → files base [] ≡ the_old ∷ []
+no_save base = refl
+
+-- while a save is out, its version may be there too
+out : (base : Document) → files base (entry 0 starts (saved 0) ∷ []) ≡ the_old ∷ version 0 ∷ []
+out base = refl
+
+-- and no other name is settled yet
+out_names : names (entry 0 starts (saved 0) ∷ []) ≡ the_old ∷ []
+out_names = refl
+
+-- a save that is done leaves its version alone
+done : (base : Document) → files base (entry 0 starts (saved 0) ∷ entry 0 ends (saved 0) ∷ []) ≡ version 0 ∷ []
+done base = refl
+
+-- one that failed leaves both, and once more where it fails again
+twice_failed : (base : Document)
+    → files base (entry 0 starts (saved 0) ∷ entry 0 ends (save_fault 0) ∷ entry 1 starts (saved 0) ∷ entry 1 ends (save_fault 0) ∷ [])
+    ≡ the_old ∷ version 0 ∷ version 0 ∷ []
+twice_failed base = refl
+
+-- one that found no memory leaves the file as it was
+no_memory : (base : Document) → files base (entry 0 starts (saved 0) ∷ entry 0 ends (save_memory 0) ∷ []) ≡ the_old ∷ []
+no_memory base = refl
+
+-- a save names the version of its start, whatever is called beside it
+beside_calls : names (entry 0 starts (saved 0) ∷ entry 1 (asked (edit None []) []) (changed 1 1 2) ∷ entry 0 ends (saved 0) ∷ []) ≡ version 0 ∷ []
+beside_calls = refl
+
+counted : save_faults (entry 0 starts (saved 0) ∷ entry 0 ends (save_fault 0) ∷ entry 1 starts (saved 0) ∷ entry 1 ends (saved 0) ∷ []) ≡ 1
+counted = refl
+
+both_started : saved_versions (entry 0 starts (saved 0) ∷ entry 0 ends (save_fault 0) ∷ entry 1 starts (saved 3) ∷ entry 1 ends (saved 3) ∷ []) ≡ 0 ∷ 3 ∷ []
+both_started = refl
+
+version_out : (base : Document) → out_version base (entry 0 starts (saved 0) ∷ []) ≡ 0
+version_out base = refl

@@ -1,0 +1,48 @@
+-- What holds of a shelf on which a document is saved, after a history, as long as no save is out.
+use Rattle.std.specs.Prelude.{◌≡◌, ◌⊎◌, ℕ, ◌+◌, ◌≤◌, List, [], ◌∷◌, Option, unwrap_or}
+use Rattle.spec_document.specs.Document.{Document}
+use Rattle.spec_history.specs.History.{Entry}
+use Rattle.xl_ports.specs.Shelf.{Content}
+use Rattle.xl_ports.specs.Faults.{last_count}
+use Rattle.xl_ports.specs.Disk.{Disk, MayLeave, MightHaveLeft, LeavesJust, Between}
+use Rattle.spec_saves.specs.Names.{Named, the_old, version, names, save_faults}
+use Rattle.spec_saves.specs.Contents.{IsIn, IsSaved}
+
+-- what is known of a shelf: the name that is selected, what it holds, and both counts of faults
+pub record Known : Type 0 where
+  pub selected : Option (List ℕ)
+  pub disk : Option Disk
+  pub reading : ℕ
+  pub saving : ℕ
+
+-- the name of the file
+abbrev pub file_name : Known → List ℕ
+file_name known = unwrap_or known.selected []
+
+-- where the file has one name, a crash leaves one content; the old one is what a read gave
+abbrev pub IsSettled : List Named → (name : List ℕ) → (opened now : Disk) → Type 0
+IsSettled [] name opened now = Unit {0}
+IsSettled (the_old ∷ []) name opened now = now.read name ≡ opened.read name
+IsSettled (version v ∷ []) name opened now = LeavesJust now name (now.read name)
+IsSettled (one ∷ two ∷ more) name opened now = Unit {0}
+
+-- what the file may hold under this name, now and at each moment
+pub record DiskIsRight (name : List ℕ) (base : Document) (es : List Entry) (opened now : Disk) : Type 0 where
+  pub later : opened.moment ≤ now.moment
+  -- a crash now
+  pub leaves : (c : Content) → MayLeave now name c → IsIn base es opened name c (names es)
+  -- a crash since the opening, or since a moment before it
+  pub left : (since : ℕ) (c : Content) → since ≤ opened.moment → MightHaveLeft now name since c → MightHaveLeft opened name since c ⊎ IsSaved base es c
+  pub settled : IsSettled (names es) name opened now
+
+-- a count rose at least so often, or stands at its end
+abbrev pub RoseOften : (times : ℕ) → (old new : ℕ) → Type 0
+RoseOften times old new = (old + times ≤ new) ⊎ (last_count ≤ new)
+
+-- The shelf is that of the opening, after these saves. What the file holds is said where it is known.
+pub record ShelfIsRight (opening : Known) (base : Document) (es : List Entry) (now : Known) : Type 0 where
+  pub selected : now.selected ≡ opening.selected
+  pub reading : now.reading ≡ opening.reading
+  pub saving_rose : RoseOften (save_faults es) opening.saving now.saving
+  pub saving_stays : save_faults es ≡ 0 → now.saving ≡ opening.saving
+  pub contents : Between opening.disk now.disk (DiskIsRight (file_name opening) base es)
