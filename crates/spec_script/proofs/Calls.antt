@@ -1,6 +1,6 @@
 -- The calls of a script are within the limits.
 use Rattle.std.proofs.Common.{◌≡◌, ℕ, zero, suc, ◌+◌, ◌^◌, ◌≤◌, Bool, true, false, cond, ◌&&◌, nat_lt, nat_le, List, [], ◌∷◌, ◌++◌, length, map, refl, arith, length-append}
-use Rattle.std.specs.Prelude.{Option, Some, None, IfSome, Result, Ok, Err, IfOk, codes, slice_get, unwrap_or}
+use Rattle.std.specs.Prelude.{Option, Some, None, IfSome, Result, Ok, Err, IfOk, slice_get, unwrap_or}
 use Rattle.std.specs.List.{AllByRecursion}
 use Rattle.std.proofs.lemmas.Bool.{and_parts, ltb-true}
 use Rattle.spec_grid.specs.Rect.{count_from}
@@ -8,9 +8,10 @@ use Rattle.spec_edit.specs.Edit as edits
 use Rattle.spec_edit.specs.Edit.{Edit, IsEdit}
 use Rattle.spec_edit.specs.Effect.{changed_at}
 use Rattle.spec_history.specs.Machine as machine
+use Rattle.spec_history.specs.Calls.{most_edits}
 use Rattle.spec_script.specs.Words.{if_holds, number_below, lines_of, words_of}
 use Rattle.spec_script.specs.Commands.{Command, Asked, an_edit, begins, ends, a_call, saves, forgets, Rule, Keyword, keywords, rule_in, rule_of, command_of, is_word}
-use Rattle.spec_script.specs.Script.{Line, call, save, forget, Open, Session, Parsed, has_filter, has_its_filter, Taken, take_outside, take_inside, take_command, put_session, is_skipped, take_by, take_asked, take_line, or_refused, take_lines, never_ended, ended, closed, blank, line_of_byte, start, script_of}
+use Rattle.spec_script.specs.Script.{most_calls, Line, call, save, forget, Open, Session, Parsed, has_filter, has_its_filter, Taken, take_outside, take_inside, take_command, put_session, is_skipped, take_by, take_asked, take_line, or_refused, take_lines, never_ended, ended, closed, blank, line_of_byte, start, script_of}
 use Rattle.spec_script.specs.Limits.{IsLine, AreLines}
 use Rattle.spec_script.proofs.Limits.{IsCommand, Keeps, if-then, if-any, if-test, keeps-number, keeps-byte, keeps-fill, keeps-write, keeps-filter, keeps-copy, keeps-flag, keeps-one, keeps-select, keeps-fill_byte, keeps-offset, keeps-rename, keeps-new_layer, keeps-new_group, keeps-restack, keeps-name, keeps-colours, keeps-alone, keeps-optional, keeps-tile, keeps-forget}
 
@@ -137,7 +138,7 @@ keeps-command (s ∷ keyword ∷ words) =
 -- ---- sessions
 
 pub record IsOpen (o : Open) : Type 0 where
-  few : length o.edits ≤ 1024
+  few : length o.edits ≤ most_edits
   each : AllByRecursion IsEdit o.edits
 
 pub record IsSession (s : Session) : Type 0 where
@@ -168,8 +169,8 @@ outside number s (forgets slot) is c =
 
 inside : (o : Open) (s : Session) (c : Command) → IsSession s → IsOpen o → IsCommand c → IfSome (take_inside o s c) (λ t. IsSession t.session)
 inside o s (an_edit e) is open_is c =
-    if-taken (has_its_filter s e && nat_lt (length o.edits) 1024) _ (λ h.
-    let room = ltb-true (length o.edits) 1024 (and_parts (has_its_filter s e) (nat_lt (length o.edits) 1024) h).1 in
+    if-taken (has_its_filter s e && nat_lt (length o.edits) most_edits) _ (λ h.
+    let room = ltb-true (length o.edits) most_edits (and_parts (has_its_filter s e) (nat_lt (length o.edits) most_edits) h).1 in
     let more = length-append o.edits (e ∷ []) in
     record { lines = is.lines; open_is = record { few = omega arith; each = all-behind IsEdit o.edits (e ∷ []) open_is.each (c, tt) } })
 inside o s ends is open_is c =
@@ -203,7 +204,7 @@ if-there (s ∷ ss) zero all = all.0
 if-there (s ∷ ss) (suc i) all = if-there ss i all.1
 
 put : (p : Parsed) (session : ℕ) (t : Taken) → IsParsed p → IsSession t.session → IfSome (put_session p session t) IsParsed
-put p session t all is = go (nat_le (p.calls + t.begun) (2 ^ 19))
+put p session t all is = go (nat_le (p.calls + t.begun) most_calls)
   where
     go : (b : Bool) → IfSome (cond b (Some (record { sessions = changed_at session (λ _. t.session) p.sessions; calls = p.calls + t.begun })) None) IsParsed
     go true = all-changed session t.session p.sessions is all

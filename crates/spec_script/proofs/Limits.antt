@@ -10,8 +10,8 @@ use Rattle.spec_edit.specs.Edit as edits
 use Rattle.spec_edit.specs.Edit.{Edit, IsEdit}
 use Rattle.spec_history.specs.Machine.{Call}
 use Rattle.spec_history.specs.Calls.{IsCall}
-use Rattle.spec_script.specs.Words.{◌>>=◌, if_holds, plain_number, number_below, number, signed_number, hex_digit, hex_bytes, hex, is_digit, flag, coordinate, rect, spot, offset, side, size, none, number_or_none, one, two, three, five, six, eight}
-use Rattle.spec_script.specs.Commands.{Command, an_edit, begins, ends, a_call, saves, forgets, Rule, edit_of, fill_rule, write_rule, filter_rule, copy_rule, fill_byte_rule, byte_rule, number_rule, flag_rule, one_rule, rect_byte_rule, offset_rule, rename_rule, new_layer_rule, new_group_rule, restack_rule, name_rule, are_colours, colours_rule, alone, optional_rule, tile_rule, forget_rule, Keyword, keywords, rule_in, rule_of, is_word}
+use Rattle.spec_script.specs.Words.{◌>>=◌, if_holds, plain_number, number_below, number, hex_digit, hex_bytes, hex, is_digit, flag, coordinate, rect, spot, offset, side, size, none, number_or_none, one, two, three, five, six, eight}
+use Rattle.spec_script.specs.Commands.{Command, an_edit, begins, ends, a_call, saves, forgets, Rule, edit_of, fill_rule, write_rule, filter_rule, copy_rule, fill_byte_rule, byte_rule, number_rule, flag_rule, one_rule, rect_byte_rule, offset_rule, rename_rule, new_layer_rule, new_group_rule, restack_rule, name_rule, are_colours, colours_rule, alone, optional_rule, tile_rule, forget_rule}
 
 abbrev pub IsCommand : Command → Type 0
 IsCommand (an_edit e) = IsEdit e

@@ -63,17 +63,9 @@ grouped : whole_script (ln (codes "0 begin 7") ++ ln (codes "0 opacity 1 9") ++ 
 unfolding keywords
 grouped = refl
 
-bad_word : whole_script (ln (codes "# a comment") ++ ln (codes "0 top") ++ ln (codes "0 blur 1")) (replicate 8 4) ≡ Err 3
-unfolding keywords
-bad_word = refl
-
 dropped : whole_script (ln (codes "0 forget 3") ++ ln (codes "0 filter 1 0 0 1 1 3")) (replicate 8 4) ≡ Err 2
 unfolding keywords
 dropped = refl
-
-empty : script [] (replicate 8 4) ≡ Ok (only [])
-unfolding keywords
-empty = refl
 
 never : whole_script (ln (codes "1 begin") ++ ln (codes "0 begin") ++ ln (codes "1 opacity 1 2") ++ ln (codes "1 end")) (replicate 8 4) ≡ Err 2
 unfolding keywords
@@ -82,10 +74,6 @@ never = refl
 two_spaces : whole_script (ln (codes "0  top")) (replicate 8 4) ≡ Err 1
 unfolding keywords
 two_spaces = refl
-
-leading_zero : whole_script (ln (codes "0 opacity 01 2")) (replicate 8 4) ≡ Err 1
-unfolding keywords
-leading_zero = refl
 
 -- signed numbers lie in the range of 32 bits, and there is no -0
 least_offset : whole_script (codes "0 offset 1 -2147483648 2147483647") [] ≡ Ok (only (call (edit None (set_offset 1 (negsuc 2147483647) (pos 2147483647) ∷ [])) ∷ []))
@@ -130,10 +118,6 @@ returned : whole_script (codes "0 top" ++ 13 ∷ 10 ∷ []) [] ≡ Err 1
 unfolding keywords
 returned = refl
 
-past_word : whole_script (codes "0 opacity 4294967296 1") [] ≡ Err 1
-unfolding keywords
-past_word = refl
-
 odd_digits : whole_script (codes "0 rename 1 abc") [] ≡ Err 1
 unfolding keywords
 odd_digits = refl
@@ -164,16 +148,54 @@ two_sessions : whole_script (ln (codes "0 begin") ++ ln (codes "1 save") ++ ln (
 unfolding keywords
 two_sessions = refl
 
--- ---- the lines that are served so far
+-- ---- the lines that are served
 
-served : script (ln (codes "0 opacity 1 0") ++ codes "0 undo") [] ≡ Ok (only (call (edit None (set_opacity 1 0 ∷ [])) ∷ call (undo None) ∷ []))
+served_path : script (ln (codes "0 opacity 1 0") ++ ln (codes "0 tile 0 0 0") ++ ln (codes "0 undo") ++ codes "0 fill 1 2 3 4 5 0aFF") []
+    ≡ Ok (only (
+    call (edit None (set_opacity 1 0 ∷ [])) ∷ call (tile 0 (record { col = 0; row = 0 })) ∷ call (undo None)
+    ∷ call (edit None (fill 1 (record { x = pos 2; y = pos 3; w = 4; h = 5 }) (10 ∷ 255 ∷ []) ∷ [])) ∷ []))
 unfolding keywords
-served = refl
+served_path = refl
 
-other_session : script (ln (codes "0 undo") ++ codes "1 undo") [] ≡ Err 2
+nothing_served : script [] (replicate 8 4) ≡ Ok (only [])
+unfolding keywords
+nothing_served = refl
+
+skipped_too : script (10 ∷ ln (codes "# 0 peek 0 0 0") ++ codes "0 undo") [] ≡ Ok (only (call (undo None) ∷ []))
+unfolding keywords
+skipped_too = refl
+
+-- a group, an undo by its number, redo, the last group and a save
+served_calls : script (ln (codes "0 begin 7") ++ ln (codes "0 opacity 1 9") ++ ln (codes "0 visible 1 0") ++ ln (codes "0 end")
+    ++ ln (codes "0 undo 1") ++ ln (codes "0 redo") ++ ln (codes "0 top") ++ codes "0 save") []
+    ≡ Ok (only (
+    call (edit (Some 7) (set_opacity 1 9 ∷ set_visible 1 false ∷ [])) ∷ call (undo (Some 1)) ∷ call redo ∷ call top ∷ save ∷ []))
+unfolding keywords
+served_calls = refl
+
+-- a line that is not in the grammar has its number, behind lines that are skipped
+bad_number : script (ln (codes "# a comment") ++ ln (codes "0 undo") ++ 10 ∷ ln (codes "0 blur 1") ++ codes "0 redo") [] ≡ Err 4
+unfolding keywords
+bad_number = refl
+
+-- so has one that is not served, though a bad one follows
+other_session : script (ln (codes "0 undo") ++ ln (codes "1 undo") ++ codes "0 blur 1") [] ≡ Err 2
 unfolding keywords
 other_session = refl
 
-not_yet : script (ln (codes "0 undo") ++ codes "0 redo") [] ≡ Err 2
+-- a filter that the session has
+filter_line : script (ln (codes "0 begin") ++ ln (codes "0 opacity 1 9") ++ codes "0 filter 1 0 0 1 1 3") (replicate 8 4) ≡ Err 3
 unfolding keywords
-not_yet = refl
+filter_line = refl
+
+peek_line : script (codes "0 peek 0 0 0") [] ≡ Err 1
+unfolding keywords
+peek_line = refl
+
+forget_line : script (ln (codes "0 save") ++ codes "0 forget 3") (replicate 8 4) ≡ Err 2
+unfolding keywords
+forget_line = refl
+
+group_never_ended : script (ln (codes "0 undo") ++ ln (codes "0 begin") ++ codes "0 opacity 1 9") [] ≡ Err 2
+unfolding keywords
+group_never_ended = refl

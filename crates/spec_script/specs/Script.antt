@@ -7,9 +7,14 @@ use Rattle.spec_edit.specs.Edit.{Edit}
 use Rattle.spec_edit.specs.Effect.{changed_at}
 use Rattle.spec_history.specs.Machine as machine
 use Rattle.spec_history.specs.Machine.{Call}
+use Rattle.spec_history.specs.Calls.{most_edits}
 use Rattle.spec_script.specs.Words.{◌>>=◌, if_holds, lines_of, words_of}
 use Rattle.spec_script.specs.Commands.{Command, Asked, an_edit, begins, ends, a_call, saves, forgets, command_of}
 use Rattle.spec_script.specs.Served.{is_served}
+
+-- calls in a script
+abbrev pub most_calls : ℕ
+most_calls = 2 ^ 19
 
 -- what a session does, line by line
 pub data Line : Type 0 where
@@ -64,10 +69,10 @@ take_outside number s saves = add_line s save
 take_outside number s (forgets slot) =
     if has_filter s slot then takes (record s { lines = s.lines ++ forget slot ∷ []; dropped = s.dropped ++ slot ∷ [] }) 0 else None
 
--- a command inside a group: only its edits, up to 1024 of them, and its end after at least one
+-- a command inside a group: only its edits, as many as a group may have, and its end after at least one
 abbrev pub take_inside : Open → Session → Command → Option Taken
 take_inside o s (an_edit e) =
-    if has_its_filter s e && nat_lt (length o.edits) 1024
+    if has_its_filter s e && nat_lt (length o.edits) most_edits
     then takes (record s { open_group = Some (record o { edits = o.edits ++ e ∷ [] }) }) 0 else None
 take_inside o s ends =
     if nat_lt 0 (length o.edits)
@@ -80,7 +85,7 @@ take_command number s (Some o) command = take_inside o s command
 
 abbrev pub put_session : Parsed → (session : ℕ) → Taken → Option Parsed
 put_session p session t =
-    if nat_le (p.calls + t.begun) (2 ^ 19)
+    if nat_le (p.calls + t.begun) most_calls
     then Some (record { sessions = changed_at session (λ _. t.session) p.sessions; calls = p.calls + t.begun }) else None
 
 abbrev pub is_skipped : List ℕ → Bool

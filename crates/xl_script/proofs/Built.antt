@@ -1,11 +1,11 @@
 -- What is served is built.
-use Rattle.std.proofs.Common.{◌≡◌, ℕ, zero, suc, Bool, true, false, List, [], ◌∷◌, length, map, replicate, refl, sym, ap, subst, ◌∙◌, arith, true≢false}
+use Rattle.std.proofs.Common.{◌≡◌, ℕ, zero, suc, Bool, true, false, ◌&&◌, List, [], ◌∷◌, length, map, replicate, refl, sym, ap, subst, ◌∙◌, arith}
 use Rattle.std.proofs.lemmas.List.{length-map}
-use Rattle.std.specs.Prelude.{Option, Some, None, Ok, IfOk}
-use Rattle.std.specs.List.{AllByRecursion}
-use Rattle.spec_edit.specs.Edit as edits
-use Rattle.spec_edit.specs.Edit.{Edit}
+use Rattle.std.specs.Prelude.{Option, Some, None, Ok, IfOk, T}
+use Rattle.std.specs.List.{AllByRecursion, list_all}
+use Rattle.spec_edit.specs.Edit.{Edit, IsEdit}
 use Rattle.spec_history.specs.Machine as machine
+use Rattle.spec_history.specs.Calls.{IsCall}
 use Rattle.spec_script.specs.Served.{is_served_edit, is_served_call}
 use Rattle.spec_script.specs.First as served
 use Rattle.spec_script.specs.Script as script
@@ -17,46 +17,27 @@ use Rattle.xl_script.specs.declared.script.Line.TheVariants.{Call, Save, Forget}
 use Rattle.xl_script.specs.Lines.{line_of, lines_of, lists_of}
 use Rattle.xl_script.specs.Built.{IsBuiltLine, AreBuilt, IsOfFirst}
 
-edit_built : (e : Edit) → is_served_edit e ≡ true → IsBuiltEdit e
-edit_built (edits.fill id rect pixel) s = tt
-edit_built (edits.set_opacity id value) s = tt
-edit_built (edits.write id rect bytes) s = absurd (true≢false (sym s))
-edit_built (edits.filter id rect slot) s = absurd (true≢false (sym s))
-edit_built (edits.copy_rect id rect from left top) s = absurd (true≢false (sym s))
-edit_built (edits.fill_mask id rect value) s = absurd (true≢false (sym s))
-edit_built (edits.fill_channel index rect value) s = absurd (true≢false (sym s))
-edit_built (edits.set_mode id mode) s = absurd (true≢false (sym s))
-edit_built (edits.set_visible id on) s = absurd (true≢false (sym s))
-edit_built (edits.set_offset id x y) s = absurd (true≢false (sym s))
-edit_built (edits.rename id name) s = absurd (true≢false (sym s))
-edit_built (edits.set_apply_mask id on) s = absurd (true≢false (sym s))
-edit_built (edits.add_mask id) s = absurd (true≢false (sym s))
-edit_built (edits.drop_mask id) s = absurd (true≢false (sym s))
-edit_built (edits.new_layer parent place x y w h kind name) s = absurd (true≢false (sym s))
-edit_built (edits.new_group parent place name) s = absurd (true≢false (sym s))
-edit_built (edits.delete id) s = absurd (true≢false (sym s))
-edit_built (edits.restack id parent place) s = absurd (true≢false (sym s))
-edit_built (edits.select rect value) s = absurd (true≢false (sym s))
-edit_built edits.select_none s = absurd (true≢false (sym s))
-edit_built (edits.add_channel name) s = absurd (true≢false (sym s))
-edit_built (edits.drop_channel index) s = absurd (true≢false (sym s))
-edit_built (edits.set_colours bytes) s = absurd (true≢false (sym s))
+both-hold : (b c : Bool) → T (b && c) → T b × T c
+both-hold true c h = (tt, h)
+both-hold false c h = absurd h
 
-call_built : (c : machine.Call) → is_served_call c ≡ true → IsBuilt c
-call_built (machine.edit None (e ∷ [])) s = edit_built e s
-call_built (machine.edit None []) s = absurd (true≢false (sym s))
-call_built (machine.edit None (e ∷ f ∷ es)) s = absurd (true≢false (sym s))
-call_built (machine.edit (Some guard) es) s = absurd (true≢false (sym s))
-call_built (machine.undo None) s = tt
-call_built (machine.undo (Some group)) s = absurd (true≢false (sym s))
-call_built machine.redo s = absurd (true≢false (sym s))
-call_built (machine.tile stack at) s = tt
-call_built (machine.peek stack at) s = absurd (true≢false (sym s))
-call_built machine.top s = absurd (true≢false (sym s))
+edits_built : (es : List Edit) → AllByRecursion IsEdit es → T (list_all is_served_edit es) → AllByRecursion IsBuiltEdit es
+edits_built [] are served = tt
+edits_built (e ∷ es) are served =
+    let two = both-hold (is_served_edit e) (list_all is_served_edit es) served in
+    ((are.0, two.0), edits_built es are.1 two.1)
+
+call_built : (c : machine.Call) → IsCall c → T (is_served_call c) → IsBuilt c
+call_built (machine.edit guard es) is served = (is, edits_built es is.each served)
+call_built (machine.undo named) is served = tt
+call_built machine.redo is served = tt
+call_built (machine.tile stack at) is served = tt
+call_built (machine.peek stack at) is served = served
+call_built machine.top is served = tt
 
 line_built : (line : Line) → served.IsServedLine (line_of line) → IsBuiltLine line
-line_built (Call call) s = call_built (call_of call) s
-line_built Save s = s
+line_built (Call call) s = call_built (call_of call) s.0 s.1
+line_built Save s = tt
 line_built (Forget slot) s = s
 
 each_built : (lines : List Line) → AllByRecursion served.IsServedLine (lines_of lines) → AllByRecursion IsBuiltLine lines
