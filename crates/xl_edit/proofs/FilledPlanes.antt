@@ -1,20 +1,21 @@
--- The plane of a layer after a fill.
-use Rattle.std.proofs.Common.{◌≡◌, ℕ, ◌+◌, ◌-◌, ◌*◌, ◌<◌, ◌≤◌, Bool, true, false, ◌&&◌, cond, nat_lt, List, length, slice_index, refl, sym, ◌∙◌, ap, arith, ℤ, pos, negsuc, ◌+ℤ◌, ◌-ℤ◌}
-use Rattle.std.specs.Prelude.{nat_le, if◌then◌else◌}
+-- A plane after an edit of its pixels.
+use Rattle.std.proofs.Common.{◌≡◌, ℕ, ◌+◌, ◌-◌, ◌*◌, ◌<◌, ◌≤◌, Bool, true, false, ◌&&◌, cond, nat_lt, List, slice_index, refl, sym, ◌∙◌, ap, arith, ℤ, pos, negsuc, ◌+ℤ◌, ◌-ℤ◌}
+use Rattle.std.specs.Prelude.{nat_le, if◌then◌else◌, ◌≤ℤ◌}
 use Rattle.std.proofs.lemmas.Bool.{leb-true, ltb-true, false≢true}
 use Rattle.std.proofs.lemmas.Int.{ints}
 use Rattle.spec_grid.specs.declared.Rect.{Rect}
 use Rattle.spec_grid.specs.Rect.{has_point, part_above_0}
-use Rattle.spec_document.specs.Plane.{byte_at, plane_of}
+use Rattle.spec_document.specs.Plane.{Plane, byte_at, plane_of}
 use Rattle.spec_document.specs.Document.{Document}
 use Rattle.spec_document.proofs.PlaneLemmas.{byte_at-plane_of, length-plane_of}
 use Rattle.spec_document.proofs.SamePlane.{plane-ext}
 use Rattle.spec_document.specs.Selection.{selected}
-use Rattle.spec_edit.specs.Effect.{mixed, replaced, through}
-use Rattle.spec_edit.specs.Refusal.{is_indexed}
-use Rattle.xl_doc.specs.Sheet.{Sheet}
+use Rattle.spec_edit.specs.Effect.{mixed, replaced, through, listed}
+use Rattle.xl_tiles.specs.Area.{bytes_in}
 use Rattle.xl_tiles.specs.Written.{IsWithin, from_edge, written}
-use Rattle.xl_edit.specs.Filling.{AreRows, byte_in, filled_byte}
+use Rattle.xl_edit.specs.declared.places.Site.{Site}
+use Rattle.xl_edit.specs.Filling.{AreRows, byte_in, in_rows, weight_at}
+use Rattle.xl_edit.proofs.MixedRows.{old_byte}
 use Rattle.xl_edit.proofs.Weights.{weighed}
 
 -- planes of bytes that agree within the sides are one
@@ -48,38 +49,64 @@ byte_there X Y W H n x y c byte bytes rows left right top bottom hc =
 abbrev rect_at : (x y : ℤ) (w h : ℕ) → Rect
 rect_at x y w h = record { x = x; y = y; w = w; h = h }
 
-module _ (d : Document) (l : Sheet) (pixel bytes : List ℕ) (w h : ℕ) where
-  -- a byte of the plane after a fill
-  abbrev fill_byte : (x y c : ℕ) → ℕ
-  fill_byte x y c =
-      let s = selected d (l.x +ℤ pos x) (l.y +ℤ pos y) in
-      if is_indexed d.base then replaced s (slice_index pixel c) (byte_at l.plane x y c) else mixed s (slice_index pixel c) (byte_at l.plane x y c)
+module _ (d : Document) (site : Site) (p : Plane) (new byte : ℕ → ℕ → ℕ → ℕ) (bytes : List ℕ) (w h : ℕ) where
+  -- a byte of the plane afterwards
+  abbrev painted_byte : (x y c : ℕ) → ℕ
+  painted_byte x y c =
+      let s = selected d (site.x +ℤ pos x) (site.y +ℤ pos y) in
+      if site.indexed then replaced s (byte x y c) (byte_at p x y c) else mixed s (byte x y c) (byte_at p x y c)
 
-  point_filled : (X Y n : ℕ) → AreRows w h n (byte_in d l (rect_at (pos X) (pos Y) w h) pixel) bytes
+  point_painted : (X Y n : ℕ) → AreRows w h n (byte_in d site p (rect_at (pos X) (pos Y) w h) new) bytes
+      → ((column row c : ℕ) → column < w → row < h → c < n → new column row c ≡ byte (X + column) (Y + row) c)
       → (x y c : ℕ) → X ≤ x → x < X + w → Y ≤ y → y < Y + h → c < n
-      → slice_index bytes ((from_edge y (pos Y) * w + from_edge x (pos X)) * n + c) ≡ fill_byte x y c
-  point_filled X Y n rows x y c left right top bottom hc =
+      → slice_index bytes ((from_edge y (pos Y) * w + from_edge x (pos X)) * n + c) ≡ painted_byte x y c
+  point_painted X Y n rows same x y c left right top bottom hc =
       let column : X + (x - X) ≡ x = omega (arith, left) in
       let row : Y + (y - Y) ≡ y = omega (arith, top) in
-      byte_there X Y w h n x y c (byte_in d l (rect_at (pos X) (pos Y) w h) pixel) bytes rows left right top bottom hc
-      ∙ ((λ i. filled_byte d l pixel (column i) (row i) c)
-      ∙ sym (weighed (is_indexed d.base) (selected d (l.x +ℤ pos x) (l.y +ℤ pos y)) (slice_index pixel c) (byte_at l.plane x y c)))
+      byte_there X Y w h n x y c (byte_in d site p (rect_at (pos X) (pos Y) w h) new) bytes rows left right top bottom hc
+      ∙ (ap (λ v. mixed (weight_at d site (X + (x - X)) (Y + (y - Y))) v (byte_at p (X + (x - X)) (Y + (y - Y)) c)) (same (x - X) (y - Y) c (omega (arith, left, right)) (omega (arith, top, bottom)) hc)
+      ∙ ((λ i. mixed (weight_at d site (column i) (row i)) (byte (column i) (row i) c) (byte_at p (column i) (row i) c))
+      ∙ sym (weighed site.indexed (selected d (site.x +ℤ pos x) (site.y +ℤ pos y)) (byte x y c) (byte_at p x y c))))
 
-  painted_at : (X Y : ℤ) → IsWithin l.plane.width l.plane.height (rect_at X Y w h) → AreRows w h l.plane.bpp (byte_in d l (rect_at X Y w h) pixel) bytes
-      → written l.plane (rect_at X Y w h) bytes ≡ through d (is_indexed d.base) l.x l.y (rect_at X Y w h) (λ x y c. slice_index pixel c) l.plane
-  painted_at (pos X) (pos Y) within rows =
-      plane_of-same l.plane.width l.plane.height l.plane.bpp _ _
+  painted_at : (X Y : ℤ) → IsWithin p.width p.height (rect_at X Y w h) → AreRows w h p.bpp (byte_in d site p (rect_at X Y w h) new) bytes
+      → ((column row c : ℕ) → column < w → row < h → c < p.bpp → new column row c ≡ byte (part_above_0 X + column) (part_above_0 Y + row) c)
+      → written p (rect_at X Y w h) bytes ≡ through d site.indexed site.x site.y (rect_at X Y w h) byte p
+  painted_at (pos X) (pos Y) within rows same =
+      plane_of-same p.width p.height p.bpp _ _
       (λ x y c hx hy hc.
-      choose (has_point (rect_at (pos X) (pos Y) w h) (pos x) (pos y)) _ (fill_byte x y c) (byte_at l.plane x y c)
+      choose (has_point (rect_at (pos X) (pos Y) w h) (pos x) (pos y)) _ (painted_byte x y c) (byte_at p x y c)
       (λ on.
       let inside = all_four (nat_le X x) (nat_lt x (X + w)) (nat_le Y y) (nat_lt y (Y + h)) on in
-      point_filled X Y l.plane.bpp rows x y c (leb-true X x inside.0) (ltb-true x (X + w) inside.1) (leb-true Y y inside.2) (ltb-true y (Y + h) inside.3) hc))
-  painted_at (pos X) (negsuc Y) within rows = absurd (omega (arith, ints, within.top))
-  painted_at (negsuc X) Y within rows = absurd (omega (arith, ints, within.left))
+      point_painted X Y p.bpp rows same x y c (leb-true X x inside.0) (ltb-true x (X + w) inside.1) (leb-true Y y inside.2) (ltb-true y (Y + h) inside.3) hc))
+  painted_at (pos X) (negsuc Y) within rows same = absurd (omega (arith, ints, within.top))
+  painted_at (negsuc X) Y within rows same = absurd (omega (arith, ints, within.left))
 
--- the rows that are written are the plane after the fill
-pub painted : (d : Document) (l : Sheet) (rect : Rect) (pixel bytes : List ℕ) → IsWithin l.plane.width l.plane.height rect → length pixel ≡ l.plane.bpp
-    → AreRows rect.w rect.h (length pixel) (byte_in d l rect pixel) bytes
-    → written l.plane rect bytes ≡ through d (is_indexed d.base) l.x l.y rect (λ x y c. slice_index pixel c) l.plane
-painted d l rect pixel bytes within size rows =
-    painted_at d l pixel bytes rect.w rect.h rect.x rect.y within (rw size at rows)
+-- the rows that are written are the plane after the edit, of which these are the new bytes
+pub painted : (d : Document) (site : Site) (p : Plane) (rect : Rect) (new byte : ℕ → ℕ → ℕ → ℕ) (bytes : List ℕ) → IsWithin p.width p.height rect
+    → ((column row c : ℕ) → column < rect.w → row < rect.h → c < p.bpp → new column row c ≡ byte (part_above_0 rect.x + column) (part_above_0 rect.y + row) c)
+    → AreRows rect.w rect.h p.bpp (byte_in d site p rect new) bytes
+    → written p rect bytes ≡ through d site.indexed site.x site.y rect byte p
+painted d site p rect new byte bytes within same rows =
+    painted_at d site p new byte bytes rect.w rect.h rect.x rect.y within rows same
+
+-- a column counted from the left edge, and a row from the top
+from_edge_is : (edge : ℤ) (column : ℕ) → pos 0 ≤ℤ edge → from_edge (part_above_0 edge + column) edge ≡ column
+from_edge_is (pos e) column h = edge_is (e + column) e (omega arith) ∙ omega arith
+from_edge_is (negsuc e) column h = absurd (omega (arith, ints, h))
+
+-- bytes that are listed row by row
+pub listed_is : (w h n : ℕ) (rect : Rect) (bytes : List ℕ) → IsWithin w h rect → (column row c : ℕ)
+    → in_rows (rect.w * n) n bytes column row c ≡ listed rect n bytes (part_above_0 rect.x + column) (part_above_0 rect.y + row) c
+listed_is w h n rect bytes within column row c =
+    let place : row * (rect.w * n) + (column * n + c) ≡ (row * rect.w + column) * n + c = omega arith in
+    ap (slice_index bytes) place
+    ∙ (λ i. slice_index bytes ((sym (from_edge_is rect.y row within.top) i * rect.w + sym (from_edge_is rect.x column within.left) i) * n + c))
+
+-- bytes that stand at u and v of another plane
+pub copied_is : (w h : ℕ) (rect : Rect) (source : Plane) (u v : ℕ) (bytes : List ℕ) → IsWithin w h rect → bytes ≡ bytes_in source (rect_at (pos u) (pos v) rect.w rect.h)
+    → (column row c : ℕ) → column < rect.w → row < rect.h → c < source.bpp
+    → in_rows (rect.w * source.bpp) source.bpp bytes column row c
+    ≡ byte_at source (u + from_edge (part_above_0 rect.x + column) rect.x) (v + from_edge (part_above_0 rect.y + row) rect.y) c
+copied_is w h rect source u v bytes within is column row c hx hy hc =
+    old_byte source (rect_at (pos u) (pos v) rect.w rect.h) bytes is column row c hx hy hc
+    ∙ (λ i. byte_at source (u + sym (from_edge_is rect.x column within.left) i) (v + sym (from_edge_is rect.y row within.top) i) c)

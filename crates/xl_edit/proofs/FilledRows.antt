@@ -1,39 +1,16 @@
 -- Rows of pixels, one after another.
-use Rattle.std.proofs.Common.{◌≡◌, ℕ, ◌+◌, ◌*◌, ◌<◌, true, List, ◌++◌, length, slice_index, sym, ◌∙◌, ap, arith, inl, inr, length-append}
+use Rattle.std.proofs.Common.{◌≡◌, ℕ, ◌+◌, ◌*◌, ◌<◌, true, List, length, slice_index, refl, sym, ◌∙◌, ap, arith}
 use Rattle.std.specs.Prelude.{is_none, ◌+ℤ◌, pos}
-use Rattle.std.proofs.lemmas.Bool.{cases_lt}
-use Rattle.std.proofs.lemmas.List.{get_or_append_left, get_or-append-add}
 use Rattle.std.proofs.lemmas.Nat.{mul-add-lt}
 use Rattle.spec_grid.specs.declared.Rect.{Rect}
 use Rattle.spec_grid.specs.Rect.{part_above_0}
-use Rattle.spec_document.specs.Plane.{byte_at}
+use Rattle.spec_document.specs.Plane.{Plane, byte_at}
 use Rattle.spec_document.specs.Document.{Document}
-use Rattle.spec_edit.specs.Refusal.{is_indexed}
-use Rattle.xl_doc.specs.Sheet.{Sheet}
 use Rattle.xl_tiles.specs.Alike.{AreAlike}
-use Rattle.xl_edit.specs.Filling.{AreRows, byte_in}
-use Rattle.xl_edit.proofs.Weights.{no_selection}
-
--- one row more
-pub row_more : (w n r : ℕ) (byte : ℕ → ℕ → ℕ → ℕ) (all line next : List ℕ) → AreRows w r n byte all → length line ≡ w * n
-    → ((k c : ℕ) → k < w → c < n → slice_index line (k * n + c) ≡ byte k r c) → next ≡ all ++ line → AreRows w (r + 1) n byte next
-row_more w n r byte all line next so_far size line_is is = record {
-  size = omega (arith, ap length is, length-append all line, so_far.size, size);
-  each = λ column row c hx hy hc.
-      let inside : column * n + c < w * n = omega (arith, mul-add-lt column n c w hx hc) in
-      ap (λ xs. slice_index xs (row * (w * n) + (column * n + c))) is
-      ∙ elim (cases_lt row r) [
-        | inl before ↦
-            get_or_append_left all line 0 (row * (w * n) + (column * n + c)) (omega (arith, so_far.size, mul-add-lt row (w * n) (column * n + c) r before inside))
-            ∙ so_far.each column row c hx before hc
-        | inr last ↦
-            let same : row ≡ r = omega (arith, hy, last) in
-            let start : row * (w * n) ≡ r * (w * n) = ap (λ m. m * (w * n)) same in
-            let place : row * (w * n) + (column * n + c) ≡ length all + (column * n + c) = omega (arith, start, so_far.size) in
-            ap (slice_index (all ++ line)) place
-            ∙ (get_or-append-add all line (column * n + c) 0 ∙ (line_is column c hx hc ∙ ap (λ m. byte column m c) (sym same)))
-      ];
-}
+use Rattle.xl_edit.specs.declared.places.Site.{Site}
+use Rattle.spec_edit.specs.Effect.{mixed}
+use Rattle.xl_edit.specs.Filling.{AreRows, HasRows, byte_in, in_rows, weight_at}
+use Rattle.xl_edit.proofs.Weights.{no_selection, pixel_fits}
 
 -- rows of pixels that are all alike
 pub alike_are_rows : (w h : ℕ) (pixel row all : List ℕ) → AreAlike pixel w row → AreAlike row h all → AreRows w h (length pixel) (λ x y c. slice_index pixel c) all
@@ -45,14 +22,49 @@ alike_are_rows w h pixel row all across down = record {
       ∙ (down.each y (column * length pixel + c) hy (omega (arith, across.size, mul-add-lt column (length pixel) c w hx hc)) ∙ across.each column c hx hc);
 }
 
--- without a selection all pixels are the new one
-pub alike_are_filled : (d : Document) (l : Sheet) (rect : Rect) (pixel bytes : List ℕ) → is_none d.selection ≡ true
-    → AreRows rect.w rect.h (length pixel) (λ x y c. slice_index pixel c) bytes → AreRows rect.w rect.h (length pixel) (byte_in d l rect pixel) bytes
-alike_are_filled d l rect pixel bytes none rows = record {
+-- bytes that are given row by row
+pub given_are_rows : (w h n : ℕ) (bytes : List ℕ) → length bytes ≡ w * h * n → AreRows w h n (in_rows (w * n) n bytes) bytes
+given_are_rows w h n bytes full = record { size = full ∙ omega arith; each = λ column row c hx hy hc. refl }
+
+-- and there are enough of them
+pub given_rows : (w h n : ℕ) (bytes : List ℕ) → length bytes ≡ w * h * n → HasRows w h n (w * n) bytes
+given_rows w h n bytes full row hy = omega (arith, full, pixel_fits row h (w * n) hy)
+
+-- one row of pixels that are alike, again and again
+pub one_row : (w h n : ℕ) (pixel row : List ℕ) → length pixel ≡ n → AreAlike pixel w row → HasRows w h n 0 row
+one_row w h n pixel row size across y hy = omega (arith, across.size, ap (λ m. w * m) size)
+
+pub one_row_is : (w n : ℕ) (pixel row : List ℕ) → length pixel ≡ n → AreAlike pixel w row → (column y c : ℕ) → column < w → c < n
+    → in_rows 0 n row column y c ≡ slice_index pixel c
+one_row_is w n pixel row size across column y c hx hc =
+    let start : y * 0 + (column * n + c) ≡ column * length pixel + c = omega (arith, ap (λ m. column * m) size) in
+    ap (slice_index row) start ∙ across.each column c hx (omega (arith, size))
+
+-- rows of which each byte has another name
+pub same_rows : (w h n : ℕ) (a b : ℕ → ℕ → ℕ → ℕ) (bytes : List ℕ) → ((column row c : ℕ) → column < w → row < h → c < n → a column row c ≡ b column row c)
+    → AreRows w h n a bytes → AreRows w h n b bytes
+same_rows w h n a b bytes same rows = record {
   size = rows.size;
-  each = λ column row c hx hy hc.
-      let x = part_above_0 rect.x + column in
-      let y = part_above_0 rect.y + row in
-      rows.each column row c hx hy hc
-      ∙ sym (no_selection (is_indexed d.base) d (l.x +ℤ pos x) (l.y +ℤ pos y) (slice_index pixel c) (byte_at l.plane x y c) none);
+  each = λ column row c hx hy hc. rows.each column row c hx hy hc ∙ same column row c hx hy hc;
 }
+
+-- without a selection all bytes are the new ones
+pub whole_rows : (d : Document) (site : Site) (p : Plane) (rect : Rect) (new : ℕ → ℕ → ℕ → ℕ) (bytes : List ℕ) → is_none d.selection ≡ true
+    → AreRows rect.w rect.h p.bpp new bytes → AreRows rect.w rect.h p.bpp (byte_in d site p rect new) bytes
+whole_rows d site p rect new bytes none rows =
+    same_rows rect.w rect.h p.bpp new (byte_in d site p rect new) bytes
+    (λ column row c hx hy hc.
+    let x = part_above_0 rect.x + column in
+    let y = part_above_0 rect.y + row in
+    sym (no_selection site.indexed d (site.x +ℤ pos x) (site.y +ℤ pos y) (new column row c) (byte_at p x y c) none)) rows
+
+-- bytes that go in one for one
+pub mixed_rows : (d : Document) (site : Site) (p : Plane) (rect : Rect) (a b : ℕ → ℕ → ℕ → ℕ) (bytes : List ℕ)
+    → ((column row c : ℕ) → column < rect.w → row < rect.h → c < p.bpp → a column row c ≡ b column row c)
+    → AreRows rect.w rect.h p.bpp (byte_in d site p rect a) bytes → AreRows rect.w rect.h p.bpp (byte_in d site p rect b) bytes
+mixed_rows d site p rect a b bytes same rows =
+    same_rows rect.w rect.h p.bpp (byte_in d site p rect a) (byte_in d site p rect b) bytes
+    (λ column row c hx hy hc.
+    let x = part_above_0 rect.x + column in
+    let y = part_above_0 rect.y + row in
+    ap (λ v. mixed (weight_at d site x y) v (byte_at p x y c)) (same column row c hx hy hc)) rows

@@ -1,13 +1,10 @@
 -- The layer at an id, in a document and in its tree.
-use Rattle.std.proofs.Common.{◌≡◌, ℕ, ◌*◌, List, [], ◌∷◌, length, refl, sym, ◌∙◌, ap, subst}
-use Rattle.std.specs.Prelude.{Some, None, slice_index}
-use Rattle.spec_grid.specs.declared.Rect.{Rect}
+use Rattle.std.proofs.Common.{◌≡◌, ℕ, [], ◌∷◌, refl, sym, ◌∙◌, ap, subst}
+use Rattle.std.specs.Prelude.{Some, None}
 use Rattle.spec_forest.specs.Forest.{Forest, Found, nothing, a_leaf, a_group, find}
-use Rattle.spec_document.specs.Document.{Layer, Group, Document}
+use Rattle.spec_document.specs.Document.{Layer, Group}
 use Rattle.spec_edit.specs.declared.EditRefused.TheVariants.{NoNode, IsGroup}
-use Rattle.spec_edit.specs.Refusal.{first, no_node_found, is_group_found, is_indexed}
-use Rattle.spec_edit.specs.Effect.{through}
-use Rattle.xl_tiles.specs.Written.{IsWithin, written}
+use Rattle.spec_edit.specs.Refusal.{first, no_node_found, is_group_found}
 use Rattle.xl_tree.specs.Reads.{node_of}
 use Rattle.xl_doc.specs.Sheet.{Sheet}
 use Rattle.xl_doc.specs.declared.node.Node.{Node}
@@ -15,7 +12,6 @@ use Rattle.xl_doc.specs.declared.node.Body.TheVariants as body
 use Rattle.xl_doc.specs.Nodes as nodes
 use Rattle.xl_doc.specs.Nodes.{nodes_of, layer_of, IsLeaf, MarksAgree}
 use Rattle.xl_edit.specs.Found.{IsLayer, sheet_of_layer, sheet_found}
-use Rattle.xl_edit.specs.Paint.{IsPaint}
 use Rattle.xl_edit.proofs.Seen.{no_node_seen, leaf_seen, group_seen, layer_seen, IsLeafAt, IsGroupAt}
 
 -- ---- a tree is asked for the layer
@@ -59,21 +55,14 @@ leaf_at Holds id t n m h e =
 pub holds_of_leaf : (Holds : Layer → Type 0) (id : ℕ) (t : Forest Node Node) (n : Node) → IsLeafAt id n t → IsLayer Holds (find id (nodes_of t)) → Holds (layer_of n)
 holds_of_leaf Holds id t n at h = subst (IsLayer Holds) at.seen h
 
--- ---- the bytes of a fill
+-- what holds of each layer with these pixels holds of the one that is found
+pub of_sheet : (Holds : Layer → Type 0) (s : Sheet) (found : Found Layer Group) → sheet_found found ≡ Some s → ((l : Layer) → sheet_of_layer l ≡ s → Holds l) → IsLayer Holds found
+of_sheet Holds s nothing is each = cc
+of_sheet Holds s (a_leaf l) is each = let same : sheet_of_layer l ≡ s = cc in each l same
+of_sheet Holds s (a_group g c) is each = cc
 
-pub paint_of_sheet : (d : Document) (rect : Rect) (pixel bytes : List ℕ) (s : Sheet) (found : Found Layer Group) → sheet_found found ≡ Some s
-    → IsWithin s.plane.width s.plane.height rect → length bytes ≡ rect.w * rect.h * s.plane.bpp
-    → written s.plane rect bytes ≡ through d (is_indexed d.base) s.x s.y rect (λ x y c. slice_index pixel c) s.plane
-    → IsLayer (IsPaint d rect pixel bytes) found
-paint_of_sheet d rect pixel bytes s nothing is within size painted = cc
-paint_of_sheet d rect pixel bytes s (a_group g c) is within size painted = cc
-paint_of_sheet d rect pixel bytes s (a_leaf l) is within size painted =
-    let same : s ≡ sheet_of_layer l = cc in
-    let IsIn : Sheet → Type 0 = λ q. IsWithin q.plane.width q.plane.height rect in
-    let IsFull : Sheet → Type 0 = λ q. length bytes ≡ rect.w * rect.h * q.plane.bpp in
-    let IsPainted : Sheet → Type 0 = λ q. written q.plane rect bytes ≡ through d (is_indexed d.base) q.x q.y rect (λ x y c. slice_index pixel c) q.plane in
-    let e : IsPainted (sheet_of_layer l) = subst IsPainted same painted in
-    record {
-      piece = record { within = subst IsIn same within; size = subst IsFull same size };
-      painted = ap (λ p. record l { plane = p }) e;
-    }
+-- what follows from what is known of the layer
+pub is_layer-weaker : (A B : Layer → Type 0) (found : Found Layer Group) → ((l : Layer) → A l → B l) → IsLayer A found → IsLayer B found
+is_layer-weaker A B nothing more h = h
+is_layer-weaker A B (a_leaf l) more h = more l h
+is_layer-weaker A B (a_group g c) more h = h

@@ -3,6 +3,7 @@ use Rattle.std.proofs.Common.{◌≡◌, ℕ, Bool, true, false, cond, eqb, ◌�
 use Rattle.std.specs.Prelude.{Some, None}
 use Rattle.spec_forest.specs.Forest.{Forest, none, leaf, group, ids, Found, nothing, a_leaf, a_group, or_else, find}
 use Rattle.spec_document.specs.Document as doc
+use Rattle.spec_edit.specs.declared.EditRefused.TheVariants.{NoNode}
 use Rattle.spec_edit.specs.Refusal.{no_node_found}
 use Rattle.xl_tree.specs.Reads.{node_of}
 use Rattle.xl_doc.specs.declared.node.Node.{Node}
@@ -97,3 +98,7 @@ node_seen id t n m e = there (find id t) (find id (nodes_of t)) (sees id t m) e 
   there nothing seen s is = cc
   there (a_leaf x) seen s is = ap (no_node_found id) s.1
   there (a_group x k) seen s is = ap (no_node_found id) s.1
+
+-- a node that no rule misses is found
+pub is_there : (id : ℕ) (t : Forest Node Node) → MarksAgree t → no_node_found id (find id (nodes_of t)) ≡ None → node_of (find id t) ≡ None → ⊥
+is_there id t m there e = let two : Some (NoNode id) ≡ None = sym (ap (no_node_found id) (no_node_seen id t m e)) ∙ there in cc

@@ -1,5 +1,5 @@
 -- Bytes that go through weights, of which 255 is the whole.
-use Rattle.std.proofs.Common.{◌≡◌, ◌≢◌, ℕ, suc, ◌+◌, ◌-◌, ◌*◌, ◌<◌, ◌≤◌, Bool, true, false, cond, List, length, slice_index, refl, ◌∙◌, ap, sym, arith, inl, inr, set, get_or-set_other, get_or-set_same, mul-le-mul_right}
+use Rattle.std.proofs.Common.{◌≡◌, ◌≢◌, ℕ, suc, ◌+◌, ◌*◌, ◌<◌, ◌≤◌, Bool, true, false, cond, List, length, slice_index, refl, ◌∙◌, ap, sym, arith, inl, inr, set, get_or-set_other, get_or-set_same, mul-le-mul_right}
 use Rattle.std.specs.Prelude.{if◌then◌else◌, nat_le, Option, Some, None, is_none, ℤ}
 use Rattle.std.proofs.lemmas.Bool.{cases_lt, cases_order, false≢true}
 use Rattle.std.proofs.lemmas.Bool.Decides.{nat_tests}
@@ -41,11 +41,14 @@ no_selection indexed d x y new old e =
     ap (λ s. mixed (weight indexed s) new old) (selected-whole d.selection d x y e)
     ∙ (ap (λ s. mixed s new old) (weight-whole indexed) ∙ mixed-whole new old)
 
-after_out : (at n old new k : ℕ) → k < at → byte_after at n old new k ≡ old
+pub after_out : (at n old new k : ℕ) → k < at → byte_after at n old new k ≡ old
 after_out at n old new k h = grind (arith, nat_tests)
 
-after_in : (at n old new c : ℕ) → c < n → byte_after at n old new (at + c) ≡ new
+pub after_in : (at n old new c : ℕ) → c < n → byte_after at n old new (at + c) ≡ new
 after_in at n old new c h = grind (arith, nat_tests)
+
+pub after_behind : (at n old new k : ℕ) → at + n ≤ k → byte_after at n old new k ≡ old
+after_behind at n old new k h = grind (arith, nat_tests)
 
 after_next : (at n old new k : ℕ) → k ≢ at + n → byte_after at (n + 1) old new k ≡ byte_after at n old new k
 after_next at n old new k h = grind (arith, nat_tests)
@@ -67,22 +70,19 @@ byte_more out at n value of old fits is before k =
 pub pixel_fits : (k many n : ℕ) → k < many → k * n + n ≤ many * n
 pixel_fits k many n h = let more : suc k * n ≤ many * n = mul-le-mul_right n (omega (arith, h)) in omega (arith, more)
 
--- one pixel more of a row
-pub pixel_more : (weights pixel old out next : List ℕ) (k : ℕ)
-    → ((j c : ℕ) → j < k → c < length pixel → slice_index out (j * length pixel + c) ≡ mixed (slice_index weights j) (slice_index pixel c) (slice_index old (j * length pixel + c)))
-    → ((i : ℕ) → slice_index next i ≡ byte_after (k * length pixel) (length pixel) (slice_index out i) (mixed (slice_index weights k) (slice_index pixel (i - k * length pixel)) (slice_index old i)) i)
-    → (j c : ℕ) → j < k + 1 → c < length pixel → slice_index next (j * length pixel + c) ≡ mixed (slice_index weights j) (slice_index pixel c) (slice_index old (j * length pixel + c))
-pixel_more weights pixel old out next k before put j c hj hc =
-    put (j * length pixel + c)
+-- one pixel more whose bytes have its weight
+pub spread_more : (weights out next : List ℕ) (k n : ℕ)
+    → ((j c : ℕ) → j < k → c < n → slice_index out (j * n + c) ≡ slice_index weights j)
+    → ((i : ℕ) → slice_index next i ≡ byte_after (k * n) n (slice_index out i) (slice_index weights k) i)
+    → (j c : ℕ) → j < k + 1 → c < n → slice_index next (j * n + c) ≡ slice_index weights j
+spread_more weights out next k n before put j c hj hc =
+    put (j * n + c)
     ∙ elim (cases_lt j k) [
-      | inl earlier ↦ after_out (k * length pixel) (length pixel) _ _ _ (omega (arith, mul-add-lt j (length pixel) c k earlier hc)) ∙ before j c earlier hc
+      | inl earlier ↦ after_out (k * n) n _ _ _ (omega (arith, mul-add-lt j n c k earlier hc)) ∙ before j c earlier hc
       | inr late ↦
           let same : j ≡ k = omega (arith, hj, late) in
-          let start : j * length pixel ≡ k * length pixel = ap (λ n. n * length pixel) same in
-          let place : j * length pixel + c ≡ k * length pixel + c = ap (λ n. n + c) start in
-          let column : j * length pixel + c - k * length pixel ≡ c = omega (arith, start) in
-          let at : ℕ → ℕ → ℕ → ℕ = λ i p w. byte_after (k * length pixel) (length pixel) (slice_index out i) (mixed (slice_index weights w) (slice_index pixel p) (slice_index old i)) i in
-          (λ i. at (place i) (column i) k)
-          ∙ (after_in (k * length pixel) (length pixel) _ _ c hc
-          ∙ (λ i. mixed (slice_index weights (sym same i)) (slice_index pixel c) (slice_index old (sym place i))))
+          let start : j * n ≡ k * n = ap (λ m. m * n) same in
+          let place : j * n + c ≡ k * n + c = ap (λ m. m + c) start in
+          (λ i. byte_after (k * n) n (slice_index out (j * n + c)) (slice_index weights k) (place i))
+          ∙ (after_in (k * n) n _ _ c hc ∙ ap (slice_index weights) (sym same))
     ]

@@ -1,40 +1,46 @@
--- The bytes of a rectangle of a layer after a fill.
-use Rattle.std.specs.Prelude.{◌≡◌, ℕ, ◌+◌, ◌*◌, ◌<◌, Bool, if◌then◌else◌, nat_le, ◌+ℤ◌, pos, List, length, slice_index}
+-- The bytes of a rectangle of a plane after new ones went into it through the selection.
+use Rattle.std.specs.Prelude.{◌≡◌, ℕ, ◌+◌, ◌*◌, ◌<◌, ◌≤◌, Bool, if◌then◌else◌, nat_le, ◌+ℤ◌, pos, List, length, slice_index}
 use Rattle.spec_grid.specs.declared.Rect.{Rect}
 use Rattle.spec_grid.specs.Rect.{part_above_0}
-use Rattle.spec_document.specs.Plane.{byte_at}
+use Rattle.spec_document.specs.Plane.{Plane, byte_at}
 use Rattle.spec_document.specs.Document.{Document}
+use Rattle.spec_document.specs.Limits.{IsOffset}
 use Rattle.spec_document.specs.Selection.{selected}
 use Rattle.spec_edit.specs.Effect.{mixed}
-use Rattle.spec_edit.specs.Refusal.{is_indexed}
-use Rattle.xl_doc.specs.Sheet.{Sheet}
+use Rattle.xl_edit.specs.declared.places.Site.{Site}
 
 -- all or nothing, by the half
-abbrev pub hardened : ℕ → ℕ
-hardened s = if nat_le 128 s then 255 else 0
+abbrev pub threshold : ℕ → ℕ
+threshold s = if nat_le 128 s then 255 else 0
 
--- how much of a new byte there is at a point: of an indexed image all or nothing
+-- how much of a new byte there is at a point: of an indexed plane all or nothing
 abbrev pub weight : Bool → (s : ℕ) → ℕ
-weight indexed s = if indexed then hardened s else s
+weight indexed s = if indexed then threshold s else s
 
--- the weight at a column and row of a layer
-abbrev pub weight_at : Document → Sheet → (x y : ℕ) → ℕ
-weight_at d l x y = weight (is_indexed d.base) (selected d (l.x +ℤ pos x) (l.y +ℤ pos y))
+-- the weight at a column and row of a plane that lies there
+abbrev pub weight_at : Document → Site → (x y : ℕ) → ℕ
+weight_at d site x y = weight site.indexed (selected d (site.x +ℤ pos x) (site.y +ℤ pos y))
 
--- byte c of the pixel of a column and row of a layer after a fill
-abbrev pub filled_byte : Document → Sheet → (pixel : List ℕ) → (x y c : ℕ) → ℕ
-filled_byte d l pixel x y c = mixed (weight_at d l x y) (slice_index pixel c) (byte_at l.plane x y c)
+-- as near to the canvas as a layer may lie
+abbrev pub IsNearby : Site → Type 0
+IsNearby site = IsOffset site.x × IsOffset site.y
 
--- the same, for a column and row of a rectangle of the layer
-abbrev pub byte_in : Document → Sheet → Rect → (pixel : List ℕ) → (column row c : ℕ) → ℕ
-byte_in d l rect pixel column row c = filled_byte d l pixel (part_above_0 rect.x + column) (part_above_0 rect.y + row) c
+-- byte c of a column and row of a rectangle of a plane, after these bytes went into it
+abbrev pub byte_in : Document → Site → Plane → Rect → (new : ℕ → ℕ → ℕ → ℕ) → (column row c : ℕ) → ℕ
+byte_in d site p rect new column row c =
+    let x = part_above_0 rect.x + column in
+    let y = part_above_0 rect.y + row in
+    mixed (weight_at d site x y) (new column row c) (byte_at p x y c)
+
+-- byte c of a column and row of rows of pixels, each of which begins so many bytes behind the one above it
+abbrev pub in_rows : (step bpp : ℕ) → List ℕ → (column row c : ℕ) → ℕ
+in_rows step bpp bytes column row c = slice_index bytes (row * step + (column * bpp + c))
+
+-- there are so many such rows
+abbrev pub HasRows : (w h n step : ℕ) → List ℕ → Type 0
+HasRows w h n step bytes = (row : ℕ) → row < h → row * step + w * n ≤ length bytes
 
 -- so many rows of pixels of n bytes, with this byte at each column and row
 pub record AreRows (w h n : ℕ) (byte : ℕ → ℕ → ℕ → ℕ) (bytes : List ℕ) : Type 0 where
   pub size : length bytes ≡ h * (w * n)
   pub each : (column row c : ℕ) → column < w → row < h → c < n → slice_index bytes (row * (w * n) + (column * n + c)) ≡ byte column row c
-
--- a row of pixels of which each byte went through its weight
-abbrev pub AreMixed : (weights pixel old new : List ℕ) → Type 0
-AreMixed weights pixel old new = (k c : ℕ) → k < length weights → c < length pixel
-    → slice_index new (k * length pixel + c) ≡ mixed (slice_index weights k) (slice_index pixel c) (slice_index old (k * length pixel + c))

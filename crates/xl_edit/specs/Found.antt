@@ -1,11 +1,9 @@
 -- The node that an edit is about.
-use Rattle.std.specs.Prelude.{◌≡◌, ℕ, ◌*◌, List, length, Option, Some, None, Result, Ok, Err}
-use Rattle.spec_grid.specs.declared.Rect.{Rect}
+use Rattle.std.specs.Prelude.{Option, Some, None, Result, Ok, Err}
 use Rattle.spec_forest.specs.Forest.{Found, nothing, a_leaf, a_group}
 use Rattle.spec_document.specs.Document.{Layer, Group}
 use Rattle.spec_edit.specs.declared.EditRefused.{EditRefused}
 use Rattle.xl_doc.specs.Sheet.{Sheet}
-use Rattle.xl_tiles.specs.Written.{IsWithin, written}
 
 -- an edit is refused, or it is not
 abbrev pub outcome : Option EditRefused → Result (Unit {0}) EditRefused
@@ -27,12 +25,3 @@ abbrev pub IsLayer : (Layer → Type 0) → Found Layer Group → Type 0
 IsLayer Holds nothing = ⊥
 IsLayer Holds (a_leaf l) = Holds l
 IsLayer Holds (a_group g children) = ⊥
-
--- the rectangle lies on the layer, and the bytes are as many as it has there
-pub record IsPiece (rect : Rect) (bytes : List ℕ) (l : Layer) : Type 0 where
-  pub within : IsWithin l.plane.width l.plane.height rect
-  pub size : length bytes ≡ rect.w * rect.h * l.plane.bpp
-
--- the layer with the bytes of a rectangle
-abbrev pub with_piece : Rect → List ℕ → Layer → Layer
-with_piece rect bytes l = record l { plane = written l.plane rect bytes }

@@ -4,6 +4,12 @@ pub mod Replies
 pub mod Applied
 pub mod Built
 pub mod Found
+pub mod Kept
 pub mod Paint
-pub mod Opacity
+pub mod Fields
+pub mod Layers
+pub mod Canvas
+pub mod Nodes
+pub mod Children
+pub mod Channels
 pub mod Filling

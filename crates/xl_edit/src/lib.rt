@@ -4,16 +4,27 @@
 #![tactic(auto)]
 
 mod applying;
+mod blank;
 mod call;
+mod canvas;
+mod channel_filling;
 mod checks;
 mod edit;
 mod edit_list;
+mod fields;
 mod filling;
+mod layers;
 mod mixing;
-mod opacity;
+mod nodes;
 mod painting;
+mod pixel_checks;
+mod pixels;
+mod places;
 mod refused;
 mod reply;
+mod restacking;
+mod rules;
+mod weighing;
 
 pub use applying::apply;
 pub use call::{Call, Group};

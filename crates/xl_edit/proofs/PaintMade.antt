@@ -1,0 +1,136 @@
+-- What is painted is what the edit makes.
+use Rattle.std.proofs.Common.{◌≡◌, ℕ, ◌+◌, ◌*◌, ◌<◌, true, false, cond, nat_eq, List, [], ◌∷◌, length, slice_index, refl, sym, ◌∙◌, ap, subst, arith}
+use Rattle.std.specs.Prelude.{Option, Some, None, option_map, is_none, Ok}
+use Rattle.std.specs.List.{IsDistinct}
+use Rattle.spec_grid.specs.declared.Rect.{Rect}
+use Rattle.spec_grid.specs.Rect.{part_above_0}
+use Rattle.spec_forest.specs.Forest.{Found, nothing, a_leaf, a_group, find, ids}
+use Rattle.spec_forest.specs.Changes.{with_leaf}
+use Rattle.spec_document.specs.Document.{Document, Layer, Group, Channel}
+use Rattle.spec_edit.specs.Edit.{Edit}
+use Rattle.spec_edit.specs.Refusal.{node, refusal, is_indexed}
+use Rattle.spec_edit.specs.Effect.{change_leaf, effect, makes_node, paint, through, with_plane, listed, plane_found, from_edge}
+use Rattle.spec_edit.specs.Apply as edits
+use Rattle.spec_document.specs.Plane.{Plane, byte_at}
+use Rattle.xl_doc.specs.Sheet.{Sheet}
+use Rattle.xl_tiles.specs.Area.{bytes_in}
+use Rattle.xl_tiles.specs.Written.{IsWithin, written}
+use Rattle.xl_edit.specs.declared.places.Site.{Site}
+use Rattle.xl_edit.specs.declared.places.Part.{Part}
+use Rattle.xl_edit.specs.declared.places.Part.TheVariants.{Pixels, Mask}
+use Rattle.xl_edit.specs.Applied.{at, Makes}
+use Rattle.xl_edit.specs.Filling.{AreRows, byte_in, in_rows}
+use Rattle.xl_edit.specs.Found.{IsLayer, sheet_of_layer, sheet_found}
+use Rattle.xl_edit.specs.Paint.{IsPieceOf, IsPiece, IsMaskPiece, PaintsPlane, PaintsMask, Paints, with_piece, site_of_sheet, site_of_mask, rect_from, writes, copies, fills_mask}
+use Rattle.xl_edit.proofs.OneNode.{same_leaf}
+use Rattle.xl_edit.proofs.LayerFound.{is_layer-weaker}
+use Rattle.xl_edit.proofs.FilledRows.{given_are_rows, whole_rows}
+use Rattle.xl_edit.proofs.FilledPlanes.{painted, listed_is, copied_is}
+
+piece_painted : (id : ℕ) (d : Document) (part : Part) (rect : Rect) (bytes : List ℕ) (change : Layer → Layer) (found : Found Layer Group) → find id d.nodes ≡ found
+    → IsDistinct nat_eq (ids d.nodes) → IsLayer (Paints part rect bytes change) found → with_leaf id (with_piece part rect bytes) d.nodes ≡ with_leaf id change d.nodes
+piece_painted id d part rect bytes change nothing is distinct h = absurd h
+piece_painted id d part rect bytes change (a_leaf l) is distinct h = same_leaf id (with_piece part rect bytes) change d.nodes l distinct is h.painted
+piece_painted id d part rect bytes change (a_group g c) is distinct h = absurd h
+
+-- the edit is the change of the layer
+pub paint_made : (d new : Document) (edit : Edit) (id : ℕ) (part : Part) (rect : Rect) (bytes : List ℕ) (change : Layer → Layer) → makes_node edit ≡ false
+    → refusal d edit ≡ None → ((next : ℕ) → effect d next [] edit ≡ change_leaf d id change) → IsDistinct nat_eq (ids d.nodes)
+    → IsLayer (Paints part rect bytes change) (node d id) → new ≡ record d { nodes = with_leaf id (with_piece part rect bytes) d.nodes } → Makes d new edit (Ok tt)
+paint_made d new edit id part rect bytes change plain allowed makes distinct h is = λ next.
+    let all : effect d next [] edit ≡ new =
+    makes next ∙ (ap (λ x. record d { nodes = x }) (sym (piece_painted id d part rect bytes change (node d id) refl distinct h)) ∙ sym is) in
+    λ i. edits.unless_refused (allowed i) (at (all i) (cond (plain i) (next + 1) next))
+
+-- what is painted is as many bytes as the rectangle has
+pub paint_fits : (part : Part) (rect : Rect) (bytes : List ℕ) (change : Layer → Layer) (found : Found Layer Group) → IsLayer (Paints part rect bytes change) found
+    → IsLayer (IsPiece part rect bytes) found
+paint_fits part rect bytes change found h = is_layer-weaker (Paints part rect bytes change) (IsPiece part rect bytes) found (λ l p. p.piece) h
+
+pub rows_size : (w h n : ℕ) (byte : ℕ → ℕ → ℕ → ℕ) (bytes : List ℕ) → AreRows w h n byte bytes → length bytes ≡ w * h * n
+rows_size w h n byte bytes rows = rows.size ∙ omega arith
+
+-- pixels that went through the selection are those of the painted layer
+pub pixels_painted : (d : Document) (s : Sheet) (rect : Rect) (new byte : ℕ → ℕ → ℕ → ℕ) (bytes : List ℕ) (change : Layer → Layer)
+    → IsWithin s.plane.width s.plane.height rect
+    → ((column row c : ℕ) → column < rect.w → row < rect.h → c < s.plane.bpp → new column row c ≡ byte (part_above_0 rect.x + column) (part_above_0 rect.y + row) c)
+    → AreRows rect.w rect.h s.plane.bpp (byte_in d (site_of_sheet d s) s.plane rect new) bytes
+    → (l : Layer) → sheet_of_layer l ≡ s → paint d rect byte l ≡ change l → Paints Pixels rect bytes change l
+pixels_painted d s rect new byte bytes change within same rows l is changes =
+    let written_is : written s.plane rect bytes ≡ through d (is_indexed d.base) s.x s.y rect byte s.plane =
+    painted d (site_of_sheet d s) s.plane rect new byte bytes within same rows in
+    let IsIn : Sheet → Type 0 = λ q. IsPieceOf rect bytes q.plane in
+    let IsPainted : Sheet → Type 0 = λ q. written q.plane rect bytes ≡ through d (is_indexed d.base) q.x q.y rect byte q.plane in
+    let e : IsPainted (sheet_of_layer l) = subst IsPainted (sym is) written_is in
+    record {
+      piece = subst IsIn (sym is) (record { within = within; size = rows_size rect.w rect.h s.plane.bpp _ bytes rows });
+      painted = ap (λ p. record l { plane = p }) e ∙ changes;
+    }
+
+-- what is written is the layer after the write
+pub write_painted : (d : Document) (s : Sheet) (rect : Rect) (given bytes : List ℕ) → IsWithin s.plane.width s.plane.height rect
+    → AreRows rect.w rect.h s.plane.bpp (byte_in d (site_of_sheet d s) s.plane rect (in_rows (rect.w * s.plane.bpp) s.plane.bpp given)) bytes
+    → (l : Layer) → sheet_of_layer l ≡ s → Paints Pixels rect bytes (writes d rect given) l
+write_painted d s rect given bytes within rows l is =
+    let n = s.plane.bpp in
+    pixels_painted d s rect (in_rows (rect.w * n) n given) (listed rect n given) bytes (writes d rect given) within
+    (λ column row c hx hy hc. listed_is s.plane.width s.plane.height n rect given within column row c) rows l is
+    (λ i. paint d rect (listed rect (sym is i).plane.bpp given) l)
+
+-- without a selection it is what was given
+pub given_painted : (d : Document) (s : Sheet) (rect : Rect) (given : List ℕ) → is_none d.selection ≡ true → IsWithin s.plane.width s.plane.height rect
+    → length given ≡ rect.w * rect.h * s.plane.bpp → (l : Layer) → sheet_of_layer l ≡ s → Paints Pixels rect given (writes d rect given) l
+given_painted d s rect given whole within full =
+    let n = s.plane.bpp in
+    write_painted d s rect given given within
+    (whole_rows d (site_of_sheet d s) s.plane rect (in_rows (rect.w * n) n given) given whole (given_are_rows rect.w rect.h n given full))
+
+plane_of_found : (found : Found Layer Group) (s : Sheet) → sheet_found found ≡ Some s → plane_found found ≡ s.plane
+plane_of_found nothing s e = cc
+plane_of_found (a_leaf l) s e = let same : sheet_of_layer l ≡ s = cc in λ i. (same i).plane
+plane_of_found (a_group g c) s e = cc
+
+-- what is copied is the layer after the copy
+pub copy_painted : (d : Document) (s source : Sheet) (rect : Rect) (from u v : ℕ) (new bytes : List ℕ) → IsWithin s.plane.width s.plane.height rect
+    → sheet_found (node d from) ≡ Some source → source.plane.bpp ≡ s.plane.bpp → new ≡ bytes_in source.plane (rect_from u v rect)
+    → AreRows rect.w rect.h s.plane.bpp (byte_in d (site_of_sheet d s) s.plane rect (in_rows (rect.w * s.plane.bpp) s.plane.bpp new)) bytes
+    → (l : Layer) → sheet_of_layer l ≡ s → Paints Pixels rect bytes (copies d rect from u v) l
+copy_painted d s source rect from u v new bytes within found bpp is_new rows l is =
+    let byte : ℕ → ℕ → ℕ → ℕ = λ x y c. byte_at source.plane (u + from_edge x rect.x) (v + from_edge y rect.y) c in
+    let P : ℕ → Type 0 = λ n. (column row c : ℕ) → column < rect.w → row < rect.h → c < n
+    → in_rows (rect.w * n) n new column row c ≡ byte (part_above_0 rect.x + column) (part_above_0 rect.y + row) c in
+    pixels_painted d s rect (in_rows (rect.w * s.plane.bpp) s.plane.bpp new) byte bytes (copies d rect from u v) within
+    (subst P bpp (copied_is s.plane.width s.plane.height rect source.plane u v new within is_new)) rows l is
+    (λ i. paint d rect (λ x y c. byte_at (sym (plane_of_found (node d from) source found) i) (u + from_edge x rect.x) (v + from_edge y rect.y) c) l)
+
+fill_value : (value n c : ℕ) → n ≡ 1 → c < n → slice_index (value ∷ []) c ≡ value
+fill_value value n c one hc = let first : c ≡ 0 = omega (arith, one, hc) in ap (slice_index (value ∷ [])) first
+
+-- a plane of one byte per pixel after a fill with a value
+pub flat_painted : (d : Document) (site : Site) (p : Plane) (rect : Rect) (value : ℕ) (bytes : List ℕ) → p.bpp ≡ 1 → IsWithin p.width p.height rect
+    → AreRows rect.w rect.h p.bpp (byte_in d site p rect (λ column row c. slice_index (value ∷ []) c)) bytes → PaintsPlane d site rect value bytes p
+flat_painted d site p rect value bytes one within rows = record {
+  piece = record { within = within; size = rows_size rect.w rect.h p.bpp _ bytes rows };
+  painted = painted d site p rect (λ column row c. slice_index (value ∷ []) c) (λ x y c. value) bytes within
+      (λ column row c hx hy hc. fill_value value p.bpp c one hc) rows;
+}
+
+mask_fits : (d : Document) (site : Site) (rect : Rect) (value : ℕ) (bytes : List ℕ) (o : Option Channel) → PaintsMask d site rect value bytes o → IsMaskPiece rect bytes o
+mask_fits d site rect value bytes None h = h
+mask_fits d site rect value bytes (Some m) h = h.piece
+
+mask_filled : (d : Document) (site : Site) (rect : Rect) (value : ℕ) (bytes : List ℕ) (o : Option Channel) → PaintsMask d site rect value bytes o
+    → option_map (with_plane (λ p. written p rect bytes)) o ≡ option_map (with_plane (through d site.indexed site.x site.y rect (λ x y c. value))) o
+mask_filled d site rect value bytes None h = refl
+mask_filled d site rect value bytes (Some m) h = ap (λ p. Some (record m { plane = p })) h.painted
+
+-- a mask's bytes that went through the selection are those of the mask after its fill
+pub mask_painted : (d : Document) (s : Sheet) (rect : Rect) (value : ℕ) (bytes : List ℕ) → PaintsMask d (site_of_mask s) rect value bytes s.mask
+    → (l : Layer) → sheet_of_layer l ≡ s → Paints Mask rect bytes (fills_mask d rect value) l
+mask_painted d s rect value bytes h l is =
+    let P : Sheet → Type 0 = λ q. PaintsMask d (site_of_mask q) rect value bytes q.mask in
+    let k : P (sheet_of_layer l) = subst P (sym is) h in
+    record {
+      piece = mask_fits d (site_of_mask (sheet_of_layer l)) rect value bytes l.mask k;
+      painted = ap (λ m. record l { mask = m }) (mask_filled d (site_of_mask (sheet_of_layer l)) rect value bytes l.mask k);
+    }

@@ -1,0 +1,35 @@
+-- What was asked of the layers is said of the document's nodes.
+use Rattle.std.proofs.Common.{◌≡◌, ◌*◌, ◌∙◌, arith, sym, ap, subst}
+use Rattle.spec_edit.specs.Refusal.{node}
+use Rattle.xl_doc.specs.Sheet.{Sheet}
+use Rattle.xl_edit.specs.declared.places.Part.TheVariants.{Pixels}
+use Rattle.xl_edit.specs.declared.places.Site.{Site}
+use Rattle.xl_edit.specs.Filling.{AreRows, byte_in, in_rows}
+use Rattle.xl_edit.specs.Paint.{Paints, copies, rect_from}
+use Rattle.xl_edit.proofs.LayerFound.{of_sheet}
+use Rattle.xl_edit.proofs.MixedRows.{old_length}
+use Rattle.xl_edit.proofs.PaintMade.{copy_painted}
+use Rattle.xl_edit.proofs.pixels.copy_bytes.Goals as goal
+
+pub laid_or_given-requires-clause-new : goal.laid_or_given-requires-clause-new
+laid_or_given-requires-clause-new c =
+    let rect = c.args.rect in
+    let source = c.in_ok-two.two.from.now in
+    let bpp : source.plane.bpp ≡ c.to.inside.plane.bpp = c.in_ok-two.ensures.bpp ∙ ap (λ (s : Sheet). s.plane.bpp) (sym c.to.view_is) in
+    old_length source.plane (rect_from c.args.u c.args.v rect) c.in_ok-new.new.items c.in_ok-new.ensures ∙ (ap (λ n. rect.h * (rect.w * n)) bpp ∙ omega arith)
+
+pub returns-clause-paints : goal.returns-clause-paints
+returns-clause-paints c =
+    let d = c.args.doc.now in
+    let rect = c.args.rect in
+    let s = c.in_ok-two.two.to.now in
+    let source = c.in_ok-two.two.from.now in
+    let new = c.in_ok-new.new.items in
+    let bytes = c.in_ok-bytes.bytes.items in
+    let from = c.args.from.0 in
+    let Seen : Sheet → Type 0 = λ q.
+    AreRows rect.w rect.h q.plane.bpp (byte_in d c.site_of-site.result q.plane rect (in_rows (rect.w * q.plane.bpp) q.plane.bpp new)) bytes in
+    let P : Site → Type 0 = λ site. AreRows rect.w rect.h s.plane.bpp (byte_in d site s.plane rect (in_rows (rect.w * s.plane.bpp) s.plane.bpp new)) bytes in
+    of_sheet (Paints Pixels rect bytes (copies d rect from c.args.u c.args.v)) s (node d c.args.id.0) c.in_ok-two.ensures.to
+    (copy_painted d s source rect from c.args.u c.args.v new bytes c.in_ok-two.ensures.within c.in_ok-two.ensures.from c.in_ok-two.ensures.bpp c.in_ok-new.ensures
+    (subst P c.site_of-site.ensures.value (subst Seen c.to.view_is c.in_ok-bytes.ensures)))
