@@ -1,6 +1,6 @@
 -- A history goes on by a call that is built.
 use Rattle.std.proofs.Common.{◌≡◌, ℕ, ◌+◌, ◌<◌, ◌≤◌, Bool, true, false, cond, List, [], ◌∷◌, ◌++◌, length, refl, sym, ◌∙◌, ap, subst, arith, length-append, add-zero, inl, inr}
-use Rattle.std.specs.Prelude.{◌^◌, ◌==◌, ◌&&◌, not, Result, Ok, Err, slice_index, slice_set, MatchBool}
+use Rattle.std.specs.Prelude.{◌^◌, ◌==◌, ◌&&◌, not, slice_index, slice_set, MatchBool}
 use Rattle.std.proofs.lemmas.Bool.{lt-leb}
 use Rattle.std.proofs.lemmas.Bool.Decides.{eqb_tells}
 use Rattle.std.proofs.lemmas.List.{get_or-set_same, get_or-set_other}
@@ -9,20 +9,22 @@ use Rattle.spec_grid.specs.declared.TileAt.{TileAt}
 use Rattle.spec_grid.specs.Grid.{is_on_grid}
 use Rattle.spec_picture.specs.Picture.{project}
 use Rattle.spec_document.specs.Document.{Document}
-use Rattle.spec_edit.specs.declared.EditRefused.{EditRefused}
-use Rattle.spec_edit.specs.Apply.{At, apply}
 use Rattle.spec_history.specs.Machine as machine
 use Rattle.spec_history.specs.Machine.{Call, Reply, State, latest, document_at, answer, has_stack}
 use Rattle.spec_history.specs.History as history
 use Rattle.spec_history.specs.History.{Entry, asked, replay, next_index, latest_of, document_of}
 use Rattle.spec_history.specs.Kept.{PeekMeetsKept}
-use Rattle.spec_history.proofs.Growing.{replay-snoc, next_index-snoc, IsLegal-snoc}
+use Rattle.spec_history.specs.Calls.{most_entries}
+use Rattle.spec_world.specs.World.{entries_owed}
+use Rattle.spec_history.proofs.Growing.{replay-snoc, next_index-snoc, IsLegal-snoc, out-answer}
 use Rattle.spec_history.proofs.Versions.{sound-legal, latest_of-legal}
+use Rattle.spec_history.proofs.Stacks.{chained-replay}
 use Rattle.xl_edit.specs.Built.{IsBuilt}
-use Rattle.xl_core.specs.declared.standing.Undo.{Undo}
-use Rattle.xl_core.specs.History.{History, most_entries, reply_to, with_call, Answers, Shows}
-use Rattle.xl_core.specs.Now.{Now, Tells, told, made_now, undone_of, now_of, shown, ShowsTile, ShowsNow, Stands}
+use Rattle.xl_core.specs.History.{History, reply_to, with_call, Answers, Shows}
+use Rattle.xl_core.specs.Now.{Now, Tells, told, now_of, shown, ShowsTile, ShowsNow, Stands}
 use Rattle.xl_core.proofs.Simulates.{follows}
+use Rattle.xl_core.proofs.GroupNumbers.{groups-told}
+use Rattle.xl_core.proofs.WithinTypes.{built_is, calls-snoc}
 
 -- a call that is built is no peek, so its answer is the machine's
 may_answer : (base : Document) (s : State) (call : Call) (reply : Reply) → IsBuilt call → reply ≡ (answer base s call []).reply → history.Answers base s call [] reply
@@ -41,34 +43,16 @@ no_peek base earlier (machine.tile stack at) reply built = tt
 no_peek base earlier (machine.peek stack at) reply built = absurd built
 no_peek base earlier machine.top reply built = tt
 
--- a call takes one number of a group at most
-groups-made : (old : Now) (r : Result At EditRefused) → (made_now old r).now.next_group ≤ old.next_group + 1
-groups-made old (Ok at) = omega arith
-groups-made old (Err cause) = omega arith
-
-groups-undone : (old : Now) (us : List Undo) → (undone_of old us).now.next_group ≤ old.next_group + 1
-groups-undone old [] = omega arith
-groups-undone old (u ∷ us) = omega arith
-
-groups-told : (old : Now) (call : Call) → (told old call).now.next_group ≤ old.next_group + 1
-groups-told old (machine.edit guard []) = groups-undone old old.undo
-groups-told old (machine.edit guard (edit ∷ edits)) = groups-made old (apply (record { document = old.document; next = old.next_id }) edit [])
-groups-told old (machine.tile stack at) = omega arith
-groups-told old (machine.undo named) = groups-undone old old.undo
-groups-told old machine.redo = groups-undone old old.undo
-groups-told old (machine.peek stack at) = groups-undone old old.undo
-groups-told old machine.top = groups-undone old old.undo
-
 -- one call more of a session, and none of the others
-counted : (made : List ℕ) (entries : List Entry) (e : Entry) (call : Call)
-    → length made ≡ 8 → e.session < 8 → e.kind ≡ asked call []
+pub counted : (made : List ℕ) (entries : List Entry) (e : Entry)
+    → length made ≡ 8 → e.session < 8 → history.is_end_kind e.kind ≡ false
     → ((s : ℕ) → s < 8 → slice_index made s ≡ next_index entries s)
     → (s : ℕ) → s < 8 → slice_index (slice_set made e.session (slice_index made e.session + 1)) s ≡ next_index (entries ++ e ∷ []) s
-counted made entries e call eight within kind before s here =
+counted made entries e eight within kind before s here =
     let inside : e.session < length made = omega (arith, within, eight) in
     let n = next_index-snoc entries e s in
     let test : cond (e.session == s && not (history.is_end_kind e.kind)) 1 0 ≡ cond (e.session == s && true) 1 0 =
-    ap (λ k. cond (e.session == s && not (history.is_end_kind k)) 1 0) kind in
+    ap (λ k. cond (e.session == s && not k) 1 0) kind in
     elim (eqb_tells e.session s) [
       | inl same ↦
           let one : cond (e.session == s && true) 1 0 ≡ 1 = ap (λ b. cond (b && true) 1 0) same.0 in
@@ -83,6 +67,13 @@ counted made entries e call eight within kind before s here =
           at ∙ (before s here ∙ sym (n ∙ (ap (λ i. next_index entries s + i) (test ∙ none) ∙ add-zero (next_index entries s))))
     ]
 
+-- a call lets no save out or in
+pub out-call : (base : Document) (entries : List Entry) (session index : ℕ) (call : Call) (reply : Reply)
+    → (replay base (entries ++ record { session = session; index = index; kind = asked call []; reply = reply } ∷ [])).out ≡ (replay base entries).out
+out-call base entries session index call reply =
+    ap (λ t. t.out) (replay-snoc base entries (record { session = session; index = index; kind = asked call []; reply = reply }))
+    ∙ out-answer base (replay base entries) call []
+
 -- what a call leaves
 pub record GoesOn (base : Document) (entries : List Entry) (made : List ℕ) (session : ℕ) (call : Call) (reply : Reply) (new : Now) : Type 0 where
   pub stands : Stands base (entries ++ record { session = session; index = slice_index made session; kind = asked call []; reply = reply } ∷ []) new
@@ -91,28 +82,32 @@ pub record GoesOn (base : Document) (entries : List Entry) (made : List ℕ) (se
   pub index : slice_index made session ≡ next_index entries session
 
 pub goes_on : (base : Document) (entries : List Entry) (now new : Now) (made : List ℕ) (session : ℕ) (call : Call) (reply : Reply)
-    → Stands base entries now made → length made ≡ 8 → session < 8 → length entries < most_entries → IsBuilt call → Tells (told now call) reply new
+    → Stands base entries now made → length made ≡ 8 → session < 8 → length entries + entries_owed (replay base entries).out < most_entries → IsBuilt call → Tells (told now call) reply new
     → GoesOn base entries made session call reply new
 goes_on base entries now new made session call reply stands eight within few built tells =
     let s = replay base entries in
     let e : Entry = record { session = session; index = slice_index made session; kind = asked call []; reply = reply } in
     let sound = sound-legal base entries stands.legal in
-    let goes = follows base s call sound built in
+    let goes = follows base s call sound (chained-replay base entries) in
     let same : told now call ≡ told (now_of base s) call = ap (λ n. told n call) stands.is_now in
     let answers : reply ≡ (answer base s call []).reply = tells.0 ∙ (ap (λ t. t.reply) same ∙ goes.reply) in
     let after : new ≡ now_of base (answer base s call []).state = tells.1 ∙ (ap (λ t. t.now) same ∙ goes.now) in
     let index : slice_index made session ≡ next_index entries session = stands.indices session within in
     let more : length (entries ++ e ∷ []) ≡ length entries + 1 = length-append entries (e ∷ []) in
+    let owed : entries_owed (replay base (entries ++ e ∷ [])).out ≡ entries_owed s.out = ap entries_owed (out-call base entries session (slice_index made session) call reply) in
     let groups = groups-told now call in
     let old_groups = stands.groups in
     let taken : new.next_group ≡ (told now call).now.next_group = ap (λ n. n.next_group) tells.1 in
     record {
       stands = record {
+        within = stands.within;
+        small = stands.small;
+        calls = calls-snoc entries e stands.calls (built_is call built, tt);
         legal = IsLegal-snoc base entries e stands.legal (index, may_answer base s call reply built answers) (no_peek base entries call reply built);
-        few = omega (arith, more, few);
+        few = omega (arith, more, few, owed);
         is_now = after ∙ ap (now_of base) (sym (replay-snoc base entries e));
         groups = omega arith;
-        indices = counted made entries e call eight within refl stands.indices;
+        indices = counted made entries e eight within refl stands.indices;
       };
       answers = answers;
       index = index;
@@ -120,11 +115,11 @@ goes_on base entries now new made session call reply stands eight within few bui
 
 -- where there was room, the answer is the machine's and the call is the last entry
 pub answered : (h new : History) (session : ℕ) (call : Call) (reply : Reply)
-    → length h.entries < most_entries → reply ≡ reply_to h call → new ≡ with_call h session call reply → Answers h session call reply new
+    → length h.entries + entries_owed (replay h.base h.entries).out < most_entries → reply ≡ reply_to h call → new ≡ with_call h session call reply → Answers h session call reply new
 answered h new session call reply few answers last =
     let P : Bool → Type 0 = λ full.
     MatchBool full ((reply ≡ machine.history_full) × (new ≡ h)) ((reply ≡ reply_to h call) × (new ≡ with_call h session call reply)) in
-    subst P (sym (lt-leb most_entries (length h.entries) few)) (answers, last)
+    subst P (sym (lt-leb most_entries (length h.entries + entries_owed (replay h.base h.entries).out) few)) (answers, last)
 
 -- a history stands with few versions and groups
 pub few-versions : (base : Document) (entries : List Entry) (now : Now) (made : List ℕ) → Stands base entries now made → now.version ≤ 2 ^ 20

@@ -1,3 +1,9 @@
 mod Numbers
 mod Simulates
+mod GroupNumbers
+mod WithinTypes
+mod Opened
+mod Ids
+mod Groups
 mod GoesOn
+pub mod Saves

@@ -1,9 +1,11 @@
 -- A history: the document with which it began, and its entries.
-use Rattle.std.specs.Prelude.{◌≡◌, ℕ, ◌^◌, nat_le, List, [], ◌∷◌, ◌++◌, length, MatchBool}
+use Rattle.std.specs.Prelude.{◌≡◌, ℕ, ◌+◌, Bool, nat_le, List, [], ◌∷◌, ◌++◌, length, MatchBool}
 use Rattle.spec_document.specs.Document.{Document}
 use Rattle.spec_picture.specs.Picture.{project}
 use Rattle.spec_history.specs.Machine as machine
 use Rattle.spec_history.specs.Machine.{Call, Reply, answer}
+use Rattle.spec_world.specs.World.{entries_owed}
+use Rattle.spec_history.specs.Calls.{most_entries}
 use Rattle.spec_history.specs.History.{Entry, asked, replay, next_index, latest_of, document_of}
 
 pub record History : Type 0 where
@@ -18,10 +20,6 @@ version h = latest_of h.entries
 abbrev pub document : History → Document
 document h = document_of h.base h.entries (version h)
 
--- how many entries a history has at most
-abbrev pub most_entries : ℕ
-most_entries = 2 ^ 20
-
 -- what the machine answers to a call after this history
 abbrev pub reply_to : History → Call → Reply
 reply_to h call = (answer h.base (replay h.base h.entries) call []).reply
@@ -32,10 +30,14 @@ with_call h session call reply = record h {
   entries = h.entries ++ record { session = session; index = next_index h.entries session; kind = asked call []; reply = reply } ∷ [];
 }
 
+-- no entry is free beside the end that is owed where a save is out
+abbrev pub is_full : History → Bool
+is_full h = nat_le most_entries (length h.entries + entries_owed (replay h.base h.entries).out)
+
 -- The call is answered as the machine answers it, and is the last entry; a full history stays as it is.
 abbrev pub Answers : (old : History) → (session : ℕ) → Call → Reply → (new : History) → Type 0
 Answers old session call reply new =
-    MatchBool (nat_le most_entries (length old.entries))
+    MatchBool (is_full old)
     ((reply ≡ machine.history_full) × (new ≡ old))
     ((reply ≡ reply_to old call) × (new ≡ with_call old session call reply))
 

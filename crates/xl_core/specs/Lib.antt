@@ -1,3 +1,6 @@
+pub mod Editing
 pub mod Entries
 pub mod History
+pub mod Holding
 pub mod Now
+pub mod Group

@@ -1,29 +1,38 @@
 -- What stands now, as far as calls ask for it.
-use Rattle.std.specs.Prelude.{◌≡◌, ℕ, ◌+◌, ◌≤◌, ◌<◌, max, List, [], ◌∷◌, length, map, fold, slice_index, Result, Ok, Err}
+use Rattle.std.specs.Prelude.{◌≡◌, ℕ, ◌+◌, ◌^◌, ◌≤◌, ◌<◌, max, if◌then◌else◌, List, [], ◌∷◌, length, map, fold, slice_index, Option, Some, None, Result, Ok, Err}
+use Rattle.std.specs.List.{AllByRecursion}
 use Rattle.spec_grid.specs.declared.TileAt.{TileAt}
 use Rattle.spec_forest.specs.Forest.{ids}
 use Rattle.spec_document.specs.Document.{Document}
+use Rattle.spec_document.specs.Limits.{IsDocument}
 use Rattle.spec_picture.specs.Picture.{project}
-use Rattle.spec_edit.specs.declared.EditRefused.{EditRefused}
 use Rattle.spec_edit.specs.Edit.{Edit}
-use Rattle.spec_edit.specs.Apply.{At, apply}
+use Rattle.spec_edit.specs.Apply.{At, Refused, apply_group}
 use Rattle.spec_history.specs.Machine as machine
-use Rattle.spec_history.specs.Machine.{Call, Reply, changed, refused, moved, nothing_to_undo, nothing_to_redo, not_top, tile_of, stale, no_stack, outside_tile, top_is, saved, save_fault, save_memory, history_full, tile_reply, State, Done, latest, document_at}
+use Rattle.spec_history.specs.Machine.{Call, Reply, changed, refused, moved, nothing_to_undo, nothing_to_redo, not_top, tile_of, stale, no_stack, outside_tile, top_is, saved, save_fault, save_memory, history_full, tile_reply, names, State, Done, latest, document_at}
 use Rattle.spec_history.specs.History.{Entry, replay, next_index}
 use Rattle.spec_history.specs.Kept.{IsLegal}
-use Rattle.xl_core.specs.History.{most_entries}
+use Rattle.spec_history.specs.Limited.{AreCalls}
+use Rattle.spec_world.specs.World.{entries_owed}
+use Rattle.spec_history.specs.Calls.{most_entries}
 use Rattle.xl_core.specs.declared.standing.Undo.{Undo}
+use Rattle.xl_core.specs.declared.standing.Redo.{Redo}
 
--- the last document, the groups that can be undone, the next one first, and the next numbers
+-- the last document, the groups that can be undone and redone, the next one first, and the next numbers
 pub record Now : Type 0 where
   pub document : Document
   pub undo : List Undo
+  pub redo : List Redo
   pub next_id : ℕ
   pub next_group : ℕ
   pub version : ℕ
 
 abbrev pub first_now : Document → Now
-first_now d = record { document = d; undo = []; next_id = 1 + fold max 0 (ids d.nodes); next_group = 1; version = 0 }
+first_now d = record { document = d; undo = []; redo = []; next_id = 1 + fold max 0 (ids d.nodes); next_group = 1; version = 0 }
+
+-- what the next edit begins with
+abbrev pub at_now : Now → At
+at_now now = record { document = now.document; next = now.next_id }
 
 -- ---- replies
 
@@ -35,42 +44,79 @@ pub record Told : Type 0 where
 abbrev pub Tells : Told → Reply → (new : Now) → Type 0
 Tells told reply new = (reply ≡ told.reply) × (new ≡ told.now)
 
--- what stands is the next version, which this group, or its undo, has left
+-- a reply that changes nothing
+abbrev pub stays : Now → Reply → Told
+stays now reply = record { reply = reply; now = now }
+
+-- what stands is the next version, which this group, or its undo or redo, has left
 abbrev pub next_version : Now → (group : ℕ) → Told
 next_version now group = record { reply = changed (now.version + 1) group now.next_id; now = record now { version = now.version + 1 } }
 
-abbrev pub made_now : Now → Result At EditRefused → Told
-made_now old (Err cause) = record { reply = refused 0 cause; now = old }
-made_now old (Ok at) =
+-- a group that was made can be undone, and nothing can be redone any more
+abbrev pub accepted : Now → At → Told
+accepted old at =
     let mid : Now = record {
       document = at.document;
       undo = record { group = old.next_group; before = old.document } ∷ old.undo;
+      redo = [];
       next_id = at.next;
       next_group = old.next_group + 1;
       version = old.version;
     } in
     next_version mid old.next_group
 
--- an edit, made or refused
-abbrev pub edited : Now → Edit → Told
-edited old edit = made_now old (apply (record { document = old.document; next = old.next_id }) edit [])
+abbrev pub made_now : Now → Result At Refused → Told
+made_now old (Err r) = stays old (refused r.index r.cause)
+made_now old (Ok at) = accepted old at
 
-abbrev pub undone_of : Now → List Undo → Told
-undone_of old [] = record { reply = nothing_to_undo; now = old }
-undone_of old (u ∷ us) = next_version (record old { document = u.before; undo = us }) u.group
+-- a group of edits, whose guard may have moved, made or refused
+abbrev pub edited : Now → (guard : Option ℕ) → List Edit → Told
+edited old guard edits =
+    let made = made_now old (apply_group (at_now old) edits []) in
+    if names guard old.version then made else stays old (moved old.version)
 
--- the undo of the last group
-abbrev pub undone : Now → Told
-undone old = undone_of old old.undo
+-- the document before a group stands again, which can be redone
+abbrev pub taken_back : Now → Undo → List Undo → Told
+taken_back old u us =
+    next_version (record old { document = u.before; undo = us; redo = record { group = u.group; after = old.document } ∷ old.redo }) u.group
+
+abbrev pub undone_of : Now → (named : Option ℕ) → List Undo → Told
+undone_of old named [] = stays old nothing_to_undo
+undone_of old named (u ∷ us) = if names named u.group then taken_back old u us else stays old (not_top u.group)
+
+-- the undo of the last group, if it is the one that is named
+abbrev pub undone : Now → (named : Option ℕ) → Told
+undone old named = undone_of old named old.undo
+
+-- the document after a group stands again, which can be undone
+abbrev pub made_again : Now → Redo → List Redo → Told
+made_again old r rs =
+    next_version (record old { document = r.after; undo = record { group = r.group; before = old.document } ∷ old.undo; redo = rs }) r.group
+
+abbrev pub redone_of : Now → List Redo → Told
+redone_of old [] = stays old nothing_to_redo
+redone_of old (r ∷ rs) = made_again old r rs
+
+-- the redo of the group that was undone last
+abbrev pub redone : Now → Told
+redone old = redone_of old old.redo
 
 abbrev pub shown : Now → (stack : ℕ) → TileAt → Told
-shown old stack at = record { reply = tile_reply old.document stack at (tile_of old.version); now = old }
+shown old stack at = stays old (tile_reply old.document stack at (tile_of old.version))
 
--- what a call is told; only calls that are built are made
+-- the group that an undo would undo
+abbrev pub top_of : List Undo → Option ℕ
+top_of [] = None
+top_of (u ∷ us) = Some u.group
+
+-- what a call is told
 abbrev pub told : Now → Call → Told
-told old (machine.edit guard (edit ∷ edits)) = edited old edit
+told old (machine.edit guard edits) = edited old guard edits
+told old (machine.undo named) = undone old named
+told old machine.redo = redone old
 told old (machine.tile stack at) = shown old stack at
-told old call = undone old
+told old (machine.peek stack at) = shown old stack at
+told old machine.top = stays old (top_is (top_of old.undo) old.version)
 
 -- the bytes are those of the tile that was asked for, where it is shown
 abbrev pub ShowsTile : Document → (stack : ℕ) → TileAt → Reply → (bytes : List ℕ) → Type 0
@@ -79,7 +125,11 @@ ShowsTile d stack at reply bytes = Unit {0}
 
 abbrev pub ShowsNow : Document → Call → Reply → (bytes : List ℕ) → Type 0
 ShowsNow d (machine.tile stack at) reply bytes = ShowsTile d stack at reply bytes
-ShowsNow d call reply bytes = Unit {0}
+ShowsNow d (machine.edit guard edits) reply bytes = Unit {0}
+ShowsNow d (machine.undo named) reply bytes = Unit {0}
+ShowsNow d machine.redo reply bytes = Unit {0}
+ShowsNow d (machine.peek stack at) reply bytes = Unit {0}
+ShowsNow d machine.top reply bytes = Unit {0}
 
 -- a tile that is handed out leaves its bytes in the desk; after any other reply the desk is as before
 abbrev pub KeepsDesk : Reply → (old new : List ℕ) → Type 0
@@ -104,20 +154,28 @@ KeepsDesk history_full old new = new ≡ old
 abbrev pub undo_of : Document → State → Done → Undo
 undo_of base s d = record { group = d.group; before = document_at base s d.before }
 
+abbrev pub redo_of : Document → State → Done → Redo
+redo_of base s d = record { group = d.group; after = document_at base s d.after }
+
 -- what stands in a state of the machine
 abbrev pub now_of : Document → State → Now
 now_of base s = record {
   document = document_at base s (latest s);
   undo = map (undo_of base s) s.undo;
+  redo = map (redo_of base s) s.redo;
   next_id = s.next_id;
   next_group = s.next_group;
   version = latest s;
 }
 
--- What stands is what the machine has come to after the entries, and made counts each session's calls.
+-- What stands is what the machine has come to after the entries, each of whose calls is within its type, and made counts each
+-- session's calls. The base is within its limits, and its ids are small.
 pub record Stands (base : Document) (entries : List Entry) (now : Now) (made : List ℕ) : Type 0 where
+  pub within : IsDocument base
+  pub small : AllByRecursion (λ id. id ≤ 2 ^ 31) (ids base.nodes)
+  pub calls : AreCalls entries
   pub legal : IsLegal base entries
-  pub few : length entries ≤ most_entries
+  pub few : length entries + entries_owed (replay base entries).out ≤ most_entries
   pub is_now : now ≡ now_of base (replay base entries)
   pub groups : now.next_group ≤ length entries + 1
   pub indices : (session : ℕ) → session < 8 → slice_index made session ≡ next_index entries session

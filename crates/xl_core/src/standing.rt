@@ -1,22 +1,28 @@
-//! What stands now: the last document, and what an undo gives back.
-ghost use Rattle.std.specs.Prelude.{◌≡◌, ◌<◌, ◌≤◌, ◌^◌, IfOk, OnErr, not};
+//! What stands now: the last document, and what an undo or a redo gives.
+ghost use Rattle.std.specs.Prelude.{◌≡◌, ◌<◌, ◌≤◌, ◌^◌, length, IfOk, OnErr, Some};
+ghost use Rattle.std.specs.List.{AllByRecursion};
+ghost use Rattle.spec_document.specs.Limits.{IsDocument};
 ghost use Rattle.spec_grid.specs.Grid.{is_on_grid};
-ghost use Rattle.spec_history.specs.Machine.{has_stack as document_has_stack};
-ghost use Rattle.xl_core.specs.Now.{first_now, edited, undone, next_version, shown, told, Tells, ShowsTile, ShowsNow, KeepsDesk};
+ghost use Rattle.spec_history.specs.Machine.{has_stack as document_has_stack, names};
+ghost use Rattle.spec_history.specs.Calls.{most_edits};
+ghost use Rattle.xl_core.specs.Group.{HasIds};
+ghost use Rattle.xl_core.specs.Now.{first_now, at_now, edited, accepted, undone, taken_back, redone, next_version, shown, top_of, told, Tells, ShowsTile, ShowsNow, KeepsDesk};
 ghost use Rattle.xl_doc.specs.Numbered.{AreNumbered};
 ghost use Rattle.xl_edit.specs.Built.{IsBuilt, IsBuiltEdit};
 ghost use Rattle.xl_edit.specs.Calls.{call_of};
-ghost use Rattle.xl_edit.specs.Edits.{edit_of};
+ghost use Rattle.xl_edit.specs.Edits.{edits_of};
 ghost use Rattle.xl_edit.specs.Replies.{reply_of};
 
 use crate::desk::Desk;
+use crate::group::{GroupRefusedOrMemory, apply_group};
 use std::alloc::{AllocError, Global};
 use std::marker::Model;
+use std::mem;
 use std::sync::ledger::Ledger;
 use xl_blend::Steps;
 use xl_compose::recompose_tile;
 use xl_doc::{Document, NodeId, TileAt};
-use xl_edit::{Call, Edit, EditRefusedOrMemory, Reply, apply};
+use xl_edit::{Call, Edit, Reply};
 use xl_grid::grid;
 
 /// A group of edits that can be undone: its number, and the document before it.
@@ -26,11 +32,20 @@ struct Undo {
     before: Document,
 }
 
-/// The last version's document with what its next changes need. The group that is undone next is the last of `undo`.
+/// A group of edits that can be redone: its number, and the document after it.
+#[derive(Drop)]
+struct Redo {
+    group: u32,
+    after: Document,
+}
+
+/// The last version's document with what its next changes need. The group that is undone next is the last of `undo`, and the one
+/// that is redone next is the last of `redo`.
 #[derive(Drop)]
 pub(crate) struct Standing {
     document: Document,
     undo: Vec<Undo>,
+    redo: Vec<Redo>,
     next_id: u32,
     next_group: u32,
     version: u32,
@@ -49,6 +64,7 @@ impl Model for Standing {
     ghost view = { λ s. record {
       document = s.document;
       undo = reverse s.undo.items;
+      redo = reverse s.redo.items;
       next_id = s.next_id;
       next_group = s.next_group;
       version = s.version;
@@ -70,16 +86,28 @@ fn has_tile(document: &Document, at: TileAt) -> bool
     at.col < columns && at.row < rows
 }
 
+// Whether a number that may be named is this one.
+fn is_named(named: Option<u32>, number: u32) -> bool
+    ensures { result ≡ names named number }
+{
+    match named {
+        None => true,
+        Some(named) => named == number,
+    }
+}
+
 impl Standing {
     /// Version 0 of a document.
     pub(crate) fn new(alloc: Global, document: Document) -> Standing
         requires numbered { AreNumbered document.nodes }
-        ensures { result ≡ first_now document }
+        ensures first { result ≡ first_now document }
+        ensures within { IsDocument document }
     {
         let next_id = document.tree.greatest_id() + 1;
         Standing {
             document,
             undo: Vec::new(alloc),
+            redo: Vec::new(alloc),
             next_id,
             next_group: 1,
             version: 0,
@@ -111,6 +139,7 @@ impl Standing {
         requires built { IsBuilt (call_of call.now) }
         requires versions { self.old.version < 2 ^ 31 }
         requires groups { self.old.next_group < 2 ^ 31 }
+        requires ids { HasIds (at_now self.old) most_edits }
         ensures told { IfOk result (λ reply. Tells (told self.old (call_of call.now)) (reply_of reply) self.new) }
         ensures shown { IfOk result (λ reply. ShowsNow self.new.document (call_of call.now) (reply_of reply) desk.new.out) }
         ensures desk { IfOk result (λ reply. KeepsDesk (reply_of reply) desk.old.out desk.new.out) }
@@ -118,49 +147,102 @@ impl Standing {
         ensures desk_as_before { OnErr result (desk.new ≡ desk.old) }
     {
         match call {
-            Call::Edit(group) => self.edit(alloc, &group.edits.as_slice()[0]),
-            Call::Undo(_) => Ok(self.undo()),
+            Call::Edit(group) => self.edit(alloc, group.guard, group.edits.as_slice()),
+            Call::Undo(named) => self.undo(*named),
+            Call::Redo => self.redo(),
             Call::Tile(node, at) => self.tile(alloc, *node, *at, desk, steps),
-            Call::Redo | Call::Peek(_, _) | Call::Top => unreachable!(),
+            Call::Peek(_, _) => unreachable!(),
+            Call::Top => Ok(Reply::Top {
+                group: self.top(),
+                version: self.version,
+            }),
         }
     }
 
-    // Makes an edit, which is a group of its own.
-    fn edit(&mut self, alloc: Global, edit: &Edit) -> Result<Reply, AllocError>
-        requires built { IsBuiltEdit (edit_of edit.now) }
+    // Makes a group of edits on a share of the document, which takes the document's place where all of them are accepted.
+    fn edit(
+        &mut self,
+        alloc: Global,
+        guard: Option<u32>,
+        edits: &[Edit],
+    ) -> Result<Reply, AllocError>
+        requires few { length edits.now ≤ most_edits }
+        requires built { AllByRecursion IsBuiltEdit (edits_of edits.now) }
         requires versions { self.old.version < 2 ^ 31 }
         requires groups { self.old.next_group < 2 ^ 31 }
-        ensures told { IfOk result (λ reply. Tells (edited self.old (edit_of edit.now)) (reply_of reply) self.new) }
+        requires ids { HasIds (at_now self.old) most_edits }
+        ensures told { IfOk result (λ reply. Tells (edited self.old guard (edits_of edits.now)) (reply_of reply) self.new) }
         ensures as_before { OnErr result (self.new ≡ self.old) }
     {
+        if !is_named(guard, self.version) {
+            return Ok(Reply::Moved { now: self.version });
+        }
         self.undo.reserve(1)?;
-        let before = self.document.share(alloc)?;
-        match apply(alloc, &mut self.document, &mut self.next_id, edit) {
+        let mut document = self.document.share(alloc)?;
+        let mut next_id = self.next_id;
+        match apply_group(alloc, &mut document, &mut next_id, edits) {
             Ok(()) => {}
-            Err(EditRefusedOrMemory::Refused(cause)) => {
-                return Ok(Reply::Refused { index: 0, cause });
+            Err(GroupRefusedOrMemory::Refused { index, cause }) => {
+                return Ok(Reply::Refused { index, cause });
             }
-            Err(EditRefusedOrMemory::Memory) => return Err(AllocError),
+            Err(GroupRefusedOrMemory::Memory) => return Err(AllocError),
         }
         let group = self.next_group;
-        self.undo.push_reserved(Undo { group, before });
+        let before = mem::replace(&mut self.document, document);
+        self.next_id = next_id;
         self.next_group += 1;
+        self.undo.push_reserved(Undo { group, before });
+        self.redo.clear();
         Ok(self.next_version(group))
     }
 
-    // Gives back the document before the last group.
-    fn undo(&mut self) -> Reply
-        requires { self.old.version < 2 ^ 31 }
-        ensures { Tells (undone self.old) (reply_of result) self.new }
+    // The group that an undo would undo.
+    fn top(&self) -> Option<u32>
+        ensures { result ≡ top_of self.now.undo }
     {
-        let Some(Undo { group, before }) = self.undo.pop() else {
-            return Reply::NothingToUndo;
+        let Some(last) = self.undo.as_slice().last() else {
+            return None;
         };
-        self.document = before;
-        self.next_version(group)
+        Some(last.group)
     }
 
-    // The document that a group, or its undo, has left is the next version.
+    // Gives back the document before the last group, if it is the one that is named.
+    fn undo(&mut self, named: Option<u32>) -> Result<Reply, AllocError>
+        requires { self.old.version < 2 ^ 31 }
+        ensures told { IfOk result (λ reply. Tells (undone self.old named) (reply_of reply) self.new) }
+        ensures as_before { OnErr result (self.new ≡ self.old) }
+    {
+        let Some(top) = self.top() else {
+            return Ok(Reply::NothingToUndo);
+        };
+        if !is_named(named, top) {
+            return Ok(Reply::NotTop { top });
+        }
+        self.redo.reserve(1)?;
+        let Some(Undo { group, before }) = self.undo.pop() else {
+            unreachable!();
+        };
+        let after = mem::replace(&mut self.document, before);
+        self.redo.push_reserved(Redo { group, after });
+        Ok(self.next_version(group))
+    }
+
+    // Gives the document after the group that was undone last.
+    fn redo(&mut self) -> Result<Reply, AllocError>
+        requires { self.old.version < 2 ^ 31 }
+        ensures told { IfOk result (λ reply. Tells (redone self.old) (reply_of reply) self.new) }
+        ensures as_before { OnErr result (self.new ≡ self.old) }
+    {
+        self.undo.reserve(1)?;
+        let Some(Redo { group, after }) = self.redo.pop() else {
+            return Ok(Reply::NothingToRedo);
+        };
+        let before = mem::replace(&mut self.document, after);
+        self.undo.push_reserved(Undo { group, before });
+        Ok(self.next_version(group))
+    }
+
+    // The document that a group, or its undo or redo, has left is the next version.
     fn next_version(&mut self, group: u32) -> Reply
         requires { self.old.version < 2 ^ 31 }
         ensures { Tells (next_version self.old group) (reply_of result) self.new }

@@ -1,6 +1,10 @@
-ghost use Rattle.std.specs.Prelude.{◌≡◌, ◌<◌, ◌≤◌, ◌^◌, length, [], IfOk, IfErr, OnOk, OnErr};
+ghost use Rattle.std.specs.Prelude.{◌≡◌, ◌<◌, ◌≤◌, ◌^◌, length, [], Some, IfOk, IfErr, OnOk, OnErr, IsSome};
 ghost use Rattle.spec_history.specs.Kept.{IsLegal};
-ghost use Rattle.xl_core.specs.History.{most_entries, version, document, Answers, Shows};
+ghost use Rattle.spec_world.specs.World.{entries_owed};
+ghost use Rattle.spec_world.specs.Events.{IsOutOf};
+ghost use Rattle.spec_history.specs.Calls.{most_entries};
+ghost use Rattle.xl_core.specs.History.{version, document, Answers, Shows};
+ghost use Rattle.xl_core.specs.Editing.{known, out_of, IsRight, ComesBack, KeepsShelf, Begins, HandsOut, Ends};
 ghost use Rattle.xl_core.specs.Now.{KeepsDesk};
 ghost use Rattle.xl_doc.specs.Numbered.{AreNumbered};
 ghost use Rattle.xl_edit.specs.Built.{IsBuilt};
@@ -9,49 +13,70 @@ ghost use Rattle.xl_edit.specs.Replies.{reply_of};
 
 use crate::desk::Desk;
 use crate::entry::{Entry, EntryKind};
+use crate::saving::{Begun, Place, reply_to_end};
 use crate::standing::Standing;
+use spec_world::SaveEnd;
 use std::alloc::{AllocError, AllocFailed, Global};
 use std::marker::Model;
+use std::snapshot::Snapshot;
 use std::sync::ledger::Ledger;
 use xl_blend::Steps;
 use xl_doc::Document;
 use xl_edit::{Call, Reply};
+use xl_ports::Shelf;
 
 /// How many entries a history has at most.
 const MOST_ENTRIES: usize = 1 << 20;
 
-/// A document with its history.
+/// A document with its history, and the shelf on which it is saved.
 #[derive(Drop)]
-pub struct Core {
+pub struct Core<D: Shelf> {
     base: Document,
     standing: Standing,
     // How many calls each session has made.
     made: [u32; 8],
     entries: Vec<Entry>,
+    // The shelf as the document was opened, and as each save's start has handed it out: for contracts alone.
+    opening: Snapshot<D>,
+    handed: Vec<Snapshot<D>>,
+    place: Place<D>,
 }
 
-impl Model for Core {
+impl<D: Shelf> Model for Core<D> {
+    ghost use Rattle.std.specs.Prelude.{vec_capacity};
     ghost use Rattle.std.specs.Coded.{codes};
     ghost use Rattle.spec_document.specs.Code.{coded_document};
-    ghost use Rattle.xl_core.specs.History.{History};
+    ghost use Rattle.xl_core.specs.Editing.{Editing, known};
 
-    ghost Value = { History };
+    ghost Value = { Editing D };
 
-    ghost coded = { Prim.hlevel (codes, coded_document) };
-
-    ghost view = { λ c. record { base = c.base; entries = c.entries.items } };
+    ghost coded = { Prim.hlevel (codes, coded_document, D.code) };
 
     ghost use Rattle.xl_core.specs.Now.{Stands};
+    ghost use Rattle.xl_core.specs.Holding.{all_seen, shelf_in, Holds};
 
-    ghost invariant = { λ c. Stands c.base c.entries.items c.standing c.made };
+    ghost view = { λ c. record {
+      history = record { base = c.base; entries = c.entries.items };
+      opening = c.opening.value;
+      handed = all_seen c.handed.items;
+      shelf = shelf_in c.place;
+    } };
+
+    ghost invariant = { λ c. Stands c.base c.entries.items c.standing c.made
+        × Holds (known D.selected D.disk D.reading_faults D.saving_faults) c.base c.entries.items c.opening.value (all_seen c.handed.items) c.place (vec_capacity c.entries) };
 }
 
-impl Core {
-    /// A document without a history. It is version 0, and comes back where memory ran out.
-    pub fn open(alloc: Global, doc: Document) -> Result<Core, AllocFailed<Document>>
+impl<D: Shelf> Core<D> {
+    /// A document without a history, and the shelf on which it is saved. It is version 0. Both come back where memory ran out.
+    pub fn open(
+        alloc: Global,
+        doc: Document,
+        shelf: D,
+    ) -> Result<Core<D>, AllocFailed<(Document, D)>>
         requires numbered { AreNumbered doc.nodes }
-        ensures ok { IfOk result (λ core. core ≡ record { base = doc; entries = [] }) }
-        ensures back { IfErr result (λ failed. failed.value ≡ doc) }
+        requires selected { IsSome (D.selected shelf) }
+        ensures ok { IfOk result (λ core. core ≡ record { history = record { base = doc; entries = [] }; opening = shelf; handed = []; shelf = Some shelf }) }
+        ensures back { IfErr result (λ failed. failed.value ≡ (doc, shelf)) }
     {
         match doc.share(alloc) {
             Ok(base) => Ok(Core {
@@ -59,14 +84,30 @@ impl Core {
                 standing: Standing::new(alloc, doc),
                 made: [0; 8],
                 entries: Vec::new(alloc),
+                opening: Snapshot::of(&shelf),
+                handed: Vec::new(alloc),
+                place: Place::In(shelf),
             }),
-            Err(_) => Err(AllocFailed { value: doc }),
+            Err(_) => Err(AllocFailed {
+                value: (doc, shelf),
+            }),
+        }
+    }
+
+    // How many entries the save that is out owes.
+    fn owed(&self) -> usize
+        ensures { result ≡ entries_owed (out_of self.now.history) }
+    {
+        match self.place {
+            Place::In(_) => 0,
+            Place::Out { .. } => 1,
         }
     }
 
     /// Makes a call of a session, which has seen the versions up to `seen`.
     ///
-    /// A tile leaves its bytes in the desk; no other answer touches it. After out of memory the history and the desk are as before.
+    /// A tile leaves its bytes in the desk; no other answer touches it. It never touches the shelf, and leaves room for the entry
+    /// that a save owes. After out of memory the history and the desk are as before.
     pub fn submit<L: Ledger>(
         &mut self,
         alloc: Global,
@@ -77,20 +118,22 @@ impl Core {
         steps: &mut Steps<L>,
     ) -> Result<Reply, AllocError>
         requires session { session < 8 }
-        requires seen { seen ≤ version self.old }
+        requires seen { seen ≤ version self.old.history }
         requires built { IsBuilt (call_of call) }
-        ensures answered { IfOk result (λ reply. Answers self.old session (call_of call) (reply_of reply) self.new) }
-        ensures shown { IfOk result (λ reply. Shows self.new (call_of call) (reply_of reply) desk.new.out) }
-        ensures legal { IsLegal self.new.base self.new.entries }
-        ensures few { length self.new.entries ≤ most_entries }
+        ensures answered { IfOk result (λ reply. Answers self.old.history session (call_of call) (reply_of reply) self.new.history) }
+        ensures shown { IfOk result (λ reply. Shows self.new.history (call_of call) (reply_of reply) desk.new.out) }
+        ensures shelf { KeepsShelf self.old self.new }
+        ensures legal { IsLegal self.new.history.base self.new.history.entries }
+        ensures few { length self.new.history.entries ≤ most_entries }
         ensures desk { IfOk result (λ reply. KeepsDesk (reply_of reply) desk.old.out desk.new.out) }
         ensures as_before { OnErr result (self.new ≡ self.old) }
         ensures desk_as_before { OnErr result (desk.new ≡ desk.old) }
     {
-        if self.entries.len() >= MOST_ENTRIES {
+        let owed = self.owed();
+        if self.entries.len() + owed >= MOST_ENTRIES {
             return Ok(Reply::HistoryFull);
         }
-        self.entries.reserve(1)?;
+        self.entries.reserve(1 + owed)?;
         let reply = self.standing.answer(alloc, &call, desk, steps)?;
         let index = self.made[session as usize];
         self.made[session as usize] = index + 1;
@@ -103,23 +146,103 @@ impl Core {
         Ok(reply)
     }
 
+    /// Begins a save of a session: the last version with a share of its document and the shelf, which is out until `end_save`.
+    ///
+    /// It makes an entry, and takes the room for that of its end. `Out` where the shelf is out, and `Full` where it is in and
+    /// fewer than two entries are free; neither makes an entry. After out of memory all is as before.
+    pub fn begin_save(&mut self, alloc: Global, session: u8) -> Result<Begun<D>, AllocError>
+        requires session { session < 8 }
+        ensures begun { IfOk result (λ begun. Begins self.old session begun self.new) }
+        ensures right { IfOk result (λ begun. HandsOut (IsRight (known D.selected D.disk D.reading_faults D.saving_faults) self.old) begun) }
+        ensures legal { IsLegal self.new.history.base self.new.history.entries }
+        ensures few { length self.new.history.entries ≤ most_entries }
+        ensures as_before { OnErr result (self.new ≡ self.old) }
+    {
+        if let Place::Out { .. } = self.place {
+            return Ok(Begun::Out);
+        }
+        if self.entries.len() + 2 > MOST_ENTRIES {
+            return Ok(Begun::Full);
+        }
+        self.entries.reserve(2)?;
+        self.handed.reserve(1)?;
+        let document = self.standing.document().share(alloc)?;
+        let version = self.standing.version();
+        let index = self.made[session as usize];
+        match std::mem::replace(&mut self.place, Place::Out { index, version }) {
+            Place::In(shelf) => {
+                self.handed.push_reserved(Snapshot::of(&shelf));
+                self.made[session as usize] += 1;
+                self.entries.push_reserved(Entry {
+                    session,
+                    index,
+                    kind: EntryKind::Start,
+                    reply: Reply::Saved { version },
+                });
+                Ok(Begun::Snapshot {
+                    version,
+                    document,
+                    shelf,
+                })
+            }
+            Place::Out { .. } => unreachable!(),
+        }
+    }
+
+    /// Ends the save of a session that is out: the shelf is back, and the reply names the version that the save began with.
+    ///
+    /// It makes an entry, with the index of the save's start, in the room that the start has taken. It takes no memory.
+    pub fn end_save(&mut self, session: u8, shelf: D, how: SaveEnd) -> Reply
+        requires out { IsOutOf (out_of self.old.history) session }
+        requires returns { ComesBack (known D.selected D.disk D.reading_faults D.saving_faults) self.old how shelf }
+        ensures ended { Ends self.old session how shelf (reply_of result) self.new }
+        ensures legal { IsLegal self.new.history.base self.new.history.entries }
+        ensures few { length self.new.history.entries ≤ most_entries }
+    {
+        let Place::Out { index, version } = std::mem::replace(&mut self.place, Place::In(shelf))
+        else {
+            unreachable!()
+        };
+        let reply = reply_to_end(how, version);
+        self.entries.push_reserved(Entry {
+            session,
+            index,
+            kind: EntryKind::End,
+            reply,
+        });
+        reply
+    }
+
+    /// The shelf, which is in.
+    pub fn into_shelf(self) -> D
+        requires { IsSome self.shelf }
+        ensures shelf { self.shelf ≡ Some result }
+        ensures right { IsRight (known D.selected D.disk D.reading_faults D.saving_faults) self result }
+    {
+        let Core { place, .. } = self;
+        match place {
+            Place::In(shelf) => shelf,
+            Place::Out { .. } => unreachable!(),
+        }
+    }
+
     /// What was done, in order.
     pub fn entries(&self) -> &[Entry]
-        ensures { result.now ≡ self.now.entries }
+        ensures { result.now ≡ self.now.history.entries }
     {
         self.entries.as_slice()
     }
 
     /// The last version's number.
     pub fn version(&self) -> u32
-        ensures { result ≡ version self.now }
+        ensures { result ≡ version self.now.history }
     {
         self.standing.version()
     }
 
     /// The last version's document.
     pub fn document(&self) -> &Document
-        ensures { result.now ≡ document self.now }
+        ensures { result.now ≡ document self.now.history }
     {
         self.standing.document()
     }

@@ -1,17 +1,24 @@
 -- The history goes on by the call, or it is full.
-use Rattle.std.proofs.Common.{◌≡◌, ◌+◌, ◌<◌, [], ◌∷◌, ◌++◌, length, slice_index, slice_set, arith, rules, ◌∙◌, ap, subst}
-use Rattle.spec_history.specs.History.{Entry, asked}
+use Rattle.std.proofs.Common.{◌≡◌, ◌+◌, ◌<◌, ◌≤◌, [], ◌∷◌, ◌++◌, length, slice_index, slice_set, arith, rules, sym, ◌∙◌, ap, subst}
+use Rattle.std.specs.Prelude.{vec_capacity}
+use Rattle.spec_history.specs.History.{Entry, asked, replay}
+use Rattle.spec_world.specs.World.{entries_owed}
 use Rattle.xl_edit.specs.Calls.{call_of}
 use Rattle.xl_edit.specs.Replies.{reply_of}
-use Rattle.xl_core.specs.History.{History, most_entries, with_call, Answers}
+use Rattle.spec_history.specs.Calls.{most_entries}
+use Rattle.xl_core.specs.History.{History, with_call, Answers}
+use Rattle.xl_core.specs.Editing.{known, out_of}
+use Rattle.xl_core.specs.Holding.{all_seen, Holds}
 use Rattle.xl_core.specs.Now.{Stands}
+use Rattle.xl_core.proofs.Ids.{has_ids}
 use Rattle.xl_core.proofs.GoesOn.{GoesOn, few-versions, goes_on, answered, shows}
+use Rattle.xl_core.proofs.Saves.{holds_called}
 use Rattle.xl_core.proofs.state.Core.submit.Goals as goal
 use Rattle.xl_core.proofs.state.Core.submit.Given as given
 
 pub answer-requires-clause-versions : goal.answer-requires-clause-versions
 answer-requires-clause-versions g c =
-    omega (arith, few-versions c.self.inside.base c.self.inside.entries.items c.self.inside.standing c.self.inside.made c.self.invariant)
+    omega (arith, few-versions c.self.inside.base c.self.inside.entries.items c.self.inside.standing c.self.inside.made c.self.invariant.0)
 
 -- the entry that the call becomes
 entry : (g : given.Over) → goal.After-push_reserved g → Entry
@@ -22,17 +29,22 @@ entry g c = record {
   reply = reply_of c.in_ok-reply.reply;
 }
 
-few : (g : given.Over) (c : goal.After-push_reserved g) → length c.self.inside.entries.items < most_entries
+owed : (g : given.Over) (c : goal.After-push_reserved g)
+    → c.owed-owed.result ≡ entries_owed (replay c.self.inside.base c.self.inside.entries.items).out
+owed g c = c.owed-owed.ensures ∙ ap (λ e. entries_owed (out_of e.history)) (sym c.self.view_is)
+
+few : (g : given.Over) (c : goal.After-push_reserved g)
+    → length c.self.inside.entries.items + entries_owed (replay c.self.inside.base c.self.inside.entries.items).out < most_entries
 few g c =
     let len : length c.self.inside.entries.items ≡ c.len.result = search rules in
-    omega (arith, len, c.if-len-ge-MOST_ENTRIES.false)
+    omega (arith, len, owed g c, c.if-len-owed-ge-MOST_ENTRIES.false)
 
 -- what stands when the call was answered
 went : (g : given.Over) (c : goal.After-push_reserved g)
     → GoesOn c.self.inside.base c.self.inside.entries.items c.self.inside.made c.args.session (call_of c.args.call) (reply_of c.in_ok-reply.reply) c.answer.new.self
 went g c =
     goes_on c.self.inside.base c.self.inside.entries.items c.self.inside.standing c.answer.new.self c.self.inside.made c.args.session
-    (call_of c.args.call) (reply_of c.in_ok-reply.reply) c.self.invariant c.self.told c.requires.session (few g c) c.requires.built c.in_ok-reply.ensures.told
+    (call_of c.args.call) (reply_of c.in_ok-reply.reply) c.self.invariant.0 c.self.told c.requires.session (few g c) c.requires.built c.in_ok-reply.ensures.told
 
 items : (g : given.Over) (c : goal.After-push_reserved g) → c.push_reserved.new.self.items ≡ c.self.inside.entries.items ++ entry g c ∷ []
 unfolding entry
@@ -45,7 +57,22 @@ unfolding entry
 stands g c = rw (items g c) (went g c).stands
 
 pub invariant_of-self-2 : goal.invariant_of-self-2
-invariant_of-self-2 g c = stands g c
+unfolding entry
+invariant_of-self-2 g c =
+    let see = known g.D.Shelf.selected g.D.Shelf.disk g.D.Shelf.reading_faults g.D.Shelf.saving_faults in
+    let base = c.self.inside.base in
+    let entries = c.self.inside.entries.items in
+    let opening = c.self.inside.opening.value in
+    let handed = all_seen c.self.inside.handed.items in
+    let place = c.self.inside.place in
+    let room = vec_capacity c.push_reserved.new.self in
+    let len : length entries ≡ c.len.result = search rules in
+    let enough : length entries + 1 + entries_owed (replay base entries).out ≤ room =
+    omega (arith, len, owed g c, c.len.ensures, c.in_ok-reserve.ensures.ok, c.push_reserved.ensures.capacity) in
+    let holds = holds_called see base entries c.self.inside.standing c.self.inside.made c.self.invariant.0 opening handed place
+    (vec_capacity c.self.inside.entries) room c.args.session (slice_index c.self.inside.made c.args.session) (call_of c.args.call) (reply_of c.in_ok-reply.reply)
+    c.self.invariant.1 enough in
+    (stands g c, subst (λ es. Holds see base es opening handed place room) (sym (items g c)) holds)
 
 pub returns-clause-legal : goal.returns-clause-legal
 returns-clause-legal g c = (stands g c).legal
@@ -64,10 +91,14 @@ returns-clause-answered g c =
       base = c.self.inside.base;
       entries = (items g c ∙ ap (λ n. c.self.inside.entries.items ++ record { session = session; index = n; kind = asked call []; reply = reply } ∷ []) (went g c).index) i;
     } in
-    subst P c.self.view_is (answered old new session call reply (few g c) (went g c).answers last)
+    subst P (ap (λ e. e.history) c.self.view_is) (answered old new session call reply (few g c) (went g c).answers last)
 
 pub returns-clause-shown : goal.returns-clause-shown
 returns-clause-shown g c =
     shows c.self.inside.base c.push_reserved.new.self.items c.self.inside.standing c.answer.new.self
     (slice_set c.self.inside.made c.args.session (slice_index c.self.inside.made c.args.session + 1))
     (call_of c.args.call) (reply_of c.in_ok-reply.reply) c.answer.new.desk.out c.in_ok-reply.ensures.told (stands g c) c.in_ok-reply.ensures.shown
+
+pub answer-requires-clause-ids : goal.answer-requires-clause-ids
+answer-requires-clause-ids g c =
+    has_ids c.self.inside.base c.self.inside.entries.items c.self.inside.standing c.self.inside.made c.self.invariant.0

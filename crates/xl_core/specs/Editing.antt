@@ -1,0 +1,99 @@
+-- A core as contracts see it: a document's history and the shelf on which it is saved.
+use Rattle.std.specs.Prelude.{◌≡◌, ℕ, ◌+◌, ◌<◌, ◌≤◌, List, [], ◌∷◌, ◌++◌, length, Option, Some, None, IsSome}
+use Rattle.spec_history.specs.Machine.{Reply, saved, Saving}
+use Rattle.spec_history.specs.History.{Entry, starts, ends, replay, next_index}
+use Rattle.spec_world.specs.declared.SaveEnd.{SaveEnd}
+use Rattle.spec_world.specs.Events.{end_reply}
+use Rattle.xl_ports.specs.Disk.{Disk}
+use Rattle.spec_saves.specs.Names.{version_out}
+use Rattle.spec_saves.specs.Shelf.{Known, ShelfIsRight}
+use Rattle.spec_saves.specs.Returns.{Returns}
+use Rattle.spec_history.specs.Calls.{most_entries}
+use Rattle.xl_core.specs.History.{History, version, document}
+use Rattle.xl_core.specs.declared.saving.Begun.{Begun}
+use Rattle.xl_core.specs.declared.saving.Begun.TheVariants.{Snapshot, Out, Full}
+
+-- the history, the shelf as the document was opened, as each save's start has handed it out, and as it is where no save is out
+pub record Editing (K : Type 0) : Type 0 where
+  pub history : History
+  pub opening : K
+  pub handed : List K
+  pub shelf : Option K
+
+-- ---- shelves
+
+-- what is known of a shelf
+abbrev pub known : {K : Type 0} → (selected : K → Option (List ℕ)) → (disk : K → Option Disk) → (reading saving : K → ℕ) → K → Known
+known selected disk reading saving k = record { selected = selected k; disk = disk k; reading = reading k; saving = saving k }
+
+-- the last of some shelves, or the one before them
+abbrev pub last_of : {K : Type 0} → K → List K → K
+last_of first [] = first
+last_of first (k ∷ ks) = last_of k ks
+
+-- the shelf as it was handed out last
+abbrev pub last_handed : {K : Type 0} → Editing K → K
+last_handed c = last_of c.opening c.handed
+
+module _ {K : Type 0} (see : K → Known) where
+  -- this shelf is right after the history
+  abbrev pub IsRight : Editing K → K → Type 0
+  IsRight c k = ShelfIsRight (see c.opening) c.history.base c.history.entries (see k)
+
+  -- it comes back right from the save that is out
+  abbrev pub ComesBack : Editing K → SaveEnd → K → Type 0
+  ComesBack c how k = Returns (see c.opening) (see (last_handed c)) c.history.base c.history.entries how (see k)
+
+-- no shelf changed hands
+pub record KeepsShelf {K : Type 0} (old new : Editing K) : Type 0 where
+  pub opening : new.opening ≡ old.opening
+  pub handed : new.handed ≡ old.handed
+  pub shelf : new.shelf ≡ old.shelf
+
+-- ---- saves
+
+abbrev pub start_of : History → (session : ℕ) → Entry
+start_of h session = record { session = session; index = next_index h.entries session; kind = starts; reply = saved (version h) }
+
+-- the save that is out, if any
+abbrev pub out_of : History → Option Saving
+out_of h = (replay h.base h.entries).out
+
+abbrev pub index_out : Option Saving → ℕ
+index_out None = 0
+index_out (Some out) = out.index
+
+abbrev pub end_of : History → (session : ℕ) → Reply → Entry
+end_of h session reply = record { session = session; index = index_out (out_of h); kind = ends; reply = reply }
+
+abbrev pub with_entry : History → Entry → History
+with_entry h e = record h { entries = h.entries ++ e ∷ [] }
+
+-- the shelf is handed out, and the start is the last entry
+abbrev pub with_start : {K : Type 0} → Editing K → (session : ℕ) → K → Editing K
+with_start c session k = record c { history = with_entry c.history (start_of c.history session); handed = c.handed ++ k ∷ []; shelf = None }
+
+-- the shelf is there again, and the end is the last entry
+abbrev pub with_end : {K : Type 0} → Editing K → (session : ℕ) → Reply → K → Editing K
+with_end c session reply k = record c { history = with_entry c.history (end_of c.history session reply); shelf = Some k }
+
+-- A save begins with the last version, its document and the shelf, where that is in and two entries are free.
+abbrev pub Begins : {K : Type 0} → (old : Editing K) → (session : ℕ) → Begun K → (new : Editing K) → Type 0
+Begins old session (Snapshot v d k) new =
+    (v ≡ version old.history)
+    × (d ≡ document old.history)
+    × (old.shelf ≡ Some k)
+    × (length old.history.entries + 2 ≤ most_entries)
+    × (new ≡ with_start old session k)
+Begins old session Out new = (old.shelf ≡ None) × (new ≡ old)
+Begins old session Full new = IsSome old.shelf × (most_entries < length old.history.entries + 2) × (new ≡ old)
+
+-- A save ends with the version that it started with.
+abbrev pub Ends : {K : Type 0} → (old : Editing K) → (session : ℕ) → SaveEnd → K → Reply → (new : Editing K) → Type 0
+Ends old session how k reply new = (reply ≡ end_reply how (version_out (out_of old.history))) × (new ≡ with_end old session reply k)
+
+-- of a shelf that is handed out
+abbrev pub HandsOut : {K : Type 0} → (K → Type 0) → Begun K → Type 0
+HandsOut P (Snapshot v d k) = P k
+HandsOut P Out = Unit {0}
+HandsOut P Full = Unit {0}
