@@ -1,0 +1,5 @@
+mod Spread
+mod Nodes
+mod Small
+mod Settled
+mod Made
