@@ -1,0 +1,17 @@
+use Rattle.std.proofs.Common.{arith}
+use Rattle.xl_report.proofs.Chains.{look_is}
+use Rattle.xl_report.proofs.look.Look.drawn.Goals as goal
+
+pub returns-clause-drawn : goal.returns-clause-drawn
+returns-clause-drawn c =
+    rw c.mode_at-mode.ensures
+    (look_is _ _ _ _ _ _ _ _ _ _ _ c.draw-x.ensures.value c.draw-y.ensures.value c.draw.ensures.value c.draw-2.ensures.value c.pixel-pixel.ensures.drawn)
+
+pub returns-clause-fits : goal.returns-clause-fits
+returns-clause-fits c = record {
+  x = omega (arith, c.draw-x.ensures.below);
+  y = omega (arith, c.draw-y.ensures.below);
+  opacity = omega (arith, c.draw-2.ensures.below);
+  four = c.pixel-pixel.ensures.four;
+  bytes = c.pixel-pixel.ensures.bytes;
+}
