@@ -1,5 +1,6 @@
 //! Saves files of the system and writes what came of each: through symbolic links, over an older draft, with the
-//! permission bits of the old file, where there was no file, and where a save cannot be.
+//! permission bits of the old file, where there was no file, and where a save cannot be; and what becomes of a draft when
+//! another name is selected.
 #![tactic(auto)]
 
 use std::alloc::Global;
@@ -7,7 +8,7 @@ use std::fs::Permissions;
 use std::os::unix::fs::{PermissionsExt, symlink};
 use std::process::ExitCode;
 use std::{fs, io};
-use xl_ports::Shelf;
+use xl_ports::{Failed, Shelf};
 use xl_real::FileShelf;
 use xl_save::save;
 
@@ -100,6 +101,27 @@ fn save_in_vain(rt: &HostRuntime) -> io::Result<()> {
     show_file(rt, "folder/whole")
 }
 
+// A draft that is open when another name is selected.
+fn select_another(rt: &HostRuntime) -> io::Result<()> {
+    let mut shelf = FileShelf::new(rt);
+    let end = match begin_draft(&mut shelf, "folder/whole_too") {
+        Ok(()) => "begun",
+        Err(_) => "not begun",
+    };
+    let line = format!(in rt.alloc(); "folder/whole_too draft {end}")?;
+    rt.println(line.as_str())?;
+    show_whether_there(rt, "folder/whole_too.draft")?;
+    if shelf.select("folder/new").is_err() {
+        rt.println("not selected")?;
+    }
+    show_whether_there(rt, "folder/whole_too.draft")
+}
+
+fn begin_draft(shelf: &mut FileShelf, name: &str) -> Result<(), Failed> {
+    shelf.select(name)?;
+    shelf.draft_new()
+}
+
 fn remove_all(rt: &HostRuntime) -> io::Result<()> {
     fs::remove_dir_all(rt, "folder")?;
     for name in ["link", "hanging", "loop", "loop_end"] {
@@ -112,6 +134,7 @@ fn try_all(rt: &HostRuntime) -> io::Result<()> {
     save_through_links(rt)?;
     save_new_files(rt)?;
     save_in_vain(rt)?;
+    select_another(rt)?;
     remove_all(rt)
 }
 

@@ -1,5 +1,5 @@
 //! The picture of a stack over a rectangle of the canvas.
-ghost use Rattle.std.specs.Prelude.{◌≡◌, ◌+◌, ◌*◌, ◌<◌, ◌≤◌, ◌≤ℤ◌, pos, ℕ, length, IfOk, OnOk, IsSome};
+ghost use Rattle.std.specs.Prelude.{◌≡◌, ◌+◌, ◌*◌, ◌<◌, ◌≤◌, ◌≤ℤ◌, pos, ℕ, length, IfOk, OnOk, OnErr, IsSome};
 ghost use Rattle.spec_forest.specs.Forest.{levels, stack_at};
 ghost use Rattle.spec_grid.specs.Rect.{part_above_0};
 ghost use Rattle.spec_picture.specs.Picture.{picture as pixel_of_picture, picture_bytes};
@@ -10,20 +10,14 @@ ghost use Rattle.xl_compose.specs.Rows.{ShowsBand};
 
 use crate::bytes::write_row;
 use crate::span::Band;
-use crate::stacks::lay_stack;
+use crate::stacks::{CLEAR, lay_stack};
 use std::alloc::{AllocError, Global};
 use std::marker::Model;
 use std::sync::ledger::Ledger;
 use xl_blend::{Pixel, Steps};
 use xl_doc::{Document, MAX_SIDE, Node, NodeId, Rect};
+use xl_tiles::ROOM;
 use xl_tree::Stack;
-
-const CLEAR: Pixel = Pixel {
-    r: 0,
-    g: 0,
-    b: 0,
-    a: 0,
-};
 
 // A coordinate on the canvas.
 fn natural(at: i32) -> u32
@@ -141,7 +135,7 @@ impl Composer {
             width,
             picture: vec![in alloc; CLEAR; 64 * width as usize]?,
             room: vec![in alloc; CLEAR; 512 * width as usize]?,
-            bytes: vec![in alloc; 0; 32768 + 320 * width as usize]?,
+            bytes: vec![in alloc; 0; ROOM + 320 * width as usize]?,
         })
     }
 
@@ -170,8 +164,8 @@ impl Composer {
     }
 }
 
-/// The picture of a stack over a rectangle of the canvas: RGBA bytes, row by row. After out of memory `out` holds any bytes. It takes
-/// at most one step for each point and each visible node below the stack.
+/// The picture of a stack over a rectangle of the canvas: RGBA bytes, row by row. After out of memory `out` and the steps are as
+/// before: nothing was composed. It takes at most one step for each point and each visible node below the stack.
 pub fn picture<L: Ledger>(
     alloc: Global,
     doc: &Document,
@@ -184,6 +178,8 @@ pub fn picture<L: Ledger>(
     requires inside { IsInside doc.now.width doc.now.height rect }
     requires room { length out.old ≡ 4 * (rect.w * rect.h) }
     ensures picture { OnOk result (out.new ≡ picture_bytes doc.now stack.0 (part_above_0 rect.x) (part_above_0 rect.y) rect.w rect.h) }
+    ensures as_before { OnErr result (out.new ≡ out.old) }
+    ensures no_steps { OnErr result (steps.new ≡ steps.old) }
     ensures cost { steps.new ≤ steps.old + visible_below doc.now stack.0 * (rect.w * rect.h) }
 {
     let mut composer = Composer::new(alloc, rect.w)?;

@@ -17,9 +17,7 @@ use crate::span::{Band, Span, overlap};
 use std::sync::ledger::Ledger;
 use xl_blend::{Mode, Pixel, Steps, fade_row, fade_row_by};
 use xl_doc::{Layer, Rect};
-
-/// The bytes of one tile in runs, the room for reading a plane.
-const TILE_ROOM: usize = 32768;
+use xl_tiles::ROOM;
 
 // Fades a row by the mask, where there is one and it is applied. The bytes are those of a part of the mask.
 fn mask_row(layer: &Layer, part: Rect, masks: &[u8], y: u32, row: &mut [Pixel])
@@ -182,7 +180,7 @@ pub fn lay_layer<L: Ledger>(
         return;
     }
     let part = common(layer, across, down);
-    let (tile, rest) = bytes.split_at_mut(TILE_ROOM);
+    let (tile, rest) = bytes.split_at_mut(ROOM);
     let (count, size) = size_of(layer, part, band);
     let (masks, rest) = rest.split_at_mut(count);
     let pixels = &mut rest[..size];

@@ -17,7 +17,8 @@ use xl_blend::{Mode, Pixel, Steps, fade_row};
 use xl_doc::{Body, Node};
 use xl_tree::{Split, Stack};
 
-const CLEAR: Pixel = Pixel {
+/// The pixel of nothing.
+pub const CLEAR: Pixel = Pixel {
     r: 0,
     g: 0,
     b: 0,

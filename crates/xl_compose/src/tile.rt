@@ -67,8 +67,8 @@ impl Picture {
     }
 }
 
-/// The picture of a stack at the points of a tile, recomposed. After out of memory `out` is as before. It takes at most one step for each of
-/// 4096 points and each visible node below the stack.
+/// The picture of a stack at the points of a tile, recomposed. After out of memory `out` and the steps are as before. It takes at most
+/// one step for each of 4096 points and each visible node below the stack.
 pub fn recompose_tile<L: Ledger>(
     alloc: Global,
     doc: &Document,
@@ -81,6 +81,7 @@ pub fn recompose_tile<L: Ledger>(
     requires on_grid { IsTrue (is_on_grid doc.now.width doc.now.height at) }
     ensures picture { OnOk result (out.new ≡ project doc.now stack.0 at) }
     ensures as_before { OnErr result (out.new ≡ out.old) }
+    ensures no_steps { OnErr result (steps.new ≡ steps.old) }
     ensures cost { steps.new ≤ steps.old + visible_below doc.now stack.0 * 4096 }
 {
     prove!(doc.width <= MAX_SIDE);

@@ -15,7 +15,7 @@ use xl_ports::{Failed, Shelf};
 /// many as 40 links, and the links stay. They are followed by `select` alone. The draft stands beside the file, under
 /// its path with `.draft` behind it.
 ///
-/// - `select` reads links, and answers `Failed` where a link cannot be followed.
+/// - `select` reads links, and answers `Failed` where a link cannot be followed. It removes the draft that is open.
 /// - `load` opens the file once and reads at the offset that is asked for.
 /// - `draft_new` removes an older draft, makes a new one that must not be there, and gives it the permission bits of the
 ///   file, where there is one.
@@ -104,10 +104,12 @@ impl Shelf for FileShelf {
         let place = place_of(&self.rt, name);
         match (place, String::from_str(self.rt.alloc(), name)) {
             (Ok(place), Ok(name)) => {
+                if self.draft.take().is_some() {
+                    discard_draft(&self.rt, &self.place);
+                }
                 self.name = Some(name);
                 self.place = place;
                 self.file = None;
-                self.draft = None;
                 Ok(())
             }
             _ => {
