@@ -1,16 +1,18 @@
 -- What a call that is submitted leaves: one entry more, with the line that is printed for it.
-use Rattle.std.proofs.Common.{◌≡◌, ℕ, ◌<◌, List, [], ◌∷◌, ◌++◌, length, Some, None, refl, ap, sym, ◌∙◌, subst}
+use Rattle.spec_history.specs.Calls.{most_entries}
+use Rattle.std.proofs.Common.{◌≡◌, ℕ, ◌+◌, ◌<◌, ◌≤◌, false, List, [], ◌∷◌, ◌++◌, length, None, refl, ap, sym, ◌∙◌, subst, arith}
 use Rattle.std.specs.Prelude.{Option, Result, Ok, Err}
 use Rattle.std.proofs.lemmas.Bool.{MatchBool-at_false, lt-leb}
 use Rattle.spec_edit.specs.Edit.{Edit}
 use Rattle.spec_edit.specs.Apply.{At, Refused, apply_group}
-use Rattle.spec_history.specs.Machine.{Call, edit, undo, redo, tile, peek, top, Reply, tile_of, State, Done, Answer, latest, document_at, names, made, answer, undo_answer}
-use Rattle.spec_history.specs.History.{asked, replay}
+use Rattle.spec_history.specs.Machine.{Call, edit, undo, redo, tile, peek, top, moved, Reply, tile_of, State, Done, Answer, latest, document_at, names, stays, made, answer, undo_answer, redo_answer}
+use Rattle.spec_history.specs.History.{asked, replay, next_index}
 use Rattle.spec_history.specs.Kept.{IsLegal}
 use Rattle.spec_history.proofs.Growing.{cond_both}
 use Rattle.spec_text.specs.Printed.{line_text}
 use Rattle.spec_text.specs.Text.{digest_of, shown_digest}
-use Rattle.xl_core.specs.History.{History, most_entries, Answers, Shows, with_call, reply_to}
+use Rattle.spec_world.specs.World.{entries_owed}
+use Rattle.xl_core.specs.History.{History, is_full, Answers, Shows, with_call, reply_to}
 use Rattle.xl_edit.specs.Built.{IsBuilt}
 use Rattle.xl_edit.specs.declared.reply.Reply as code
 use Rattle.xl_edit.specs.declared.reply.Reply.TheVariants.{SaveMemory, HistoryFull}
@@ -18,7 +20,7 @@ use Rattle.xl_edit.specs.Replies.{reply_of}
 use Rattle.xl_script.specs.Printed.{HasText}
 use Rattle.xl_program.specs.Playing.{ArePlayed, IsCalled, shown_of}
 use Rattle.xl_program.proofs.Answered.{IsOf, answer_of, tile_either}
-use Rattle.xl_program.proofs.Played.{played_more}
+use Rattle.xl_program.proofs.Played.{played_call}
 
 made_shown : (s : State) (old : At) (es : List Edit) (tables : List (List ℕ)) (r : Result At Refused) (bytes : List ℕ) → shown_of (made s old es tables r).reply bytes ≡ []
 made_shown s old es tables (Err r) bytes = refl
@@ -28,31 +30,44 @@ undo_shown : (s : State) (named : Option ℕ) (ds : List Done) (bytes : List ℕ
 undo_shown s named [] bytes = refl
 undo_shown s named (d ∷ ds) bytes = cond_both (λ (a : Answer). shown_of a.reply bytes ≡ []) (names named d.group) _ _ refl refl
 
+redo_shown : (s : State) (ds : List Done) (bytes : List ℕ) → shown_of (redo_answer s ds).reply bytes ≡ []
+redo_shown s [] bytes = refl
+redo_shown s (d ∷ ds) bytes = refl
+
 answer_shown : (h : History) (s : State) (c : Call) (bytes : List ℕ) → IsBuilt c → Shows h c (answer h.base s c []).reply bytes
     → shown_of (answer h.base s c []).reply bytes ≡ shown_digest h.base h.entries (asked c []) (answer h.base s c []).reply
-answer_shown h s (edit None (one ∷ [])) bytes built shows =
+answer_shown h s (edit guard es) bytes built shows =
     let old : At = record { document = document_at h.base s (latest s); next = s.next_id } in
-    made_shown s old (one ∷ []) [] (apply_group old (one ∷ []) []) bytes
-answer_shown h s (undo None) bytes built shows = undo_shown s None s.undo bytes
+    cond_both (λ (a : Answer). shown_of a.reply bytes ≡ []) (names guard (latest s)) (made s old es [] (apply_group old es [])) (stays s (moved (latest s)))
+    (made_shown s old es [] (apply_group old es []) bytes) refl
+answer_shown h s (undo named) bytes built shows = undo_shown s named s.undo bytes
+answer_shown h s redo bytes built shows = redo_shown s s.redo bytes
 answer_shown h s (tile stack at) bytes built shows =
     tile_either (λ (r : Reply). Shows h (tile stack at) r bytes → shown_of r bytes ≡ shown_digest h.base h.entries (asked (tile stack at) []) r)
     (document_at h.base s (latest s)) stack at (tile_of (latest s)) (λ q. refl) (λ q. refl) (λ q. ap digest_of q) shows
-answer_shown h s (edit None []) bytes built shows = absurd built
-answer_shown h s (edit None (one ∷ two ∷ es)) bytes built shows = absurd built
-answer_shown h s (edit (Some guard) es) bytes built shows = absurd built
-answer_shown h s (undo (Some named)) bytes built shows = absurd built
-answer_shown h s redo bytes built shows = absurd built
 answer_shown h s (peek stack at) bytes built shows = absurd built
-answer_shown h s top bytes built shows = absurd built
+answer_shown h s top bytes built shows = refl
+
+-- two entries are free, and no save is out
+pub record HasRoom (h : History) : Type 0 where
+  pub free : length h.entries + 2 ≤ most_entries
+  pub ended : (replay h.base h.entries).out ≡ None
+
+not_full : (h : History) → HasRoom h → is_full h ≡ false
+not_full h room =
+    let free = room.free in
+    let none : entries_owed (replay h.base h.entries).out ≡ 0 = ap entries_owed room.ended in
+    let below : length h.entries + entries_owed (replay h.base h.entries).out < most_entries = omega (arith, none, free) in
+    lt-leb most_entries (length h.entries + entries_owed (replay h.base h.entries).out) below
 
 -- a history with room takes the call
 record IsTaken (old : History) (c : Call) (reply : Reply) (new : History) : Type 0 where
   replied : reply ≡ reply_to old c
   grown : new ≡ with_call old 0 c reply
 
-taken : (old : History) (c : Call) (reply : Reply) (new : History) → length old.entries < most_entries → Answers old 0 c reply new → IsTaken old c reply new
+taken : (old : History) (c : Call) (reply : Reply) (new : History) → HasRoom old → Answers old 0 c reply new → IsTaken old c reply new
 taken old c reply new room answers =
-    let both = MatchBool-at_false _ _ (lt-leb most_entries (length old.entries) room) answers in
+    let both = MatchBool-at_false _ _ (not_full old room) answers in
     record { replied = both.0; grown = both.1 }
 
 text_of : (n : ℕ) (reply : code.Reply) → IsOf n (reply_of reply) → HasText reply
@@ -60,17 +75,20 @@ text_of n (SaveMemory version) h = absurd h
 text_of n HistoryFull h = absurd h
 text_of n reply h = tt
 
-pub submitted_text : (old : History) (c : Call) (reply : code.Reply) (new : History) → length old.entries < most_entries → IsBuilt c → Answers old 0 c (reply_of reply) new → HasText reply
-submitted_text old c reply new room built answers =
+pub submitted_text : (old : History) (c : Call) (reply : code.Reply) (new : History) → HasRoom old → Answers old 0 c (reply_of reply) new → HasText reply
+submitted_text old c reply new room answers =
     text_of (latest (replay old.base old.entries)) reply
-    (subst (IsOf (latest (replay old.base old.entries))) (sym (taken old c (reply_of reply) new room answers).replied) (answer_of old.base (replay old.base old.entries) c built))
+    (subst (IsOf (latest (replay old.base old.entries))) (sym (taken old c (reply_of reply) new room answers).replied) (answer_of old.base (replay old.base old.entries) c []))
 
-pub submitted_called : (old : History) (c : Call) (reply : Reply) (new : History) → length old.entries < most_entries → Answers old 0 c reply new → IsCalled old c new
+pub submitted_called : (old : History) (c : Call) (reply : Reply) (new : History) → HasRoom old → Answers old 0 c reply new → IsCalled old c new
 submitted_called old c reply new room answers = (reply, (taken old c reply new room answers).grown)
 
-pub submitted_played : (old : History) (c : Call) (reply : Reply) (new : History) (bytes out : List ℕ) → length old.entries < most_entries → IsBuilt c
+pub submitted_base : (old : History) (c : Call) (reply : Reply) (new : History) → HasRoom old → Answers old 0 c reply new → new.base ≡ old.base
+submitted_base old c reply new room answers = ap (λ (h : History). h.base) (taken old c reply new room answers).grown
+
+submitted_played : (old : History) (c : Call) (reply : Reply) (new : History) (bytes out : List ℕ) → HasRoom old → IsBuilt c
     → ArePlayed old.base old.entries out → Answers old 0 c reply new → IsLegal new.base new.entries → Shows new c reply bytes
-    → ArePlayed new.base new.entries (out ++ line_text 0 (length old.entries) (shown_of reply bytes) reply)
+    → ArePlayed new.base new.entries (out ++ line_text 0 (next_index old.entries 0) (shown_of reply bytes) reply)
 submitted_played old c reply new bytes out room built played answers legal shows =
     let is = taken old c reply new room answers in
     let whole = with_call old 0 c reply in
@@ -78,16 +96,16 @@ submitted_played old c reply new bytes out room built played answers legal shows
     subst (λ (r : Reply). Shows whole c r bytes → shown_of r bytes ≡ shown_digest whole.base whole.entries (asked c []) r) (sym is.replied)
     (answer_shown whole (replay old.base old.entries) c bytes built)
     (subst (λ (h : History). Shows h c reply bytes) is.grown shows) in
-    let more = played_more old.base old.entries out c reply played built (subst (λ (h : History). IsLegal h.base h.entries) is.grown legal) in
-    subst (λ (h : History). ArePlayed h.base h.entries (out ++ line_text 0 (length old.entries) (shown_of reply bytes) reply)) (sym is.grown)
-    (subst (λ (digest : List ℕ). ArePlayed whole.base whole.entries (out ++ line_text 0 (length old.entries) digest reply)) (sym shown) more)
+    let more = played_call old.base old.entries out c reply played built is.replied (subst (λ (h : History). IsLegal h.base h.entries) is.grown legal) in
+    subst (λ (h : History). ArePlayed h.base h.entries (out ++ line_text 0 (next_index old.entries 0) (shown_of reply bytes) reply)) (sym is.grown)
+    (subst (λ (digest : List ℕ). ArePlayed whole.base whole.entries (out ++ line_text 0 (next_index old.entries 0) digest reply)) (sym shown) more)
 
 -- the line that is printed is that of the call
-pub submitted_printed : (old : History) (c : Call) (reply : Reply) (new : History) (bytes out : List ℕ) (index : ℕ) (digest text : List ℕ) → length old.entries < most_entries → IsBuilt c
+pub submitted_printed : (old : History) (c : Call) (reply : Reply) (new : History) (bytes out : List ℕ) (index : ℕ) (digest text : List ℕ) → HasRoom old → IsBuilt c
     → ArePlayed old.base old.entries out → Answers old 0 c reply new → IsLegal new.base new.entries → Shows new c reply bytes
-    → index ≡ length old.entries → digest ≡ shown_of reply bytes → text ≡ out ++ line_text 0 index digest reply
+    → index ≡ next_index old.entries 0 → digest ≡ shown_of reply bytes → text ≡ out ++ line_text 0 index digest reply
     → ArePlayed new.base new.entries text
 submitted_printed old c reply new bytes out index digest text room built played answers legal shows at is printed =
-    let whole : text ≡ out ++ line_text 0 (length old.entries) (shown_of reply bytes) reply =
-    printed ∙ ap (λ (n : ℕ). out ++ line_text 0 n digest reply) at ∙ ap (λ (d : List ℕ). out ++ line_text 0 (length old.entries) d reply) is in
+    let whole : text ≡ out ++ line_text 0 (next_index old.entries 0) (shown_of reply bytes) reply =
+    printed ∙ ap (λ (n : ℕ). out ++ line_text 0 n digest reply) at ∙ ap (λ (d : List ℕ). out ++ line_text 0 (next_index old.entries 0) d reply) is in
     subst (ArePlayed new.base new.entries) (sym whole) (submitted_played old c reply new bytes out room built played answers legal shows)

@@ -3,3 +3,4 @@ pub mod Lines
 pub mod Outcome
 pub mod Parts
 pub mod Playing
+pub mod Saving

@@ -1,5 +1,5 @@
 -- What a command writes, and why it may stop.
-use Rattle.std.specs.Prelude.{◌≡◌, ◌⊎◌, ◌==◌, ℕ, List, [], ◌∷◌, Option, Some, None, IfSome, IsTrue, Result, Ok, Err}
+use Rattle.std.specs.Prelude.{◌≡◌, ◌⊎◌, ◌<◌, ◌==◌, ℕ, List, [], ◌∷◌, Option, Some, None, IfSome, IsTrue, Result, Ok, Err}
 use Rattle.std.specs.List.{list_any}
 use Rattle.spec_document.specs.Document.{Document}
 use Rattle.spec_fields.specs.declared.ReadRefused.{ReadRefused}
@@ -7,7 +7,13 @@ use Rattle.spec_file.specs.Holds.{Holds}
 use Rattle.spec_file.specs.Reading.{first_fault}
 use Rattle.spec_report.specs.Pam.{pam}
 use Rattle.spec_script.specs.Script.{Line, script}
-use Rattle.spec_text.specs.Text.{Text}
+use Rattle.spec_history.specs.History.{Entry}
+use Rattle.spec_history.specs.Kept.{IsLegal}
+use Rattle.spec_saves.specs.Names.{save_faults}
+use Rattle.spec_saves.specs.Shelf.{Known, ShelfIsRight}
+use Rattle.spec_text.specs.Text.{IsTextOf}
+use Rattle.xl_core.specs.Editing.{known}
+use Rattle.xl_ports.specs.Disk.{Disk, Between, IsQuiet}
 use Rattle.xl_ports.specs.Faults.{Rose}
 use Rattle.xl_ports.specs.Shelf.{Content, absent, file}
 use Rattle.xl_ports.specs.Sink.{WritesAll, WritesPart}
@@ -15,7 +21,7 @@ use Rattle.xl_ports.specs.Source.{led_by}
 use Rattle.xl_program.specs.Command.{Asked, render, edit}
 use Rattle.xl_program.specs.Lines.{source_fault_line, bad_line, shelf_fault_line, refused_line, Tells}
 use Rattle.xl_program.specs.declared.stopped.Stopped.{Stopped}
-use Rattle.xl_program.specs.declared.stopped.Stopped.TheVariants.{SourceFault, BadLine, ShelfFault, Refused, SinkFault, Memory}
+use Rattle.xl_program.specs.declared.stopped.Stopped.TheVariants.{SourceFault, BadLine, ShelfFault, Refused, SaveFault, SinkFault, Memory}
 
 -- ---- the file
 
@@ -43,6 +49,36 @@ IsScript left = (lists : List (List Line)) × HasLines left lists
 abbrev pub IsBadLine : (left : Option (List ℕ)) → (number : ℕ) → Type 0
 IsBadLine left number = IfSome left (λ text. script text [] ≡ Err number)
 
+-- ---- the shelf
+
+-- what is seen of a shelf: what its names stand for, and what is known of it
+pub record Shelved : Type 0 where
+  pub content : List ℕ → Option Content
+  pub known : Known
+
+abbrev pub shelved : {D : Type 0} → (content : D → List ℕ → Option Content) → (selected : D → Option (List ℕ)) → (disk : D → Option Disk) → (reading saving : D → ℕ) → D → Shelved
+shelved content selected disk reading saving d = record { content = content d; known = known selected disk reading saving d }
+
+-- a shelf as a command finds it, the name of its file being selected
+abbrev pub opened : Shelved → (name : List ℕ) → Known
+opened s name = record { selected = Some name; disk = s.known.disk; reading = s.known.reading; saving = s.known.saving }
+
+-- Nothing was saved: under each name a read gives and a crash leaves what they did, at each moment.
+pub record IsUntouched (old new : Shelved) : Type 0 where
+  pub contents : new.content ≡ old.content
+  pub quiet : Between old.known.disk new.known.disk IsQuiet
+  pub saving : new.known.saving ≡ old.known.saving
+
+-- how many saves of a run may have failed
+abbrev pub NoneFailed : (faults : ℕ) → Type 0
+NoneFailed faults = faults ≡ 0
+
+abbrev pub SomeFailed : (faults : ℕ) → Type 0
+SomeFailed faults = 0 < faults
+
+abbrev pub AnyFailed : (faults : ℕ) → Type 0
+AnyFailed faults = Unit {0}
+
 -- ---- what is written
 
 -- the PAM of a document that the file holds, where its content is told
@@ -51,30 +87,64 @@ pub record IsPicture (content : Option Content) (out : List ℕ) : Type 0 where
   pub held : IfSome content (λ c. HoldsDocument c document)
   pub picture : out ≡ pam document
 
--- the text of a legal history, whose calls are those of the script, on a document that the file holds, where these are told
-pub record IsReplies (left : Option (List ℕ)) (content : Option Content) (out : List ℕ) : Type 0 where
+-- a legal history of a document that the file held, where that is told, and the shelf after its saves
+pub record IsHistory (name : List ℕ) (old new : Shelved) (document : Document) (entries : List Entry) : Type 0 where
+  pub held : IfSome (old.content name) (λ c. HoldsDocument c document)
+  pub legal : IsLegal document entries
+  pub shelf : ShelfIsRight (opened old name) document entries new.known
+
+-- the text of such a history whose calls are those of the script
+pub record IsReplies (left : Option (List ℕ)) (name : List ℕ) (old new : Shelved) (HaveFailed : ℕ → Type 0) (out : List ℕ) : Type 0 where
   pub document : Document
   pub lists : List (List Line)
-  pub held : IfSome content (λ c. HoldsDocument c document)
+  pub entries : List Entry
+  pub history : IsHistory name old new document entries
   pub read : HasLines left lists
-  pub text : Text out document lists []
+  pub text : IsTextOf out document lists [] entries
+  pub failed : HaveFailed (save_faults entries)
 
--- what the command writes when it ends well
-abbrev pub IsOutput : (left : Option (List ℕ)) → (content : List ℕ → Option Content) → Option Asked → (out : List ℕ) → Type 0
-IsOutput left content (Some (render name)) out = IsPicture (content name) out
-IsOutput left content (Some (edit name)) out = IsReplies left (content name) out
-IsOutput left content None out = ⊥
+-- what the command writes when it comes to its end, and the shelf then
+abbrev pub IsOutput : (left : Option (List ℕ)) → (old new : Shelved) → Asked → (HaveFailed : ℕ → Type 0) → (out : List ℕ) → Type 0
+IsOutput left old new (render name) HaveFailed out = IsPicture (old.content name) out × IsUntouched old new × HaveFailed 0
+IsOutput left old new (edit name) HaveFailed out = IsReplies left name old new HaveFailed out
+
+-- the shelf where memory ran out: as before, or after a history
+abbrev pub MayHaveSaved : (old new : Shelved) → Asked → Type 0
+MayHaveSaved old new (render name) = IsUntouched old new
+MayHaveSaved old new (edit name) = IsUntouched old new ⊎ ((document : Document) × (entries : List Entry) × IsHistory name old new document entries)
+
+-- the same of any words
+abbrev pub MaySave : (old new : Shelved) → Option Asked → Type 0
+MaySave old new None = ⊥
+MaySave old new (Some command) = MayHaveSaved old new command
 
 module _ {K : Type 0} (held : K → Option (List ℕ)) (faults : K → ℕ) where
   -- the sink was left as it was
   abbrev pub Keeps : (old new : K) → Type 0
   Keeps old new = (held new ≡ held old) × (faults new ≡ faults old)
 
-  -- all of such an output was written; or a fault of the sink came while it was written; or nothing was written
-  abbrev pub Writes : (IsOut : List ℕ → Type 0) → (old new : K) → Result (Unit {0}) Stopped → Type 0
-  Writes IsOut old new (Ok x) = (out : List ℕ) × IsOut out × WritesAll held faults old new out
-  Writes IsOut old new (Err SinkFault) = (out : List ℕ) × IsOut out × WritesPart held faults old new out
-  Writes IsOut old new (Err stopped) = Keeps old new
+  -- all of such an output was written
+  abbrev pub WritesSome : (IsOut : List ℕ → Type 0) → (old new : K) → Type 0
+  WritesSome IsOut old new = (out : List ℕ) × IsOut out × WritesAll held faults old new out
+
+  -- a fault of the sink came while such an output was written
+  abbrev pub WritesFront : (IsOut : List ℕ → Type 0) → (old new : K) → Type 0
+  WritesFront IsOut old new = (out : List ℕ) × IsOut out × WritesPart held faults old new out
+
+  -- what is written and what was saved; where a command stops before its end nothing is
+  abbrev pub Comes : (IsOut : (ℕ → Type 0) → List ℕ → Type 0) → (Untouched Saved : Type 0) → (old new : K) → Result (Unit {0}) Stopped → Type 0
+  Comes IsOut Untouched Saved old new (Ok x) = WritesSome (IsOut NoneFailed) old new
+  Comes IsOut Untouched Saved old new (Err SaveFault) = WritesSome (IsOut SomeFailed) old new
+  Comes IsOut Untouched Saved old new (Err SinkFault) = WritesFront (IsOut AnyFailed) old new
+  Comes IsOut Untouched Saved old new (Err Memory) = Keeps old new × Saved
+  Comes IsOut Untouched Saved old new (Err SourceFault) = Keeps old new × Untouched
+  Comes IsOut Untouched Saved old new (Err (BadLine number)) = Keeps old new × Untouched
+  Comes IsOut Untouched Saved old new (Err ShelfFault) = Keeps old new × Untouched
+  Comes IsOut Untouched Saved old new (Err (Refused refused)) = Keeps old new × Untouched
+
+  -- so does this command
+  abbrev pub ComesTo : (left : Option (List ℕ)) → (before after : Shelved) → Asked → (old new : K) → Result (Unit {0}) Stopped → Type 0
+  ComesTo left before after command old new result = Comes (IsOutput left before after command) (IsUntouched before after) (MayHaveSaved before after command) old new result
 
 -- ---- why a command stopped
 
@@ -83,7 +153,7 @@ abbrev pub SourceCause : {A : Type 0} → (before after : ℕ) → Result A Stop
 SourceCause before after (Err SourceFault) = Rose before after
 SourceCause before after result = after ≡ before
 
--- the shelf's faults rise only where they stop the command
+-- the shelf's reading faults rise only where they stop the command
 abbrev pub ShelfCause : {A : Type 0} → (before after : ℕ) → Result A Stopped → Type 0
 ShelfCause before after (Err ShelfFault) = Rose before after
 ShelfCause before after result = after ≡ before
@@ -101,11 +171,32 @@ module _ {S : Type 0} (left : S → Option (List ℕ)) (faults : S → ℕ) wher
 
 -- ---- how it is told
 
--- done, usage, bad line, refused, source fault, shelf fault, sink fault, memory
+-- usage, bad line, refused or source fault: nothing was played
+abbrev pub StopsBefore : (status : ℕ) → Type 0
+StopsBefore status = IsTrue (list_any (λ n. n == status) (2 ∷ 3 ∷ 4 ∷ 5 ∷ []))
+
+-- done, usage, bad line, refused, source fault, shelf fault or a save that failed, sink fault, memory
 abbrev pub IsStatus : (status : ℕ) → Type 0
 IsStatus status = IsTrue (list_any (λ n. n == status) (0 ∷ 2 ∷ 3 ∷ 4 ∷ 5 ∷ 6 ∷ 7 ∷ 8 ∷ []))
 
 module _ {K : Type 0} (held : K → Option (List ℕ)) (faults : K → ℕ) where
+  -- all is written, and no save failed
+  abbrev pub ComesWell : (left : Option (List ℕ)) → (before after : Shelved) → Option Asked → (old new : K) → Type 0
+  ComesWell left before after None old new = ⊥
+  ComesWell left before after (Some command) old new = WritesSome held faults (IsOutput left before after command NoneFailed) old new
+
+  -- the file could not be read, which is told; or all is written, and a save failed
+  abbrev pub ShelfFails : (left : Option (List ℕ)) → (before after : Shelved) → Option Asked → (old new : K) → Type 0
+  ShelfFails left before after None old new = ⊥
+  ShelfFails left before after (Some command) old new =
+      (Rose before.known.reading after.known.reading × IsUntouched before after × Tells held faults old new shelf_fault_line)
+      ⊎ ((after.known.reading ≡ before.known.reading) × WritesSome held faults (IsOutput left before after command SomeFailed) old new)
+
+  -- a fault of the sink came while all was written
+  abbrev pub WritesInPart : (left : Option (List ℕ)) → (before after : Shelved) → Option Asked → (old new : K) → Type 0
+  WritesInPart left before after None old new = ⊥
+  WritesInPart left before after (Some command) old new = WritesFront held faults (IsOutput left before after command AnyFailed) old new
+
   -- the line is told with this status, unless memory ran out for it
   abbrev pub TellsOr : (old new : K) → (wanted : ℕ) → (text : List ℕ) → (status : ℕ) → Type 0
   TellsOr old new wanted text status = ((status ≡ wanted) × Tells held faults old new text) ⊎ ((status ≡ 8) × Keeps held faults old new)
@@ -116,5 +207,6 @@ module _ {K : Type 0} (held : K → Option (List ℕ)) (faults : K → ℕ) wher
   TellsStop old new (BadLine number) status = TellsOr old new 3 (bad_line number) status
   TellsStop old new ShelfFault status = (status ≡ 6) × Tells held faults old new shelf_fault_line
   TellsStop old new (Refused refused) status = TellsOr old new 4 (refused_line refused) status
+  TellsStop old new SaveFault status = (status ≡ 6) × (new ≡ old)
   TellsStop old new SinkFault status = (status ≡ 7) × (new ≡ old)
   TellsStop old new Memory status = (status ≡ 8) × (new ≡ old)

@@ -1,18 +1,20 @@
 //! The program: the words of a command, the devices that it works on, and how it ends.
 //!
 //! `render FILE` writes the picture of a file to the sink. `edit FILE` reads a script from the source, makes its calls
-//! on the document of a file and writes the replies to the sink; the file stays as it is. What else a command comes to
-//! is told by one line there and by the status. Each command is a module of its own.
+//! and saves on the document of a file and writes the replies to the sink; the file changes by its saves alone. What else a
+//! command comes to is told by one line there and by the status. Each command is a module of its own.
 #![tactic(auto)]
 
 mod command;
 mod editing;
+mod ended;
 mod line;
 mod loading;
 mod obeying;
 mod playing;
 mod rendering;
 mod running;
+mod saving;
 mod stopped;
 mod telling;
 

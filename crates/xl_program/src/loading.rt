@@ -1,6 +1,6 @@
-ghost use Rattle.std.specs.Prelude.{◌≡◌, ◌⊎◌, Some, IfOk};
+ghost use Rattle.std.specs.Prelude.{◌≡◌, ◌⊎◌, Some, IfOk, OnOk};
 ghost use Rattle.xl_doc.specs.Numbered.{AreNumbered};
-ghost use Rattle.xl_program.specs.Outcome.{ShelfCause};
+ghost use Rattle.xl_program.specs.Outcome.{ShelfCause, IsUntouched, shelved};
 ghost use Rattle.xl_program.specs.Parts.{Loads};
 
 use crate::stopped::Stopped;
@@ -23,7 +23,9 @@ pub fn read_document<D: Shelf>(
     ensures loads { Loads (D.content shelf.old name.now) result }
     ensures numbered { IfOk result (λ document. AreNumbered document.nodes) }
     ensures cause { ShelfCause (D.reading_faults shelf.old) (D.reading_faults shelf.new) result }
-    ensures contents { D.content shelf.new ≡ D.content shelf.old }
+    ensures untouched { IsUntouched (shelved D.content D.selected D.disk D.reading_faults D.saving_faults shelf.old)
+        (shelved D.content D.selected D.disk D.reading_faults D.saving_faults shelf.new) }
+    ensures named { OnOk result (D.selected shelf.new ≡ Some name.now) }
     ensures selected { (D.selected shelf.new ≡ D.selected shelf.old) ⊎ (D.selected shelf.new ≡ Some name.now) }
 {
     match shelf.select(name) {

@@ -1,5 +1,6 @@
-ghost use Rattle.std.specs.Prelude.{◌≡◌, ◌⊎◌, Some};
-ghost use Rattle.xl_program.specs.Outcome.{IsPicture, Writes, ShelfCause};
+ghost use Rattle.std.specs.Prelude.{◌≡◌, ◌⊎◌, ℕ, List, Option, Some};
+ghost use Rattle.xl_program.specs.Command.{render as render_of};
+ghost use Rattle.xl_program.specs.Outcome.{ComesTo, ShelfCause, shelved};
 ghost use Rattle.xl_program.specs.Parts.{StopsRender};
 
 use crate::loading::read_document;
@@ -15,10 +16,12 @@ pub fn render<K: Sink, D: Shelf>(
     sink: &mut K,
     shelf: &mut D,
 ) -> Result<(), Stopped>
-    ensures writes { Writes K.held K.faults (IsPicture (D.content shelf.old name.now)) sink.old sink.new result }
+    ensures comes { (left : Option (List ℕ)) → ComesTo K.held K.faults left
+        (shelved D.content D.selected D.disk D.reading_faults D.saving_faults shelf.old)
+        (shelved D.content D.selected D.disk D.reading_faults D.saving_faults shelf.new)
+        (render_of name.now) sink.old sink.new result }
     ensures stops { StopsRender (D.content shelf.old name.now) result }
     ensures cause { ShelfCause (D.reading_faults shelf.old) (D.reading_faults shelf.new) result }
-    ensures contents { D.content shelf.new ≡ D.content shelf.old }
     ensures selected { (D.selected shelf.new ≡ D.selected shelf.old) ⊎ (D.selected shelf.new ≡ Some name.now) }
 {
     let document = read_document(alloc, name, shelf)?;

@@ -9,6 +9,8 @@ pub enum Stopped {
     ShelfFault,
     /// The file holds no document.
     Refused(ReadRefused),
+    /// The command's output is written, and a save failed.
+    SaveFault,
     SinkFault,
     Memory,
 }

@@ -49,6 +49,7 @@ pub fn tell_stop<K: Sink>(alloc: Global, sink: &mut K, stopped: Stopped) -> u8
             SHELF_FAULT
         }
         Stopped::Refused(refused) => tell_text(sink, refusal_text(alloc, refused), REFUSED),
+        Stopped::SaveFault => SHELF_FAULT,
         Stopped::SinkFault => SINK_FAULT,
         Stopped::Memory => MEMORY,
     }

@@ -5,6 +5,7 @@ use Rattle.spec_file.specs.Reading.{reading}
 use Rattle.xl_ports.specs.Shelf.{Content, selected_content, GivesFront}
 use Rattle.xl_ports.proofs.Fronts.{same_content}
 use Rattle.xl_program.proofs.Limits.{front_holds, front_faults}
+use Rattle.xl_program.proofs.Quiet.{two_quiet}
 use Rattle.xl_program.proofs.loading.read_document.Goals as goal
 
 -- what was loaded is the front of the named file
@@ -29,3 +30,33 @@ returns-in-Err-Refused-clause-loads g c =
     let fails = rw c.in-Err-Refused.field-0-is at c.in-Err-Refused.ensures.exact in
     let file = ap (λ v. v.items) c.in-Ok-new.ensures.ok in
     front_faults _ bytes c.in-Err-Refused.refused front (ap reading (sym file) ∙ fails)
+
+pub returns-in-Err-Failed-clause-untouched : goal.returns-in-Err-Failed-clause-untouched
+returns-in-Err-Failed-clause-untouched g c =
+    two_quiet g.D.Shelf.content g.D.Shelf.selected g.D.Shelf.disk g.D.Shelf.reading_faults g.D.Shelf.saving_faults c.args.shelf.now c.select.new.self c.load_all.new.shelf
+    c.select.ensures.contents c.select.ensures.quiet c.select.ensures.saving c.load_all.ensures.contents c.load_all.ensures.quiet c.load_all.ensures.saving
+
+pub returns-in-Err-Memory-clause-untouched : goal.returns-in-Err-Memory-clause-untouched
+returns-in-Err-Memory-clause-untouched g c =
+    two_quiet g.D.Shelf.content g.D.Shelf.selected g.D.Shelf.disk g.D.Shelf.reading_faults g.D.Shelf.saving_faults c.args.shelf.now c.select.new.self c.load_all.new.shelf
+    c.select.ensures.contents c.select.ensures.quiet c.select.ensures.saving c.load_all.ensures.contents c.load_all.ensures.quiet c.load_all.ensures.saving
+
+pub returns-in_default-clause-untouched : goal.returns-in_default-clause-untouched
+returns-in_default-clause-untouched g c =
+    two_quiet g.D.Shelf.content g.D.Shelf.selected g.D.Shelf.disk g.D.Shelf.reading_faults g.D.Shelf.saving_faults c.args.shelf.now c.select.new.self c.load_all.new.shelf
+    c.select.ensures.contents c.select.ensures.quiet c.select.ensures.saving c.load_all.ensures.contents c.load_all.ensures.quiet c.load_all.ensures.saving
+
+pub returns-in-Ok-decode-clause-untouched : goal.returns-in-Ok-decode-clause-untouched
+returns-in-Ok-decode-clause-untouched g c =
+    two_quiet g.D.Shelf.content g.D.Shelf.selected g.D.Shelf.disk g.D.Shelf.reading_faults g.D.Shelf.saving_faults c.args.shelf.now c.select.new.self c.load_all.new.shelf
+    c.select.ensures.contents c.select.ensures.quiet c.select.ensures.saving c.load_all.ensures.contents c.load_all.ensures.quiet c.load_all.ensures.saving
+
+pub returns-in-Err-Refused-clause-untouched : goal.returns-in-Err-Refused-clause-untouched
+returns-in-Err-Refused-clause-untouched g c =
+    two_quiet g.D.Shelf.content g.D.Shelf.selected g.D.Shelf.disk g.D.Shelf.reading_faults g.D.Shelf.saving_faults c.args.shelf.now c.select.new.self c.load_all.new.shelf
+    c.select.ensures.contents c.select.ensures.quiet c.select.ensures.saving c.load_all.ensures.contents c.load_all.ensures.quiet c.load_all.ensures.saving
+
+pub returns-clause-untouched : goal.returns-clause-untouched
+returns-clause-untouched g c =
+    two_quiet g.D.Shelf.content g.D.Shelf.selected g.D.Shelf.disk g.D.Shelf.reading_faults g.D.Shelf.saving_faults c.args.shelf.now c.select.new.self c.load_all.new.shelf
+    c.select.ensures.contents c.select.ensures.quiet c.select.ensures.saving c.load_all.ensures.contents c.load_all.ensures.quiet c.load_all.ensures.saving

@@ -1,22 +1,12 @@
 ghost use Rattle.std.specs.Prelude.{◌≤◌, ◌^◌, length};
 
+use crate::tests::ONE;
 use std::alloc::{AllocError, Global};
 use std::sync::Arc;
 use std::test::Fail;
 use xl_fields::ReadRefusedOrMemory;
 use xl_read::decode;
 use xl_report::info;
-
-/// A file of one pixel with one layer, named A.
-const ONE: [u8; 193] = [
-    103, 105, 109, 112, 32, 120, 99, 102, 32, 102, 105, 108, 101, 0, 0, 0, 0, 1, 0, 0, 0, 1, 0, 0,
-    0, 0, 0, 0, 0, 17, 0, 0, 0, 1, 0, 0, 0, 0, 0, 0, 0, 0, 0, 0, 0, 0, 55, 0, 0, 0, 0, 0, 0, 0, 0,
-    0, 0, 0, 1, 0, 0, 0, 1, 0, 0, 0, 1, 0, 0, 0, 2, 65, 0, 0, 0, 0, 6, 0, 0, 0, 4, 0, 0, 0, 255, 0,
-    0, 0, 7, 0, 0, 0, 4, 0, 0, 0, 0, 0, 0, 0, 8, 0, 0, 0, 4, 0, 0, 0, 1, 0, 0, 0, 11, 0, 0, 0, 4,
-    0, 0, 0, 1, 0, 0, 0, 15, 0, 0, 0, 8, 0, 0, 0, 0, 0, 0, 0, 0, 0, 0, 0, 0, 0, 0, 0, 0, 0, 0, 0,
-    153, 0, 0, 0, 0, 0, 0, 0, 1, 0, 0, 0, 1, 0, 0, 0, 4, 0, 0, 0, 173, 0, 0, 0, 0, 0, 0, 0, 1, 0,
-    0, 0, 1, 0, 0, 0, 189, 0, 0, 0, 0, 200, 100, 50, 255,
-];
 
 // The line of a file, and no text where the file is refused.
 fn line(alloc: Global, bytes: Vec<u8>) -> Result<String, AllocError>

@@ -1,0 +1,8 @@
+use crate::stopped::Stopped;
+
+/// How a command came to its end, and the shelf that was handed in.
+#[derive(Drop)]
+pub struct Done<D> {
+    pub result: Result<(), Stopped>,
+    pub shelf: D,
+}

@@ -1,0 +1,64 @@
+ghost use Rattle.spec_history.specs.Calls.{most_entries};
+ghost use Rattle.std.specs.Prelude.{◌≡◌, ◌+◌, ◌≤◌, length, IfOk, IsSome};
+ghost use Rattle.spec_history.specs.Kept.{IsLegal};
+ghost use Rattle.xl_core.specs.Editing.{known};
+ghost use Rattle.xl_edit.specs.Replies.{reply_of};
+ghost use Rattle.xl_program.specs.Playing.{IsBetweenLines, with_save};
+ghost use Rattle.xl_program.specs.Saving.{IsSavedOn};
+ghost use Rattle.xl_script.specs.Printed.{HasText};
+
+use std::alloc::{AllocError, Global};
+use xl_compose::Recompose;
+use xl_core::{Begun, Core, SaveEnd};
+use xl_doc::Document;
+use xl_edit::Reply;
+use xl_ports::{Failed, Shelf};
+use xl_rle::Greedy;
+use xl_save::save;
+use xl_write::encode;
+
+// Saves a document on a shelf.
+fn save_document<D: Shelf>(alloc: Global, document: &Document, shelf: &mut D) -> SaveEnd
+    requires { IsSome (D.selected shelf.old) }
+    ensures { IsSavedOn (known D.selected D.disk D.reading_faults D.saving_faults shelf.old) document.now result
+        (known D.selected D.disk D.reading_faults D.saving_faults shelf.new) }
+{
+    let mut coder = Greedy;
+    let mut pictures = Recompose::new();
+    let file = match encode(alloc, document, &mut coder, &mut pictures) {
+        Ok(file) => file,
+        Err(_) => return SaveEnd::Memory,
+    };
+    match save(&file, shelf) {
+        Ok(()) => SaveEnd::Done,
+        Err(Failed) => SaveEnd::Fault,
+    }
+}
+
+/// Makes a save of the first session, from its start to its end.
+///
+/// Where memory ran out for the file the save has ended too.
+pub fn save_latest<D: Shelf>(alloc: Global, core: &mut Core<D>) -> Result<Reply, AllocError>
+    requires inside { IsSome core.old.shelf }
+    requires legal { IsLegal core.old.history.base core.old.history.entries }
+    requires selected { IsSome (D.selected core.old.opening) }
+    requires few { length core.old.history.entries + 2 ≤ most_entries }
+    ensures between { IsBetweenLines core.old.history.base core.old.opening core.new }
+    ensures saved { IfOk result (λ reply. core.new.history ≡ with_save core.old.history (reply_of reply)) }
+    ensures text { IfOk result (λ reply. HasText reply) }
+{
+    let (document, mut shelf) = match core.begin_save(alloc, 0)? {
+        Begun::Snapshot {
+            version: _,
+            document,
+            shelf,
+        } => (document, shelf),
+        Begun::Out | Begun::Full => unreachable!(),
+    };
+    let how = save_document(alloc, &document, &mut shelf);
+    let reply = core.end_save(0, shelf, how);
+    match how {
+        SaveEnd::Done | SaveEnd::Fault => Ok(reply),
+        SaveEnd::Memory => Err(AllocError),
+    }
+}
