@@ -1,0 +1,263 @@
+#!/usr/bin/env python3
+"""Writes rows for tests in Rattle: small files, and scripts with what `edit` must give of them.
+
+    make_edit_rows.py FOLDER [--restack]
+
+FOLDER takes some Rattle modules. The texts and the digests of the saved files are those of xcf_edits.py, which knows
+nothing of the engine. With --restack the rows of that edit are written too.
+"""
+
+import argparse
+import hashlib
+import json
+import os
+
+from xcf_edits import run
+from xcf_reading import read
+from xcf_writing import Drawable, Pixels, number, property_bytes, image, word_property
+from xcf_written import written
+
+
+def pixels(width, height, *firsts):
+    """Bytes that differ from point to point."""
+    return Pixels(width, height, [
+        lambda y, first=first: bytes((first + 37 * x + 71 * y) % 256 for x in range(width)) for first in firsts])
+
+
+def file_of(*words):
+    """The file as the engine writes it."""
+    data = image(*words).file()
+    return written(read(data), 0)
+
+
+def forest():
+    """A group of two layers, one with a mask, over a layer; and a channel. The group's first layer has its opacity as a
+    floating-point number too."""
+    mask = Drawable(b"m", pixels(3, 2, 40), [])
+    layers = [
+        Drawable(b"g", Pixels(1, 1, [lambda y: b"\0"] * 4), [(29, b""), word_property(30, 0), word_property(6, 230)],
+                 kind=1),
+        Drawable(b"a", pixels(3, 2, 10, 90, 170, 120),
+                 [word_property(30, 0, 0), word_property(6, 200), word_property(15, -1, 1), (33, b"\x3f\x48\xc8\xc9")],
+                 kind=1, mask=mask),
+        Drawable(b"b", pixels(2, 2, 200, 30, 60), [word_property(30, 0, 1), word_property(15, 1, 0)], kind=0),
+        Drawable(b"c", pixels(4, 3, 5, 105, 205, 155), [], kind=1),
+    ]
+    return file_of(3, 4, 3, 0, [], layers, [Drawable(b"d", pixels(4, 3, 7), [])])
+
+
+def grey():
+    """Two grey layers, one with alpha, a channel, and a selection of many bytes."""
+    layers = [Drawable(b"a", pixels(3, 2, 100, 90), [word_property(15, 1, 0)], kind=3),
+              Drawable(b"b", pixels(3, 2, 20), [], kind=2)]
+    channels = [Drawable(b"c", pixels(3, 2, 60), []), Drawable(b"s", pixels(3, 2, 70), [(4, b"")])]
+    return file_of(0, 3, 2, 1, [], layers, channels)
+
+
+def indexed():
+    """Two indexed layers, one with alpha, of three colours."""
+    colours = (1, number(3) + bytes((250, 10, 20, 30, 240, 50, 60, 70, 230)))
+    layers = [Drawable(b"a", Pixels(2, 2, [lambda y: bytes((y, 2)), lambda y: bytes((90, 255))]), [], kind=5),
+              Drawable(b"b", Pixels(3, 2, [lambda y: bytes((2, 1, y))]), [], kind=4)]
+    return file_of(1, 3, 2, 2, [colours], layers)
+
+
+def vast():
+    """No layer. Fifteen times the canvas is 2^28 - 1."""
+    head = b"gimp xcf file\0" + number(4859) + number(3683) + number(0)
+    return head + property_bytes(17, b"\0") + property_bytes(0, b"") + number(0) + number(0)
+
+
+def one():
+    """The worked file of docs/FORMAT.md."""
+    rows = Pixels(1, 1, [lambda y, byte=byte: bytes([byte]) for byte in (200, 100, 50, 255)])
+    return file_of(0, 1, 1, 0, [], [Drawable(b"A", rows, [], kind=1)])
+
+
+FILES = {"ONE": one(), "FOREST": forest(), "GREY": grey(), "INDEXED": indexed(), "VAST": vast()}
+WITH_GROUPS = ("tile 0 0 0", "tile 1 0 0")
+FLAT = ("tile 0 0 0",)
+
+
+def back_and_forth(edit, tiles, before=()):
+    """An edit, its undo and its redo, with tiles after each, and a save."""
+    found = [*before, edit]
+    for call in ("undo", "redo"):
+        found += [*tiles, call]
+    return [*found, *tiles, "save"]
+
+
+KINDS = (
+    "fill 2 0 0 2 1 0a141e80", "write 3 0 0 2 1 010203040506", "copy 4 1 0 3 2 4 0 1", "fillmask 2 1 0 2 2 100",
+    "fillchannel 0 1 1 2 2 9", "opacity 2 77", "mode 2 3", "visible 3 0", "offset 3 -1 1", "rename 1 6e6577",
+    "applymask 2 0", "addmask 3", "dropmask 2", "newlayer 1 1 0 0 3 3 1 6e", "newgroup 0 1 6e", "delete 2", "delete 1",
+    "select 1 0 2 2 200", "selectnone", "addchannel 6e", "dropchannel 0",
+)
+
+# Each refusal of an edit, in its order, and with more than one cause the first.
+REFUSED = {
+    "FOREST": [
+        ["fill 9 0 0 1 1 00000000", "fill 0 0 0 1 1 00000000", "fill 1 0 0 0 1 -", "fill 2 0 0 0 1 00000000",
+         "fill 2 0 0 1 0 00000000", "fill 2 2 0 2 1 -", "fill 2 0 1 1 2 00000000", "fill 2 0 0 1 1 000000", "fill 3 0 0 1 1 -"],
+        ["write 9 0 0 1 1 00000000", "write 1 0 0 0 1 -", "write 2 3 0 1 1 -", "write 2 0 0 2 1 00000000", "write 3 0 0 1 1 0000"],
+        ["copy 9 0 0 1 1 8 0 0", "copy 1 0 0 1 1 8 0 0", "copy 1 0 0 1 1 1 0 0", "copy 2 0 0 0 1 1 0 0",
+         "copy 2 3 0 1 1 4 9 9", "copy 2 0 0 1 1 3 2 0", "copy 2 0 0 1 1 3 0 0"],
+        ["fillmask 9 0 0 1 1 0", "fillmask 1 0 0 1 1 0", "fillmask 3 0 0 0 1 0", "fillmask 2 0 0 4 1 0", "fillmask 2 0 0 3 0 0"],
+        ["fillchannel 1 0 0 0 1 0", "fillchannel 0 0 0 5 1 0", "fillchannel 0 4 0 1 1 0"],
+        ["opacity 9 1", "opacity 0 5", "mode 9 1", "mode 1 1", "mode 2 22", "mode 2 4294967295", "visible 9 1", "visible 0 1"],
+        ["offset 9 262145 0", "offset 1 262145 0", "offset 2 262145 0", "offset 2 0 -262145", "offset 2 -262144 262144"],
+        ["rename 9 00", "rename 1 610062", "rename 1 -"],
+        ["applymask 9 1", "applymask 1 1", "applymask 3 1"],
+        ["addmask 9", "addmask 1", "addmask 2"],
+        ["dropmask 9", "dropmask 1", "dropmask 3"],
+        ["newlayer 9 0 0 0 1 1 1 -", "newlayer 2 9 0 0 1 1 1 -", "newlayer 1 3 262145 0 1 1 1 -", "newlayer 0 3 0 0 1 1 1 -",
+         "newlayer 1 2 0 -262145 1 1 2 -", "newlayer 1 2 0 0 1 1 2 00", "newlayer 1 2 0 0 1 1 4 -", "newlayer 1 2 0 0 1 1 0 00"],
+        ["newgroup 9 0 -", "newgroup 2 9 -", "newgroup 1 3 00", "newgroup 0 2 00"],
+        ["delete 9", "delete 0"],
+        ["select 0 0 0 1 0", "select 0 0 5 1 0", "select 3 2 1 2 0"],
+        ["addchannel 00", "dropchannel 1", "dropchannel 4294967295", "colours 000000"],
+        [*("newgroup %d 0 -" % (1 if depth == 2 else depth + 2) for depth in range(2, 9)), "newgroup 11 0 -",
+         "newlayer 11 0 0 0 1 1 1 -", "newlayer 11 1 0 0 1 1 1 -", "newlayer 10 1 0 0 1 1 1 -", "newgroup 11 0 00"],
+    ],
+    "INDEXED": [["newgroup 9 9 00", "newlayer 0 0 0 0 1 1 1 -", "newlayer 0 0 0 0 1 1 3 -", "fill 1 0 0 1 1 00",
+                 "copy 1 0 0 1 1 2 0 0", "mode 1 2"]],
+    "VAST": [[*["newgroup 0 0 -"] * 15, "newlayer 0 0 0 0 1 2 1 -", "newlayer 0 0 0 0 1 1 1 -", "addmask 16",
+              "newlayer 0 0 0 0 1 1 1 -", "newgroup 0 0 -", "addchannel -", "select 0 0 1 1 0", "undo", "undo",
+              "newlayer 0 0 0 0 1 1 1 -", "delete 1", "addchannel -"]],
+}
+
+HISTORIES = (
+    ["begin", "opacity 2 9", "visible 3 0", "newlayer 1 0 0 0 2 2 1 -", "fill 5 0 0 2 2 ff8040c0", "end", *WITH_GROUPS,
+     "undo", *WITH_GROUPS, "redo", *WITH_GROUPS, "top", "save"],
+    ["begin", "newlayer 1 0 0 0 2 2 1 -", "delete 4", "fill 5 0 0 3 1 00000000", "end", "top", *WITH_GROUPS, "newgroup 0 0 -",
+     "top", "save"],
+    ["begin", "opacity 9 1", "opacity 2 1", "end", "begin", "opacity 2 1", "mode 2 1", "opacity 9 1", "end", "save"],
+    ["begin 0", "opacity 2 9", "end", "begin 0", "opacity 99 9", "end", "begin 1", "opacity 99 9", "end", "undo",
+     "begin 1", "opacity 2 9", "end", "begin 2", "opacity 2 10", "end", "top"],
+    ["undo", "redo", "top", "undo 1", "opacity 2 9", "undo 2", "undo 0", "undo 1", "undo 1", "top", "redo", "redo", "top"],
+    ["opacity 2 9", "opacity 2 10", "opacity 2 11", "undo 3", "undo 1", "undo 2", "top", "redo", "mode 2 3", "redo", "top", "undo",
+     "undo", "undo", "undo", "top", "redo", "redo", "redo", "redo", "top", "save"],
+    ["opacity 2 9", "undo", "opacity 9 9", "redo", "undo", "tile 7 0 0", "save", "top", "redo"],
+    ["newlayer 0 0 0 0 1 1 1 -", "undo", "newlayer 0 0 0 0 1 1 1 -", "opacity 5 1", "opacity 6 1", "undo", "undo",
+     "newgroup 0 0 -", "tile 6 0 0", "tile 7 0 0", "undo", "tile 7 0 0", "redo", "tile 7 0 0"],
+    ["newlayer 0 0 0 0 1 1 1 -", "fill 5 0 0 1 1 01020304", "undo", "undo", "redo", "redo", "tile 0 0 0", "save"],
+    ["delete 1", "tile 1 0 0", "opacity 2 1", "undo", "opacity 2 1", "tile 1 0 0", "save"],
+    ["tile 1 0 1", "tile 1 1 0", "tile 2 0 0", "tile 9 1 1", "tile 0 0 0"],
+)
+
+RESTACKED = (
+    back_and_forth("restack 2 0 2", WITH_GROUPS), back_and_forth("restack 4 1 1", WITH_GROUPS),
+    back_and_forth("restack 1 0 1", WITH_GROUPS),
+    ["restack 9 8 0", "restack 0 0 0", "restack 2 9 0", "restack 2 3 9", "restack 2 2 0", "restack 1 1 9", "restack 1 2 9",
+     "restack 1 0 2", "restack 2 1 2", "restack 2 1 1", "restack 4 1 3", "newgroup 1 0 -", "restack 1 5 9"],
+    [*("newgroup %d 0 -" % (1 if depth == 2 else depth + 2) for depth in range(2, 9)), "newgroup 0 0 -", "newgroup 12 0 -",
+     "restack 12 11 0", "restack 12 10 0", "restack 12 9 0", "restack 4 11 0", "restack 4 11 1"],
+)
+
+
+def chain(edits, tiles):
+    """All these edits, their undos and a save; or their redos too."""
+    undone = [*edits, *["undo"] * len(edits), *tiles, "save"]
+    return [undone, [*undone, *["redo"] * len(edits), *tiles, "save"]]
+
+
+def over_one():
+    """Scripts that stand in the documents."""
+    return [
+        ["visible 1 0", "tile 0 0 0", "undo", "undo", "top"],
+        ["opacity 1 10", "opacity 1 20", "undo 1", "undo", "redo", "opacity 1 30", "redo"],
+        ["begin", "opacity 1 9", "visible 1 0", "opacity 99 1", "end", "begin 7", "opacity 1 9", "end", "top"],
+    ]
+
+
+def over_forest():
+    chosen = ["select 0 1 2 2 128", "select 1 1 1 1 255"]
+    found = [back_and_forth(edit, WITH_GROUPS) for edit in KINDS]
+    found += [
+        back_and_forth("selectnone", WITH_GROUPS, ["select 0 0 4 3 100"]),
+        back_and_forth("fill 2 0 0 3 2 0a141e80", WITH_GROUPS, chosen),
+        back_and_forth("write 2 1 0 1 1 ff8040c0", WITH_GROUPS, chosen),
+        back_and_forth("copy 2 0 0 3 2 4 1 1", WITH_GROUPS, chosen),
+        back_and_forth("fillmask 2 0 0 3 2 9", WITH_GROUPS, chosen),
+        back_and_forth("fillchannel 0 0 0 4 3 9", (), chosen),
+        ["offset 2 100 100", "fill 2 0 0 3 2 01020304", "select 0 0 4 3 255", "fill 2 0 0 3 1 05060708", "selectnone",
+         "fill 2 0 0 1 1 090a0b0c", "save"],
+    ]
+    last = [edit for edit in KINDS if edit.startswith("delete")]
+    return found + chain([edit for edit in KINDS if edit not in last] + last, WITH_GROUPS)
+
+
+def over_grey():
+    found = [back_and_forth(edit, FLAT) for edit in (
+        "fill 1 0 0 3 2 c880", "write 1 1 0 2 2 0102030405060708", "copy 1 0 0 2 2 1 1 0", "fillchannel 0 0 0 3 2 255",
+        "select 0 0 2 1 255", "selectnone", "newlayer 0 1 0 0 3 2 3 -", "newgroup 0 0 67", "addmask 1")]
+    return found + [back_and_forth("fillmask 2 0 0 3 2 0", FLAT, ["addmask 2"])]
+
+
+def over_indexed():
+    chosen = ["select 0 0 2 1 128", "select 0 1 1 1 127"]
+    found = [back_and_forth(edit, FLAT) for edit in (
+        "colours 010203", "colours 0a0b0c0d0e0f101112131415", "fill 1 0 0 2 2 0180", "write 2 0 0 3 1 000102",
+        "copy 1 0 0 1 2 1 1 0", "newlayer 0 0 1 0 2 2 4 -", "delete 1")]
+    found += [back_and_forth("fill 1 0 0 2 2 0180", FLAT, chosen), back_and_forth("write 1 0 0 2 2 0180014001200110", FLAT, chosen),
+              back_and_forth("copy 1 0 0 1 2 1 1 0", FLAT, chosen),
+              back_and_forth("fillmask 1 0 0 2 2 9", FLAT, ["addmask 1", *chosen])]
+    return found + REFUSED["INDEXED"]
+
+
+def modules(restack):
+    """For each module its tables: a name, the file, and scripts as lists of lines without the session."""
+    return {
+        "pixel_rows": [("OVER_FOREST", "FOREST", over_forest())],
+        "flat_rows": [("OVER_ONE", "ONE", over_one()), ("OVER_GREY", "GREY", over_grey()),
+                      ("OVER_INDEXED", "INDEXED", over_indexed())],
+        "refused_rows": [("REFUSED", "FOREST", REFUSED["FOREST"]), ("TOO_LARGE", "VAST", REFUSED["VAST"])],
+        "history_rows": [("HISTORIES", "FOREST", HISTORIES)],
+        **({"restack_rows": [("RESTACKED", "FOREST", RESTACKED)]} if restack else {}),
+    }
+
+
+DOCUMENTED = {
+    "FOREST": "A group of two layers, one with a mask, over a layer; and a channel.",
+    "GREY": "Two grey layers, one with alpha, a channel and a selection.",
+    "INDEXED": "Two indexed layers, one with alpha, of three colours.",
+    "VAST": "No layer; fifteen times the canvas is 2^28 - 1 pixels.",
+}
+
+
+def bytes_text(name, data):
+    return "/// %s\npub const %s: [u8; %d] = [%s];\n" % (DOCUMENTED[name], name, len(data), ", ".join(map(str, data)))
+
+
+def row_text(data, lines):
+    script = "".join("0 %s\n" % line for line in lines)
+    status, text, saved = run(data, script.encode())
+    assert status == 0, script + text
+    digest = hashlib.sha256(data if saved is None else saved).hexdigest()
+    return "    (\n        %s,\n        %s,\n        %s,\n    ),\n" % tuple(map(json.dumps, (script, text, digest)))
+
+
+def table_text(name, file, scripts):
+    head = "/// Over %s.\npub const %s: [(&'static str, &'static str, &'static str); %d] = [\n" % (file, name, len(scripts))
+    return head + "".join(row_text(FILES[file], lines) for lines in scripts) + "];\n"
+
+
+def write_module(folder, name, about, texts):
+    with open(os.path.join(folder, name + ".rt"), "w", encoding="ascii") as out:
+        out.write("//! %s Written by `bench/make_edit_rows.py`.\n\n" % about + "\n".join(texts))
+
+
+def main():
+    parser = argparse.ArgumentParser(description=__doc__, formatter_class=argparse.RawDescriptionHelpFormatter)
+    parser.add_argument("folder", metavar="FOLDER")
+    parser.add_argument("--restack", action="store_true")
+    given = parser.parse_args()
+    texts = [bytes_text(name, data) for name, data in FILES.items() if name in DOCUMENTED]
+    write_module(given.folder, "small_files", "Files as they are written.", texts)
+    for name, tables in modules(given.restack).items():
+        about = "Scripts, each with its text and with the SHA-256 of the file afterwards."
+        write_module(given.folder, name, about, [table_text(*table) for table in tables])
+
+
+if __name__ == "__main__":
+    main()
