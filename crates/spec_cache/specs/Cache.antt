@@ -127,7 +127,8 @@ finish cache place version = finish_at version (slot_of cache place.stack place.
 
 abbrev pub put_where : Finished → Place → (picture : List ℕ) → Cache → Cache
 put_where Installed place picture cache = change_stack place.stack (change_slot place.at (fill_slot picture)) cache
-put_where finished place picture cache = cache
+put_where (Late marked_at) place picture cache = cache
+put_where Gone place picture cache = cache
 
 -- a picture is handed in
 abbrev pub install : Place → (version : ℕ) → (picture : List ℕ) → Cache → Cache

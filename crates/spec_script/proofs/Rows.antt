@@ -179,22 +179,19 @@ unfolding keywords
 bad_number = refl
 
 -- so has one that is not served, though a bad one follows
-other_session : script (ln (codes "0 undo") ++ ln (codes "1 undo") ++ codes "0 blur 1") [] ≡ Err 2
-unfolding keywords
-other_session = refl
-
--- a filter that the session has
-filter_line : script (ln (codes "0 begin") ++ ln (codes "0 opacity 1 9") ++ codes "0 filter 1 0 0 1 1 3") (replicate 8 4) ≡ Err 3
-unfolding keywords
-filter_line = refl
-
-peek_line : script (codes "0 peek 0 0 0") [] ≡ Err 1
+peek_line : script (ln (codes "0 undo") ++ ln (codes "0 peek 0 0 0") ++ codes "0 blur 1") [] ≡ Err 2
 unfolding keywords
 peek_line = refl
 
-forget_line : script (ln (codes "0 save") ++ codes "0 forget 3") (replicate 8 4) ≡ Err 2
+-- a filter that the session has, in a group and until it is dropped
+filter_line : script (ln (codes "0 forget 2") ++ ln (codes "0 begin") ++ ln (codes "0 filter 1 0 0 1 1 3") ++ ln (codes "0 end") ++ codes "0 filter 1 0 0 1 1 2") (replicate 8 4)
+    ≡ Err 5
 unfolding keywords
-forget_line = refl
+filter_line = refl
+
+forgotten_twice : script (ln (codes "0 forget 3") ++ codes "0 forget 3") (replicate 8 4) ≡ Err 2
+unfolding keywords
+forgotten_twice = refl
 
 group_never_ended : script (ln (codes "0 undo") ++ ln (codes "0 begin") ++ codes "0 opacity 1 9") [] ≡ Err 2
 unfolding keywords

@@ -3,4 +3,4 @@ pub mod Commands
 pub mod Served
 pub mod Script
 pub mod Limits
-pub mod First
+pub mod Fits

@@ -40,13 +40,20 @@ pub record Parsed : Type 0 where
   pub sessions : List Session
   pub calls : ℕ
 
-abbrev pub has_filter : Session → (slot : ℕ) → Bool
-has_filter s slot = nat_lt slot s.filters && not (list_any (λ d. d == slot) s.dropped)
+-- whether the filter is there: one of those that were given, and not dropped
+abbrev pub is_there : (filters : ℕ) (dropped : List ℕ) (slot : ℕ) → Bool
+is_there filters dropped slot = nat_lt slot filters && not (list_any (λ d. d == slot) dropped)
 
 -- a filter edit needs its filter
+abbrev pub finds_filter : (filters : ℕ) (dropped : List ℕ) → Edit → Bool
+finds_filter filters dropped (edits.filter id rect slot) = is_there filters dropped slot
+finds_filter filters dropped edit = true
+
+abbrev pub has_filter : Session → (slot : ℕ) → Bool
+has_filter s slot = is_there s.filters s.dropped slot
+
 abbrev pub has_its_filter : Session → Edit → Bool
-has_its_filter s (edits.filter id rect slot) = has_filter s slot
-has_its_filter s edit = true
+has_its_filter s edit = finds_filter s.filters s.dropped edit
 
 -- a session's step, and how many calls it begins
 pub record Taken : Type 0 where

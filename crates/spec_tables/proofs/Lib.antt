@@ -1,0 +1,7 @@
+mod Bare
+mod BareEdits
+mod BareRules
+pub mod Accepted
+pub mod Chests
+pub mod Made
+pub mod Asked

@@ -1,0 +1,60 @@
+-- A chest of filters, from which some were forgotten, beside the list of all filters of its session.
+use Rattle.std.specs.Prelude.{◌≡◌, ℕ, List, [], ◌∷◌, map, take, if◌then◌else◌, Option, Some, None, is_some, IsTrue}
+use Rattle.spec_edit.specs.Edit as edits
+use Rattle.spec_edit.specs.Edit.{Edit}
+use Rattle.spec_history.specs.Machine as machine
+use Rattle.spec_history.specs.Machine.{Call, Reply}
+use Rattle.spec_history.specs.History.{is_changed}
+use Rattle.spec_history.specs.Limited.{edits_of}
+use Rattle.spec_filters.specs.declared.FilterState.{FilterState}
+use Rattle.spec_filters.specs.Slots.{has_slot}
+use Rattle.spec_tables.specs.Tables.{tables_for, used_by}
+
+-- the chest has as many slots, and where a filter is in a slot it is in the state of the list
+abbrev pub Agrees : (chest : List (Option FilterState)) → (filters : List FilterState) → Type 0
+Agrees [] [] = Unit {0}
+Agrees [] (state ∷ states) = ⊥
+Agrees (slot ∷ slots) [] = ⊥
+Agrees (None ∷ slots) (state ∷ states) = Agrees slots states
+Agrees (Some filter ∷ slots) (state ∷ states) = (filter ≡ state) × Agrees slots states
+
+-- the filters of these edits are in the chest
+abbrev pub AreThere : (chest : List (Option FilterState)) → List Edit → Type 0
+AreThere chest [] = Unit {0}
+AreThere chest (edits.filter id rect slot ∷ rest) = IsTrue (has_slot chest slot) × AreThere chest rest
+AreThere chest (edit ∷ rest) = AreThere chest rest
+
+-- in both chests filters are in the same slots
+abbrev pub SameSlots : (old new : List (Option FilterState)) → Type 0
+SameSlots old new = map is_some new ≡ map is_some old
+
+-- each filter was asked once for each of these edits that names its slot, and no filter was taken out
+pub record IsUsed (old new : List (Option FilterState)) (es : List Edit) : Type 0 where
+  pub slots : SameSlots old new
+  pub states : (filters : List FilterState) → Agrees old filters → Agrees new (used_by filters es)
+
+-- so it was, and these are the tables that they answered, in order
+pub record AreAsked (old new : List (Option FilterState)) (es : List Edit) (tables : List (List ℕ)) : Type 0 where
+  pub used : IsUsed old new es
+  pub answers : (filters : List FilterState) → Agrees old filters → tables ≡ tables_for filters es
+
+-- the edits that a call has made which got this reply
+abbrev pub edits_made : Call → Reply → List Edit
+edits_made (machine.edit guard es) reply = if is_changed reply then es else []
+edits_made (machine.undo named) reply = []
+edits_made machine.redo reply = []
+edits_made (machine.tile stack at) reply = []
+edits_made (machine.peek stack at) reply = []
+edits_made machine.top reply = []
+
+-- What a call leaves of a chest: the filters of a group that is accepted were asked, and no others.
+abbrev pub IsAfter : (old new : List (Option FilterState)) → Call → Reply → Type 0
+IsAfter old new call reply = IsUsed old new (edits_made call reply)
+
+-- the filters of the first of these edits were asked
+abbrev pub IsPartUsed : (old new : List (Option FilterState)) → List Edit → Type 0
+IsPartUsed old new es = (count : ℕ) × IsUsed old new (take count es)
+
+-- Where memory runs out in it, the filters of the first edits of a group may have been asked.
+abbrev pub IsPartAfter : (old new : List (Option FilterState)) → Call → Type 0
+IsPartAfter old new call = IsPartUsed old new (edits_of call)

@@ -1,0 +1,43 @@
+-- The tables that the filters of a session answer, and their states along its history.
+use Rattle.std.specs.Prelude.{◌≡◌, ℕ, List, [], ◌∷◌, ◌++◌, slice_get, option_map, option_to_list}
+use Rattle.spec_edit.specs.Edit as edits
+use Rattle.spec_edit.specs.Edit.{Edit}
+use Rattle.spec_edit.specs.Effect.{changed_at}
+use Rattle.spec_history.specs.Machine as machine
+use Rattle.spec_history.specs.Machine.{Reply, changed}
+use Rattle.spec_history.specs.History.{Entry, Kind, asked, starts, ends}
+use Rattle.spec_filters.specs.declared.FilterState.{FilterState}
+use Rattle.spec_filters.specs.Filters.{table_of, after_use}
+
+abbrev pub table_at : List FilterState → (slot : ℕ) → List (List ℕ)
+table_at filters slot = option_to_list (option_map table_of (slice_get filters slot))
+
+-- the tables that the edits of a group take, one after another
+abbrev pub tables_for : List FilterState → List Edit → List (List ℕ)
+tables_for filters [] = []
+tables_for filters (edits.filter id rect slot ∷ rest) = table_at filters slot ++ tables_for (changed_at slot after_use filters) rest
+tables_for filters (edit ∷ rest) = tables_for filters rest
+
+abbrev pub used_by : List FilterState → List Edit → List FilterState
+used_by filters [] = filters
+used_by filters (edits.filter id rect slot ∷ rest) = used_by (changed_at slot after_use filters) rest
+used_by filters (edit ∷ rest) = used_by filters rest
+
+-- an accepted group has the tables of the filters at that place, and no other call has tables
+abbrev pub expected_tables : List FilterState → Kind → Reply → List (List ℕ)
+expected_tables filters (asked (machine.edit guard es) tables) (changed version group next) = tables_for filters es
+expected_tables filters kind reply = []
+
+abbrev pub filters_after : List FilterState → Kind → Reply → List FilterState
+filters_after filters (asked (machine.edit guard es) tables) (changed version group next) = used_by filters es
+filters_after filters kind reply = filters
+
+abbrev pub tables_in : Kind → List (List ℕ)
+tables_in (asked c tables) = tables
+tables_in starts = []
+tables_in ends = []
+
+-- along the entries of one session
+abbrev pub HaveTables : List FilterState → List Entry → Type 0
+HaveTables filters [] = Unit {0}
+HaveTables filters (e ∷ es) = (tables_in e.kind ≡ expected_tables filters e.kind e.reply) × HaveTables (filters_after filters e.kind e.reply) es
