@@ -1,5 +1,6 @@
 pub mod AlikeRows
 pub mod Blocks
+pub mod Counts
 pub mod Decoded
 pub mod FreshTiles
 pub mod JoinedTiles
@@ -9,6 +10,7 @@ pub mod Places
 pub mod Plain
 pub mod ReadParts
 pub mod Rects
+pub mod RowLists
 pub mod Tables
 pub mod WrittenParts
 pub mod WholePlane

@@ -4,16 +4,20 @@
 mod alike;
 mod area;
 mod block;
+mod changes;
 mod fill;
 mod join;
 mod packed;
 mod plane;
 mod reading;
 mod rows;
+mod shares;
 mod spelled;
+mod table;
 #[cfg(test)]
 mod tests;
 mod tile;
+mod tile_row;
 mod writing;
 
 pub use fill::repeated;

@@ -1,9 +1,10 @@
-ghost use Rattle.std.specs.Prelude.{◌≡◌, ℕ, ◌+◌, ◌-◌, ◌*◌, ◌<◌, ◌≤◌, [], length, min, slice_index, slice_index_or, slice_set, IfOk, OnOk, OnErr};
+ghost use Rattle.std.specs.Prelude.{◌≡◌, ℕ, ◌+◌, ◌-◌, ◌*◌, ◌<◌, ◌≤◌, [], length, min, slice_index, slice_index_or, slice_set, IfOk, OnOk, IfErr, OnErr};
 ghost use Rattle.spec_grid.specs.Grid as grid;
 ghost use Rattle.spec_grid.specs.Rect.{part_above_0};
 ghost use Rattle.spec_document.specs.Limits.{IsSide, AreBytes};
 ghost use Rattle.spec_document.specs.Plane.{byte_at, plane_of};
 ghost use Rattle.spec_hierarchy.specs.Tiles as sheet;
+ghost use Rattle.spec_undo.specs.Planes.{changed_tiles};
 ghost use Rattle.xl_tiles.specs.Area.{bytes_in};
 ghost use Rattle.xl_tiles.specs.Sized.{IsSized};
 ghost use Rattle.xl_tiles.specs.Written.{IsWithin, with_tile, written};
@@ -11,10 +12,12 @@ ghost use Rattle.xl_tiles.specs.Table.{AreTiled};
 
 use crate::alike::alike_tiles;
 use crate::area::{Area, Sheet, area_of};
+use crate::changes::changed;
 use crate::reading::{point_byte, read_area, row_of, tile_bytes};
-use crate::tile::{ROOM, TileRef, replace_item, share_item};
+use crate::table::Table;
+use crate::tile::{ROOM, TileRef};
 use crate::writing::write_area;
-use std::alloc::{AllocError, Global};
+use std::alloc::{AllocError, AllocFailed, Global};
 use std::marker::Model;
 use xl_grid::{Rect, TileAt};
 
@@ -24,7 +27,7 @@ pub struct Plane {
     width: u32,
     height: u32,
     bpp: u32,
-    tiles: Vec<TileRef>,
+    tiles: Table,
 }
 
 impl Model for Plane {
@@ -33,23 +36,32 @@ impl Model for Plane {
 
     ghost Value = { doc.Plane };
 
-    ghost view = { λ p. record { width = p.width; height = p.height; bpp = p.bpp; bytes = bytes_of p.width p.height p.bpp p.tiles.items } };
+    ghost view = { λ p. record { width = p.width; height = p.height; bpp = p.bpp; bytes = bytes_of p.width p.height p.bpp p.tiles } };
 
-    ghost invariant = { λ p. AreTiled p.width p.height p.bpp p.tiles.items };
+    ghost invariant = { λ p. AreTiled p.width p.height p.bpp p.tiles };
 }
 
 impl Plane {
     /// The plane of these tiles, row by row.
-    pub fn of_tiles(w: u32, h: u32, bpp: u32, tiles: Vec<TileRef>) -> Plane
+    pub fn of_tiles(
+        alloc: Global,
+        w: u32,
+        h: u32,
+        bpp: u32,
+        tiles: Vec<TileRef>,
+    ) -> Result<Plane, AllocError>
         requires { AreTiled w h bpp tiles.items }
-        ensures { result ≡ sheet.plane_of_tiles w h bpp tiles.items }
+        ensures { IfOk result (λ p. p ≡ sheet.plane_of_tiles w h bpp tiles.items) }
     {
-        Plane {
+        let columns = (w as usize + 63) / 64;
+        let rows = (h as usize + 63) / 64;
+        let tiles = Table::of_tiles(alloc, columns, rows, &tiles)?;
+        Ok(Plane {
             width: w,
             height: h,
             bpp,
             tiles,
-        }
+        })
     }
 
     /// A plane whose pixels are all alike. Its tiles share their bytes.
@@ -67,12 +79,7 @@ impl Plane {
             bpp: bpp as usize,
         };
         let tiles = alike_tiles(alloc, sheet, pixel)?;
-        Ok(Plane {
-            width: w,
-            height: h,
-            bpp,
-            tiles,
-        })
+        Plane::of_tiles(alloc, w, h, bpp, tiles)
     }
 
     /// The plane whose pixels are these bytes, row by row.
@@ -119,19 +126,15 @@ impl Plane {
         self.bpp
     }
 
-    /// The same pixels: one count for each tile.
+    /// The same pixels: one count for each row of tiles.
     pub fn share(&self, alloc: Global) -> Result<Plane, AllocError>
         ensures { IfOk result (λ p. p ≡ self.now) }
     {
-        let mut tiles = Vec::with_capacity(alloc, self.tiles.len())?;
-        for tile in &self.tiles {
-            tiles.push(tile.share()?)?;
-        }
         Ok(Plane {
             width: self.width,
             height: self.height,
             bpp: self.bpp,
-            tiles,
+            tiles: self.tiles.share(alloc)?,
         })
     }
 
@@ -243,7 +246,7 @@ impl Plane {
     pub fn tile_count(&self) -> u32
         ensures { result ≡ grid.tiles_along self.now.height * grid.tiles_along self.now.width }
     {
-        self.tiles.len() as u32
+        (self.width + 63) / 64 * ((self.height + 63) / 64)
     }
 
     /// A share of a tile.
@@ -253,22 +256,48 @@ impl Plane {
         ensures { IfOk result (λ t. t ≡ sheet.tile_bytes self.now at) }
     {
         let columns = (self.width as usize + 63) / 64;
-        share_item(&self.tiles, at.row as usize * columns + at.col as usize)
+        self.tiles
+            .at(at.row as usize * columns + at.col as usize)
+            .share()
     }
 
-    /// Puts a tile of the same size in the place of one, which it hands out. It takes no memory.
-    pub fn swap_tile(&mut self, at: TileAt, tile: TileRef) -> TileRef
+    /// Puts a tile of the same size in the place of one, which it hands out. Where others hold the row of tiles, that row is
+    /// copied; without memory for it the tile is handed back.
+    pub fn swap_tile(
+        &mut self,
+        alloc: Global,
+        at: TileAt,
+        tile: TileRef,
+    ) -> Result<TileRef, AllocFailed<TileRef>>
         requires column { at.col < grid.tiles_along self.old.width }
         requires row { at.row < grid.tiles_along self.old.height }
         requires size { length tile ≡ sheet.tile_width self.old.width at * sheet.tile_height self.old.height at * self.old.bpp }
-        ensures result { result ≡ sheet.tile_bytes self.old at }
-        ensures after { self.new ≡ with_tile self.old at tile }
+        ensures result { IfOk result (λ old. old ≡ sheet.tile_bytes self.old at) }
+        ensures after { OnOk result (self.new ≡ with_tile self.old at tile) }
+        ensures back { IfErr result (λ failed. failed.value ≡ tile) }
+        ensures err { OnErr result (self.new ≡ self.old) }
     {
         let columns = (self.width as usize + 63) / 64;
-        replace_item(
-            &mut self.tiles,
-            at.row as usize * columns + at.col as usize,
-            tile,
-        )
+        let place = at.row as usize * columns + at.col as usize;
+        self.tiles.replace(alloc, place, tile)
+    }
+
+    /// At most how many tiles have other bytes than those of a plane of the same size. Each room is for a tile.
+    ///
+    /// Rows and tiles that both planes share are not looked at, so a plane is quickly compared with one that it was made of.
+    pub fn tiles_changed(&self, other: &Plane, room: &mut [u8], other_room: &mut [u8]) -> u32
+        requires width { other.now.width ≡ self.now.width }
+        requires height { other.now.height ≡ self.now.height }
+        requires bpp { other.now.bpp ≡ self.now.bpp }
+        requires room { length room.old ≡ 32768 }
+        requires other_room { length other_room.old ≡ 32768 }
+        ensures { result ≤ changed_tiles self.now other.now }
+    {
+        let sheet = Sheet {
+            width: self.width as usize,
+            height: self.height as usize,
+            bpp: self.bpp as usize,
+        };
+        changed(sheet, &self.tiles, &other.tiles, room, other_room) as u32
     }
 }

@@ -1,4 +1,5 @@
 ghost use Rattle.std.specs.Prelude.{◌≡◌, IfOk};
+ghost use Rattle.xl_tiles.specs.Written.{IsWithin};
 
 use crate::{Plane, ROOM, Rect, TileAt, TileRef};
 use std::alloc::{AllocError, Global};
@@ -69,7 +70,7 @@ fn a_thousand_shares_are_held_at_once(rt: HostRuntime) -> Result<(), Fail> {
 }
 
 /// Exchanges the only tile of two planes of one size.
-fn exchange(plane: &mut Plane, other: &Plane) -> Result<TileRef, AllocError>
+fn exchange(alloc: Global, plane: &mut Plane, other: &Plane) -> Result<TileRef, AllocError>
     requires width { plane.old.width ≡ 2 }
     requires height { plane.old.height ≡ 1 }
     requires bpp { plane.old.bpp ≡ 2 }
@@ -82,7 +83,7 @@ fn exchange(plane: &mut Plane, other: &Plane) -> Result<TileRef, AllocError>
 {
     let at = TileAt { col: 0, row: 0 };
     let tile = other.tile(at)?;
-    Ok(plane.swap_tile(at, tile))
+    Ok(plane.swap_tile(alloc, at, tile)?)
 }
 
 #[test]
@@ -90,7 +91,7 @@ fn a_tile_is_exchanged(rt: HostRuntime) -> Result<(), Fail> {
     let alloc = rt.alloc();
     let mut plane = Plane::of_pixels(alloc, 2, 1, 2, &[1, 2, 3, 4])?;
     let other = Plane::of_pixels(alloc, 2, 1, 2, &[5, 6, 7, 8])?;
-    let old = exchange(&mut plane, &other)?;
+    let old = exchange(alloc, &mut plane, &other)?;
     let mut room = [0; ROOM];
     assert_eq!(rt; old.bytes(&mut room), [1, 2, 3, 4].as_slice());
     let mut out = [0; 4];
@@ -105,5 +106,46 @@ fn a_tile_is_exchanged(rt: HostRuntime) -> Result<(), Fail> {
         &mut room,
     );
     assert_eq!(rt; out, [5, 6, 7, 8]);
+    Ok(())
+}
+
+/// How many tiles of a plane of 200 by 200 pixels of the value 7 differ from those before a rectangle was written.
+fn changed_by(alloc: Global, rect: Rect, value: u8) -> Result<u32, AllocError>
+    requires { IsWithin 200 200 rect }
+{
+    let old = Plane::new(alloc, 200, 200, 1, &[7])?;
+    let mut plane = old.share(alloc)?;
+    let bytes = vec![in alloc; value; rect.w as usize * rect.h as usize]?;
+    plane.write_rect(alloc, rect, &bytes)?;
+    let mut room = [0; ROOM];
+    let mut other_room = [0; ROOM];
+    Ok(plane.tiles_changed(&old, &mut room, &mut other_room))
+}
+
+#[test]
+fn changed_tiles_are_counted(rt: HostRuntime) -> Result<(), Fail> {
+    let alloc = rt.alloc();
+    let pixel = Rect {
+        x: 100,
+        y: 100,
+        w: 1,
+        h: 1,
+    };
+    let corner = Rect {
+        x: 63,
+        y: 63,
+        w: 2,
+        h: 2,
+    };
+    let none = Rect {
+        x: 0,
+        y: 0,
+        w: 0,
+        h: 0,
+    };
+    assert_eq!(rt; changed_by(alloc, pixel, 8)?, 1);
+    assert_eq!(rt; changed_by(alloc, corner, 8)?, 4);
+    assert_eq!(rt; changed_by(alloc, corner, 7)?, 0);
+    assert_eq!(rt; changed_by(alloc, none, 8)?, 0);
     Ok(())
 }

@@ -1,6 +1,6 @@
-use Rattle.std.proofs.Common.{ap, ◌∙◌, slice_index, length}
+use Rattle.std.proofs.Common.{ap, ◌∙◌}
 use Rattle.spec_grid.specs.Rect.{sheet}
-use Rattle.spec_document.specs.Plane.{Plane, plane_of}
+use Rattle.spec_document.specs.Plane.{plane_of}
 use Rattle.xl_tiles.specs.Written.{written}
 use Rattle.xl_tiles.proofs.WholePlane.{written_whole}
 use Rattle.xl_tiles.proofs.plane.Plane.of_pixels.Goals as goal
