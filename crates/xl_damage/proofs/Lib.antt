@@ -3,3 +3,4 @@ mod Nodes
 mod Small
 mod Settled
 mod Made
+mod AfterEdit

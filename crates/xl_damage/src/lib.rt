@@ -4,12 +4,14 @@
 //! shows anything else, which is the law of `spec_damage`. No picture is made to find it.
 #![tactic(auto)]
 
+mod accepted;
 mod cutting;
 mod pairs;
 mod stacks;
 #[cfg(test)]
 mod tests;
 
+pub use accepted::damage;
 pub use pairs::damage_between;
 pub use xl_doc::{Document, NodeId, Rect};
 pub use xl_edit::Edit;

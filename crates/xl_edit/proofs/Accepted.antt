@@ -11,7 +11,7 @@ use Rattle.spec_edit.specs.Apply as edits
 use Rattle.spec_edit.specs.Apply.{At}
 use Rattle.spec_edit.proofs.EditsLimited.{keeps}
 use Rattle.xl_edit.specs.declared.refused.EditRefusedOrMemory.{EditRefusedOrMemory}
-use Rattle.xl_edit.specs.Applied.{at, Applies, Makes}
+use Rattle.xl_edit.specs.Applied.{at, Applies, Makes, MakesBy}
 use Rattle.xl_edit.specs.Found.{outcome}
 use Rattle.xl_edit.specs.Kept.{KeepsLimits}
 
@@ -21,16 +21,17 @@ not_refused None e = refl
 not_refused (Some cause) e = cc
 
 -- the document is what the edit makes of it
-pub made : (d new : Document) (e : Edit) → makes_node e ≡ false → refusal d e ≡ None → ((next : ℕ) → effect d next [] e ≡ new) → Makes d new e (Ok tt)
-made d new e plain allowed is = λ next i. edits.unless_refused (allowed i) (at (is next i) (cond (plain i) (next + 1) next))
+pub made : (d new : Document) (e : Edit) → makes_node e ≡ false → refusal d e ≡ None → ((table : List ℕ) (next : ℕ) → effect d next table e ≡ new) → Makes d new e (Ok tt)
+made d new e plain allowed is = λ table next i. edits.unless_refused (allowed i) (at (is table next i) (cond (plain i) (next + 1) next))
 
 -- the edit is the one that it stands for, and the next id stays
-pub made_by : (d new : Document) (next : ℕ) (e f : Edit) (result : Result (Unit {0}) EditRefusedOrMemory) → e ≡ f → Makes d new f result → Applies (at d next) (at new next) e result
-made_by d new next e f result is h = let P : Edit → Type 0 = λ x. Applies (at d next) (at new next) x result in subst P (sym is) (h next)
+pub made_by : (d new : Document) (next : ℕ) (table : List ℕ) (e f : Edit) (result : Result (Unit {0}) EditRefusedOrMemory) → e ≡ f → MakesBy table d new f result
+    → Applies (at d next) (at new next) e table result
+made_by d new next table e f result is h = let P : Edit → Type 0 = λ x. Applies (at d next) (at new next) x table result in subst P (sym is) (h next)
 
 -- the edit is the one that it stands for
-pub any_made : (old new : At) (e f : Edit) (result : Result (Unit {0}) EditRefusedOrMemory) → e ≡ f → Applies old new f result → Applies old new e result
-any_made old new e f result is h = let P : Edit → Type 0 = λ x. Applies old new x result in subst P (sym is) h
+pub any_made : (old new : At) (table : List ℕ) (e f : Edit) (result : Result (Unit {0}) EditRefusedOrMemory) → e ≡ f → Applies old new f table result → Applies old new e table result
+any_made old new table e f result is h = let P : Edit → Type 0 = λ x. Applies old new x table result in subst P (sym is) h
 
 -- A document is still within its limits. Any next id does that is above all ids, and these are words.
 pub limits_after : (d : Document) (e : Edit) → IsEdit e → makes_node e ≡ false → refusal d e ≡ None → KeepsLimits d (effect d (2 ^ 32) [] e)

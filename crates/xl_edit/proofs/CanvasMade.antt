@@ -64,9 +64,9 @@ channel_written ch rect value bytes one within flat =
     ap (λ p. record ch { plane = p }) (flat_at ch.plane value bytes rect.w rect.h rect.x rect.y one within flat)
 
 -- the selection that there was, or the one that is made, with new bytes
-pub selection_written : (d : Document) (s w : Channel) (rect : Rect) (value next : ℕ) → s ≡ selection_of d d.selection → w ≡ with_plane (with_rect rect (λ x y c. value)) s
-    → effect d next [] (select rect value) ≡ record d { selection = Some w }
-selection_written d s w rect value next is e =
+pub selection_written : (d : Document) (s w : Channel) (rect : Rect) (value next : ℕ) (table : List ℕ) → s ≡ selection_of d d.selection → w ≡ with_plane (with_rect rect (λ x y c. value)) s
+    → effect d next table (select rect value) ≡ record d { selection = Some w }
+selection_written d s w rect value next table is e =
     ap (λ x. record d { selection = Some (with_plane (with_rect rect (λ x y c. value)) x) }) (sym is) ∙ ap (λ x. record d { selection = Some x }) (sym e)
 
 -- a byte that stands so many times

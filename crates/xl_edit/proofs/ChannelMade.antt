@@ -44,13 +44,13 @@ module _ (before d : Document) (index : ℕ) (rect : Rect) (value : ℕ) (bytes 
   pub channel_made : before ≡ d → refusal d (fill_channel index rect value) ≡ None → PaintsChannel d index rect value bytes
       → channels ≡ changed_at index (with_plane (λ p. written p rect bytes)) before.channels
       → Makes d (record before { channels = channels }) (fill_channel index rect value) (Ok tt)
-  channel_made same allowed paints is = λ next.
+  channel_made same allowed paints is = λ table next.
       let a : Channel → Channel = with_plane (λ p. written p rect bytes) in
       let b : Channel → Channel = with_plane (through d false (pos 0) (pos 0) rect (λ x y c. value)) in
       let filled : changed_at index a d.channels ≡ changed_at index b d.channels =
       same_changed a b index d.channels (λ c at. ap (λ p. record c { plane = p }) (paints c at).painted) in
       let here : channels ≡ changed_at index b d.channels = is ∙ (ap (λ (x : Document). changed_at index a x.channels) same ∙ filled) in
-      let all : effect d next [] (fill_channel index rect value) ≡ record before { channels = channels } =
+      let all : effect d next table (fill_channel index rect value) ≡ record before { channels = channels } =
       ap (λ xs. record d { channels = xs }) (sym here) ∙ ap (λ (x : Document). record x { channels = channels }) (sym same) in
       λ i. edits.unless_refused (allowed i) (at (all i) next)
 

@@ -19,6 +19,7 @@ mod FilledRows
 mod FilledPlanes
 mod PartsWritten
 mod PaintMade
+mod FilteredRows
 mod CopyRules
 pub mod Limited
 mod ChannelMade

@@ -18,7 +18,7 @@ use Rattle.xl_edit.proofs.Seen.{ids-nodes_of}
 pub made_limits : (d new : Document) (edit : Edit) → IsDocument d → IsEdit edit → makes_node edit ≡ false → Makes d new edit (Ok tt) → IsDocument new
 made_limits d new edit is kept none made =
     (apply_goes (at d (2 ^ 32)) (at new (2 ^ 32)) edit [] (record { document = is; positive = omega arith; below = is.ids.word }) kept tt
-    (λ makes. let wrong : false ≡ true = sym none ∙ makes in cc) (made (2 ^ 32))).at.document
+    (λ makes. let wrong : false ≡ true = sym none ∙ makes in cc) (made [] (2 ^ 32))).at.document
 
 -- the tree of a document has ids of its own
 pub distinct_in : (tree : Forest Node Node) (d : Document) → nodes_of tree ≡ d.nodes → IsDocument d → IsDistinct nat_eq (ids tree)

@@ -1,5 +1,5 @@
 -- Nodes that are made.
-use Rattle.std.proofs.Common.{◌≡◌, ℕ, ◌+◌, ◌<◌, true, false, cond, nat_eq, [], refl, sym, ◌∙◌, ap, arith}
+use Rattle.std.proofs.Common.{◌≡◌, List, ℕ, ◌+◌, ◌<◌, true, false, cond, nat_eq, [], refl, sym, ◌∙◌, ap, arith}
 use Rattle.std.specs.Prelude.{None, Ok}
 use Rattle.std.proofs.lemmas.Bool.{ne_eqb}
 use Rattle.spec_forest.specs.Forest.{Forest, none, leaf, group, ids, Found, nothing, a_leaf, a_group, find}
@@ -22,8 +22,9 @@ use Rattle.xl_edit.specs.Nodes.{one_node}
 use Rattle.xl_edit.proofs.Seen.{Sees, sees}
 
 -- the document is what the edit makes of it, and the next id is taken
-pub node_made : (d new : Document) (next : ℕ) (e : Edit) → makes_node e ≡ true → refusal d e ≡ None → effect d next [] e ≡ new → edits.apply (at d next) e [] ≡ Ok (at new (next + 1))
-node_made d new next e makes allowed is = λ i. edits.unless_refused (allowed i) (at (is i) (cond (makes i) (next + 1) next))
+pub node_made : (d new : Document) (next : ℕ) (table : List ℕ) (e : Edit) → makes_node e ≡ true → refusal d e ≡ None → effect d next table e ≡ new
+    → edits.apply (at d next) e table ≡ Ok (at new (next + 1))
+node_made d new next table e makes allowed is = λ i. edits.unless_refused (allowed i) (at (is i) (cond (makes i) (next + 1) next))
 
 -- a document with a new node is within its limits
 pub limits_with_node : (d : Document) (next : ℕ) (e : Edit) → IsEdit e → HasNext d next e → makes_node e ≡ true → refusal d e ≡ None → KeepsLimits d (effect d next [] e)

@@ -18,7 +18,7 @@ use Rattle.xl_tiles.specs.Written.{IsWithin, written}
 use Rattle.xl_edit.specs.declared.places.Site.{Site}
 use Rattle.xl_edit.specs.declared.places.Part.{Part}
 use Rattle.xl_edit.specs.declared.places.Part.TheVariants.{Pixels, Mask}
-use Rattle.xl_edit.specs.Applied.{at, Makes}
+use Rattle.xl_edit.specs.Applied.{at, MakesBy}
 use Rattle.xl_edit.specs.Filling.{AreRows, byte_in, in_rows}
 use Rattle.xl_edit.specs.Found.{IsLayer, sheet_of_layer, sheet_found}
 use Rattle.xl_edit.specs.Paint.{IsPieceOf, IsPiece, IsMaskPiece, PaintsPlane, PaintsMask, Paints, with_piece, site_of_sheet, site_of_mask, rect_from, writes, copies, fills_mask}
@@ -35,10 +35,10 @@ piece_painted id d part rect bytes change (a_group g c) is distinct h = absurd h
 
 -- the edit is the change of the layer
 pub paint_made : (d new : Document) (edit : Edit) (id : ℕ) (part : Part) (rect : Rect) (bytes : List ℕ) (change : Layer → Layer) → makes_node edit ≡ false
-    → refusal d edit ≡ None → ((next : ℕ) → effect d next [] edit ≡ change_leaf d id change) → IsDistinct nat_eq (ids d.nodes)
-    → IsLayer (Paints part rect bytes change) (node d id) → new ≡ record d { nodes = with_leaf id (with_piece part rect bytes) d.nodes } → Makes d new edit (Ok tt)
-paint_made d new edit id part rect bytes change plain allowed makes distinct h is = λ next.
-    let all : effect d next [] edit ≡ new =
+    → refusal d edit ≡ None → (table : List ℕ) → ((next : ℕ) → effect d next table edit ≡ change_leaf d id change) → IsDistinct nat_eq (ids d.nodes)
+    → IsLayer (Paints part rect bytes change) (node d id) → new ≡ record d { nodes = with_leaf id (with_piece part rect bytes) d.nodes } → MakesBy table d new edit (Ok tt)
+paint_made d new edit id part rect bytes change plain allowed table makes distinct h is = λ next.
+    let all : effect d next table edit ≡ new =
     makes next ∙ (ap (λ x. record d { nodes = x }) (sym (piece_painted id d part rect bytes change (node d id) refl distinct h)) ∙ sym is) in
     λ i. edits.unless_refused (allowed i) (at (all i) (cond (plain i) (next + 1) next))
 

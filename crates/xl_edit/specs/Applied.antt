@@ -1,5 +1,5 @@
 -- What the applying of an edit comes to.
-use Rattle.std.specs.Prelude.{◌≡◌, ℕ, [], Option, Some, Result, Ok, Err}
+use Rattle.std.specs.Prelude.{◌≡◌, ℕ, List, Option, Some, Result, Ok, Err}
 use Rattle.spec_edit.specs.declared.EditRefused.{EditRefused}
 use Rattle.spec_document.specs.Document.{Document}
 use Rattle.spec_edit.specs.Edit.{Edit}
@@ -11,17 +11,21 @@ use Rattle.xl_edit.specs.declared.refused.EditRefusedOrMemory.TheVariants.{Memor
 abbrev pub at : Document → (next : ℕ) → At
 at document next = record { document = document; next = next }
 
--- The edit is applied whole, or it is refused or memory ran out, and all is as before.
-abbrev pub Applies : (old new : At) → Edit → Result (Unit {0}) EditRefusedOrMemory → Type 0
-Applies old new edit (Ok done) = apply old edit [] ≡ Ok new
-Applies old new edit (Err (Refused cause)) = (apply old edit [] ≡ Err cause) × (new ≡ old)
-Applies old new edit (Err Memory) = new ≡ old
+-- The edit is applied whole with this table, or it is refused or memory ran out, and all is as before.
+abbrev pub Applies : (old new : At) → Edit → (table : List ℕ) → Result (Unit {0}) EditRefusedOrMemory → Type 0
+Applies old new edit table (Ok done) = apply old edit table ≡ Ok new
+Applies old new edit table (Err (Refused cause)) = (apply old edit table ≡ Err cause) × (new ≡ old)
+Applies old new edit table (Err Memory) = new ≡ old
 
--- why an edit was not applied, if it was not for want of memory
+-- why an edit was not applied, if memory did not run out
 abbrev pub IsCause : Option EditRefused → EditRefusedOrMemory → Type 0
 IsCause refusal Memory = Unit {0}
 IsCause refusal (Refused cause) = refusal ≡ Some cause
 
--- an edit that takes no id is applied whole, or it is refused or memory ran out, and the document is as before
+-- an edit that takes no id is applied whole with this table, or it is refused or memory ran out, and the document is as before
+abbrev pub MakesBy : (table : List ℕ) → (old new : Document) → Edit → Result (Unit {0}) EditRefusedOrMemory → Type 0
+MakesBy table old new edit result = (next : ℕ) → Applies (at old next) (at new next) edit table result
+
+-- so it is with any table
 abbrev pub Makes : (old new : Document) → Edit → Result (Unit {0}) EditRefusedOrMemory → Type 0
-Makes old new edit result = (next : ℕ) → Applies (at old next) (at new next) edit result
+Makes old new edit result = (table : List ℕ) → MakesBy table old new edit result

@@ -13,3 +13,4 @@ pub mod Nodes
 pub mod Children
 pub mod Channels
 pub mod Filling
+pub mod Filtered

@@ -13,6 +13,7 @@ mod edit;
 mod edit_list;
 mod fields;
 mod filling;
+mod filtering;
 mod layers;
 mod mixing;
 mod nodes;

@@ -1,5 +1,5 @@
 //! Nodes that come, go and move.
-ghost use Rattle.std.specs.Prelude.{◌≡◌, ◌<◌, ◌≤◌, None, OnOk, OnErr, nat_eq};
+ghost use Rattle.std.specs.Prelude.{◌≡◌, ℕ, ◌<◌, ◌≤◌, List, None, OnOk, OnErr, nat_eq};
 ghost use Rattle.std.specs.List.{IsDistinct};
 ghost use Rattle.spec_forest.specs.Forest.{ids, find, levels, size};
 ghost use Rattle.spec_forest.specs.Changes.{put_into, without};
@@ -62,7 +62,7 @@ pub(crate) fn new_group(
 ) -> Result<(), EditRefusedOrMemory>
     requires bytes { AreBytes name.now }
     requires next { HasNext doc.old next_id.old (edits.new_group parent.0 place name.now) }
-    ensures { Applies (at doc.old next_id.old) (at doc.new next_id.new) (edits.new_group parent.0 place name.now) result }
+    ensures { (table : List ℕ) → Applies (at doc.old next_id.old) (at doc.new next_id.new) (edits.new_group parent.0 place name.now) table result }
 {
     check_new_group(doc, parent, place, name)?;
     let node = blank_group(alloc, name)?;
@@ -89,7 +89,7 @@ pub(crate) fn new_layer(
     requires height { IsSide h }
     requires bytes { AreBytes name.now }
     requires next { HasNext doc.old next_id.old (edits.new_layer parent.0 place x y w h kind name.now) }
-    ensures { Applies (at doc.old next_id.old) (at doc.new next_id.new) (edits.new_layer parent.0 place x y w h kind name.now) result }
+    ensures { (table : List ℕ) → Applies (at doc.old next_id.old) (at doc.new next_id.new) (edits.new_layer parent.0 place x y w h kind name.now) table result }
 {
     check_new_layer(doc, parent, place, x, y, w, h, kind, name)?;
     let node = blank_layer(alloc, x, y, w, h, kind as u8, name)?;

@@ -11,7 +11,7 @@ ghost use Rattle.xl_edit.specs.Found.{outcome, sheet_found};
 ghost use Rattle.xl_edit.specs.Paint.{rect_from};
 
 use crate::checks::{layer_at, lies_inside};
-use crate::rules::lies_on;
+use crate::rules::{check_node, is_indexed, lies_on};
 use crate::weighing::corner;
 use spec_edit::EditRefused;
 use xl_doc::{Channel, Document, Layer, NodeId, Plane, Rect};
@@ -50,6 +50,23 @@ fn are_pixels(layer: &Layer, rect: Rect, bytes: &[u8]) -> bool
     bytes.len() == count * layer.plane.bpp() as usize
 }
 
+/// The layer whose colour bytes may go through a table. Errors: `NoNode`, `IsGroup`, `OutsideLayer`, `OtherType`.
+pub(crate) fn filterable(doc: &Document, id: NodeId, rect: Rect) -> Result<&Layer, EditRefused>
+    ensures found { IfOk result (λ layer. sheet_found (node doc.now id.0) ≡ Some layer.now) }
+    ensures allowed { IfOk result (λ layer. refusal doc.now (edits.filter id.0 rect 0) ≡ None) }
+    ensures within { IfOk result (λ layer. IsWithin layer.now.plane.width layer.now.plane.height rect) }
+    ensures refused { IfErr result (λ cause. refusal doc.now (edits.filter id.0 rect 0) ≡ Some cause) }
+{
+    let layer = layer_at(doc, id)?;
+    if !lies_inside(layer, rect) {
+        return Err(EditRefused::OutsideLayer);
+    }
+    if is_indexed(doc) {
+        return Err(EditRefused::OtherType);
+    }
+    Ok(layer)
+}
+
 /// The layer whose mask may be filled. Errors: `NoNode`, `IsGroup`, `NoMask`, `OutsideLayer`.
 pub(crate) fn mask_fillable(
     doc: &Document,
@@ -73,17 +90,6 @@ pub(crate) fn mask_fillable(
     Ok(layer)
 }
 
-// Refuses an id that no node has.
-fn check_there(doc: &Document, id: NodeId) -> Result<(), EditRefused>
-    ensures refused { IfErr result (λ cause. no_node doc.now id.0 ≡ Some cause) }
-    ensures there { OnOk result (no_node doc.now id.0 ≡ None) }
-{
-    match doc.tree.find(id) {
-        None => Err(EditRefused::NoNode(id.0)),
-        Some(_) => Ok(()),
-    }
-}
-
 /// A layer that is copied to, and one that is copied from.
 #[derive(Clone, Copy)]
 pub(crate) struct Layers<'a> {
@@ -97,8 +103,8 @@ fn layers_at(doc: &Document, id: NodeId, from: NodeId) -> Result<Layers<'_>, Edi
     ensures from { IfOk result (λ two. sheet_found (node doc.now from.0) ≡ Some two.from.now) }
     ensures refused { IfErr result (λ cause. first (no_node doc.now id.0 ∷ no_node doc.now from.0 ∷ is_group doc.now id.0 ∷ is_group doc.now from.0 ∷ []) ≡ Some cause) }
 {
-    check_there(doc, id)?;
-    check_there(doc, from)?;
+    check_node(doc, id)?;
+    check_node(doc, from)?;
     Ok(Layers {
         to: layer_at(doc, id)?,
         from: layer_at(doc, from)?,

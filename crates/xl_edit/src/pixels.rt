@@ -1,7 +1,7 @@
 //! The edits of the pixels and of the mask of a layer.
 ghost use Rattle.std.specs.Prelude.{◌≡◌, IfOk, OnOk, IfErr, None, Some, is_none, true, false};
 ghost use Rattle.spec_edit.specs.Edit as edits;
-ghost use Rattle.spec_edit.specs.Refusal.{node, refusal, is_indexed};
+ghost use Rattle.spec_edit.specs.Refusal.{node, refusal};
 ghost use Rattle.xl_edit.specs.declared.places.Part.TheVariants.{Pixels, Mask};
 ghost use Rattle.xl_edit.specs.Applied.{IsCause, Makes};
 ghost use Rattle.xl_edit.specs.Filling.{IsNearby};
@@ -16,20 +16,14 @@ use crate::painting::put;
 use crate::pixel_checks::{copyable, mask_fillable, moved, writable};
 use crate::places::{Part, Site};
 use crate::refused::EditRefusedOrMemory;
+use crate::rules::is_indexed;
 use crate::weighing::{is_whole, old_bytes};
 use spec_edit::EditRefused;
 use std::alloc::{AllocError, Global};
-use xl_doc::{Base, Document, Layer, NodeId, Rect};
+use xl_doc::{Document, Layer, NodeId, Rect};
 
-// Whether the pixels are places of a colour map.
-fn is_indexed(doc: &Document) -> bool
-    ensures { result ≡ is_indexed doc.now.base }
-{
-    matches!(doc.base, Base::Indexed)
-}
-
-// Where the pixels of a layer lie.
-fn site_of(doc: &Document, layer: &Layer) -> Site
+/// Where the pixels of a layer lie.
+pub(crate) fn site_of(doc: &Document, layer: &Layer) -> Site
     ensures value { result ≡ site_of_sheet doc.now layer.now }
     ensures near { IsNearby result }
 {

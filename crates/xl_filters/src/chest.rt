@@ -1,6 +1,7 @@
 ghost use Rattle.std.specs.Prelude.{◌≡◌, ◌<◌, ◌≤◌, ◌^◌, ◌∷◌, ◌++◌, [], length, map, IsTrue, IfOk, IfErr, IfSome, Some, None, option_map, slice_set, vec_capacity};
 ghost use Rattle.spec_filters.specs.Filters.{table_of, after_use};
-ghost use Rattle.xl_filters.specs.Chests.{states, state_at, has_slot};
+ghost use Rattle.spec_filters.specs.Slots.{state_at, has_slot};
+ghost use Rattle.xl_filters.specs.Chests.{states};
 
 use crate::filter::PointFilter;
 use crate::table::Table;

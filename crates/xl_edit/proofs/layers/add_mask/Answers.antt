@@ -29,4 +29,4 @@ returns c =
     c.in_ok-layer.ensures.found
     (λ l e. ap (λ x. record l { mask = Some x; apply_mask = true }) (c.in_ok-mask.ensures ∙ ap mask_of_sheet (sym e))) in
     made d c.change_layer.new.doc (edits.add_mask c.args.id.0) refl c.in_ok-layer.ensures.allowed
-    (λ next. sym (c.change_layer.ensures ∙ ap (λ ns. record d { nodes = ns }) same))
+    (λ table next. sym (c.change_layer.ensures ∙ ap (λ ns. record d { nodes = ns }) same))

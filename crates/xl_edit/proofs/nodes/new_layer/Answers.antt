@@ -27,7 +27,7 @@ put_node-requires-clause-limits c =
     (limits_with_node d n (edits.new_layer a.parent.0 a.place a.x a.y a.w a.h a.kind a.name.now) (c.requires.width, c.requires.height, c.requires.bytes) c.requires.next refl allowed)
 
 pub returns : goal.returns
-returns c =
+returns c = λ table.
     let a = c.args in
     let d = c.args.doc.now in
     let n = c.args.next_id.now in
@@ -37,6 +37,6 @@ returns c =
     (λ i. refusal d (edits.new_layer a.parent.0 a.place (sym x i) (sym y i) a.w a.h a.kind a.name.now)) ∙ c.in_ok-check_new_layer.ensures.allowed in
     let is = c.in_ok-node.ensures.layer ∙ (λ i. layer_made (x i) (y i) a.w a.h a.kind a.name.now) in
     let one = one_layer n c.in_ok-node.node (layer_made a.x a.y a.w a.h a.kind a.name.now) c.in_ok-node.ensures.body is in
-    node_made d c.put_node.new.doc n (edits.new_layer a.parent.0 a.place a.x a.y a.w a.h a.kind a.name.now) refl
+    node_made d c.put_node.new.doc n table (edits.new_layer a.parent.0 a.place a.x a.y a.w a.h a.kind a.name.now) refl
     allowed
     (sym (c.put_node.ensures ∙ ap (λ b. record d { nodes = put_into a.parent.0 a.place b d.nodes }) one))
