@@ -16,9 +16,10 @@ use Rattle.spec_history.specs.History.{Entry, asked, replay, next_index, latest_
 use Rattle.spec_history.specs.Kept.{PeekMeetsKept}
 use Rattle.spec_history.specs.Calls.{most_entries}
 use Rattle.spec_world.specs.World.{entries_owed}
+use Rattle.std.specs.List.{AllByRecursion}
+use Rattle.spec_document.specs.Limits.{AreBytes}
 use Rattle.spec_history.proofs.Growing.{replay-snoc, next_index-snoc, IsLegal-snoc, out-answer}
 use Rattle.spec_history.proofs.Versions.{sound-legal, latest_of-legal}
-use Rattle.spec_history.proofs.Stacks.{chained-replay}
 use Rattle.xl_edit.specs.Built.{IsBuilt}
 use Rattle.xl_core.specs.History.{History, reply_to, with_call, Answers, Shows}
 use Rattle.xl_core.specs.Now.{Now, Tells, told, now_of, shown, ShowsTile, ShowsNow, Stands}
@@ -27,21 +28,21 @@ use Rattle.xl_core.proofs.GroupNumbers.{groups-told}
 use Rattle.xl_core.proofs.WithinTypes.{built_is, calls-snoc}
 
 -- a call that is built is no peek, so its answer is the machine's
-may_answer : (base : Document) (s : State) (call : Call) (reply : Reply) → IsBuilt call → reply ≡ (answer base s call []).reply → history.Answers base s call [] reply
-may_answer base s (machine.edit guard edits) reply built e = e
-may_answer base s (machine.undo named) reply built e = e
-may_answer base s machine.redo reply built e = e
-may_answer base s (machine.tile stack at) reply built e = e
-may_answer base s (machine.peek stack at) reply built e = absurd built
-may_answer base s machine.top reply built e = e
+may_answer : (base : Document) (s : State) (call : Call) (tables : List (List ℕ)) (reply : Reply) → IsBuilt call → reply ≡ (answer base s call tables).reply → history.Answers base s call tables reply
+may_answer base s (machine.edit guard edits) tables reply built e = e
+may_answer base s (machine.undo named) tables reply built e = e
+may_answer base s machine.redo tables reply built e = e
+may_answer base s (machine.tile stack at) tables reply built e = e
+may_answer base s (machine.peek stack at) tables reply built e = absurd built
+may_answer base s machine.top tables reply built e = e
 
-no_peek : (base : Document) (earlier : List Entry) (call : Call) (reply : Reply) → IsBuilt call → PeekMeetsKept base earlier (asked call []) reply
-no_peek base earlier (machine.edit guard edits) reply built = tt
-no_peek base earlier (machine.undo named) reply built = tt
-no_peek base earlier machine.redo reply built = tt
-no_peek base earlier (machine.tile stack at) reply built = tt
-no_peek base earlier (machine.peek stack at) reply built = absurd built
-no_peek base earlier machine.top reply built = tt
+no_peek : (base : Document) (earlier : List Entry) (call : Call) (tables : List (List ℕ)) (reply : Reply) → IsBuilt call → PeekMeetsKept base earlier (asked call tables) reply
+no_peek base earlier (machine.edit guard edits) tables reply built = tt
+no_peek base earlier (machine.undo named) tables reply built = tt
+no_peek base earlier machine.redo tables reply built = tt
+no_peek base earlier (machine.tile stack at) tables reply built = tt
+no_peek base earlier (machine.peek stack at) tables reply built = absurd built
+no_peek base earlier machine.top tables reply built = tt
 
 -- one call more of a session, and none of the others
 pub counted : (made : List ℕ) (entries : List Entry) (e : Entry)
@@ -68,42 +69,42 @@ counted made entries e eight within kind before s here =
     ]
 
 -- a call lets no save out or in
-pub out-call : (base : Document) (entries : List Entry) (session index : ℕ) (call : Call) (reply : Reply)
-    → (replay base (entries ++ record { session = session; index = index; kind = asked call []; reply = reply } ∷ [])).out ≡ (replay base entries).out
-out-call base entries session index call reply =
-    ap (λ t. t.out) (replay-snoc base entries (record { session = session; index = index; kind = asked call []; reply = reply }))
-    ∙ out-answer base (replay base entries) call []
+pub out-call : (base : Document) (entries : List Entry) (session index : ℕ) (call : Call) (tables : List (List ℕ)) (reply : Reply)
+    → (replay base (entries ++ record { session = session; index = index; kind = asked call tables; reply = reply } ∷ [])).out ≡ (replay base entries).out
+out-call base entries session index call tables reply =
+    ap (λ t. t.out) (replay-snoc base entries (record { session = session; index = index; kind = asked call tables; reply = reply }))
+    ∙ out-answer base (replay base entries) call tables
 
 -- what a call leaves
-pub record GoesOn (base : Document) (entries : List Entry) (made : List ℕ) (session : ℕ) (call : Call) (reply : Reply) (new : Now) : Type 0 where
-  pub stands : Stands base (entries ++ record { session = session; index = slice_index made session; kind = asked call []; reply = reply } ∷ []) new
+pub record GoesOn (base : Document) (entries : List Entry) (made : List ℕ) (session : ℕ) (call : Call) (tables : List (List ℕ)) (reply : Reply) (new : Now) : Type 0 where
+  pub stands : Stands base (entries ++ record { session = session; index = slice_index made session; kind = asked call tables; reply = reply } ∷ []) new
       (slice_set made session (slice_index made session + 1))
-  pub answers : reply ≡ reply_to (record { base = base; entries = entries }) call
+  pub answers : reply ≡ reply_to (record { base = base; entries = entries }) call tables
   pub index : slice_index made session ≡ next_index entries session
 
-pub goes_on : (base : Document) (entries : List Entry) (now new : Now) (made : List ℕ) (session : ℕ) (call : Call) (reply : Reply)
-    → Stands base entries now made → length made ≡ 8 → session < 8 → length entries + entries_owed (replay base entries).out < most_entries → IsBuilt call → Tells (told now call) reply new
-    → GoesOn base entries made session call reply new
-goes_on base entries now new made session call reply stands eight within few built tells =
+pub goes_on : (base : Document) (entries : List Entry) (now new : Now) (made : List ℕ) (session : ℕ) (call : Call) (tables : List (List ℕ)) (reply : Reply)
+    → Stands base entries now made → length made ≡ 8 → session < 8 → length entries + entries_owed (replay base entries).out < most_entries → IsBuilt call → AllByRecursion AreBytes tables → Tells (told now call tables) reply new
+    → GoesOn base entries made session call tables reply new
+goes_on base entries now new made session call tables reply stands eight within few built bytes tells =
     let s = replay base entries in
-    let e : Entry = record { session = session; index = slice_index made session; kind = asked call []; reply = reply } in
+    let e : Entry = record { session = session; index = slice_index made session; kind = asked call tables; reply = reply } in
     let sound = sound-legal base entries stands.legal in
-    let goes = follows base s call sound (chained-replay base entries) in
-    let same : told now call ≡ told (now_of base s) call = ap (λ n. told n call) stands.is_now in
-    let answers : reply ≡ (answer base s call []).reply = tells.0 ∙ (ap (λ t. t.reply) same ∙ goes.reply) in
-    let after : new ≡ now_of base (answer base s call []).state = tells.1 ∙ (ap (λ t. t.now) same ∙ goes.now) in
+    let goes = follows base s call tables sound in
+    let same : told now call tables ≡ told (now_of base s) call tables = ap (λ n. told n call tables) stands.is_now in
+    let answers : reply ≡ (answer base s call tables).reply = tells.0 ∙ (ap (λ t. t.reply) same ∙ goes.reply) in
+    let after : new ≡ now_of base (answer base s call tables).state = tells.1 ∙ (ap (λ t. t.now) same ∙ goes.now) in
     let index : slice_index made session ≡ next_index entries session = stands.indices session within in
     let more : length (entries ++ e ∷ []) ≡ length entries + 1 = length-append entries (e ∷ []) in
-    let owed : entries_owed (replay base (entries ++ e ∷ [])).out ≡ entries_owed s.out = ap entries_owed (out-call base entries session (slice_index made session) call reply) in
-    let groups = groups-told now call in
+    let owed : entries_owed (replay base (entries ++ e ∷ [])).out ≡ entries_owed s.out = ap entries_owed (out-call base entries session (slice_index made session) call tables reply) in
+    let groups = groups-told now call tables in
     let old_groups = stands.groups in
-    let taken : new.next_group ≡ (told now call).now.next_group = ap (λ n. n.next_group) tells.1 in
+    let taken : new.next_group ≡ (told now call tables).now.next_group = ap (λ n. n.next_group) tells.1 in
     record {
       stands = record {
         within = stands.within;
         small = stands.small;
-        calls = calls-snoc entries e stands.calls (built_is call built, tt);
-        legal = IsLegal-snoc base entries e stands.legal (index, may_answer base s call reply built answers) (no_peek base entries call reply built);
+        calls = calls-snoc entries e stands.calls (built_is call built, bytes);
+        legal = IsLegal-snoc base entries e stands.legal (index, may_answer base s call tables reply built answers) (no_peek base entries call tables reply built);
         few = omega (arith, more, few, owed);
         is_now = after ∙ ap (now_of base) (sym (replay-snoc base entries e));
         groups = omega arith;
@@ -114,11 +115,11 @@ goes_on base entries now new made session call reply stands eight within few bui
     }
 
 -- where there was room, the answer is the machine's and the call is the last entry
-pub answered : (h new : History) (session : ℕ) (call : Call) (reply : Reply)
-    → length h.entries + entries_owed (replay h.base h.entries).out < most_entries → reply ≡ reply_to h call → new ≡ with_call h session call reply → Answers h session call reply new
-answered h new session call reply few answers last =
+pub answered : (h new : History) (session : ℕ) (call : Call) (tables : List (List ℕ)) (reply : Reply)
+    → length h.entries + entries_owed (replay h.base h.entries).out < most_entries → reply ≡ reply_to h call tables → new ≡ with_call h session call tables reply → Answers h session call tables reply new
+answered h new session call tables reply few answers last =
     let P : Bool → Type 0 = λ full.
-    MatchBool full ((reply ≡ machine.history_full) × (new ≡ h)) ((reply ≡ reply_to h call) × (new ≡ with_call h session call reply)) in
+    MatchBool full ((reply ≡ machine.history_full) × (new ≡ h)) ((reply ≡ reply_to h call tables) × (new ≡ with_call h session call tables reply)) in
     subst P (sym (lt-leb most_entries (length h.entries + entries_owed (replay h.base h.entries).out) few)) (answers, last)
 
 -- a history stands with few versions and groups
@@ -149,15 +150,15 @@ shows-tile base entries now new stack at (machine.tile_of v) bytes tells is show
     shows ∙ ap (λ x. project x stack at) document
 shows-tile base entries now new stack at reply bytes tells is shows = tt
 
-pub shows : (base : Document) (entries : List Entry) (now new : Now) (made : List ℕ) (call : Call) (reply : Reply) (bytes : List ℕ)
-    → Tells (told now call) reply new → Stands base entries new made
+pub shows : (base : Document) (entries : List Entry) (now new : Now) (made : List ℕ) (call : Call) (tables : List (List ℕ)) (reply : Reply) (bytes : List ℕ)
+    → Tells (told now call tables) reply new → Stands base entries new made
     → ShowsNow new.document call reply bytes → Shows (record { base = base; entries = entries }) call reply bytes
-shows base entries now new made (machine.tile stack at) reply bytes tells stands here = shows-tile base entries now new stack at reply bytes tells stands.is_now here
-shows base entries now new made (machine.edit guard edits) reply bytes tells stands here = tt
-shows base entries now new made (machine.undo named) reply bytes tells stands here = tt
-shows base entries now new made machine.redo reply bytes tells stands here = tt
-shows base entries now new made (machine.peek stack at) reply bytes tells stands here = tt
-shows base entries now new made machine.top reply bytes tells stands here = tt
+shows base entries now new made (machine.tile stack at) tables reply bytes tells stands here = shows-tile base entries now new stack at reply bytes tells stands.is_now here
+shows base entries now new made (machine.edit guard edits) tables reply bytes tells stands here = tt
+shows base entries now new made (machine.undo named) tables reply bytes tells stands here = tt
+shows base entries now new made machine.redo tables reply bytes tells stands here = tt
+shows base entries now new made (machine.peek stack at) tables reply bytes tells stands here = tt
+shows base entries now new made machine.top tables reply bytes tells stands here = tt
 
 -- a full history shows nothing
 pub shows-full : (h : History) (call : Call) (bytes : List ℕ) → Shows h call machine.history_full bytes

@@ -5,5 +5,7 @@ mod WithinTypes
 mod Opened
 mod Ids
 mod Groups
+mod Asking
+mod Making
 mod GoesOn
 pub mod Saves

@@ -20,6 +20,7 @@ use Rattle.spec_history.specs.Calls.{most_entries}
 use Rattle.xl_core.specs.Editing.{last_of, index_out}
 use Rattle.xl_core.specs.Holding.{all_seen, IsPlace, at_hand, Holds}
 use Rattle.xl_core.specs.Now.{Now, now_of, Stands}
+use Rattle.xl_core.specs.Room.{owed_in}
 use Rattle.xl_core.specs.declared.saving.Place.{Place}
 use Rattle.xl_core.specs.declared.saving.Place.TheVariants.{In, Out}
 use Rattle.xl_core.proofs.WithinTypes.{calls-snoc}
@@ -123,6 +124,13 @@ pub which_out : (K : Type 0) (index version : ℕ) (out : Option Saving) → IsP
 which_out K index version None there = absurd there
 which_out K index version (Some out) there = there
 
+-- the entry that is owed is that of the save that is out
+pub owed_is : (K : Type 0) (place : Place K) (out : Option Saving) → IsPlace place out → owed_in place ≡ entries_owed out
+owed_is K (In k) None there = refl
+owed_is K (In k) (Some out) there = absurd there
+owed_is K (Out index version) None there = absurd there
+owed_is K (Out index version) (Some out) there = refl
+
 pub seen-snoc : {K : Type 0} (seen : List (Snapshot K)) (s : Snapshot K) (k : K) → s.value ≡ k → all_seen (seen ++ s ∷ []) ≡ all_seen seen ++ k ∷ []
 seen-snoc [] s k is = ap (λ x. x ∷ []) is
 seen-snoc (x ∷ seen) s k is = ap (λ xs. x.value ∷ xs) (seen-snoc seen s k is)
@@ -133,12 +141,12 @@ last-snoc first (x ∷ ks) k = last-snoc x ks k
 
 module _ {K : Type 0} (see : K → Known) (base : Document) (entries : List Entry) (now : Now) (made : List ℕ) (stands : Stands base entries now made) (opening : K) (handed : List K) where
   -- a call leaves the shelf where it is
-  pub holds_called : (place : Place K) (room more : ℕ) (session index : ℕ) (call : Call) (reply : Reply) → Holds see base entries opening handed place room
+  pub holds_called : (place : Place K) (room more : ℕ) (session index : ℕ) (call : Call) (tables : List (List ℕ)) (reply : Reply) → Holds see base entries opening handed place room
       → length entries + 1 + entries_owed (replay base entries).out ≤ more
-      → Holds see base (entries ++ record { session = session; index = index; kind = asked call []; reply = reply } ∷ []) opening handed place more
-  holds_called place room more session index call reply holds enough =
-      let e : Entry = record { session = session; index = index; kind = asked call []; reply = reply } in
-      let out = out-call base entries session index call reply in
+      → Holds see base (entries ++ record { session = session; index = index; kind = asked call tables; reply = reply } ∷ []) opening handed place more
+  holds_called place room more session index call tables reply holds enough =
+      let e : Entry = record { session = session; index = index; kind = asked call tables; reply = reply } in
+      let out = out-call base entries session index call tables reply in
       let owed : entries_owed (replay base (entries ++ e ∷ [])).out ≡ entries_owed (replay base entries).out = ap entries_owed out in
       let len : length (entries ++ e ∷ []) ≡ length entries + 1 = length-append entries (e ∷ []) in
       record {

@@ -10,7 +10,7 @@ use Rattle.xl_edit.specs.Built.{IsBuilt}
 
 -- a call that is built is within its type
 pub built_is : (call : Call) → IsBuilt call → IsCall call
-built_is (machine.edit guard edits) built = built.0
+built_is (machine.edit guard edits) built = built
 built_is (machine.undo named) built = tt
 built_is machine.redo built = tt
 built_is (machine.tile stack at) built = tt

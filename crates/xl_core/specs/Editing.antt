@@ -13,12 +13,14 @@ use Rattle.xl_core.specs.History.{History, version, document}
 use Rattle.xl_core.specs.declared.saving.Begun.{Begun}
 use Rattle.xl_core.specs.declared.saving.Begun.TheVariants.{Snapshot, Out, Full}
 
--- the history, the shelf as the document was opened, as each save's start has handed it out, and as it is where no save is out
+-- The history, the shelf as the document was opened, as each save's start has handed it out, and as it is where no save is out;
+-- and for how many calls, undos and redos among them, there is room without more memory.
 pub record Editing (K : Type 0) : Type 0 where
   pub history : History
   pub opening : K
   pub handed : List K
   pub shelf : Option K
+  pub spare : ℕ
 
 -- ---- shelves
 
@@ -50,6 +52,14 @@ pub record KeepsShelf {K : Type 0} (old new : Editing K) : Type 0 where
   pub handed : new.handed ≡ old.handed
   pub shelf : new.shelf ≡ old.shelf
 
+-- all is as before, and there is no less room
+pub record IsAsBefore {K : Type 0} (old new : Editing K) : Type 0 where
+  pub history : new.history ≡ old.history
+  pub opening : new.opening ≡ old.opening
+  pub handed : new.handed ≡ old.handed
+  pub shelf : new.shelf ≡ old.shelf
+  pub spare : old.spare ≤ new.spare
+
 -- ---- saves
 
 abbrev pub start_of : History → (session : ℕ) → Entry
@@ -70,12 +80,13 @@ abbrev pub with_entry : History → Entry → History
 with_entry h e = record h { entries = h.entries ++ e ∷ [] }
 
 -- the shelf is handed out, and the start is the last entry
-abbrev pub with_start : {K : Type 0} → Editing K → (session : ℕ) → K → Editing K
-with_start c session k = record c { history = with_entry c.history (start_of c.history session); handed = c.handed ++ k ∷ []; shelf = None }
+abbrev pub with_start : {K : Type 0} → Editing K → (session : ℕ) → K → (spare : ℕ) → Editing K
+with_start c session k spare =
+    record c { history = with_entry c.history (start_of c.history session); handed = c.handed ++ k ∷ []; shelf = None; spare = spare }
 
 -- the shelf is there again, and the end is the last entry
-abbrev pub with_end : {K : Type 0} → Editing K → (session : ℕ) → Reply → K → Editing K
-with_end c session reply k = record c { history = with_entry c.history (end_of c.history session reply); shelf = Some k }
+abbrev pub with_end : {K : Type 0} → Editing K → (session : ℕ) → Reply → K → (spare : ℕ) → Editing K
+with_end c session reply k spare = record c { history = with_entry c.history (end_of c.history session reply); shelf = Some k; spare = spare }
 
 -- A save begins with the last version, its document and the shelf, where that is in and two entries are free.
 abbrev pub Begins : {K : Type 0} → (old : Editing K) → (session : ℕ) → Begun K → (new : Editing K) → Type 0
@@ -84,13 +95,13 @@ Begins old session (Snapshot v d k) new =
     × (d ≡ document old.history)
     × (old.shelf ≡ Some k)
     × (length old.history.entries + 2 ≤ most_entries)
-    × (new ≡ with_start old session k)
-Begins old session Out new = (old.shelf ≡ None) × (new ≡ old)
-Begins old session Full new = IsSome old.shelf × (most_entries < length old.history.entries + 2) × (new ≡ old)
+    × (new ≡ with_start old session k new.spare)
+Begins old session Out new = (old.shelf ≡ None) × IsAsBefore old new
+Begins old session Full new = IsSome old.shelf × (most_entries < length old.history.entries + 2) × IsAsBefore old new
 
 -- A save ends with the version that it started with.
 abbrev pub Ends : {K : Type 0} → (old : Editing K) → (session : ℕ) → SaveEnd → K → Reply → (new : Editing K) → Type 0
-Ends old session how k reply new = (reply ≡ end_reply how (version_out (out_of old.history))) × (new ≡ with_end old session reply k)
+Ends old session how k reply new = (reply ≡ end_reply how (version_out (out_of old.history))) × (new ≡ with_end old session reply k new.spare)
 
 -- of a shelf that is handed out
 abbrev pub HandsOut : {K : Type 0} → (K → Type 0) → Begun K → Type 0

@@ -20,26 +20,26 @@ version h = latest_of h.entries
 abbrev pub document : History → Document
 document h = document_of h.base h.entries (version h)
 
--- what the machine answers to a call after this history
-abbrev pub reply_to : History → Call → Reply
-reply_to h call = (answer h.base (replay h.base h.entries) call []).reply
+-- what the machine answers to a call after this history, where the call's filters answered these tables
+abbrev pub reply_to : History → Call → (tables : List (List ℕ)) → Reply
+reply_to h call tables = (answer h.base (replay h.base h.entries) call tables).reply
 
--- the history with a call and its reply
-abbrev pub with_call : History → (session : ℕ) → Call → Reply → History
-with_call h session call reply = record h {
-  entries = h.entries ++ record { session = session; index = next_index h.entries session; kind = asked call []; reply = reply } ∷ [];
+-- the history with a call, its tables and its reply
+abbrev pub with_call : History → (session : ℕ) → Call → (tables : List (List ℕ)) → Reply → History
+with_call h session call tables reply = record h {
+  entries = h.entries ++ record { session = session; index = next_index h.entries session; kind = asked call tables; reply = reply } ∷ [];
 }
 
 -- no entry is free beside the end that is owed where a save is out
 abbrev pub is_full : History → Bool
 is_full h = nat_le most_entries (length h.entries + entries_owed (replay h.base h.entries).out)
 
--- The call is answered as the machine answers it, and is the last entry; a full history stays as it is.
-abbrev pub Answers : (old : History) → (session : ℕ) → Call → Reply → (new : History) → Type 0
-Answers old session call reply new =
+-- The call is answered as the machine answers it with these tables, and is the last entry with them; a full history stays as it is.
+abbrev pub Answers : (old : History) → (session : ℕ) → Call → (tables : List (List ℕ)) → Reply → (new : History) → Type 0
+Answers old session call tables reply new =
     MatchBool (is_full old)
     ((reply ≡ machine.history_full) × (new ≡ old))
-    ((reply ≡ reply_to old call) × (new ≡ with_call old session call reply))
+    ((reply ≡ reply_to old call tables) × (new ≡ with_call old session call tables reply))
 
 -- the bytes are those of the tile that was asked for, at the version that is named
 abbrev pub Shows : History → Call → Reply → (bytes : List ℕ) → Type 0

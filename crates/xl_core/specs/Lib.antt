@@ -4,3 +4,5 @@ pub mod History
 pub mod Holding
 pub mod Now
 pub mod Group
+pub mod Room
+pub mod Steps

@@ -15,14 +15,13 @@ use Rattle.spec_history.specs.Kept.{IsLegal}
 use Rattle.spec_history.specs.Limited.{AreCalls}
 use Rattle.spec_world.specs.World.{entries_owed}
 use Rattle.spec_history.specs.Calls.{most_entries}
-use Rattle.xl_core.specs.declared.standing.Undo.{Undo}
-use Rattle.xl_core.specs.declared.standing.Redo.{Redo}
+use Rattle.xl_core.specs.Steps.{Step}
 
 -- the last document, the groups that can be undone and redone, the next one first, and the next numbers
 pub record Now : Type 0 where
   pub document : Document
-  pub undo : List Undo
-  pub redo : List Redo
+  pub undo : List Step
+  pub redo : List Step
   pub next_id : ℕ
   pub next_group : ℕ
   pub version : ℕ
@@ -57,7 +56,7 @@ abbrev pub accepted : Now → At → Told
 accepted old at =
     let mid : Now = record {
       document = at.document;
-      undo = record { group = old.next_group; before = old.document } ∷ old.undo;
+      undo = record { group = old.next_group; from = at.document; to = old.document } ∷ old.undo;
       redo = [];
       next_id = at.next;
       next_group = old.next_group + 1;
@@ -69,33 +68,35 @@ abbrev pub made_now : Now → Result At Refused → Told
 made_now old (Err r) = stays old (refused r.index r.cause)
 made_now old (Ok at) = accepted old at
 
--- a group of edits, whose guard may have moved, made or refused
-abbrev pub edited : Now → (guard : Option ℕ) → List Edit → Told
-edited old guard edits =
-    let made = made_now old (apply_group (at_now old) edits []) in
+-- a group of edits, whose guard may have moved, made with the tables of its filters, or refused
+abbrev pub edited : Now → (guard : Option ℕ) → List Edit → (tables : List (List ℕ)) → Told
+edited old guard edits tables =
+    let made = made_now old (apply_group (at_now old) edits tables) in
     if names guard old.version then made else stays old (moved old.version)
 
--- the document before a group stands again, which can be redone
-abbrev pub taken_back : Now → Undo → List Undo → Told
-taken_back old u us =
-    next_version (record old { document = u.before; undo = us; redo = record { group = u.group; after = old.document } ∷ old.redo }) u.group
+-- a step is taken, and leads back from then on
+abbrev pub stepped : Step → Step
+stepped s = record { group = s.group; from = s.to; to = s.from }
 
-abbrev pub undone_of : Now → (named : Option ℕ) → List Undo → Told
+-- the document before a group stands again, which can be redone
+abbrev pub taken_back : Now → Step → List Step → Told
+taken_back old s ss = next_version (record old { document = s.to; undo = ss; redo = stepped s ∷ old.redo }) s.group
+
+abbrev pub undone_of : Now → (named : Option ℕ) → List Step → Told
 undone_of old named [] = stays old nothing_to_undo
-undone_of old named (u ∷ us) = if names named u.group then taken_back old u us else stays old (not_top u.group)
+undone_of old named (s ∷ ss) = if names named s.group then taken_back old s ss else stays old (not_top s.group)
 
 -- the undo of the last group, if it is the one that is named
 abbrev pub undone : Now → (named : Option ℕ) → Told
 undone old named = undone_of old named old.undo
 
 -- the document after a group stands again, which can be undone
-abbrev pub made_again : Now → Redo → List Redo → Told
-made_again old r rs =
-    next_version (record old { document = r.after; undo = record { group = r.group; before = old.document } ∷ old.undo; redo = rs }) r.group
+abbrev pub made_again : Now → Step → List Step → Told
+made_again old s ss = next_version (record old { document = s.to; undo = stepped s ∷ old.undo; redo = ss }) s.group
 
-abbrev pub redone_of : Now → List Redo → Told
+abbrev pub redone_of : Now → List Step → Told
 redone_of old [] = stays old nothing_to_redo
-redone_of old (r ∷ rs) = made_again old r rs
+redone_of old (s ∷ ss) = made_again old s ss
 
 -- the redo of the group that was undone last
 abbrev pub redone : Now → Told
@@ -105,18 +106,18 @@ abbrev pub shown : Now → (stack : ℕ) → TileAt → Told
 shown old stack at = stays old (tile_reply old.document stack at (tile_of old.version))
 
 -- the group that an undo would undo
-abbrev pub top_of : List Undo → Option ℕ
+abbrev pub top_of : List Step → Option ℕ
 top_of [] = None
-top_of (u ∷ us) = Some u.group
+top_of (s ∷ ss) = Some s.group
 
--- what a call is told
-abbrev pub told : Now → Call → Told
-told old (machine.edit guard edits) = edited old guard edits
-told old (machine.undo named) = undone old named
-told old machine.redo = redone old
-told old (machine.tile stack at) = shown old stack at
-told old (machine.peek stack at) = shown old stack at
-told old machine.top = stays old (top_is (top_of old.undo) old.version)
+-- what a call is told whose filters answered these tables
+abbrev pub told : Now → Call → (tables : List (List ℕ)) → Told
+told old (machine.edit guard edits) tables = edited old guard edits tables
+told old (machine.undo named) tables = undone old named
+told old machine.redo tables = redone old
+told old (machine.tile stack at) tables = shown old stack at
+told old (machine.peek stack at) tables = shown old stack at
+told old machine.top tables = stays old (top_is (top_of old.undo) old.version)
 
 -- the bytes are those of the tile that was asked for, where it is shown
 abbrev pub ShowsTile : Document → (stack : ℕ) → TileAt → Reply → (bytes : List ℕ) → Type 0
@@ -151,11 +152,13 @@ KeepsDesk history_full old new = new ≡ old
 
 -- ---- what stands in the machine
 
-abbrev pub undo_of : Document → State → Done → Undo
-undo_of base s d = record { group = d.group; before = document_at base s d.before }
+-- the step back over a group
+abbrev pub undo_of : Document → State → Done → Step
+undo_of base s d = record { group = d.group; from = document_at base s d.after; to = document_at base s d.before }
 
-abbrev pub redo_of : Document → State → Done → Redo
-redo_of base s d = record { group = d.group; after = document_at base s d.after }
+-- the step forth over it
+abbrev pub redo_of : Document → State → Done → Step
+redo_of base s d = record { group = d.group; from = document_at base s d.before; to = document_at base s d.after }
 
 -- what stands in a state of the machine
 abbrev pub now_of : Document → State → Now

@@ -1,20 +1,26 @@
-ghost use Rattle.std.specs.Prelude.{◌≡◌, [], IfOk};
+ghost use Rattle.std.specs.Prelude.{◌≡◌, [], IfOk, IfErr};
 
-use std::alloc::{AllocError, Global};
+use std::alloc::{AllocFailed, Global};
 use xl_compose::Picture;
+use xl_filters::Chest;
 
-/// What a session brings to its calls: the room for the tile that it is handed.
+/// What a session brings to its calls: its filters, and the room for the tile that it is handed.
 #[derive(Drop)]
 pub struct Desk {
+    pub chest: Chest,
     pub out: Picture,
 }
 
 impl Desk {
-    pub fn new(alloc: Global) -> Result<Desk, AllocError>
-        ensures { IfOk result (λ desk. desk.out ≡ []) }
+    /// A desk with these filters, which come back where memory runs out.
+    pub fn new(alloc: Global, chest: Chest) -> Result<Desk, AllocFailed<Chest>>
+        ensures chest { IfOk result (λ desk. desk.chest ≡ chest) }
+        ensures out { IfOk result (λ desk. desk.out ≡ []) }
+        ensures back { IfErr result (λ failed. failed.value ≡ chest) }
     {
-        Ok(Desk {
-            out: Picture::blank(alloc)?,
-        })
+        match Picture::blank(alloc) {
+            Ok(out) => Ok(Desk { chest, out }),
+            Err(_) => Err(AllocFailed { value: chest }),
+        }
     }
 }

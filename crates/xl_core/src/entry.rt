@@ -1,10 +1,12 @@
 use std::marker::Model;
 use xl_edit::{Call, Reply};
+use xl_filters::Tables;
 
 /// What an entry of a history is.
 #[derive(Debug, Drop)]
 pub enum EntryKind {
-    Asked(Call),
+    /// A call, with the tables that its filters answered.
+    Asked { call: Call, tables: Tables },
     /// A save begins.
     Start,
     /// A save ends.

@@ -1,5 +1,6 @@
-ghost use Rattle.std.specs.Prelude.{◌≡◌};
+ghost use Rattle.std.specs.Prelude.{◌≡◌, ◌≤◌};
 ghost use Rattle.spec_world.specs.Events.{end_reply};
+ghost use Rattle.xl_core.specs.Room.{owed_in};
 ghost use Rattle.xl_edit.specs.Replies.{reply_of};
 
 use spec_world::SaveEnd;
@@ -25,6 +26,17 @@ pub enum Begun<D> {
 pub(crate) enum Place<D> {
     In(D),
     Out { index: u32, version: u32 },
+}
+
+// How many entries the save that is out owes.
+pub(crate) fn owed_in<D>(place: &Place<D>) -> usize
+    ensures value { result ≡ owed_in place.now }
+    ensures few { result ≤ 1 }
+{
+    match place {
+        Place::In(_) => 0,
+        Place::Out { .. } => 1,
+    }
 }
 
 // How a save ended that names this version.

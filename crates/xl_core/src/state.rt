@@ -1,19 +1,25 @@
-ghost use Rattle.std.specs.Prelude.{◌≡◌, ◌<◌, ◌≤◌, ◌^◌, length, [], Some, IfOk, IfErr, OnOk, OnErr, IsSome};
+ghost use Rattle.std.specs.Prelude.{◌≡◌, ◌+◌, ◌<◌, ◌≤◌, ◌^◌, List, length, [], Some, IfOk, IfErr, IsOk, OnOk, OnErr, IsSome};
 ghost use Rattle.spec_history.specs.Kept.{IsLegal};
-ghost use Rattle.spec_world.specs.World.{entries_owed};
 ghost use Rattle.spec_world.specs.Events.{IsOutOf};
 ghost use Rattle.spec_history.specs.Calls.{most_entries};
 ghost use Rattle.xl_core.specs.History.{version, document, Answers, Shows};
-ghost use Rattle.xl_core.specs.Editing.{known, out_of, IsRight, ComesBack, KeepsShelf, Begins, HandsOut, Ends};
+ghost use Rattle.xl_core.specs.Editing.{known, out_of, IsRight, ComesBack, KeepsShelf, IsAsBefore, Begins, HandsOut, Ends};
 ghost use Rattle.xl_core.specs.Now.{KeepsDesk};
+ghost use Rattle.xl_core.specs.Room.{IsUndoOrRedo};
 ghost use Rattle.xl_doc.specs.Numbered.{AreNumbered};
+ghost use Rattle.spec_filters.specs.declared.FilterState.{FilterState};
+ghost use Rattle.spec_history.specs.History.{asked};
+ghost use Rattle.spec_history.specs.Limited.{edits_of};
+ghost use Rattle.spec_tables.specs.Agrees.{Agrees, AreThere, IsAfter, IsPartAfter};
+ghost use Rattle.spec_tables.specs.Tables.{expected_tables};
 ghost use Rattle.xl_edit.specs.Built.{IsBuilt};
+ghost use Rattle.xl_filters.specs.Chests.{states_in};
 ghost use Rattle.xl_edit.specs.Calls.{call_of};
 ghost use Rattle.xl_edit.specs.Replies.{reply_of};
 
 use crate::desk::Desk;
 use crate::entry::{Entry, EntryKind};
-use crate::saving::{Begun, Place, reply_to_end};
+use crate::saving::{Begun, Place, owed_in, reply_to_end};
 use crate::standing::Standing;
 use spec_world::SaveEnd;
 use std::alloc::{AllocError, AllocFailed, Global};
@@ -23,6 +29,7 @@ use std::sync::ledger::Ledger;
 use xl_blend::Steps;
 use xl_doc::Document;
 use xl_edit::{Call, Reply};
+use xl_filters::PointFilter;
 use xl_ports::Shelf;
 
 /// How many entries a history has at most.
@@ -43,7 +50,7 @@ pub struct Core<D: Shelf> {
 }
 
 impl<D: Shelf> Model for Core<D> {
-    ghost use Rattle.std.specs.Prelude.{vec_capacity};
+    ghost use Rattle.std.specs.Prelude.{vec_capacity, vec_len};
     ghost use Rattle.std.specs.Coded.{codes};
     ghost use Rattle.spec_document.specs.Code.{coded_document};
     ghost use Rattle.xl_core.specs.Editing.{Editing, known};
@@ -54,15 +61,17 @@ impl<D: Shelf> Model for Core<D> {
 
     ghost use Rattle.xl_core.specs.Now.{Stands};
     ghost use Rattle.xl_core.specs.Holding.{all_seen, shelf_in, Holds};
+    ghost use Rattle.xl_core.specs.Room.{spare_of};
 
     ghost view = { λ c. record {
       history = record { base = c.base; entries = c.entries.items };
       opening = c.opening.value;
       handed = all_seen c.handed.items;
       shelf = shelf_in c.place;
+      spare = spare_of c.place (vec_capacity c.entries) (vec_len c.entries) c.standing.room;
     } };
 
-    ghost invariant = { λ c. Stands c.base c.entries.items c.standing c.made
+    ghost invariant = { λ c. Stands c.base c.entries.items c.standing.what c.made
         × Holds (known D.selected D.disk D.reading_faults D.saving_faults) c.base c.entries.items c.opening.value (all_seen c.handed.items) c.place (vec_capacity c.entries) };
 }
 
@@ -75,7 +84,7 @@ impl<D: Shelf> Core<D> {
     ) -> Result<Core<D>, AllocFailed<(Document, D)>>
         requires numbered { AreNumbered doc.nodes }
         requires selected { IsSome (D.selected shelf) }
-        ensures ok { IfOk result (λ core. core ≡ record { history = record { base = doc; entries = [] }; opening = shelf; handed = []; shelf = Some shelf }) }
+        ensures ok { IfOk result (λ core. core ≡ record { history = record { base = doc; entries = [] }; opening = shelf; handed = []; shelf = Some shelf; spare = core.spare }) }
         ensures back { IfErr result (λ failed. failed.value ≡ (doc, shelf)) }
     {
         match doc.share(alloc) {
@@ -94,20 +103,36 @@ impl<D: Shelf> Core<D> {
         }
     }
 
-    // How many entries the save that is out owes.
-    fn owed(&self) -> usize
-        ensures { result ≡ entries_owed (out_of self.now.history) }
+    /// For how many calls there is room without more memory, beside the entry that a save owes: at most 2^20. Where it is not 0 an
+    /// undo or a redo takes no memory.
+    pub fn spare(&self) -> u32
+        ensures { result ≡ self.now.spare }
     {
-        match self.place {
-            Place::In(_) => 0,
-            Place::Out { .. } => 1,
-        }
+        let taken = self.entries.len() + owed_in(&self.place);
+        let places = self.entries.capacity().saturating_sub(taken);
+        MOST_ENTRIES.min(places.min(self.standing.room())) as u32
+    }
+
+    /// Takes room for n more calls: for their entries beside the one that a save owes, and for n more groups that can be undone and
+    /// n more that can be redone. What was taken before memory ran out stays taken.
+    pub fn reserve(&mut self, n: u32) -> Result<(), AllocError>
+        requires few { n ≤ most_entries }
+        ensures spare { OnOk result (n ≤ self.new.spare) }
+        ensures as_before { IsAsBefore self.old self.new }
+        ensures legal { IsLegal self.new.history.base self.new.history.entries }
+        ensures few { length self.new.history.entries ≤ most_entries }
+    {
+        let owed = owed_in(&self.place);
+        self.entries.reserve(n as usize + owed)?;
+        self.standing.reserve(n as usize)
     }
 
     /// Makes a call of a session, which has seen the versions up to `seen`.
     ///
-    /// A tile leaves its bytes in the desk; no other answer touches it. It never touches the shelf, and leaves room for the entry
-    /// that a save owes. After out of memory the history and the desk are as before.
+    /// A tile leaves its bytes in the desk; no other answer touches these. The filters that a group names are in the desk's chest.
+    /// They are asked where the group is accepted, once for each of its edits that names them and in their order, and else not. It
+    /// never touches the shelf, and leaves room for the entry that a save owes. After out of memory all is as before, but that the
+    /// filters of the group's first edits may have been asked. It lowers `spare` by at most 1.
     pub fn submit<L: Ledger>(
         &mut self,
         alloc: Global,
@@ -120,27 +145,36 @@ impl<D: Shelf> Core<D> {
         requires session { session < 8 }
         requires seen { seen ≤ version self.old.history }
         requires built { IsBuilt (call_of call) }
-        ensures answered { IfOk result (λ reply. Answers self.old.history session (call_of call) (reply_of reply) self.new.history) }
+        requires there { AreThere (states_in state desk.old.chest) (edits_of (call_of call)) }
+
+        ensures answered { (filters : List FilterState) → Agrees (states_in state desk.old.chest) filters
+            → IfOk result (λ reply. Answers self.old.history session (call_of call) (expected_tables filters (asked (call_of call) []) (reply_of reply)) (reply_of reply) self.new.history) }
+        ensures chest { IfOk result (λ reply. IsAfter (states_in state desk.old.chest) (states_in state desk.new.chest) (call_of call) (reply_of reply)) }
         ensures shown { IfOk result (λ reply. Shows self.new.history (call_of call) (reply_of reply) desk.new.out) }
         ensures shelf { KeepsShelf self.old self.new }
         ensures legal { IsLegal self.new.history.base self.new.history.entries }
         ensures few { length self.new.history.entries ≤ most_entries }
         ensures desk { IfOk result (λ reply. KeepsDesk (reply_of reply) desk.old.out desk.new.out) }
-        ensures as_before { OnErr result (self.new ≡ self.old) }
-        ensures desk_as_before { OnErr result (desk.new ≡ desk.old) }
+        ensures as_before { OnErr result (IsAsBefore self.old self.new) }
+        ensures out_as_before { OnErr result (desk.new.out ≡ desk.old.out) }
+        ensures part { OnErr result (IsPartAfter (states_in state desk.old.chest) (states_in state desk.new.chest) (call_of call)) }
+        ensures spare { self.old.spare ≤ self.new.spare + 1 }
+        ensures succeeds { 1 ≤ self.old.spare → IsUndoOrRedo (call_of call) → IsOk result }
     {
-        let owed = self.owed();
+        let owed = owed_in(&self.place);
         if self.entries.len() + owed >= MOST_ENTRIES {
             return Ok(Reply::HistoryFull);
         }
         self.entries.reserve(1 + owed)?;
-        let reply = self.standing.answer(alloc, &call, desk, steps)?;
+        let answered = self.standing.answer(alloc, &call, desk, steps)?;
+        let reply = answered.reply;
+        let tables = answered.tables;
         let index = self.made[session as usize];
         self.made[session as usize] = index + 1;
         self.entries.push_reserved(Entry {
             session,
             index,
-            kind: EntryKind::Asked(call),
+            kind: EntryKind::Asked { call, tables },
             reply,
         });
         Ok(reply)
@@ -148,15 +182,16 @@ impl<D: Shelf> Core<D> {
 
     /// Begins a save of a session: the last version with a share of its document and the shelf, which is out until `end_save`.
     ///
-    /// It makes an entry, and takes the room for that of its end. `Out` where the shelf is out, and `Full` where it is in and
-    /// fewer than two entries are free; neither makes an entry. After out of memory all is as before.
+    /// It makes an entry, and takes the room for that of its end, so that `spare` is not lower. `Out` where the shelf is out, and
+    /// `Full` where it is in and fewer than two entries are free; neither makes an entry. After out of memory all is as before.
     pub fn begin_save(&mut self, alloc: Global, session: u8) -> Result<Begun<D>, AllocError>
         requires session { session < 8 }
         ensures begun { IfOk result (λ begun. Begins self.old session begun self.new) }
         ensures right { IfOk result (λ begun. HandsOut (IsRight (known D.selected D.disk D.reading_faults D.saving_faults) self.old) begun) }
         ensures legal { IsLegal self.new.history.base self.new.history.entries }
         ensures few { length self.new.history.entries ≤ most_entries }
-        ensures as_before { OnErr result (self.new ≡ self.old) }
+        ensures as_before { OnErr result (IsAsBefore self.old self.new) }
+        ensures spare { self.old.spare ≤ self.new.spare }
     {
         if let Place::Out { .. } = self.place {
             return Ok(Begun::Out);
@@ -164,7 +199,8 @@ impl<D: Shelf> Core<D> {
         if self.entries.len() + 2 > MOST_ENTRIES {
             return Ok(Begun::Full);
         }
-        self.entries.reserve(2)?;
+        let spare = self.spare() as usize;
+        self.entries.reserve(spare + 2)?;
         self.handed.reserve(1)?;
         let document = self.standing.document().share(alloc)?;
         let version = self.standing.version();
@@ -196,6 +232,7 @@ impl<D: Shelf> Core<D> {
         requires out { IsOutOf (out_of self.old.history) session }
         requires returns { ComesBack (known D.selected D.disk D.reading_faults D.saving_faults) self.old how shelf }
         ensures ended { Ends self.old session how shelf (reply_of result) self.new }
+        ensures spare { self.old.spare ≤ self.new.spare }
         ensures legal { IsLegal self.new.history.base self.new.history.entries }
         ensures few { length self.new.history.entries ≤ most_entries }
     {

@@ -1,6 +1,6 @@
 -- The start is the next entry, and the shelf is handed out.
 use Rattle.std.proofs.Common.{◌≡◌, ◌+◌, ◌≤◌, [], ◌∷◌, ◌++◌, length, slice_index, slice_set, arith, rules, sym, ◌∙◌, ap, subst}
-use Rattle.std.specs.Prelude.{None, vec_capacity}
+use Rattle.std.specs.Prelude.{ℕ, None, vec_capacity, vec_len}
 use Rattle.spec_history.specs.Machine.{saved}
 use Rattle.spec_history.specs.Calls.{most_entries}
 use Rattle.spec_history.specs.History.{starts, replay, next_index, latest_of}
@@ -8,18 +8,19 @@ use Rattle.xl_core.specs.History.{version, document}
 use Rattle.xl_core.specs.Editing.{known, with_start}
 use Rattle.xl_core.specs.Holding.{all_seen, shelf_in, Holds}
 use Rattle.xl_core.specs.Now.{Stands}
+use Rattle.xl_core.specs.Room.{spare_of}
 use Rattle.xl_core.specs.declared.saving.Place.TheVariants.{Out}
 use Rattle.xl_core.proofs.Saves.{version_is, document_is, none_out, seen-snoc, stands_started, holds_started}
 use Rattle.xl_core.proofs.state.Core.begin_save.Goals as goal
 use Rattle.xl_core.proofs.state.Core.begin_save.Given as given
 
-last : (g : given.Over) (c : goal.After-push_reserved-in-In g) → c.version-version.result ≡ c.self.inside.standing.version
+last : (g : given.Over) (c : goal.After-push_reserved-in-In g) → c.version-version.result ≡ c.self.inside.standing.what.version
 last g c = c.version-version.ensures
 
 items : (g : given.Over) (c : goal.After-push_reserved-in-In g)
     → c.push_reserved-in-In.new.self.items
     ≡ c.self.inside.entries.items
-    ++ record { session = c.args.session; index = slice_index c.self.inside.made c.args.session; kind = starts; reply = saved c.self.inside.standing.version } ∷ []
+    ++ record { session = c.args.session; index = slice_index c.self.inside.made c.args.session; kind = starts; reply = saved c.self.inside.standing.what.version } ∷ []
 items g c =
     c.push_reserved-in-In.ensures.items
     ∙ (λ i. c.in_ok-reserve.ensures.items i
@@ -41,12 +42,12 @@ none g c =
     none_out c.self.inside.place (replay c.self.inside.base c.self.inside.entries.items).out c.in-In.shelf (sym c.in-In.ensures.value) c.self.invariant.1.place_is
 
 stands : (g : given.Over) (c : goal.After-push_reserved-in-In g)
-    → Stands c.self.inside.base c.push_reserved-in-In.new.self.items c.self.inside.standing
+    → Stands c.self.inside.base c.push_reserved-in-In.new.self.items c.self.inside.standing.what
     (slice_set c.self.inside.made c.args.session (slice_index c.self.inside.made c.args.session + 1))
 stands g c =
-    subst (λ es. Stands c.self.inside.base es c.self.inside.standing (slice_set c.self.inside.made c.args.session (slice_index c.self.inside.made c.args.session + 1)))
+    subst (λ es. Stands c.self.inside.base es c.self.inside.standing.what (slice_set c.self.inside.made c.args.session (slice_index c.self.inside.made c.args.session + 1)))
     (sym (items g c))
-    (stands_started c.self.inside.base c.self.inside.entries.items c.self.inside.standing c.self.inside.made c.args.session c.self.invariant.0 c.self.told
+    (stands_started c.self.inside.base c.self.inside.entries.items c.self.inside.standing.what c.self.inside.made c.args.session c.self.invariant.0 c.self.told
     c.requires.session (none g c) (few g c))
 
 pub returns-clause-legal : goal.returns-clause-legal
@@ -60,13 +61,13 @@ invariant_of-self-in-In g c =
     let opening = c.self.inside.opening.value in
     let before = all_seen c.self.inside.handed.items in
     let index = slice_index c.self.inside.made c.args.session in
-    let version = c.self.inside.standing.version in
+    let version = c.self.inside.standing.what.version in
     let room = vec_capacity c.push_reserved-in-In.new.self in
     let len : length entries ≡ c.len.result = search rules in
     let enough : length entries + 2 ≤ room =
     omega (arith, len, c.len.ensures, c.in_ok-reserve.ensures.ok, c.push_reserved-in-In.ensures.capacity) in
     let was = subst (λ p. Holds see base entries opening before p (vec_capacity c.self.inside.entries)) (sym c.in-In.ensures.value) c.self.invariant.1 in
-    let holds = holds_started see base entries c.self.inside.standing c.self.inside.made c.self.invariant.0 opening before c.in-In.shelf
+    let holds = holds_started see base entries c.self.inside.standing.what c.self.inside.made c.self.invariant.0 opening before c.in-In.shelf
     (vec_capacity c.self.inside.entries) room c.args.session index version was (ap (λ n. n.version) c.self.invariant.0.is_now) enough in
     let place : c.replace.new.dest ≡ Out index version = c.in-In.ensures.after ∙ ap (Out index) (last g c) in (
       stands g c,
@@ -75,12 +76,18 @@ invariant_of-self-in-In g c =
           (subst (λ es. Holds see base es opening (before ++ c.in-In.shelf ∷ []) (Out index version) room) (sym (items g c)) holds)),
     )
 
+-- what is spare when the start is there
+spare_after : (g : given.Over) → goal.After-push_reserved-in-In g → ℕ
+spare_after g c =
+    spare_of c.replace.new.dest (vec_capacity c.push_reserved-in-In.new.self) (vec_len c.push_reserved-in-In.new.self) c.self.inside.standing.room
+
 pub returns-clause-begun : goal.returns-clause-begun
+unfolding spare_after
 returns-clause-begun g c =
     let base = c.self.inside.base in
     let entries = c.self.inside.entries.items in
     let made = c.self.inside.made in
-    let standing = c.self.inside.standing in
+    let standing = c.self.inside.standing.what in
     let session = c.args.session in
     let stood = c.self.invariant.0 in
     let numbered : standing.version ≡ latest_of entries = version_is base entries standing made stood in
@@ -96,5 +103,6 @@ returns-clause-begun g c =
         opening = c.self.inside.opening.value;
         handed = handed g c i;
         shelf = shelf_in (c.in-In.ensures.after i);
-      }) ∙ ap (λ e. with_start e session c.in-In.shelf) c.self.view_is,
+        spare = spare_after g c;
+      }) ∙ ap (λ e. with_start e session c.in-In.shelf (spare_after g c)) c.self.view_is,
     )

@@ -31,10 +31,10 @@ items g c =
     c.push_reserved.ensures.items
     ∙ (λ i. c.self.inside.entries.items ++ record { session = c.args.session; index = which.0 i; kind = ends; reply = reply i } ∷ [])
 
-stands : (g : given.Over) (c : goal.After-push_reserved g) → Stands c.self.inside.base c.push_reserved.new.self.items c.self.inside.standing c.self.inside.made
+stands : (g : given.Over) (c : goal.After-push_reserved g) → Stands c.self.inside.base c.push_reserved.new.self.items c.self.inside.standing.what c.self.inside.made
 stands g c =
-    subst (λ es. Stands c.self.inside.base es c.self.inside.standing c.self.inside.made) (sym (items g c))
-    (stands_ended c.self.inside.base c.self.inside.entries.items c.self.inside.standing c.self.inside.made c.args.session c.args.how c.self.invariant.0 (is_out g c))
+    subst (λ es. Stands c.self.inside.base es c.self.inside.standing.what c.self.inside.made) (sym (items g c))
+    (stands_ended c.self.inside.base c.self.inside.entries.items c.self.inside.standing.what c.self.inside.made c.args.session c.args.how c.self.invariant.0 (is_out g c))
 
 pub returns-clause-legal : goal.returns-clause-legal
 returns-clause-legal g c = (stands g c).legal
@@ -49,7 +49,7 @@ invariant_of-self g c =
     let ended = entries ++ end_entry base entries c.args.session (index_out (replay base entries).out) c.args.how ∷ [] in
     let back : Returns (see opening) (see (last_of opening handed)) base entries c.args.how (see c.args.shelf) =
     subst (λ e. ComesBack see e c.args.how c.args.shelf) (sym c.self.view_is) c.requires.returns in
-    let holds = holds_ended see base entries c.self.inside.standing c.self.inside.made c.self.invariant.0 opening handed c.self.inside.place c.args.shelf
+    let holds = holds_ended see base entries c.self.inside.standing.what c.self.inside.made c.self.invariant.0 opening handed c.self.inside.place c.args.shelf
     (vec_capacity c.self.inside.entries) c.args.session c.args.how c.self.invariant.1 (is_out g c) back in (
       stands g c,
       subst (λ p. Holds see base c.push_reserved.new.self.items opening handed p (vec_capacity c.push_reserved.new.self)) (sym c.in-Out.ensures.after)

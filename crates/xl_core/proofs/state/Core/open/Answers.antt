@@ -11,4 +11,4 @@ pub invariant_of-result : goal.invariant_of-result
 invariant_of-result g c =
     let see = known g.D.Shelf.selected g.D.Shelf.disk g.D.Shelf.reading_faults g.D.Shelf.saving_faults in
     let holds : Holds {K = g.row.D.Denot} see c.in-Ok.base c.new-in-Ok.result.items c.of.result.value (all_seen c.new-in-Ok-2.result.items) (In c.args.shelf) (vec_capacity c.new-in-Ok.result) = search rules in
-    (stands_opened c.args.doc c.in-Ok.base c.new-in-Ok.result.items c.new.result c.in-Ok.ensures c.new-in-Ok.ensures.items c.new.ensures.first c.requires.numbered c.new.ensures.within, holds)
+    (stands_opened c.args.doc c.in-Ok.base c.new-in-Ok.result.items c.new.result.what c.in-Ok.ensures c.new-in-Ok.ensures.items c.new.ensures.first c.requires.numbered c.new.ensures.within, holds)

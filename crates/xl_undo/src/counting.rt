@@ -1,0 +1,229 @@
+//! How many tiles differ between two documents.
+ghost use Rattle.std.specs.Prelude.{◌≡◌, ◌+◌, ◌≤◌, length};
+ghost use Rattle.std.specs.Option.{option_copied};
+ghost use Rattle.spec_document.specs.Document as sheet;
+ghost use Rattle.spec_undo.specs.Planes.{are_alike, changed_tiles as changed_planes, tile_count};
+ghost use Rattle.spec_undo.specs.Changed as doc;
+ghost use Rattle.spec_forest.specs.Forest.{Found};
+ghost use Rattle.xl_doc.specs.Nodes.{MarksAgree, nodes_of};
+ghost use Rattle.xl_undo.specs.Seen.{IsLayerOf, IsSeen};
+
+use xl_doc::{Body, Channel, Document, Layer, Node, Plane, Tree};
+use xl_tiles::ROOM;
+use xl_tree::{Split, Stack};
+
+/// At most the tiles that differ between two documents, with all tiles of planes that only one of them has.
+pub fn changed_tiles(before: &Document, after: &Document) -> u32
+    ensures { result ≤ doc.changed_in before.now after.now }
+{
+    let mut room = [0; ROOM];
+    let mut other_room = [0; ROOM];
+    let layers = changed_layers(before.tree.top(), &after.tree, &mut room, &mut other_room);
+    let alone = layers_alone(after.tree.top(), &before.tree);
+    let channels = changed_channels(
+        before.channels.as_slice(),
+        after.channels.as_slice(),
+        &mut room,
+        &mut other_room,
+    );
+    let selection = changed_if_any(
+        &before.selection,
+        &after.selection,
+        &mut room,
+        &mut other_room,
+    );
+    sum(sum(sum(layers, alone), channels), selection)
+}
+
+// The sum, or the greatest number where it is above that.
+fn sum(one: u32, other: u32) -> u32
+    ensures { result ≤ one + other }
+{
+    one.saturating_add(other)
+}
+
+// ---- planes
+
+// Whether sides and bytes per pixel are the same.
+fn are_alike(before: &Plane, after: &Plane) -> bool
+    ensures { result ≡ are_alike before.now after.now }
+{
+    before.width() == after.width()
+        && (before.height() == after.height() && before.bpp() == after.bpp())
+}
+
+#[tactic(auto, unfolding(spec_undo::specs::Planes::changed_tiles))]
+fn changed_plane(before: &Plane, after: &Plane, room: &mut [u8], other_room: &mut [u8]) -> u32
+    requires room { length room.old ≡ 32768 }
+    requires other_room { length other_room.old ≡ 32768 }
+    ensures { result ≤ changed_planes before.now after.now }
+{
+    if are_alike(before, after) {
+        before.tiles_changed(after, room, other_room)
+    } else {
+        sum(before.tile_count(), after.tile_count())
+    }
+}
+
+// ---- channels, masks and selections
+
+fn count_if_any(channel: &Option<Channel>) -> u32
+    ensures { result ≡ doc.count_if_any channel.now }
+{
+    match channel {
+        None => 0,
+        Some(channel) => channel.plane.tile_count(),
+    }
+}
+
+fn changed_if_any(
+    before: &Option<Channel>,
+    after: &Option<Channel>,
+    room: &mut [u8],
+    other_room: &mut [u8],
+) -> u32
+    requires room { length room.old ≡ 32768 }
+    requires other_room { length other_room.old ≡ 32768 }
+    ensures { result ≤ doc.changed_if_any before.now after.now }
+{
+    let Some(before) = before else {
+        return count_if_any(after);
+    };
+    match after {
+        None => before.plane.tile_count(),
+        Some(after) => changed_plane(&before.plane, &after.plane, room, other_room),
+    }
+}
+
+fn channels_count(channels: &[Channel]) -> u32
+    ensures { result ≤ doc.channels_count channels.now }
+{
+    match channels.split_first() {
+        None => 0,
+        Some((first, rest)) => sum(first.plane.tile_count(), channels_count(rest)),
+    }
+}
+
+fn changed_channels(
+    before: &[Channel],
+    after: &[Channel],
+    room: &mut [u8],
+    other_room: &mut [u8],
+) -> u32
+    requires room { length room.old ≡ 32768 }
+    requires other_room { length other_room.old ≡ 32768 }
+    ensures { result ≤ doc.changed_channels before.now after.now }
+{
+    let Some((one, before)) = before.split_first() else {
+        return channels_count(after);
+    };
+    match after.split_first() {
+        None => sum(one.plane.tile_count(), channels_count(before)),
+        Some((other, after)) => sum(
+            changed_plane(&one.plane, &other.plane, room, other_room),
+            changed_channels(before, after, room, other_room),
+        ),
+    }
+}
+
+// ---- layers
+
+fn layer_count(layer: &Layer) -> u32
+    ensures { result ≤ tile_count layer.now.plane + doc.count_if_any layer.now.mask }
+{
+    sum(layer.plane.tile_count(), count_if_any(&layer.mask))
+}
+
+fn changed_layer(before: &Layer, after: &Layer, room: &mut [u8], other_room: &mut [u8]) -> u32
+    requires room { length room.old ≡ 32768 }
+    requires other_room { length other_room.old ≡ 32768 }
+    ensures { result ≤ changed_planes before.now.plane after.now.plane + doc.changed_if_any before.now.mask after.now.mask }
+{
+    let plane = changed_plane(&before.plane, &after.plane, room, other_room);
+    sum(
+        plane,
+        changed_if_any(&before.mask, &after.mask, room, other_room),
+    )
+}
+
+// Between the layer of a node and what another document has at its id. A group has no tiles.
+fn changed_body(before: &Body, after: Option<&Node>, room: &mut [u8], other_room: &mut [u8]) -> u32
+    requires room { length room.old ≡ 32768 }
+    requires other_room { length other_room.old ≡ 32768 }
+    ensures { (l : sheet.Layer) (found : Found sheet.Layer sheet.Group) → IsLayerOf l before.now → IsSeen found (option_copied after.entry) → result ≤ doc.changed_layer l found }
+{
+    let Body::Leaf(before) = before else {
+        return 0;
+    };
+    let Some(after) = after else {
+        return layer_count(before);
+    };
+    match &after.body {
+        Body::Leaf(after) => changed_layer(before, after, room, other_room),
+        Body::Group => layer_count(before),
+    }
+}
+
+// Of the layer of a node that another document has not at its id.
+fn body_alone(body: &Body, other: Option<&Node>) -> u32
+    ensures { (l : sheet.Layer) (found : Found sheet.Layer sheet.Group) → IsLayerOf l body.now → IsSeen found (option_copied other.entry) → result ≤ doc.count_if_alone l found }
+{
+    let Body::Leaf(layer) = body else {
+        return 0;
+    };
+    let Some(other) = other else {
+        return layer_count(layer);
+    };
+    match &other.body {
+        Body::Leaf(_) => 0,
+        Body::Group => layer_count(layer),
+    }
+}
+
+fn changed_layers(
+    nodes: Stack<'_, Node>,
+    other: &Tree<Node>,
+    room: &mut [u8],
+    other_room: &mut [u8],
+) -> u32
+    requires room { length room.old ≡ 32768 }
+    requires other_room { length other_room.old ≡ 32768 }
+    requires agree { MarksAgree other.now }
+    requires leaves { MarksAgree nodes }
+    ensures { result ≤ doc.over_layers doc.changed_layer (nodes_of other.now) (nodes_of nodes.entry) }
+{
+    match nodes.split() {
+        Split::Empty => 0,
+        Split::Leaf { id, node, under } => sum(
+            changed_body(&node.body, other.find(id), room, other_room),
+            changed_layers(under, other, room, other_room),
+        ),
+        Split::Group {
+            children,
+            under,
+            ..
+        } => sum(
+            changed_layers(children, other, room, other_room),
+            changed_layers(under, other, room, other_room),
+        ),
+    }
+}
+
+fn layers_alone(nodes: Stack<'_, Node>, other: &Tree<Node>) -> u32
+    requires agree { MarksAgree other.now }
+    requires leaves { MarksAgree nodes }
+    ensures { result ≤ doc.over_layers doc.count_if_alone (nodes_of other.now) (nodes_of nodes.entry) }
+{
+    match nodes.split() {
+        Split::Empty => 0,
+        Split::Leaf { id, node, under } => sum(
+            body_alone(&node.body, other.find(id)),
+            layers_alone(under, other),
+        ),
+        Split::Group {
+            children,
+            under,
+            ..
+        } => sum(layers_alone(children, other), layers_alone(under, other)),
+    }
+}
