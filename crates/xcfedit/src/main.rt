@@ -1,21 +1,56 @@
-//! `xcfedit render FILE` writes a file of GIMP's as a PAM to the standard output. `xcfedit edit FILE` makes the edits of
-//! a script from the standard input on such a file, in memory alone, and writes the replies.
+//! `xcfedit render FILE` writes a file of GIMP's as a PAM to the standard output, `xcfedit info FILE` its layers as a line of
+//! JSON. `xcfedit edit FILE` makes the calls and saves of a script from the standard input on such a file, and writes the replies.
+//! Where a command stops, a sentence on the standard error says why.
 #![tactic(auto)]
 
-use std::alloc::AllocError;
+ghost use Rattle.std.specs.List.{AllByRecursion};
+ghost use Rattle.std.specs.Prelude.{◌<◌, ◌≤◌, ◌^◌, length, IfOk};
+
+use std::alloc::{AllocError, Global};
 use std::process::ExitCode;
 use std::{env, io};
+use xl_filters::{Fade, Invert, PointFilter, Posterize, Threshold};
+use xl_messages::message;
 use xl_program::run;
 use xl_real::{FileShelf, StdSink, StdSource};
 
+/// The status where all went well.
+const DONE: u8 = 0;
+
 /// The status where memory ran out before the command began.
 const MEMORY: u8 = 8;
+
+const SESSIONS: usize = 8;
 
 // The words behind the program's name.
 fn words_given(rt: &HostRuntime) -> io::Result<Vec<String>> {
     let mut words = env::args(rt)?;
     let _program = words.next();
     Ok(words.collect(rt.alloc())?)
+}
+
+// The filters of a session, in its slots 0 to 3.
+fn filters(alloc: Global) -> Result<Vec<Box<dyn PointFilter + Send>>, AllocError>
+    ensures { IfOk result (λ boxes. length boxes.items < 2 ^ 32) }
+{
+    let mut boxes: Vec<Box<dyn PointFilter + Send>> = Vec::with_capacity(alloc, 4)?;
+    boxes.push(Box::new(alloc, Invert::new(0))?)?;
+    boxes.push(Box::new(alloc, Threshold::new(128))?)?;
+    boxes.push(Box::new(alloc, Posterize::new(4))?)?;
+    boxes.push(Box::new(alloc, Fade::new(100))?)?;
+    Ok(boxes)
+}
+
+// The filters of each session.
+fn filters_of_sessions(alloc: Global) -> Result<Vec<Vec<Box<dyn PointFilter + Send>>>, AllocError>
+    ensures lists { IfOk result (λ chest. length chest.items ≤ 8) }
+    ensures boxes { IfOk result (λ chest. AllByRecursion (λ boxes. length boxes.items < 2 ^ 32) chest.items) }
+{
+    let mut chest = Vec::with_capacity(alloc, SESSIONS)?;
+    for _ in 0..SESSIONS {
+        chest.push(filters(alloc)?)?;
+    }
+    Ok(chest)
 }
 
 fn started(rt: &HostRuntime) -> Result<u8, AllocError> {
@@ -33,7 +68,15 @@ fn started(rt: &HostRuntime) -> Result<u8, AllocError> {
     let mut source = StdSource::new(rt);
     let mut sink = StdSink::new(rt);
     let shelf = FileShelf::new(rt);
-    Ok(run(alloc, &words, &mut source, &mut sink, shelf).status)
+    let chest = filters_of_sessions(alloc)?;
+    let ended = run(alloc, &words, &mut source, &mut sink, shelf, chest);
+    if ended.status != DONE
+        && let Ok(text) = message(alloc, &words, ended.status, ended.cause)
+    {
+        // Where it cannot be written there is nothing else to say.
+        let _ = rt.eprintln(text);
+    }
+    Ok(ended.status)
 }
 
 fn main(rt: HostRuntime) -> ExitCode {

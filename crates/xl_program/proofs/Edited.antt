@@ -1,22 +1,24 @@
 -- What a run of edit comes to whose script was played.
-use Rattle.std.proofs.Common.{◌≡◌, inr, ℕ, List, Some, ap, sym, subst, false, true}
+use Rattle.std.proofs.Common.{◌≡◌, inl, inr, ℕ, List, Some, ap, refl, sym, subst, false, true}
 use Rattle.std.specs.Prelude.{Option, Bool, IfSome, Result, Ok, Err, string_bytes}
 use Rattle.std.specs.declared.alloc.AllocError.{AllocError}
+use Rattle.spec_command.specs.Arguments.{edit}
 use Rattle.spec_document.specs.Document.{Document}
 use Rattle.spec_saves.specs.Names.{save_faults}
-use Rattle.xl_program.specs.Command.{edit}
-use Rattle.xl_program.specs.Outcome.{HoldsDocument, HasLines, Shelved, opened, IsUntouched, IsHistory, IsReplies, NoneFailed, SomeFailed, AnyFailed, ComesTo}
-use Rattle.xl_program.specs.Parts.{WhetherFailed, IsPlayed, WritesReplies, of_first}
+use Rattle.xl_program.specs.Outcome.{Given, HoldsDocument, HasLines, Shelved, opened, IsUntouched, IsHistory, IsReplies, NoneFailed, SomeFailed, AnyFailed, ComesTo}
+use Rattle.xl_ports.specs.Shelf.{Content}
+use Rattle.xl_program.specs.Parts.{Loads, ReadsScript, StopsEdit, WhetherFailed, IsPlayed, WritesReplies}
 use Rattle.xl_program.specs.declared.playing.Replies.{Replies}
 use Rattle.xl_program.specs.declared.stopped.Stopped.{Stopped}
 use Rattle.xl_program.specs.declared.stopped.Stopped.TheVariants.{SourceFault, BadLine, ShelfFault, Refused, SaveFault, SinkFault, Memory}
-use Rattle.xl_script.specs.declared.script.Line.{Line}
+use Rattle.spec_script.specs.Script.{Line}
 use Rattle.xl_program.proofs.ComesBack.{right_earlier}
+use Rattle.xl_program.proofs.Taken.{untouched}
 
 -- what was known when the script was played
-pub record IsOpened (left : Option (List ℕ)) (before mid : Shelved) (name : List ℕ) (d : Document) (lines : List Line) : Type 0 where
+pub record IsOpened (given : Given) (before mid : Shelved) (name : List ℕ) (d : Document) (lists : List (List Line)) : Type 0 where
   pub holds : IfSome (before.content name) (λ c. HoldsDocument c d)
-  pub read : HasLines left (of_first lines)
+  pub read : HasLines given lists
   pub untouched : IsUntouched before mid
   pub named : mid.known.selected ≡ Some name
   pub reading : mid.known.reading ≡ before.known.reading
@@ -29,19 +31,19 @@ some_failed : (b : Bool) → b ≡ true → (n : ℕ) → WhetherFailed b n → 
 some_failed true is n h = h
 some_failed false is n h = let bad : false ≡ true = is in cc
 
-module _ {left : Option (List ℕ)} {before mid : Shelved} {name : List ℕ} {d : Document} {lines : List Line} (known_then : IsOpened left before mid name d lines) (after : Shelved) where
-  history_of : (replies : Result Replies AllocError) (played : IsPlayed mid.known after.known d lines replies) → IsHistory name before after d played.entries
+module _ {given : Given} {before mid : Shelved} {name : List ℕ} {d : Document} {lists : List (List Line)} (known_then : IsOpened given before mid name d lists) (after : Shelved) where
+  history_of : (replies : Result Replies AllocError) (played : IsPlayed mid.known after.known d lists given.chests replies) → IsHistory name before after d played.entries
   history_of replies played = record {
     held = known_then.holds;
     legal = played.legal;
     shelf = right_earlier (opened before name) mid.known after.known d played.entries (sym known_then.named) (sym known_then.reading) (sym known_then.untouched.saving) known_then.untouched.quiet played.shelf;
   }
 
-  replies_of : (replies : Replies) (P : ℕ → Type 0) (played : IsPlayed mid.known after.known d lines (Ok replies)) → ((n : ℕ) → WhetherFailed replies.save_failed n → P n)
-      → IsReplies left name before after P (string_bytes replies.text)
+  replies_of : (replies : Replies) (P : ℕ → Type 0) (played : IsPlayed mid.known after.known d lists given.chests (Ok replies)) → ((n : ℕ) → WhetherFailed replies.save_failed n → P n)
+      → IsReplies given name before after P (string_bytes replies.text)
   replies_of replies P played fails = record {
     document = d;
-    lists = of_first lines;
+    lists = lists;
     entries = played.entries;
     history = history_of (Ok replies) played;
     read = known_then.read;
@@ -51,15 +53,52 @@ module _ {left : Option (List ℕ)} {before mid : Shelved} {name : List ℕ} {d 
 
   -- what is written, and the shelf
   pub played_comes : {K : Type 0} (held : K → Option (List ℕ)) (faults : K → ℕ) (old new : K) (replies : Result Replies AllocError) (result : Result (Unit {0}) Stopped)
-      → IsPlayed mid.known after.known d lines replies → WritesReplies held faults old new replies result → ComesTo held faults left before after (edit name) old new result
-  played_comes held faults old new (Ok replies) (Ok x) played writes = (string_bytes replies.text, replies_of replies NoneFailed played (none_failed replies.save_failed writes.1), writes.0)
-  played_comes held faults old new (Ok replies) (Err SaveFault) played writes = (string_bytes replies.text, replies_of replies SomeFailed played (some_failed replies.save_failed writes.1), writes.0)
-  played_comes held faults old new (Ok replies) (Err SinkFault) played writes = (string_bytes replies.text, replies_of replies AnyFailed played (λ n h. tt), writes)
-  played_comes held faults old new (Ok replies) (Err SourceFault) played writes = absurd writes
-  played_comes held faults old new (Ok replies) (Err (BadLine number)) played writes = absurd writes
-  played_comes held faults old new (Ok replies) (Err ShelfFault) played writes = absurd writes
-  played_comes held faults old new (Ok replies) (Err (Refused refused)) played writes = absurd writes
-  played_comes held faults old new (Ok replies) (Err Memory) played writes = absurd writes
-  played_comes held faults old new (Err e) result played writes =
-      subst (λ (r : Result (Unit {0}) Stopped). ComesTo held faults left before after (edit name) old new r) (sym writes.0)
+      → IsPlayed mid.known after.known d lists given.chests replies → WritesReplies held faults old new replies result
+      → (workers : ℕ) → ComesTo held faults given before after (edit name workers) old new result
+  played_comes held faults old new (Ok replies) (Ok x) played writes workers = (string_bytes replies.text, replies_of replies NoneFailed played (none_failed replies.save_failed writes.1), writes.0)
+  played_comes held faults old new (Ok replies) (Err SaveFault) played writes workers = (string_bytes replies.text, replies_of replies SomeFailed played (some_failed replies.save_failed writes.1), writes.0)
+  played_comes held faults old new (Ok replies) (Err SinkFault) played writes workers = (string_bytes replies.text, replies_of replies AnyFailed played (λ n h. tt), writes)
+  played_comes held faults old new (Ok replies) (Err SourceFault) played writes workers = absurd writes
+  played_comes held faults old new (Ok replies) (Err (BadLine number)) played writes workers = absurd writes
+  played_comes held faults old new (Ok replies) (Err ShelfFault) played writes workers = absurd writes
+  played_comes held faults old new (Ok replies) (Err (Refused refused)) played writes workers = absurd writes
+  played_comes held faults old new (Ok replies) (Err Memory) played writes workers = absurd writes
+  played_comes held faults old new (Err e) result played writes workers =
+      subst (λ (r : Result (Unit {0}) Stopped). ComesTo held faults given before after (edit name workers) old new r) (sym writes.0)
       ((ap held writes.1, ap faults writes.1), inr (d, played.entries, history_of (Err e) played))
+
+-- ---- why an editing stops
+
+-- before the file is read
+pub read_stopped : {K : Type 0} (held : K → Option (List ℕ)) (faults : K → ℕ) (given : Given) (s : Shelved) (name : List ℕ) (sink : K) (why : Stopped) → ReadsScript given (Err why)
+    → (workers : ℕ) → ComesTo held faults given s s (edit name workers) sink sink (Err why)
+read_stopped held faults given s name sink SourceFault reads workers = ((refl, refl), untouched s)
+read_stopped held faults given s name sink (BadLine number) reads workers = ((refl, refl), untouched s)
+read_stopped held faults given s name sink ShelfFault reads workers = absurd reads
+read_stopped held faults given s name sink (Refused refused) reads workers = absurd reads
+read_stopped held faults given s name sink SaveFault reads workers = absurd reads
+read_stopped held faults given s name sink SinkFault reads workers = absurd reads
+read_stopped held faults given s name sink Memory reads workers = ((refl, refl), inl (untouched s))
+
+-- by the file
+pub load_stops : (given : Given) (content : Option Content) (lists : List (List Line)) (why : Stopped) → HasLines given lists → Loads content (Err why) → StopsEdit given content (Err why)
+load_stops given content lists SourceFault has loads = absurd loads
+load_stops given content lists (BadLine number) has loads = absurd loads
+load_stops given content lists ShelfFault has loads = (lists, has)
+load_stops given content lists (Refused refused) has loads = ((lists, has), loads)
+load_stops given content lists SaveFault has loads = absurd loads
+load_stops given content lists SinkFault has loads = absurd loads
+load_stops given content lists Memory has loads = tt
+
+-- after the script was played
+pub play_stops : {K : Type 0} (held : K → Option (List ℕ)) (faults : K → ℕ) (old new : K) (given : Given) (content : Option Content) (lists : List (List Line)) (replies : Result Replies AllocError) (result : Result (Unit {0}) Stopped)
+    → HasLines given lists → WritesReplies held faults old new replies result → StopsEdit given content result
+play_stops held faults old new given content lists (Ok replies) (Ok x) has writes = tt
+play_stops held faults old new given content lists (Ok replies) (Err SourceFault) has writes = absurd writes
+play_stops held faults old new given content lists (Ok replies) (Err (BadLine number)) has writes = absurd writes
+play_stops held faults old new given content lists (Ok replies) (Err ShelfFault) has writes = absurd writes
+play_stops held faults old new given content lists (Ok replies) (Err (Refused refused)) has writes = absurd writes
+play_stops held faults old new given content lists (Ok replies) (Err SaveFault) has writes = (lists, has)
+play_stops held faults old new given content lists (Ok replies) (Err SinkFault) has writes = tt
+play_stops held faults old new given content lists (Ok replies) (Err Memory) has writes = absurd writes
+play_stops held faults old new given content lists (Err e) result has writes = subst (StopsEdit given content) (sym writes.0) tt

@@ -2,6 +2,7 @@ pub mod Limits
 pub mod Scripts
 pub mod Told
 mod Answered
+mod Chests
 mod ComesBack
 mod Edited
 mod Ends
@@ -11,6 +12,10 @@ mod Quiet
 mod Returning
 mod Saved
 mod ScriptPlayed
+mod Sessions
 mod Stays
 mod Submitted
+mod Taken
 mod UnderWay
+mod UpTo
+mod Reported

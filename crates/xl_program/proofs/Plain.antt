@@ -1,15 +1,14 @@
--- Histories of the first session's calls and saves, entry by entry along a run.
-use Rattle.std.proofs.Common.{◌≡◌, ℕ, suc, ◌+◌, ◌-◌, ◌<◌, Bool, true, false, List, [], ◌∷◌, ◌++◌, length, Some, None, refl, ap, sym, ◌∙◌, arith, subst, cond, eq-eqb, ne_eqb}
-use Rattle.std.specs.Prelude.{Option}
+-- Histories of calls and saves, entry by entry along a run.
+use Rattle.std.proofs.Common.{◌≡◌, ℕ, ◌+◌, ◌-◌, ◌<◌, ◌≤◌, Bool, true, false, List, [], ◌∷◌, ◌++◌, length, Some, None, refl, ap, sym, ◌∙◌, arith, subst, cond, eq-eqb, ne_eqb}
+use Rattle.std.specs.Prelude.{Option, MatchBool, ◌==◌, ◌≢◌}
 use Rattle.std.specs.List.{AllByRecursion}
 use Rattle.spec_document.specs.Document.{Document}
-use Rattle.spec_edit.specs.Edit as edits
-use Rattle.spec_edit.specs.Edit.{Edit}
-use Rattle.spec_history.specs.Machine.{edit, Reply, changed, tile_of, stale, State, Saving, latest, answer}
+use Rattle.spec_history.specs.Machine.{Reply, tile_of, stale, State, Saving, latest, answer}
 use Rattle.spec_history.specs.History.{Entry, Kind, asked, starts, ends, is_changed, after_entry, EndsWith, MayEnd, MayBe, RunFrom, mine}
 use Rattle.spec_history.specs.Kept.{IsFreshReply, IsFreshFrom}
 use Rattle.spec_filters.specs.declared.FilterState.{FilterState}
-use Rattle.spec_text.specs.Text.{HaveTables, is_save_memory, tables_for, used_by, expected_tables, filters_after, tables_in}
+use Rattle.spec_tables.specs.Tables.{HaveTables, expected_tables, filters_after, tables_in}
+use Rattle.spec_text.specs.Text.{is_save_memory}
 use Rattle.xl_program.specs.Playing.{IsBuiltKind, IsPlain}
 use Rattle.spec_history.proofs.Versions.{IsSound, GoesOn, goes-step}
 use Rattle.xl_program.proofs.Answered.{IsOf, answer_of, built_answer}
@@ -39,15 +38,10 @@ now_at_end n (Some o) session index r may = now_of_end n o.version r may.2
 -- the reply to an entry that may come now
 pub step_now : (base : Document) (s : State) (earlier : List Entry) (e : Entry) (k : Kind) → IsBuiltKind k → MayBe base s earlier e k → IsNow (latest s) e.reply
 step_now base s earlier e (asked c tables) built may =
-    subst (IsNow (latest s)) (sym (built_answer base s c tables e.reply built.0 may.1))
+    subst (IsNow (latest s)) (sym (built_answer base s c tables e.reply built may.1))
     (now_of_call (latest s) (answer base s c tables).reply (answer_of base s c tables))
 step_now base s earlier e starts built may = subst (IsNow (latest s)) (sym may.2) tt
 step_now base s earlier e ends built may = now_at_end (latest s) s.out e.session e.index e.reply may
-
-of_fresh : (n : ℕ) (r : Reply) → IsNow n r → IsFreshReply n r
-of_fresh n (tile_of version) h = omega arith
-of_fresh n (stale have seen) h = absurd h
-of_fresh n reply h = tt
 
 counted : (b : Bool) (old new : ℕ) → 0 < old → new ≡ old + cond b 1 0 → new - 1 ≡ cond b (old - 1 + 1) (old - 1)
 counted true old new some e = omega arith
@@ -58,19 +52,37 @@ step_latest s new reply sound goes = counted (is_changed reply) (length s.docume
 
 -- ---- along a run
 
-fresh_cons : (now seen then_is : ℕ) (e : Entry) (es : List Entry) → e.session ≡ 0 → then_is ≡ cond (is_changed e.reply) (now + 1) now
-    → IsFreshReply seen e.reply → IsFreshFrom 0 then_is then_is es → IsFreshFrom 0 now seen (e ∷ es)
-fresh_cons now seen then_is e es session then_now reply rest =
-    let here : IsFreshReply seen e.reply × IsFreshFrom 0 then_is then_is es = (reply, rest) in
-    rw (eq-eqb e.session 0 session, ← then_now) here
+either_way : (b : Bool) {P Q : Type 0} → P → Q → MatchBool b P Q
+either_way true p q = p
+either_way false p q = q
 
-pub run_fresh : (base : Document) (s : State) (earlier es : List Entry) → IsSound s → AllByRecursion IsPlain es → RunFrom base s earlier es → IsFreshFrom 0 (latest s) (latest s) es
-run_fresh base s earlier [] h plain run = tt
-run_fresh base s earlier (e ∷ es) h plain run =
+fresh_cons : (session now seen then_is : ℕ) (e : Entry) (es : List Entry) → then_is ≡ cond (is_changed e.reply) (now + 1) now
+    → IsFreshReply seen e.reply → IsFreshFrom session then_is then_is es → IsFreshFrom session then_is seen es → IsFreshFrom session now seen (e ∷ es)
+fresh_cons session now seen then_is e es then_now reply own other =
+    subst (λ (t : ℕ). MatchBool (e.session == session) (IsFreshReply seen e.reply × IsFreshFrom session t t es) (IsFreshFrom session t seen es)) then_now
+    (either_way (e.session == session) (reply, own) other)
+
+later : (b : Bool) (seen now then_is : ℕ) → seen ≤ now → then_is ≡ cond b (now + 1) now → seen ≤ then_is
+later true seen now then_is le is = omega arith
+later false seen now then_is le is = omega arith
+
+seen_of : (seen n : ℕ) (r : Reply) → seen ≤ n → IsNow n r → IsFreshReply seen r
+seen_of seen n (tile_of version) le h = omega arith
+seen_of seen n (stale have said) le h = absurd h
+seen_of seen n reply le h = tt
+
+-- each tile is that of the last version, which is no older than what any session has seen
+pub run_fresh : (base : Document) (s : State) (earlier es : List Entry) (session seen : ℕ) → IsSound s → seen ≤ latest s → AllByRecursion IsPlain es → RunFrom base s earlier es
+    → IsFreshFrom session (latest s) seen es
+run_fresh base s earlier [] session seen h le plain run = tt
+run_fresh base s earlier (e ∷ es) session seen h le plain run =
     let goes = goes-step base s earlier e h run.0 in
-    fresh_cons (latest s) (latest s) (latest (after_entry base s e)) e es plain.0.session (step_latest s (after_entry base s e) e.reply h goes)
-    (of_fresh (latest s) e.reply (step_now base s earlier e e.kind plain.0.kind run.0))
-    (run_fresh base (after_entry base s e) (earlier ++ e ∷ []) es goes.sound plain.1 run.1)
+    let then_now = step_latest s (after_entry base s e) e.reply h goes in
+    let then_seen = later (is_changed e.reply) seen (latest s) (latest (after_entry base s e)) le then_now in
+    fresh_cons session (latest s) seen (latest (after_entry base s e)) e es then_now
+    (seen_of seen (latest s) e.reply le (step_now base s earlier e e.kind plain.0.kind run.0))
+    (run_fresh base (after_entry base s e) (earlier ++ e ∷ []) es session (latest (after_entry base s e)) goes.sound (omega arith) plain.1 run.1)
+    (run_fresh base (after_entry base s e) (earlier ++ e ∷ []) es session seen goes.sound then_seen plain.1 run.1)
 
 pub all_printable : (es : List Entry) → AllByRecursion IsPlain es → AllByRecursion (λ (e : Entry). is_save_memory e.reply ≡ false) es
 all_printable [] plain = tt
@@ -78,41 +90,43 @@ all_printable (e ∷ es) plain = (plain.0.printable, all_printable es plain.1)
 
 -- ---- whose entries they are
 
-pub mine_all : (es : List Entry) → AllByRecursion IsPlain es → mine es 0 ≡ es
-mine_all [] plain = refl
-mine_all (e ∷ es) plain = rw (eq-eqb e.session 0 plain.0.session) (ap (λ (rest : List Entry). e ∷ rest) (mine_all es plain.1))
+abbrev pub AreOf : (session : ℕ) → List Entry → Type 0
+AreOf session es = AllByRecursion (λ e. e.session ≡ session) es
 
-pub mine_none : (es : List Entry) (n : ℕ) → AllByRecursion IsPlain es → mine es (suc n) ≡ []
-mine_none [] n plain = refl
-mine_none (e ∷ es) n plain =
-    let session = plain.0.session in
-    rw (ne_eqb e.session (suc n) (λ q. omega arith)) (mine_none es n plain.1)
+abbrev pub AreBefore : (session : ℕ) → List Entry → Type 0
+AreBefore session es = AllByRecursion (λ e. e.session < session) es
 
--- ---- no tables
+pub mine_own : (es : List Entry) (session : ℕ) → AreOf session es → mine es session ≡ es
+mine_own [] session own = refl
+mine_own (e ∷ es) session own = rw (eq-eqb e.session session own.0) (ap (λ (rest : List Entry). e ∷ rest) (mine_own es session own.1))
 
-tables_none : (es : List Edit) → tables_for [] es ≡ []
-tables_none [] = refl
-tables_none (edits.filter id rect slot ∷ es) = tables_none es
-tables_none (one ∷ es) = tables_none es
+pub mine_other : (es : List Entry) (session other : ℕ) → AreOf session es → session ≢ other → mine es other ≡ []
+mine_other [] session other own apart = refl
+mine_other (e ∷ es) session other own apart = rw (ne_eqb e.session other (λ q. apart (sym own.0 ∙ q))) (mine_other es session other own.1 apart)
 
-used_none : (es : List Edit) → used_by [] es ≡ []
-used_none [] = refl
-used_none (edits.filter id rect slot ∷ es) = used_none es
-used_none (one ∷ es) = used_none es
+pub mine_later : (es : List Entry) (session later : ℕ) → AreBefore session es → session ≤ later → mine es later ≡ []
+mine_later [] session later before le = refl
+mine_later (e ∷ es) session later before le =
+    let here = before.0 in
+    rw (ne_eqb e.session later (λ q. omega arith)) (mine_later es session later before.1 le)
 
-kind_tables : (k : Kind) (r : Reply) → IsBuiltKind k → tables_in k ≡ expected_tables [] k r
-kind_tables (asked (edit guard es) tables) (changed version group next) built = built.1 ∙ sym (tables_none es)
-kind_tables (asked c tables) r built = built.1
-kind_tables starts r built = refl
-kind_tables ends r built = refl
+pub before_more : (es more : List Entry) (session next : ℕ) → session < next → AreBefore session es → AreOf session more → AreBefore next (es ++ more)
+before_more [] [] session next lt before own = tt
+before_more [] (e ∷ more) session next lt before own = let here = own.0 in (omega arith, before_more [] more session next lt before own.1)
+before_more (e ∷ es) more session next lt before own = let here = before.0 in (omega arith, before_more es more session next lt before.1 own)
 
-kind_filters : (k : Kind) (r : Reply) → IsBuiltKind k → filters_after [] k r ≡ []
-kind_filters (asked (edit guard es) tables) (changed version group next) built = used_none es
-kind_filters (asked c tables) r built = refl
-kind_filters starts r built = refl
-kind_filters ends r built = refl
+-- ---- tables along the entries
 
-pub have_none : (es : List Entry) → AllByRecursion IsPlain es → HaveTables [] es
-have_none [] plain = tt
-have_none (e ∷ es) plain =
-    (kind_tables e.kind e.reply plain.0.kind, subst (λ (filters : List FilterState). HaveTables filters es) (sym (kind_filters e.kind e.reply plain.0.kind)) (have_none es plain.1))
+-- the filters after the entries
+abbrev pub filters_now : List FilterState → List Entry → List FilterState
+filters_now filters [] = filters
+filters_now filters (e ∷ es) = filters_now (filters_after filters e.kind e.reply) es
+
+pub tables_more : (filters : List FilterState) (es : List Entry) (e : Entry) → HaveTables filters es
+    → tables_in e.kind ≡ expected_tables (filters_now filters es) e.kind e.reply → HaveTables filters (es ++ e ∷ [])
+tables_more filters [] e have here = (here, tt)
+tables_more filters (x ∷ es) e have here = (have.0, tables_more (filters_after filters x.kind x.reply) es e have.1 here)
+
+pub filters_more : (filters : List FilterState) (es more : List Entry) → filters_now filters (es ++ more) ≡ filters_now (filters_now filters es) more
+filters_more filters [] more = refl
+filters_more filters (e ∷ es) more = filters_more (filters_after filters e.kind e.reply) es more

@@ -1,119 +1,199 @@
--- The lines of a script, of which some were played and some are left.
+-- The lines of a session, of which some were played and some are left.
 use Rattle.spec_history.specs.Calls.{most_entries}
-use Rattle.std.proofs.Common.{◌≡◌, ℕ, ◌+◌, ◌*◌, ◌<◌, ◌≤◌, ◌^◌, List, [], ◌∷◌, ◌++◌, length, refl, ap, sym, ◌∙◌, subst, arith, append_assoc, append-nil, length-append, eq-eqb, cond}
-use Rattle.std.specs.Prelude.{IsSome, Bool, true, false, replicate, ◌==◌, ◌&&◌, not}
-use Rattle.std.specs.List.{AllByRecursion}
+use Rattle.std.proofs.Common.{◌≡◌, ℕ, ◌+◌, ◌*◌, ◌≤◌, List, [], ◌∷◌, ◌++◌, length, refl, ap, sym, ◌∙◌, subst, arith, append_assoc, append-nil, length-append, eq-eqb, ne_eqb, cond, map}
+use Rattle.std.specs.Prelude.{IsSome, Bool, true, false, ◌==◌, ◌&&◌, not, Option, Some}
+use Rattle.std.proofs.lemmas.List.Sums.{sum_by-cons}
 use Rattle.spec_document.specs.Document.{Document}
-use Rattle.spec_history.specs.Machine.{saved}
+use Rattle.spec_history.specs.Machine.{Call, Reply}
 use Rattle.spec_history.specs.History.{Entry, asked, ends, is_end_kind, next_index}
-use Rattle.spec_history.specs.Kept.{IsLegal}
-use Rattle.spec_history.proofs.Growing.{next_index-snoc, IsLegal-empty}
+use Rattle.spec_history.proofs.Growing.{next_index-snoc}
+use Rattle.spec_filters.specs.declared.FilterState.{FilterState}
 use Rattle.spec_script.specs.Script as script
-use Rattle.spec_text.specs.Printed.{order_text}
-use Rattle.spec_text.specs.Text.{IsTextOf, calls_of}
+use Rattle.spec_script.specs.Fits.{AreFit, dropped_by}
+use Rattle.spec_tables.specs.Tables.{HaveTables, expected_tables, filters_after, tables_in}
+use Rattle.spec_tables.proofs.Chests.{some_list}
+use Rattle.spec_tables.proofs.Made.{tables_made, filters_made}
+use Rattle.spec_tables.specs.Agrees.{Agrees}
+use Rattle.spec_text.specs.Text.{calls_of}
 use Rattle.xl_core.specs.Editing.{Editing, start_of}
-use Rattle.xl_core.specs.History.{History, version}
-use Rattle.xl_edit.specs.Calls.{call_of}
-use Rattle.xl_script.specs.Built.{IsBuiltLine, AreBuilt}
+use Rattle.xl_core.specs.History.{History, with_call}
 use Rattle.xl_script.specs.Lines.{line_of, lines_of}
 use Rattle.xl_script.specs.declared.script.Line.{Line}
-use Rattle.xl_script.specs.declared.script.Line.TheVariants.{Call, Save, Forget}
-use Rattle.xl_program.specs.Playing.{ArePlayed, IsBetweenLines, IsMade, calls_made}
-use Rattle.xl_program.proofs.Played.{played_none, played_text, calls_more, saves_more}
+use Rattle.xl_program.specs.Playing.{ArePlayed, FitsChest, IsCalled, IsBetweenLines, IsMade, IsAdded, calls_made}
+use Rattle.xl_program.proofs.Plain.{AreOf, AreBefore, filters_now, filters_more, tables_more}
+use Rattle.xl_program.proofs.Chests.{IsStocked, full_agrees, full_stocked, line_fits, stocked_after, agrees_without, stocked_without}
+use Rattle.xl_program.proofs.Played.{calls_behind}
 
--- ---- one line more
+-- ---- indices
 
--- what a line adds: its call, one index, and two entries at most
-pub record IsOneMore (old new : History) (line : script.Line) : Type 0 where
-  pub base_is : new.base ≡ old.base
-  pub calls : calls_made new.entries ≡ calls_made old.entries ++ line ∷ []
-  pub index : next_index new.entries 0 ≡ next_index old.entries 0 + 1
-  pub entries : length new.entries ≤ length old.entries + 2
+pub one_index : (es : List Entry) (e : Entry) → is_end_kind e.kind ≡ false → next_index (es ++ e ∷ []) e.session ≡ next_index es e.session + 1
+one_index es e is =
+    let counts : (e.session == e.session && not (is_end_kind e.kind)) ≡ true = rw (is, eq-eqb e.session e.session refl) refl in
+    next_index-snoc es e e.session ∙ ap (λ (b : Bool). next_index es e.session + cond b 1 0) counts
 
-one_index : (es : List Entry) (e : Entry) → e.session ≡ 0 → is_end_kind e.kind ≡ false → next_index (es ++ e ∷ []) 0 ≡ next_index es 0 + 1
-one_index es e own is =
-    let counts : (e.session == 0 && not (is_end_kind e.kind)) ≡ true = rw (is, eq-eqb e.session 0 own) refl in
-    next_index-snoc es e 0 ∙ ap (λ (b : Bool). next_index es 0 + cond b 1 0) counts
-
-no_index : (es : List Entry) (e : Entry) → is_end_kind e.kind ≡ true → next_index (es ++ e ∷ []) 0 ≡ next_index es 0
-no_index es e is =
-    let counts : (e.session == 0 && not (is_end_kind e.kind)) ≡ false = rw is (never (e.session == 0)) in
-    next_index-snoc es e 0 ∙ ap (λ (b : Bool). next_index es 0 + cond b 1 0) counts ∙ omega arith where
+no_index : (es : List Entry) (e : Entry) (session : ℕ) → is_end_kind e.kind ≡ true → next_index (es ++ e ∷ []) session ≡ next_index es session
+no_index es e session is =
+    let counts : (e.session == session && not (is_end_kind e.kind)) ≡ false = rw is (never (e.session == session)) in
+    next_index-snoc es e session ∙ ap (λ (b : Bool). next_index es session + cond b 1 0) counts ∙ omega arith where
       never : (b : Bool) → (b && false) ≡ false
       never true = refl
       never false = refl
 
-made_one : (old new : History) (line : script.Line) → IsMade old line new → IsOneMore old new line
-made_one old new (script.call c) made =
-    let e : Entry = record { session = 0; index = next_index old.entries 0; kind = asked c []; reply = made.0 } in
-    let es : new.entries ≡ old.entries ++ e ∷ [] = ap (λ (h : History). h.entries) made.1 in
+abbrev one_if : Bool → ℕ
+one_if b = cond b 1 0
+
+-- a session that comes later has made no call
+pub no_call_yet : (es : List Entry) (session : ℕ) → AreBefore session es → next_index es session ≡ 0
+no_call_yet [] session before = refl
+no_call_yet (e ∷ es) session before =
+    let here = before.0 in
+    let other : (e.session == session) ≡ false = ne_eqb e.session session (λ q. omega arith) in
+    let counts : (e.session == session && not (is_end_kind e.kind)) ≡ false = rw other refl in
+    let first : one_if (e.session == session && not (is_end_kind e.kind)) ≡ 0 = ap one_if counts in
+    let rest = no_call_yet es session before.1 in
+    sum_by-cons (λ (x : Entry). cond (x.session == session && not (is_end_kind x.kind)) 1 0) e es ∙ omega (arith, first, rest)
+
+-- ---- one line more
+
+-- What a line adds where the chest agrees with these filters: entries of the session, two at most, for its call if it is one; and what
+-- it leaves of the chest.
+pub record IsOneMore (session : ℕ) (now : List FilterState) (old new : History) (before after : List (Option FilterState)) (line : script.Line) : Type 0 where
+  pub base_is : new.base ≡ old.base
+  pub more : List Entry
+  pub entries : new.entries ≡ old.entries ++ more
+  pub own : AreOf session more
+  pub calls : calls_made more ≡ calls_of (line ∷ [])
+  pub tables : (filters : List FilterState) (earlier : List Entry) → now ≡ filters_now filters earlier → HaveTables filters earlier → HaveTables filters (earlier ++ more)
+  pub agrees : (filters : List FilterState) (earlier : List Entry) → now ≡ filters_now filters earlier → Agrees after (filters_now filters (earlier ++ more))
+  pub stocked : (given : ℕ) (dropped : List ℕ) → IsStocked given dropped before → IsStocked given (dropped_by dropped line) after
+  pub index : next_index new.entries session ≡ next_index old.entries session + length (calls_of (line ∷ []))
+  pub few : length new.entries ≤ length old.entries + 2 * length (calls_of (line ∷ []))
+
+-- an entry without tables, which leaves the filters as they are
+no_tables : (filters : List FilterState) (earlier : List Entry) (e : Entry) → HaveTables filters earlier → tables_in e.kind ≡ []
+    → expected_tables (filters_now filters earlier) e.kind e.reply ≡ [] → HaveTables filters (earlier ++ e ∷ [])
+no_tables filters earlier e have none expected = tables_more filters earlier e have (none ∙ sym expected)
+
+-- which tables are expected is not asked of the tables
+same_tables : (filters : List FilterState) (c : Call) (tables others : List (List ℕ)) (reply : Reply) → expected_tables filters (asked c tables) reply ≡ expected_tables filters (asked c others) reply
+same_tables filters c tables others reply = tables_made filters c tables reply ∙ sym (tables_made filters c others reply)
+
+pub made_one : (session : ℕ) (now : List FilterState) (old new : History) (before after : List (Option FilterState)) (line : script.Line) → Agrees before now → IsMade old session line before after new
+    → IsOneMore session now old new before after line
+made_one session now old new before after (script.call c) agrees made =
+    let tables : List (List ℕ) = expected_tables now (asked c []) made.reply in
+    let grown : new ≡ with_call old session c tables made.reply = made.grown now agrees in
+    let e : Entry = record { session = session; index = next_index old.entries session; kind = asked c tables; reply = made.reply } in
+    let es : new.entries ≡ old.entries ++ e ∷ [] = ap (λ (h : History). h.entries) grown in
     let longer = ap length es ∙ length-append old.entries (e ∷ []) in
     record {
-      base_is = ap (λ (h : History). h.base) made.1;
-      calls = ap calls_made es ∙ calls_more old.entries c (next_index old.entries 0) made.0;
-      index = ap (λ (l : List Entry). next_index l 0) es ∙ one_index old.entries e refl refl;
-      entries = omega (arith, longer);
+      base_is = ap (λ (h : History). h.base) grown;
+      more = e ∷ [];
+      entries = es;
+      own = (refl, tt);
+      calls = refl;
+      tables = λ filters earlier is have.
+          tables_more filters earlier e have (same_tables now c [] tables made.reply ∙ ap (λ fs. expected_tables fs (asked c tables) made.reply) is);
+      agrees = λ filters earlier is.
+          subst (Agrees after)
+          (sym (filters_made now c tables made.reply) ∙ ap (λ fs. filters_after fs (asked c tables) made.reply) is ∙ sym (filters_more filters earlier (e ∷ [])))
+          (made.used.states now agrees);
+      stocked = λ given dropped stocked. stocked_after given dropped before after made.used.slots stocked;
+      index = ap (λ (l : List Entry). next_index l session) es ∙ one_index old.entries e refl;
+      few = omega (arith, longer);
     }
-made_one old new script.save made =
-    let s : Entry = start_of old 0 in
-    let e : Entry = record { session = 0; index = next_index old.entries 0; kind = ends; reply = made.0 } in
+made_one session now old new before after script.save agrees (made, same) =
+    let s : Entry = start_of old session in
+    let e : Entry = record { session = session; index = next_index old.entries session; kind = ends; reply = made.0 } in
     let es : new.entries ≡ old.entries ++ s ∷ e ∷ [] = ap (λ (h : History). h.entries) made.1 in
     let longer = ap length es ∙ length-append old.entries (s ∷ e ∷ []) in
     record {
       base_is = ap (λ (h : History). h.base) made.1;
-      calls = ap calls_made es ∙ saves_more old.entries (next_index old.entries 0) (saved (version old)) made.0;
+      more = s ∷ e ∷ [];
+      entries = es;
+      own = (refl, (refl, tt));
+      calls = refl;
+      tables = λ filters earlier is have.
+          subst (HaveTables filters) (append_assoc earlier (s ∷ []) (e ∷ []))
+          (no_tables filters (earlier ++ s ∷ []) e (no_tables filters earlier s have refl refl) refl refl);
+      agrees = λ filters earlier is.
+          subst (Agrees after) (is ∙ sym (filters_more filters earlier (s ∷ e ∷ []))) (subst (λ chest. Agrees chest now) (sym same) agrees);
+      stocked = λ given dropped stocked. subst (IsStocked given dropped) (sym same) stocked;
       index =
-          ap (λ (l : List Entry). next_index l 0) (es ∙ sym (append_assoc old.entries (s ∷ []) (e ∷ [])))
-          ∙ no_index (old.entries ++ s ∷ []) e refl
-          ∙ one_index old.entries s refl refl;
-      entries = omega (arith, longer);
+          ap (λ (l : List Entry). next_index l session) (es ∙ sym (append_assoc old.entries (s ∷ []) (e ∷ [])))
+          ∙ no_index (old.entries ++ s ∷ []) e session refl
+          ∙ one_index old.entries s refl;
+      few = omega (arith, longer);
     }
-made_one old new (script.forget slot) made = absurd made
+made_one session now old new before after (script.forget slot) agrees (same, without) =
+    let es : new.entries ≡ old.entries = ap (λ (h : History). h.entries) same in
+    let longer = ap length es in
+    let index : next_index new.entries session ≡ next_index old.entries session = ap (λ (l : List Entry). next_index l session) es in
+    record {
+      base_is = ap (λ (h : History). h.base) same;
+      more = [];
+      entries = es ∙ sym (append-nil old.entries);
+      own = tt;
+      calls = refl;
+      tables = λ filters earlier is have. subst (HaveTables filters) (sym (append-nil earlier)) have;
+      agrees = λ filters earlier is.
+          subst (Agrees after) (is ∙ ap (filters_now filters) (sym (append-nil earlier)))
+          (subst (λ chest. Agrees chest now) (sym without) (agrees_without before now slot agrees));
+      stocked = λ given dropped stocked. subst (IsStocked given (dropped ++ slot ∷ [])) (sym without) (stocked_without given dropped before slot stocked);
+      index = omega (arith, index);
+      few = omega (arith, longer);
+    }
+
+-- the index of the next call
+pub called_next : (session : ℕ) (old new : History) (before after : List (Option FilterState)) (c : Call) → IsCalled old session c before after new
+    → next_index new.entries session ≡ next_index old.entries session + 1
+called_next session old new before after c called =
+    let some = some_list before in
+    (made_one session some.0 old new before after (script.call c) some.1 called).index
 
 -- ---- along the lines
 
--- the lines so far and those that are left are all lines
-pub record IsUnderWay {D : Type 0} (base : Document) (opening : D) (all left : List Line) (index : ℕ) (core : Editing D) (out : List ℕ) : Type 0 where
-  pub index_is : index ≡ next_index core.history.entries 0
-  pub few : index + length left ≤ 2 ^ 19
-  pub entries : length core.history.entries ≤ 2 * index
-  pub between : IsBetweenLines base opening core
-  pub built : AllByRecursion IsBuiltLine left
-  pub calls : calls_made core.history.entries ++ lines_of left ≡ lines_of all
+calls_split : (line : script.Line) (lines : List script.Line) → calls_of (line ∷ lines) ≡ calls_of (line ∷ []) ++ calls_of lines
+calls_split (script.call c) lines = refl
+calls_split script.save lines = refl
+calls_split (script.forget slot) lines = refl
+
+-- the entries so far are those of the lines so far, and the lines that are left may be played
+pub record IsUnderWay {D : Type 0} (session : ℕ) (filters : List FilterState) (start : Editing D) (all left : List Line) (index : ℕ) (chest : List (Option FilterState)) (core : Editing D) (out : List ℕ) : Type 0 where
+  pub index_is : index ≡ next_index core.history.entries session
+  pub between : IsBetweenLines start.history.base start.opening core
+  pub more : List Entry
+  pub entries : core.history.entries ≡ start.history.entries ++ more
+  pub own : AreOf session more
+  pub calls : calls_made more ++ calls_of (lines_of left) ≡ calls_of (lines_of all)
+  pub tables : HaveTables filters more
+  pub agrees : Agrees chest (filters_now filters more)
+  pub few : length core.history.entries + 2 * length (calls_of (lines_of left)) ≤ length start.history.entries + 2 * length (calls_of (lines_of all))
+  pub dropped : List ℕ
+  pub stocked : IsStocked (length filters) dropped chest
+  pub fit : AreFit (length filters) dropped (lines_of left)
   pub played : ArePlayed core.history.base core.history.entries out
 
 module _ {D : Type 0} where
-  pub under_way_none : (core : Editing D) (all left : List Line) (out : List ℕ) → core.history.entries ≡ [] → IsSome core.shelf → out ≡ [] → left ≡ all → AreBuilt all
-      → IsUnderWay core.history.base core.opening all left 0 core out
-  under_way_none core all left out fresh inside blank whole built =
-      subst (λ (ls : List Line). IsUnderWay core.history.base core.opening all ls 0 core out) (sym whole)
+  pub under_way_none : (session : ℕ) (filters : List FilterState) (core : Editing D) (all left : List Line) (index : ℕ) (chest : List (Option FilterState)) (out : List ℕ) → chest ≡ map (λ s. Some s) filters → next_index core.history.entries session ≡ 0 → index ≡ 0 → IsSome core.shelf
+      → ArePlayed core.history.base core.history.entries out → AreFit (length filters) [] (lines_of all) → left ≡ all → IsUnderWay session filters core all left index chest core out
+  under_way_none session filters core all left index chest out full unmade zero inside played fit whole =
+      subst (λ (ls : List Line). IsUnderWay session filters core all ls index chest core out) (sym whole)
       (record {
-        index_is = ap (λ (es : List Entry). next_index es 0) (sym fresh);
-        few = omega (arith, built.few);
-        entries = omega (arith, ap length fresh);
-        between = record {
-          base_is = refl;
-          opening_is = refl;
-          inside = inside;
-          legal = subst (λ (es : List Entry). IsLegal core.history.base es) (sym fresh) (IsLegal-empty core.history.base);
-        };
-        built = built.each;
-        calls = ap (λ (es : List Entry). calls_made es ++ lines_of all) fresh;
-        played = subst (λ (es : List Entry). ArePlayed core.history.base es out) (sym fresh) (subst (ArePlayed core.history.base []) (sym blank) (played_none core.history.base));
+        index_is = zero ∙ sym unmade;
+        between = record { base_is = refl; opening_is = refl; inside = inside; legal = played.legal };
+        more = [];
+        entries = sym (append-nil core.history.entries);
+        own = tt;
+        calls = refl;
+        tables = tt;
+        agrees = subst (λ slots. Agrees slots filters) (sym full) (full_agrees filters);
+        few = omega arith;
+        dropped = [];
+        stocked = subst (IsStocked (length filters) []) (sym full) (full_stocked filters);
+        fit = fit;
+        played = played;
       })
-
-  pub under_way_built : {base : Document} {opening : D} {all left : List Line} {index : ℕ} {core : Editing D} {out : List ℕ} (line : Line) (rest : List Line)
-      → IsUnderWay base opening all left index core out → left ≡ line ∷ rest → IsBuiltLine line
-  under_way_built line rest way turn = (subst (AllByRecursion IsBuiltLine) turn way.built).0
-
-  -- there is room for two entries
-  pub under_way_free : {base : Document} {opening : D} {all left : List Line} {index : ℕ} {core : Editing D} {out : List ℕ} (line : Line) (rest : List Line)
-      → IsUnderWay base opening all left index core out → left ≡ line ∷ rest → length core.history.entries + 2 ≤ most_entries
-  under_way_free line rest way turn = let count = ap length turn in let few = way.few in let entries = way.entries in omega arith
-
-  pub under_way_below : {base : Document} {opening : D} {all left : List Line} {index : ℕ} {core : Editing D} {out : List ℕ} (line : Line) (rest : List Line)
-      → IsUnderWay base opening all left index core out → left ≡ line ∷ rest → index < 2 ^ 19
-  under_way_below line rest way turn = let count = ap length turn in let few = way.few in omega arith
 
   -- one line more is still between lines
   pub still_between : {base : Document} {opening : D} {old : Editing D} (new : Editing D) → IsBetweenLines base opening old → IsBetweenLines old.history.base old.opening new → IsBetweenLines base opening new
@@ -124,45 +204,62 @@ module _ {D : Type 0} where
     legal = after.legal;
   }
 
-  pub under_way_more : {base : Document} {opening : D} {all left : List Line} {index : ℕ} {old : Editing D} {out : List ℕ} (new : Editing D) (more : List ℕ) (line : Line) (rest : List Line)
-      → IsUnderWay base opening all left index old out → left ≡ line ∷ rest → IsBetweenLines old.history.base old.opening new
-      → IsMade old.history (line_of line) new.history → ArePlayed new.history.base new.history.entries more
-      → IsUnderWay base opening all rest (index + 1) new more
-  under_way_more {all = all} {old = old} new more line rest way turn after made played =
-      let one = made_one old.history new.history (line_of line) made in
+  module _ {session : ℕ} {filters : List FilterState} {start : Editing D} {all left : List Line} {index : ℕ} {chest : List (Option FilterState)} {old : Editing D} {out : List ℕ} (line : Line) (rest : List Line) (way : IsUnderWay session filters start all left index chest old out)
+      (turn : left ≡ line ∷ rest) where
+    pub under_way_fit : FitsChest chest (line_of line)
+    under_way_fit = line_fits (length filters) way.dropped chest (line_of line) way.stocked (subst (λ (ls : List Line). AreFit (length filters) way.dropped (lines_of ls)) turn way.fit).0
+
+    -- there is room for the entries of a line
+    pub under_way_free : length start.history.entries + 2 * length (calls_of (lines_of all)) ≤ most_entries
+        → length old.history.entries + 2 * length (calls_of (line_of line ∷ [])) ≤ most_entries
+    under_way_free room =
+        let few = way.few in
+        let split = ap (λ (ls : List Line). length (calls_of (lines_of ls))) turn ∙ ap length (calls_split (line_of line) (lines_of rest))
+        ∙ length-append (calls_of (line_of line ∷ [])) (calls_of (lines_of rest)) in
+        omega arith
+
+    pub under_way_more : (after_chest : List (Option FilterState)) (new : Editing D) (next : ℕ) (more : List ℕ) → IsBetweenLines old.history.base old.opening new → IsMade old.history session (line_of line) chest after_chest new.history
+        → next ≡ next_index new.history.entries session → ArePlayed new.history.base new.history.entries more → IsUnderWay session filters start all rest next after_chest new more
+    under_way_more after_chest new next more after made next_is played =
+        let one = made_one session (filters_now filters way.more) old.history new.history chest after_chest (line_of line) way.agrees made in
+        let split = calls_split (line_of line) (lines_of rest) in
+        let counts = ap (λ (ls : List Line). length (calls_of (lines_of ls))) turn ∙ ap length split ∙ length-append (calls_of (line_of line ∷ [])) (calls_of (lines_of rest)) in
+        let so_far = way.few in
+        let longer = one.few in
+        record {
+          index_is = next_is;
+          between = still_between new way.between after;
+          more = way.more ++ one.more;
+          entries = one.entries ∙ ap (λ (es : List Entry). es ++ one.more) way.entries ∙ append_assoc start.history.entries way.more one.more;
+          own = both_own way.more one.more way.own one.own;
+          calls =
+              ap (λ (ls : List script.Line). ls ++ calls_of (lines_of rest)) (calls_behind way.more one.more ∙ ap (λ (ls : List script.Line). calls_made way.more ++ ls) one.calls)
+              ∙ append_assoc (calls_made way.more) (calls_of (line_of line ∷ [])) (calls_of (lines_of rest))
+              ∙ ap (λ (ls : List script.Line). calls_made way.more ++ ls) (sym split)
+              ∙ ap (λ (ls : List Line). calls_made way.more ++ calls_of (lines_of ls)) (sym turn)
+              ∙ way.calls;
+          tables = one.tables filters way.more refl way.tables;
+          agrees = one.agrees filters way.more refl;
+          few = omega arith;
+          dropped = dropped_by way.dropped (line_of line);
+          stocked = one.stocked (length filters) way.dropped way.stocked;
+          fit = (subst (λ (ls : List Line). AreFit (length filters) way.dropped (lines_of ls)) turn way.fit).1;
+          played = played;
+        } where
+          both_own : (xs ys : List Entry) → AreOf session xs → AreOf session ys → AreOf session (xs ++ ys)
+          both_own [] ys own also = also
+          both_own (x ∷ xs) ys own also = (own.0, both_own xs ys own.1 also)
+
+  pub under_way_all : {session : ℕ} {filters : List FilterState} {start : Editing D} {all left : List Line} {index : ℕ} {chest : List (Option FilterState)} {core : Editing D} {out : List ℕ}
+      → IsUnderWay session filters start all left index chest core out → left ≡ [] → IsAdded session filters (lines_of all) start.history.entries core.history.entries
+  under_way_all {all = all} {left = left} way done =
       let few = way.few in
-      let so_far = way.entries in
-      let longer = one.entries in
-      let shorter = ap length turn in
-      let at = way.index_is in
+      let none = ap (λ (ls : List Line). length (calls_of (lines_of ls))) done in
       record {
-        index_is = ap (λ (n : ℕ). n + 1) at ∙ sym one.index;
+        more = way.more;
+        entries = way.entries;
+        own = way.own;
+        calls = sym (append-nil (calls_made way.more)) ∙ ap (λ (ls : List Line). calls_made way.more ++ calls_of (lines_of ls)) (sym done) ∙ way.calls;
+        tables = way.tables;
         few = omega arith;
-        entries = omega arith;
-        between = still_between new way.between after;
-        built = (subst (AllByRecursion IsBuiltLine) turn way.built).1;
-        calls =
-            ap (λ (ls : List script.Line). ls ++ lines_of rest) one.calls
-            ∙ append_assoc (calls_made old.history.entries) (line_of line ∷ []) (lines_of rest)
-            ∙ ap (λ (ls : List Line). calls_made old.history.entries ++ lines_of ls) (sym turn)
-            ∙ way.calls;
-        played = played;
       }
-
-  pub under_way_all : {base : Document} {opening : D} {all left : List Line} {index : ℕ} {core : Editing D} {out : List ℕ}
-      → IsUnderWay base opening all left index core out → left ≡ [] → calls_made core.history.entries ≡ lines_of all
-  under_way_all {core = core} way done = sym (append-nil (calls_made core.history.entries)) ∙ ap (λ (ls : List Line). calls_made core.history.entries ++ lines_of ls) (sym done) ∙ way.calls
-
--- ---- the whole text
-
-built_calls : (lines : List Line) → AllByRecursion IsBuiltLine lines → calls_of (lines_of lines) ≡ lines_of lines
-built_calls [] built = refl
-built_calls (Call c ∷ lines) built = ap (λ (ls : List script.Line). script.call (call_of c) ∷ ls) (built_calls lines built.1)
-built_calls (Save ∷ lines) built = ap (λ (ls : List script.Line). script.save ∷ ls) (built_calls lines built.1)
-built_calls (Forget slot ∷ lines) built = absurd built.0
-
-pub whole_text : (h : History) (base : Document) (lines : List Line) (out : List ℕ) → AreBuilt lines → h.base ≡ base → ArePlayed h.base h.entries out → calls_made h.entries ≡ lines_of lines
-    → IsTextOf (out ++ order_text h.entries) base (lines_of lines ∷ replicate 7 []) [] h.entries
-whole_text h base lines out built same played calls =
-    subst (λ (d : Document). IsTextOf (out ++ order_text h.entries) d (lines_of lines ∷ replicate 7 []) [] h.entries) same
-    (played_text h.base (lines_of lines) h.entries out played calls (built_calls lines built.each))

@@ -1,45 +1,26 @@
--- The words of a command, each as its bytes.
-use Rattle.std.specs.Prelude.{ℕ, Bool, List, [], ◌∷◌, Option, Some, None, codes, map, nat_eq, if◌then◌else◌}
-use denote.Ref.{Bor}
-use Rattle.std.specs.List.{starts_with}
-use Rattle.std.specs.Str.{bytes_eq}
-use Rattle.xl_program.specs.declared.command.Command.{Command}
-use Rattle.xl_program.specs.declared.command.Command.TheVariants as code
+-- What the arguments ask for, of what is served.
+use Rattle.std.specs.Prelude.{Bool, true, false, List, Option, Some, None, if◌then◌else◌}
+use Rattle.spec_command.specs.Arguments.{Argument, Asked, edit, render, info, make}
+use Rattle.spec_command.specs.Grammar.{asked_in}
 
--- a command, with the name of its file
-pub data Asked : Type 0 where
-  render : (name : List ℕ) → Asked
-  edit : (name : List ℕ) → Asked
+-- `make` is not served yet
+abbrev pub is_served : Asked → Bool
+is_served (edit name workers) = true
+is_served (render name) = true
+is_served (info name) = true
+is_served (make name seed) = false
 
--- the words as their bytes
-abbrev pub words_of : List (Bor (List ℕ)) → List (List ℕ)
-words_of words = map (λ word. word.now) words
+abbrev pub if_served : Option Asked → Option Asked
+if_served None = None
+if_served (Some command) = if is_served command then Some command else None
 
--- a word that begins as an option does
-abbrev pub is_option : (word : List ℕ) → Bool
-is_option word = starts_with nat_eq word (codes "-")
-
--- the command of a verb, if it is one
-abbrev pub with_verb : (verb name : List ℕ) → Option Asked
-with_verb verb name =
-    if bytes_eq verb (codes "render") then Some (render name) else
-    if bytes_eq verb (codes "edit") then Some (edit name) else None
-
--- the command that the words are: a verb and a file; no other words are one
-abbrev pub asked : (words : List (List ℕ)) → Option Asked
-asked (verb ∷ name ∷ []) = if is_option name then None else with_verb verb name
-asked words = None
-
--- the name of its file
-abbrev pub name_of : Asked → List ℕ
-name_of (render name) = name
-name_of (edit name) = name
-
--- what a command of the code means
-abbrev pub asked_of : Command → Asked
-asked_of (code.Render name) = render name.now
-asked_of (code.Edit name) = edit name.now
+-- the command that the arguments are, if it is served
+abbrev pub asked : List Argument → Option Asked
+asked arguments = if_served (asked_in arguments)
 
 abbrev pub IsEdit : Option Asked → Type 0
-IsEdit (Some (edit name)) = Unit {0}
-IsEdit command = ⊥
+IsEdit None = ⊥
+IsEdit (Some (edit name workers)) = Unit {0}
+IsEdit (Some (render name)) = ⊥
+IsEdit (Some (info name)) = ⊥
+IsEdit (Some (make name seed)) = ⊥

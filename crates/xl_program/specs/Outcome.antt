@@ -1,11 +1,16 @@
 -- What a command writes, and why it may stop.
-use Rattle.std.specs.Prelude.{◌≡◌, ◌⊎◌, ◌<◌, ◌==◌, ℕ, List, [], ◌∷◌, Option, Some, None, IfSome, IsTrue, Result, Ok, Err}
+use Rattle.std.specs.Prelude.{◌≡◌, ◌⊎◌, ◌<◌, ◌==◌, ℕ, List, [], ◌∷◌, length, map, Option, Some, None, IfSome, IsTrue, Result, Ok, Err, Vec}
+use Rattle.std.specs.declared.alloc.Global.{Global}
 use Rattle.std.specs.List.{list_any}
+use Rattle.spec_command.specs.Arguments.{Asked, edit, render, info, make}
+use Rattle.spec_command.specs.Ends.{Stop, source_fault, bad_line, shelf_fault, refused, stop_line, stop_status}
 use Rattle.spec_document.specs.Document.{Document}
 use Rattle.spec_fields.specs.declared.ReadRefused.{ReadRefused}
 use Rattle.spec_file.specs.Holds.{Holds}
 use Rattle.spec_file.specs.Reading.{first_fault}
+use Rattle.spec_report.specs.Json as json
 use Rattle.spec_report.specs.Pam.{pam}
+use Rattle.spec_filters.specs.declared.FilterState.{FilterState}
 use Rattle.spec_script.specs.Script.{Line, script}
 use Rattle.spec_history.specs.History.{Entry}
 use Rattle.spec_history.specs.Kept.{IsLegal}
@@ -18,8 +23,7 @@ use Rattle.xl_ports.specs.Faults.{Rose}
 use Rattle.xl_ports.specs.Shelf.{Content, absent, file}
 use Rattle.xl_ports.specs.Sink.{WritesAll, WritesPart}
 use Rattle.xl_ports.specs.Source.{led_by}
-use Rattle.xl_program.specs.Command.{Asked, render, edit}
-use Rattle.xl_program.specs.Lines.{source_fault_line, bad_line, shelf_fault_line, refused_line, Tells}
+use Rattle.xl_program.specs.Lines.{Tells}
 use Rattle.xl_program.specs.declared.stopped.Stopped.{Stopped}
 use Rattle.xl_program.specs.declared.stopped.Stopped.TheVariants.{SourceFault, BadLine, ShelfFault, Refused, SaveFault, SinkFault, Memory}
 
@@ -32,22 +36,34 @@ HoldsDocument (file bytes) d = Holds bytes d
 
 -- the file is there and holds no document: this is its first fault
 abbrev pub HasFault : Content → ReadRefused → Type 0
-HasFault absent refused = ⊥
-HasFault (file bytes) refused = first_fault bytes ≡ Some refused
+HasFault absent why = ⊥
+HasFault (file bytes) why = first_fault bytes ≡ Some why
 
 -- ---- the script, which is all that the source has left
 
+-- what a run is given beside the file: what its source has left, and the states of each session's filters
+pub record Given : Type 0 where
+  pub left : Option (List ℕ)
+  pub chests : List (List FilterState)
+
+-- the states of filters in boxes, session by session; `state` is that of a box
+abbrev pub states_of : {B : Type 0} → (state : B → FilterState) → List (Vec B Global) → List (List FilterState)
+states_of state lists = map (λ boxes. map state boxes.items) lists
+
+abbrev pub given_of : {B : Type 0} → (left : Option (List ℕ)) → (state : B → FilterState) → List (Vec B Global) → Given
+given_of left state lists = record { left = left; chests = states_of state lists }
+
 -- the script is in the grammar, where it is told, and has these lines
-abbrev pub HasLines : (left : Option (List ℕ)) → List (List Line) → Type 0
-HasLines left lists = IfSome left (λ text. script text [] ≡ Ok lists)
+abbrev pub HasLines : Given → List (List Line) → Type 0
+HasLines given lists = IfSome given.left (λ text. script text (map length given.chests) ≡ Ok lists)
 
 -- the script is in the grammar, where it is told
-abbrev pub IsScript : (left : Option (List ℕ)) → Type 0
-IsScript left = (lists : List (List Line)) × HasLines left lists
+abbrev pub IsScript : Given → Type 0
+IsScript given = (lists : List (List Line)) × HasLines given lists
 
 -- the script is refused at this line, where it is told
-abbrev pub IsBadLine : (left : Option (List ℕ)) → (number : ℕ) → Type 0
-IsBadLine left number = IfSome left (λ text. script text [] ≡ Err number)
+abbrev pub IsBadLine : Given → (number : ℕ) → Type 0
+IsBadLine given number = IfSome given.left (λ text. script text (map length given.chests) ≡ Err number)
 
 -- ---- the shelf
 
@@ -81,11 +97,11 @@ AnyFailed faults = Unit {0}
 
 -- ---- what is written
 
--- the PAM of a document that the file holds, where its content is told
-pub record IsPicture (content : Option Content) (out : List ℕ) : Type 0 where
+-- the report of a document that the file holds, where its content is told
+pub record IsReport (text : Document → List ℕ) (content : Option Content) (out : List ℕ) : Type 0 where
   pub document : Document
   pub held : IfSome content (λ c. HoldsDocument c document)
-  pub picture : out ≡ pam document
+  pub same : out ≡ text document
 
 -- a legal history of a document that the file held, where that is told, and the shelf after its saves
 pub record IsHistory (name : List ℕ) (old new : Shelved) (document : Document) (entries : List Entry) : Type 0 where
@@ -94,28 +110,32 @@ pub record IsHistory (name : List ℕ) (old new : Shelved) (document : Document)
   pub shelf : ShelfIsRight (opened old name) document entries new.known
 
 -- the text of such a history whose calls are those of the script
-pub record IsReplies (left : Option (List ℕ)) (name : List ℕ) (old new : Shelved) (HaveFailed : ℕ → Type 0) (out : List ℕ) : Type 0 where
+pub record IsReplies (given : Given) (name : List ℕ) (old new : Shelved) (HaveFailed : ℕ → Type 0) (out : List ℕ) : Type 0 where
   pub document : Document
   pub lists : List (List Line)
   pub entries : List Entry
   pub history : IsHistory name old new document entries
-  pub read : HasLines left lists
-  pub text : IsTextOf out document lists [] entries
+  pub read : HasLines given lists
+  pub text : IsTextOf out document lists given.chests entries
   pub failed : HaveFailed (save_faults entries)
 
--- what the command writes when it comes to its end, and the shelf then
-abbrev pub IsOutput : (left : Option (List ℕ)) → (old new : Shelved) → Asked → (HaveFailed : ℕ → Type 0) → (out : List ℕ) → Type 0
-IsOutput left old new (render name) HaveFailed out = IsPicture (old.content name) out × IsUntouched old new × HaveFailed 0
-IsOutput left old new (edit name) HaveFailed out = IsReplies left name old new HaveFailed out
+-- what the command writes when it comes to its end, and the shelf then; what is not served comes to none
+abbrev pub IsOutput : Given → (old new : Shelved) → Asked → (HaveFailed : ℕ → Type 0) → (out : List ℕ) → Type 0
+IsOutput given old new (render name) HaveFailed out = IsReport pam (old.content name) out × IsUntouched old new × HaveFailed 0
+IsOutput given old new (info name) HaveFailed out = IsReport json.info (old.content name) out × IsUntouched old new × HaveFailed 0
+IsOutput given old new (make name seed) HaveFailed out = ⊥
+IsOutput given old new (edit name workers) HaveFailed out = IsReplies given name old new HaveFailed out
 
 -- the shelf where memory ran out: as before, or after a history
 abbrev pub MayHaveSaved : (old new : Shelved) → Asked → Type 0
 MayHaveSaved old new (render name) = IsUntouched old new
-MayHaveSaved old new (edit name) = IsUntouched old new ⊎ ((document : Document) × (entries : List Entry) × IsHistory name old new document entries)
+MayHaveSaved old new (info name) = IsUntouched old new
+MayHaveSaved old new (make name seed) = ⊥
+MayHaveSaved old new (edit name workers) = IsUntouched old new ⊎ ((document : Document) × (entries : List Entry) × IsHistory name old new document entries)
 
 -- the same of any words
 abbrev pub MaySave : (old new : Shelved) → Option Asked → Type 0
-MaySave old new None = ⊥
+MaySave old new None = IsUntouched old new
 MaySave old new (Some command) = MayHaveSaved old new command
 
 module _ {K : Type 0} (held : K → Option (List ℕ)) (faults : K → ℕ) where
@@ -140,11 +160,11 @@ module _ {K : Type 0} (held : K → Option (List ℕ)) (faults : K → ℕ) wher
   Comes IsOut Untouched Saved old new (Err SourceFault) = Keeps old new × Untouched
   Comes IsOut Untouched Saved old new (Err (BadLine number)) = Keeps old new × Untouched
   Comes IsOut Untouched Saved old new (Err ShelfFault) = Keeps old new × Untouched
-  Comes IsOut Untouched Saved old new (Err (Refused refused)) = Keeps old new × Untouched
+  Comes IsOut Untouched Saved old new (Err (Refused why)) = Keeps old new × Untouched
 
   -- so does this command
-  abbrev pub ComesTo : (left : Option (List ℕ)) → (before after : Shelved) → Asked → (old new : K) → Result (Unit {0}) Stopped → Type 0
-  ComesTo left before after command old new result = Comes (IsOutput left before after command) (IsUntouched before after) (MayHaveSaved before after command) old new result
+  abbrev pub ComesTo : Given → (before after : Shelved) → Asked → (old new : K) → Result (Unit {0}) Stopped → Type 0
+  ComesTo given before after command old new result = Comes (IsOutput given before after command) (IsUntouched before after) (MayHaveSaved before after command) old new result
 
 -- ---- why a command stopped
 
@@ -159,15 +179,25 @@ ShelfCause before after (Err ShelfFault) = Rose before after
 ShelfCause before after result = after ≡ before
 
 -- the script of an edit is in the grammar
-abbrev pub InGrammar : (left : Option (List ℕ)) → Option Asked → Type 0
-InGrammar left (Some (edit name)) = IsScript left
-InGrammar left command = Unit {0}
+abbrev pub InGrammar : Given → Option Asked → Type 0
+InGrammar given None = Unit {0}
+InGrammar given (Some (edit name workers)) = IsScript given
+InGrammar given (Some (render name)) = Unit {0}
+InGrammar given (Some (info name)) = Unit {0}
+InGrammar given (Some (make name seed)) = Unit {0}
 
 module _ {S : Type 0} (left : S → Option (List ℕ)) (faults : S → ℕ) where
-  -- an edit takes the first bytes that the source has left; all else leaves the source as it was
+  -- the source was left as it was
+  abbrev pub Leaves : (old new : S) → Type 0
+  Leaves old new = (left new ≡ left old) × (faults new ≡ faults old)
+
+  -- an edit takes the first bytes that the source has left
   abbrev pub Takes : (old new : S) → Option Asked → Type 0
-  Takes old new (Some (edit name)) = (bytes : List ℕ) × (left old ≡ led_by bytes (left new))
-  Takes old new command = (left new ≡ left old) × (faults new ≡ faults old)
+  Takes old new None = Leaves old new
+  Takes old new (Some (edit name workers)) = (bytes : List ℕ) × (left old ≡ led_by bytes (left new))
+  Takes old new (Some (render name)) = Leaves old new
+  Takes old new (Some (info name)) = Leaves old new
+  Takes old new (Some (make name seed)) = Leaves old new
 
 -- ---- how it is told
 
@@ -181,32 +211,36 @@ IsStatus status = IsTrue (list_any (λ n. n == status) (0 ∷ 2 ∷ 3 ∷ 4 ∷ 
 
 module _ {K : Type 0} (held : K → Option (List ℕ)) (faults : K → ℕ) where
   -- all is written, and no save failed
-  abbrev pub ComesWell : (left : Option (List ℕ)) → (before after : Shelved) → Option Asked → (old new : K) → Type 0
-  ComesWell left before after None old new = ⊥
-  ComesWell left before after (Some command) old new = WritesSome held faults (IsOutput left before after command NoneFailed) old new
+  abbrev pub ComesWell : Given → (before after : Shelved) → Option Asked → (old new : K) → Type 0
+  ComesWell given before after None old new = ⊥
+  ComesWell given before after (Some command) old new = WritesSome held faults (IsOutput given before after command NoneFailed) old new
 
   -- the file could not be read, which is told; or all is written, and a save failed
-  abbrev pub ShelfFails : (left : Option (List ℕ)) → (before after : Shelved) → Option Asked → (old new : K) → Type 0
-  ShelfFails left before after None old new = ⊥
-  ShelfFails left before after (Some command) old new =
-      (Rose before.known.reading after.known.reading × IsUntouched before after × Tells held faults old new shelf_fault_line)
-      ⊎ ((after.known.reading ≡ before.known.reading) × WritesSome held faults (IsOutput left before after command SomeFailed) old new)
+  abbrev pub ShelfFails : Given → (before after : Shelved) → Option Asked → (old new : K) → Type 0
+  ShelfFails given before after None old new = ⊥
+  ShelfFails given before after (Some command) old new =
+      (Rose before.known.reading after.known.reading × IsUntouched before after × Tells held faults old new (stop_line shelf_fault))
+      ⊎ ((after.known.reading ≡ before.known.reading) × WritesSome held faults (IsOutput given before after command SomeFailed) old new)
 
   -- a fault of the sink came while all was written
-  abbrev pub WritesInPart : (left : Option (List ℕ)) → (before after : Shelved) → Option Asked → (old new : K) → Type 0
-  WritesInPart left before after None old new = ⊥
-  WritesInPart left before after (Some command) old new = WritesFront held faults (IsOutput left before after command AnyFailed) old new
+  abbrev pub WritesInPart : Given → (before after : Shelved) → Option Asked → (old new : K) → Type 0
+  WritesInPart given before after None old new = ⊥
+  WritesInPart given before after (Some command) old new = WritesFront held faults (IsOutput given before after command AnyFailed) old new
 
-  -- the line is told with this status, unless memory ran out for it
-  abbrev pub TellsOr : (old new : K) → (wanted : ℕ) → (text : List ℕ) → (status : ℕ) → Type 0
-  TellsOr old new wanted text status = ((status ≡ wanted) × Tells held faults old new text) ⊎ ((status ≡ 8) × Keeps held faults old new)
+  -- the stop is told, with its status
+  abbrev pub TellsOf : (old new : K) → Stop → (status : ℕ) → Type 0
+  TellsOf old new stop status = (status ≡ stop_status stop) × Tells held faults old new (stop_line stop)
+
+  -- so it is, unless memory ran out for the line
+  abbrev pub TellsOr : (old new : K) → Stop → (status : ℕ) → Type 0
+  TellsOr old new stop status = TellsOf old new stop status ⊎ ((status ≡ 8) × Keeps held faults old new)
 
   -- what is told of a stop, and the status
   abbrev pub TellsStop : (old new : K) → Stopped → (status : ℕ) → Type 0
-  TellsStop old new SourceFault status = (status ≡ 5) × Tells held faults old new source_fault_line
-  TellsStop old new (BadLine number) status = TellsOr old new 3 (bad_line number) status
-  TellsStop old new ShelfFault status = (status ≡ 6) × Tells held faults old new shelf_fault_line
-  TellsStop old new (Refused refused) status = TellsOr old new 4 (refused_line refused) status
+  TellsStop old new SourceFault status = TellsOf old new source_fault status
+  TellsStop old new (BadLine number) status = TellsOr old new (bad_line number) status
+  TellsStop old new ShelfFault status = TellsOf old new shelf_fault status
+  TellsStop old new (Refused why) status = TellsOr old new (refused why) status
   TellsStop old new SaveFault status = (status ≡ 6) × (new ≡ old)
   TellsStop old new SinkFault status = (status ≡ 7) × (new ≡ old)
   TellsStop old new Memory status = (status ≡ 8) × (new ≡ old)

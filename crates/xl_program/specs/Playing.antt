@@ -1,29 +1,35 @@
--- A history of the first session's calls and saves, and the lines that are printed for it.
-use Rattle.std.specs.Prelude.{◌≡◌, ℕ, false, List, [], ◌∷◌, ◌++◌, filter_map, flat_map, None, IsSome}
+-- A history of the sessions' calls and saves, and the lines that are printed for it.
+use Rattle.std.specs.Prelude.{◌≡◌, ℕ, ◌+◌, ◌*◌, ◌<◌, ◌≤◌, false, List, [], ◌∷◌, ◌++◌, length, option_map, filter_map, flat_map, slice_set, Option, None, slice_get, unwrap_or, IsSome, IsTrue, Vec}
+use Rattle.std.specs.declared.alloc.Global.{Global}
 use Rattle.std.specs.List.{AllByRecursion}
+use Rattle.spec_grid.specs.Rect.{count_from}
 use Rattle.spec_document.specs.Document.{Document}
 use Rattle.spec_history.specs.Machine.{Call, Reply, tile_of}
-use Rattle.spec_history.specs.History.{Entry, Kind, asked, starts, ends, replay, next_index}
+use Rattle.spec_history.specs.History.{Entry, Kind, asked, starts, ends, replay, next_index, mine}
 use Rattle.spec_history.specs.Kept.{IsLegal}
+use Rattle.spec_history.specs.Limited.{edits_of}
+use Rattle.spec_filters.specs.declared.FilterState.{FilterState}
+use Rattle.spec_filters.specs.Slots.{has_slot}
 use Rattle.spec_script.specs.Script.{Line, call, save, forget}
-use Rattle.spec_text.specs.Text.{digest_of, entry_line, is_save_memory, made_by}
+use Rattle.spec_tables.specs.Tables.{HaveTables, expected_tables}
+use Rattle.spec_tables.specs.Agrees.{Agrees, AreThere, IsAfter}
+use Rattle.spec_text.specs.Text.{calls_in, calls_of, digest_of, entry_line, is_save_memory, made_by}
 use Rattle.xl_core.specs.Editing.{Editing, start_of}
 use Rattle.xl_core.specs.History.{History, with_call}
 use Rattle.xl_edit.specs.Built.{IsBuilt}
 
--- a call that is built, and so without tables; or the start of a save, or its end
+-- a call that is built; or the start of a save, or its end
 abbrev pub IsBuiltKind : Kind → Type 0
-IsBuiltKind (asked c tables) = IsBuilt c × (tables ≡ [])
+IsBuiltKind (asked c tables) = IsBuilt c
 IsBuiltKind starts = Unit {0}
 IsBuiltKind ends = Unit {0}
 
--- an entry of the first session, which may be printed
+-- an entry of a kind that is built, which may be printed
 pub record IsPlain (e : Entry) : Type 0 where
-  pub session : e.session ≡ 0
   pub kind : IsBuiltKind e.kind
   pub printable : is_save_memory e.reply ≡ false
 
--- the lines of a history, where all its entries are the first session's
+-- the lines of a history, in the order of its entries
 abbrev pub lines_in : Document → List Entry → List ℕ
 lines_in base es = flat_map (entry_line base es) es
 
@@ -31,7 +37,7 @@ lines_in base es = flat_map (entry_line base es) es
 abbrev pub calls_made : List Entry → List Line
 calls_made es = filter_map (λ e. made_by e.kind) es
 
--- the entries are a legal history of the first session's calls and saves, no save is out, and the text is their lines
+-- the entries are a legal history of calls and saves, no save is out, and the text is their lines
 pub record ArePlayed (base : Document) (es : List Entry) (out : List ℕ) : Type 0 where
   pub legal : IsLegal base es
   pub ended : (replay base es).out ≡ None
@@ -43,21 +49,58 @@ abbrev pub shown_of : Reply → (bytes : List ℕ) → List ℕ
 shown_of (tile_of version) bytes = digest_of bytes
 shown_of reply bytes = []
 
--- the call is the last entry
-abbrev pub IsCalled : (old : History) → Call → (new : History) → Type 0
-IsCalled old c new = (reply : Reply) × (new ≡ with_call old 0 c reply)
+-- ---- what a line makes
+
+-- the call is the last entry, with the tables that the chest's filters answered, which were asked for nothing else
+pub record IsCalled (old : History) (session : ℕ) (c : Call) (before after : List (Option FilterState)) (new : History) : Type 0 where
+  pub reply : Reply
+  pub grown : (filters : List FilterState) → Agrees before filters → new ≡ with_call old session c (expected_tables filters (asked c []) reply) reply
+  pub used : IsAfter before after c reply
 
 -- a save, with this reply, is the last two entries
-abbrev pub with_save : History → Reply → History
-with_save h reply = record h {
-  entries = h.entries ++ start_of h 0 ∷ record { session = 0; index = next_index h.entries 0; kind = ends; reply = reply } ∷ [];
+abbrev pub with_save : History → (session : ℕ) → Reply → History
+with_save h session reply = record h {
+  entries = h.entries ++ start_of h session ∷ record { session = session; index = next_index h.entries session; kind = ends; reply = reply } ∷ [];
 }
 
--- what a line of the script makes
-abbrev pub IsMade : (old : History) → Line → (new : History) → Type 0
-IsMade old (call c) new = IsCalled old c new
-IsMade old save new = (reply : Reply) × (new ≡ with_save old reply)
-IsMade old (forget slot) new = ⊥
+-- a line whose call is built, and whose filters are in the chest
+abbrev pub FitsChest : List (Option FilterState) → Line → Type 0
+FitsChest chest (call c) = IsBuilt c × AreThere chest (edits_of c)
+FitsChest chest save = Unit {0}
+FitsChest chest (forget slot) = IsTrue (has_slot chest slot)
+
+-- what a line of the script makes of a history and of a chest
+abbrev pub IsMade : (old : History) → (session : ℕ) → Line → (before after : List (Option FilterState)) → (new : History) → Type 0
+IsMade old session (call c) before after new = IsCalled old session c before after new
+IsMade old session save before after new = ((reply : Reply) × (new ≡ with_save old session reply)) × (after ≡ before)
+IsMade old session (forget slot) before after new = (new ≡ old) × (after ≡ slice_set before slot None)
+
+-- the boxes of a session, none past the last list
+abbrev pub boxes_at : {B : Type 0} → List (Vec B Global) → (session : ℕ) → List B
+boxes_at lists session = unwrap_or (option_map (λ boxes. boxes.items) (slice_get lists session)) []
+
+-- ---- what a session makes, and what all of them make
+
+-- The entries of a session are behind the old ones: each call of its lines is made once, in their order, with the tables of its
+-- filters, and is two entries at most.
+pub record IsAdded (session : ℕ) (filters : List FilterState) (lines : List Line) (old new : List Entry) : Type 0 where
+  pub more : List Entry
+  pub entries : new ≡ old ++ more
+  pub own : AllByRecursion (λ e. e.session ≡ session) more
+  pub calls : calls_made more ≡ calls_of lines
+  pub tables : HaveTables filters more
+  pub few : length new ≤ length old + 2 * length (calls_of lines)
+
+-- the entries of session 0, then those of session 1, and so on to session 7, are all entries
+abbrev pub AreInOrder : List Entry → Type 0
+AreInOrder es = flat_map (mine es) (count_from 0 8) ≡ es
+
+-- the sessions below a number have made their calls, one session after another, each with the tables of its filters
+pub record AreSessions (session : ℕ) (lists : List (List Line)) (chests : List (List FilterState)) (es : List Entry) : Type 0 where
+  pub before : AllByRecursion (λ e. e.session < session) es
+  pub order : AreInOrder es
+  pub calls : (n : ℕ) → n < session → calls_in es n ≡ calls_of (unwrap_or (slice_get lists n) [])
+  pub tables : (n : ℕ) → n < session → HaveTables (unwrap_or (slice_get chests n) []) (mine es n)
 
 -- where the run stands between two lines: the shelf is in, and the history is legal
 pub record IsBetweenLines {D : Type 0} (base : Document) (opening : D) (core : Editing D) : Type 0 where

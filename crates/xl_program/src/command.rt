@@ -1,30 +1,20 @@
-ghost use Rattle.std.specs.Prelude.{◌≡◌, option_map};
-ghost use Rattle.xl_program.specs.Command.{words_of, with_verb, asked, asked_of};
+ghost use Rattle.std.specs.Prelude.{◌≡◌, true, option_map, IfOk, IfSome};
+ghost use Rattle.xl_command.specs.Asking.{asked_of, arguments_of};
+ghost use Rattle.xl_program.specs.Command.{asked, is_served};
 
-/// What the words ask for, with the name of a file.
-#[derive(Clone, Copy)]
-pub enum Command<'a> {
-    Render(&'a str),
-    Edit(&'a str),
-}
+use std::alloc::{AllocError, Global};
+use xl_command::{Command, command_of};
 
-// The command of a verb and the name of a file.
-fn with_verb<'a>(verb: &str, name: &'a str) -> Option<Command<'a>>
-    ensures { option_map asked_of result ≡ with_verb verb.now name.now }
+/// The command that the words are, with the name of a file, where it is served. No other words are one.
+pub fn served_command<'a>(
+    alloc: Global,
+    words: &'a [&'a str],
+) -> Result<Option<Command<'a>>, AllocError>
+    ensures asked { IfOk result (λ command. option_map asked_of command ≡ asked (arguments_of words.entry.now)) }
+    ensures served { IfOk result (λ command. IfSome command (λ c. is_served (asked_of c) ≡ true)) }
 {
-    match verb {
-        "render" => Some(Command::Render(name)),
-        "edit" => Some(Command::Edit(name)),
-        _ => None,
-    }
-}
-
-/// The command that the words are. No other words are one.
-pub fn command_of<'a>(words: &[&'a str]) -> Option<Command<'a>>
-    ensures { option_map asked_of result ≡ asked (words_of words.now) }
-{
-    match words {
-        [verb, name] if !name.as_bytes().starts_with(b"-") => with_verb(*verb, *name),
-        _ => None,
+    match command_of(alloc, words)? {
+        Some(Command::Make(_, _)) => Ok(None),
+        command => Ok(command),
     }
 }

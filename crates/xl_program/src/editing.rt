@@ -1,11 +1,13 @@
-ghost use Rattle.std.specs.Prelude.{◌≡◌, ◌⊎◌, ℕ, List, Some, IfOk, OnOk, IsSome};
+ghost use Rattle.std.specs.Prelude.{◌≡◌, ◌<◌, ◌^◌, ◌⊎◌, ℕ, List, length, map, Some, IfOk, OnOk, IsSome};
+ghost use Rattle.std.specs.List.{AllByRecursion};
+ghost use Rattle.spec_script.specs.Fits.{FitsFilters};
+ghost use Rattle.spec_command.specs.Arguments.{edit as edit_of};
 ghost use Rattle.xl_core.specs.Editing.{known};
 ghost use Rattle.xl_doc.specs.Numbered.{AreNumbered};
 ghost use Rattle.xl_ports.specs.Source.{led_by, IsEnded};
-ghost use Rattle.xl_program.specs.Command.{edit as edit_of};
-ghost use Rattle.xl_program.specs.Outcome.{ComesTo, SourceCause, ShelfCause, shelved};
+ghost use Rattle.xl_program.specs.Outcome.{given_of, states_of, ComesTo, SourceCause, ShelfCause, shelved};
 ghost use Rattle.xl_program.specs.Parts.{ReadsScript, IsPlayed, WritesReplies, StopsEdit};
-ghost use Rattle.xl_script.specs.Built.{AreBuilt};
+ghost use Rattle.xl_script.specs.Lines.{lists_of};
 
 use crate::ended::Done;
 use crate::loading::read_document;
@@ -14,13 +16,14 @@ use crate::stopped::Stopped;
 use std::alloc::{AllocError, Global};
 use xl_core::Core;
 use xl_doc::Document;
+use xl_filters::PointFilter;
 use xl_ports::{FailedOrMemory, Shelf, Sink, Source, read_all, write_all};
-use xl_script::{BadLineOrMemory, Line, parse};
+use xl_script::{BadLineOrMemory, Script, parse};
 
 /// How much of a script is read: one byte more than it may have.
 const MOST_BYTES: usize = (1 << 24) + 1;
 
-/// Makes the calls and saves of a script on the document of a file, and writes the replies.
+/// Makes the calls and saves of a script on the document of a file, one session after another, and writes the replies.
 ///
 /// The script is read before the file, and all the text is made before its first byte is written. The shelf comes back always.
 pub fn edit<S: Source, K: Sink, D: Shelf>(
@@ -29,20 +32,22 @@ pub fn edit<S: Source, K: Sink, D: Shelf>(
     source: &mut S,
     sink: &mut K,
     mut shelf: D,
+    chest: Vec<Vec<Box<dyn PointFilter + Send>>>,
 ) -> Done<D>
-    ensures comes { ComesTo K.held K.faults (S.left source.old)
+    requires boxes { AllByRecursion (λ boxes. length boxes.items < 2 ^ 32) chest.items }
+    ensures comes { (workers : ℕ) → ComesTo K.held K.faults (given_of (S.left source.old) (λ b. state b) chest.items)
         (shelved D.content D.selected D.disk D.reading_faults D.saving_faults shelf)
         (shelved D.content D.selected D.disk D.reading_faults D.saving_faults result.shelf)
-        (edit_of name.now) sink.old sink.new result.result }
-    ensures stops { StopsEdit (S.left source.old) (D.content shelf name.now) result.result }
+        (edit_of name.now workers) sink.old sink.new result.result }
+    ensures stops { StopsEdit (given_of (S.left source.old) (λ b. state b) chest.items) (D.content shelf name.now) result.result }
     ensures takes { (bytes : List ℕ) × (S.left source.old ≡ led_by bytes (S.left source.new)) }
     ensures ended { OnOk result.result (IsEnded (S.left source.new)) }
     ensures source_cause { SourceCause (S.faults source.old) (S.faults source.new) result.result }
     ensures shelf_cause { ShelfCause (D.reading_faults shelf) (D.reading_faults result.shelf) result.result }
     ensures selected { (D.selected result.shelf ≡ D.selected shelf) ⊎ (D.selected result.shelf ≡ Some name.now) }
 {
-    let lines = match read_script(alloc, source) {
-        Ok(lines) => lines,
+    let script = match read_script(alloc, source, &chest) {
+        Ok(script) => script,
         Err(stopped) => return Done {
             result: Err(stopped),
             shelf,
@@ -55,17 +60,37 @@ pub fn edit<S: Source, K: Sink, D: Shelf>(
             shelf,
         },
     };
-    let played = run_script(alloc, document, lines, shelf);
+    let played = run_script(alloc, document, script, chest, shelf);
     Done {
         result: write_replies(sink, played.replies),
         shelf: played.shelf,
     }
 }
 
-// The lines of the first session; no other has any.
-fn read_script<S: Source>(alloc: Global, source: &mut S) -> Result<Vec<Line>, Stopped>
-    ensures reads { ReadsScript (S.left source.old) result }
-    ensures built { IfOk result (λ lines. AreBuilt lines.items) }
+// How many filters each session has.
+fn filter_counts(
+    alloc: Global,
+    chest: &[Vec<Box<dyn PointFilter + Send>>],
+) -> Result<Vec<u32>, AllocError>
+    requires { AllByRecursion (λ boxes. length boxes.items < 2 ^ 32) chest.now }
+    ensures { IfOk result (λ counts. counts.items ≡ map length (states_of (λ b. state b) chest.now)) }
+{
+    let mut counts = Vec::with_capacity(alloc, chest.len())?;
+    for boxes in chest {
+        counts.push(boxes.len() as u32)?;
+    }
+    Ok(counts)
+}
+
+// The lines of the sessions.
+fn read_script<S: Source>(
+    alloc: Global,
+    source: &mut S,
+    chest: &Vec<Vec<Box<dyn PointFilter + Send>>>,
+) -> Result<Script, Stopped>
+    requires { AllByRecursion (λ boxes. length boxes.items < 2 ^ 32) chest.now.items }
+    ensures reads { ReadsScript (given_of (S.left source.old) (λ b. state b) chest.now.items) result }
+    ensures fits { IfOk result (λ script. FitsFilters (map length (states_of (λ b. state b) chest.now.items)) (lists_of script)) }
     ensures takes { (bytes : List ℕ) × (S.left source.old ≡ led_by bytes (S.left source.new)) }
     ensures ended { OnOk result (IsEnded (S.left source.new)) }
     ensures cause { SourceCause (S.faults source.old) (S.faults source.new) result }
@@ -75,8 +100,11 @@ fn read_script<S: Source>(alloc: Global, source: &mut S) -> Result<Vec<Line>, St
         Err(FailedOrMemory::Failed) => return Err(Stopped::SourceFault),
         Err(FailedOrMemory::Memory) => return Err(Stopped::Memory),
     };
-    match parse(alloc, &text, &[]) {
-        Ok(mut script) => Ok(script.take_lines(0)),
+    let Ok(counts) = filter_counts(alloc, chest) else {
+        return Err(Stopped::Memory);
+    };
+    match parse(alloc, &text, &counts) {
+        Ok(script) => Ok(script),
         Err(BadLineOrMemory::Refused(bad)) => Err(Stopped::BadLine(bad.line)),
         Err(BadLineOrMemory::Memory) => Err(Stopped::Memory),
     }
@@ -90,12 +118,19 @@ struct Played<D> {
 }
 
 // Makes the calls and saves of a script.
-fn run_script<D: Shelf>(alloc: Global, document: Document, lines: Vec<Line>, shelf: D) -> Played<D>
+fn run_script<D: Shelf>(
+    alloc: Global,
+    document: Document,
+    script: Script,
+    chest: Vec<Vec<Box<dyn PointFilter + Send>>>,
+    shelf: D,
+) -> Played<D>
     requires numbered { AreNumbered document.nodes }
     requires selected { IsSome (D.selected shelf) }
-    requires built { AreBuilt lines.items }
+    requires boxes { AllByRecursion (λ boxes. length boxes.items < 2 ^ 32) chest.items }
+    requires fits { FitsFilters (map length (states_of (λ b. state b) chest.items)) (lists_of script) }
     ensures { IsPlayed (known D.selected D.disk D.reading_faults D.saving_faults shelf)
-        (known D.selected D.disk D.reading_faults D.saving_faults result.shelf) document lines.items result.replies }
+        (known D.selected D.disk D.reading_faults D.saving_faults result.shelf) document (lists_of script) (states_of (λ b. state b) chest.items) result.replies }
 {
     let mut core = match Core::open(alloc, document, shelf) {
         Ok(core) => core,
@@ -107,7 +142,7 @@ fn run_script<D: Shelf>(alloc: Global, document: Document, lines: Vec<Line>, she
             };
         }
     };
-    let replies = play(alloc, &mut core, lines);
+    let replies = play(alloc, &mut core, script, chest);
     Played {
         replies,
         shelf: core.into_shelf(),

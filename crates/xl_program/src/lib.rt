@@ -1,11 +1,13 @@
 //! The program: the words of a command, the devices that it works on, and how it ends.
 //!
-//! `render FILE` writes the picture of a file to the sink. `edit FILE` reads a script from the source, makes its calls
-//! and saves on the document of a file and writes the replies to the sink; the file changes by its saves alone. What else a
-//! command comes to is told by one line there and by the status. Each command is a module of its own.
+//! `render FILE` writes the picture of a file to the sink, and `info FILE` its document as a line of JSON. `edit FILE` reads a
+//! script from the source, makes its calls and saves on the document of a file and writes the replies to the sink; the file
+//! changes by its saves alone. What else a command comes to is told by one line there and by the status. Each command is a
+//! module of its own.
 #![tactic(auto)]
 
 mod command;
+mod describing;
 mod editing;
 mod ended;
 mod line;
@@ -19,3 +21,4 @@ mod stopped;
 mod telling;
 
 pub use running::{Ended, run};
+pub use stopped::Stopped;

@@ -1,5 +1,6 @@
 ghost use Rattle.std.specs.Prelude.{◌≡◌, string_bytes, IfOk, MatchResult};
-ghost use Rattle.xl_program.specs.Lines.{bad_line, refused_line, Tells};
+ghost use Rattle.spec_command.specs.Ends.{stop_line, bad_line, refused};
+ghost use Rattle.xl_program.specs.Lines.{Tells};
 
 use spec_fields::ReadRefused;
 use std::alloc::{AllocError, Global};
@@ -15,16 +16,16 @@ pub fn tell<K: Sink>(sink: &mut K, text: &[u8])
 
 /// The line of a refused script.
 pub fn bad_line_text(alloc: Global, number: u32) -> Result<String, AllocError>
-    ensures { IfOk result (λ text. string_bytes text ≡ bad_line number) }
+    ensures { IfOk result (λ text. string_bytes text ≡ stop_line (bad_line number)) }
 {
     format!(in alloc; "bad line {number}\n")
 }
 
 /// The line of a refused file.
-pub fn refusal_text(alloc: Global, refused: ReadRefused) -> Result<String, AllocError>
-    ensures { IfOk result (λ text. string_bytes text ≡ refused_line refused) }
+pub fn refusal_text(alloc: Global, why: ReadRefused) -> Result<String, AllocError>
+    ensures { IfOk result (λ text. string_bytes text ≡ stop_line (refused why)) }
 {
-    let kind = number_of(refused.kind);
-    let at = refused.at;
+    let kind = number_of(why.kind);
+    let at = why.at;
     format!(in alloc; "file refused {kind} at {at}\n")
 }

@@ -1,14 +1,19 @@
-ghost use Rattle.std.specs.Prelude.{◌≡◌, ◌⊎◌, Some, OnOk};
+ghost use Rattle.std.specs.Prelude.{◌≡◌, ◌<◌, ◌^◌, ◌⊎◌, true, Some, length, OnOk};
+ghost use Rattle.std.specs.List.{AllByRecursion};
+ghost use Rattle.spec_command.specs.Arguments.{name_of};
+ghost use Rattle.xl_command.specs.Asking.{asked_of};
 ghost use Rattle.xl_ports.specs.Source.{IsEnded};
-ghost use Rattle.xl_program.specs.Command.{asked_of, name_of, IsEdit};
-ghost use Rattle.xl_program.specs.Outcome.{ComesTo, SourceCause, ShelfCause, Takes, shelved};
+ghost use Rattle.xl_program.specs.Command.{is_served, IsEdit};
+ghost use Rattle.xl_program.specs.Outcome.{given_of, ComesTo, SourceCause, ShelfCause, Takes, shelved};
 ghost use Rattle.xl_program.specs.Parts.{StopsFor};
 
-use crate::command::Command;
+use crate::describing::describe;
 use crate::editing::edit;
 use crate::ended::Done;
 use crate::rendering::render;
 use std::alloc::Global;
+use xl_command::Command;
+use xl_filters::PointFilter;
 use xl_ports::{Shelf, Sink, Source};
 
 /// Does what a command asks for. The shelf comes back always.
@@ -18,12 +23,15 @@ pub fn obey<S: Source, K: Sink, D: Shelf>(
     source: &mut S,
     sink: &mut K,
     mut shelf: D,
+    chest: Vec<Vec<Box<dyn PointFilter + Send>>>,
 ) -> Done<D>
-    ensures comes { ComesTo K.held K.faults (S.left source.old)
+    requires served { is_served (asked_of command) ≡ true }
+    requires boxes { AllByRecursion (λ boxes. length boxes.items < 2 ^ 32) chest.items }
+    ensures comes { ComesTo K.held K.faults (given_of (S.left source.old) (λ b. state b) chest.items)
         (shelved D.content D.selected D.disk D.reading_faults D.saving_faults shelf)
         (shelved D.content D.selected D.disk D.reading_faults D.saving_faults result.shelf)
         (asked_of command.entry) sink.old sink.new result.result }
-    ensures stops { StopsFor (S.left source.old) (D.content shelf) (asked_of command.entry) result.result }
+    ensures stops { StopsFor (given_of (S.left source.old) (λ b. state b) chest.items) (D.content shelf) (asked_of command.entry) result.result }
     ensures takes { Takes S.left S.faults source.old source.new (Some (asked_of command.entry)) }
     ensures ended { OnOk result.result (IsEdit (Some (asked_of command.entry)) → IsEnded (S.left source.new)) }
     ensures source_cause { SourceCause (S.faults source.old) (S.faults source.new) result.result }
@@ -36,6 +44,11 @@ pub fn obey<S: Source, K: Sink, D: Shelf>(
             let result = render(alloc, name, sink, &mut shelf);
             Done { result, shelf }
         }
-        Command::Edit(name) => edit(alloc, name, source, sink, shelf),
+        Command::Info(name) => {
+            let result = describe(alloc, name, sink, &mut shelf);
+            Done { result, shelf }
+        }
+        Command::Edit(name, _) => edit(alloc, name, source, sink, shelf, chest),
+        Command::Make(_, _) => unreachable!(),
     }
 }

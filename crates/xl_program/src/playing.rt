@@ -1,16 +1,22 @@
 ghost use Rattle.spec_history.specs.Calls.{most_entries};
-ghost use Rattle.std.specs.Prelude.{◌≡◌, ◌+◌, ◌<◌, ◌≤◌, [], length, map, IfOk, OnOk, IsSome, string_bytes};
 ghost use Rattle.spec_history.specs.History.{next_index};
+ghost use Rattle.spec_history.specs.Machine.{Reply as Plain};
+ghost use Rattle.spec_history.specs.Limited.{edits_of};
 ghost use Rattle.spec_saves.specs.Names.{ends_by_fault, save_faults};
-ghost use Rattle.spec_script.specs.Script.{save};
+ghost use Rattle.spec_script.specs.Fits.{AreFit, FitsFilters};
+ghost use Rattle.spec_tables.specs.Agrees.{AreThere};
 ghost use Rattle.spec_text.specs.Printed.{word_of_entry};
+ghost use Rattle.spec_text.specs.Text.{calls_of};
+ghost use Rattle.std.specs.List.{AllByRecursion};
+ghost use Rattle.std.specs.Prelude.{◌≡◌, ◌+◌, ◌*◌, ◌<◌, ◌≤◌, ◌^◌, [], ◌∷◌, length, map, drop, Some, IfOk, OnOk, IsSome, string_bytes};
 ghost use Rattle.xl_edit.specs.Built.{IsBuilt};
 ghost use Rattle.xl_edit.specs.Calls.{call_of};
 ghost use Rattle.xl_edit.specs.Replies.{reply_of};
+ghost use Rattle.xl_filters.specs.Chests.{states, states_in};
+ghost use Rattle.xl_program.specs.Outcome.{states_of};
 ghost use Rattle.xl_program.specs.Parts.{WhetherFailed, IsToldOf};
-ghost use Rattle.xl_program.specs.Playing.{ArePlayed, IsBetweenLines, IsCalled, IsMade, calls_made, shown_of};
-ghost use Rattle.xl_script.specs.Built.{AreBuilt, IsBuiltLine};
-ghost use Rattle.xl_script.specs.Lines.{lines_of, line_of};
+ghost use Rattle.xl_program.specs.Playing.{ArePlayed, AreSessions, boxes_at, FitsChest, IsAdded, IsBetweenLines, IsCalled, IsMade, shown_of, with_save};
+ghost use Rattle.xl_script.specs.Lines.{line_of, lines_of, lists_of};
 
 use crate::saving::save_latest;
 use std::alloc::{AllocError, Global};
@@ -19,9 +25,10 @@ use std::sync::ledger::{Blank, Ledger};
 use xl_blend::Steps;
 use xl_core::{Core, Desk, Entry, EntryKind};
 use xl_edit::{Call, Reply};
+use xl_filters::{Chest, PointFilter};
 use xl_ports::Shelf;
 use xl_report::digest;
-use xl_script::{Line, OrderWord, print_order, print_reply};
+use xl_script::{Line, OrderWord, Script, print_order, print_reply};
 
 /// The text of a run, and whether one of its saves failed.
 #[derive(Drop)]
@@ -40,83 +47,162 @@ fn shown_digest(alloc: Global, reply: &Reply, desk: &Desk) -> Result<String, All
     }
 }
 
-// Makes a call of the first session, and prints its line.
+// Makes a call of a session, and prints its line.
 fn play_call<L: Ledger, D: Shelf>(
     alloc: Global,
     core: &mut Core<D>,
+    session: u8,
     index: u32,
     call: Call,
     desk: &mut Desk,
     steps: &mut Steps<L>,
     text: &mut String,
 ) -> Result<(), AllocError>
+    requires session { session < 8 }
     requires played { ArePlayed core.old.history.base core.old.history.entries (string_bytes text.old) }
     requires inside { IsSome core.old.shelf }
-    requires index { index ≡ next_index core.old.history.entries 0 }
+    requires index { index ≡ next_index core.old.history.entries session }
     requires few { length core.old.history.entries + 2 ≤ most_entries }
     requires built { IsBuilt (call_of call) }
+    requires there { AreThere (states_in state desk.old.chest) (edits_of (call_of call)) }
     ensures between { IsBetweenLines core.old.history.base core.old.opening core.new }
-    ensures called { OnOk result (IsCalled core.old.history (call_of call) core.new.history) }
+    ensures called { OnOk result (IsCalled core.old.history session (call_of call) (states_in state desk.old.chest) (states_in state desk.new.chest) core.new.history) }
     ensures played { OnOk result (ArePlayed core.new.history.base core.new.history.entries (string_bytes text.new)) }
 {
     let seen = core.version();
-    let reply = core.submit(alloc, 0, call, seen, desk, steps)?;
+    let reply = core.submit(alloc, session, call, seen, desk, steps)?;
     let digest = shown_digest(alloc, &reply, desk)?;
-    print_reply(alloc, text, 0, index, &reply, digest.as_str())
+    print_reply(alloc, text, session, index, &reply, digest.as_str())
 }
 
-// Makes a save of the first session, and prints its line.
+// Makes a save of a session, and prints its line.
 fn play_save<D: Shelf>(
     alloc: Global,
     core: &mut Core<D>,
+    session: u8,
     index: u32,
     text: &mut String,
 ) -> Result<(), AllocError>
+    requires session { session < 8 }
     requires played { ArePlayed core.old.history.base core.old.history.entries (string_bytes text.old) }
     requires inside { IsSome core.old.shelf }
     requires selected { IsSome (D.selected core.old.opening) }
-    requires index { index ≡ next_index core.old.history.entries 0 }
+    requires index { index ≡ next_index core.old.history.entries session }
     requires few { length core.old.history.entries + 2 ≤ most_entries }
     ensures between { IsBetweenLines core.old.history.base core.old.opening core.new }
-    ensures saved { OnOk result (IsMade core.old.history save core.new.history) }
+    ensures saved { OnOk result ((reply : Plain) × (core.new.history ≡ with_save core.old.history session reply)) }
     ensures played { OnOk result (ArePlayed core.new.history.base core.new.history.entries (string_bytes text.new)) }
 {
-    let reply = save_latest(alloc, core)?;
-    print_reply(alloc, text, 0, index, &reply, "")
+    let reply = save_latest(alloc, core, session)?;
+    print_reply(alloc, text, session, index, &reply, "")
 }
 
-// Makes what a line of the first session says, and prints its line.
+// Makes what a line of a session says, and prints its line. It answers the index of the session's next call.
 fn play_line<L: Ledger, D: Shelf>(
     alloc: Global,
     core: &mut Core<D>,
+    session: u8,
     index: u32,
     line: Line,
     desk: &mut Desk,
     steps: &mut Steps<L>,
     text: &mut String,
-) -> Result<(), AllocError>
+) -> Result<u32, AllocError>
+    requires session { session < 8 }
     requires played { ArePlayed core.old.history.base core.old.history.entries (string_bytes text.old) }
     requires inside { IsSome core.old.shelf }
     requires selected { IsSome (D.selected core.old.opening) }
-    requires index { index ≡ next_index core.old.history.entries 0 }
-    requires few { length core.old.history.entries + 2 ≤ most_entries }
-    requires built { IsBuiltLine line }
+    requires index { index ≡ next_index core.old.history.entries session }
+    requires few { length core.old.history.entries + 2 * length (calls_of (line_of line ∷ [])) ≤ most_entries }
+    requires fit { FitsChest (states_in state desk.old.chest) (line_of line) }
     ensures between { IsBetweenLines core.old.history.base core.old.opening core.new }
-    ensures made { OnOk result (IsMade core.old.history (line_of line) core.new.history) }
+    ensures made { OnOk result (IsMade core.old.history session (line_of line) (states_in state desk.old.chest) (states_in state desk.new.chest) core.new.history) }
+    ensures next { IfOk result (λ next. next ≡ next_index core.new.history.entries session) }
     ensures played { OnOk result (ArePlayed core.new.history.base core.new.history.entries (string_bytes text.new)) }
 {
     match line {
-        Line::Call(call) => play_call(alloc, core, index, call, desk, steps, text),
-        Line::Save => play_save(alloc, core, index, text),
-        Line::Forget(_) => unreachable!(),
+        Line::Call(call) => {
+            play_call(alloc, core, session, index, call, desk, steps, text)?;
+            Ok(index + 1)
+        }
+        Line::Save => {
+            play_save(alloc, core, session, index, text)?;
+            Ok(index + 1)
+        }
+        Line::Forget(slot) => {
+            desk.chest.forget(slot);
+            Ok(index)
+        }
     }
 }
 
-// Makes the calls and saves of the first session one after another, and answers their lines.
+// A desk with these filters.
+fn desk_of(alloc: Global, boxes: Vec<Box<dyn PointFilter + Send>>) -> Result<Desk, AllocError>
+    requires { length boxes.items < 2 ^ 32 }
+    ensures { IfOk result (λ desk. states (λ s. state s.filter) desk.chest ≡ map (λ b. Some (state b)) boxes.items) }
+{
+    let Ok(chest) = Chest::new(alloc, boxes) else {
+        return Err(AllocError);
+    };
+    match Desk::new(alloc, chest) {
+        Ok(desk) => Ok(desk),
+        Err(_) => Err(AllocError),
+    }
+}
+
+// Makes the calls and saves of a session one after another, and prints their lines. The boxes are dropped in the end.
 fn play_lines<L: Ledger, D: Shelf>(
     alloc: Global,
     core: &mut Core<D>,
+    session: u8,
     lines: Vec<Line>,
+    boxes: Vec<Box<dyn PointFilter + Send>>,
+    steps: &mut Steps<L>,
+    text: &mut String,
+) -> Result<(), AllocError>
+    requires session { session < 8 }
+    requires played { ArePlayed core.old.history.base core.old.history.entries (string_bytes text.old) }
+    requires inside { IsSome core.old.shelf }
+    requires selected { IsSome (D.selected core.old.opening) }
+    requires unmade { next_index core.old.history.entries session ≡ 0 }
+    requires boxes { length boxes.items < 2 ^ 32 }
+    requires fit { AreFit (length boxes.items) [] (lines_of lines.items) }
+    requires few { length core.old.history.entries + 2 * length (calls_of (lines_of lines.items)) ≤ most_entries }
+    ensures between { IsBetweenLines core.old.history.base core.old.opening core.new }
+    ensures added { OnOk result (IsAdded session (map (λ b. state b) boxes.items) (lines_of lines.items) core.old.history.entries core.new.history.entries) }
+    ensures played { OnOk result (ArePlayed core.new.history.base core.new.history.entries (string_bytes text.new)) }
+{
+    let mut desk = desk_of(alloc, boxes)?;
+    let mut index = 0;
+    for line in lines {
+        index = play_line(alloc, core, session, index, line, &mut desk, steps, text)?;
+    }
+    Ok(())
+}
+
+// Takes the first list of boxes, if there is one.
+fn first_boxes(
+    alloc: Global,
+    chest: &mut Vec<Vec<Box<dyn PointFilter + Send>>>,
+) -> Vec<Box<dyn PointFilter + Send>>
+    requires { AllByRecursion (λ boxes. length boxes.items < 2 ^ 32) chest.old.items }
+    ensures first { result.items ≡ boxes_at chest.old.items 0 }
+    ensures others { chest.new.items ≡ drop 1 chest.old.items }
+    ensures short { length result.items < 2 ^ 32 }
+    ensures others_short { AllByRecursion (λ boxes. length boxes.items < 2 ^ 32) chest.new.items }
+{
+    if chest.is_empty() {
+        return Vec::new(alloc);
+    }
+    chest.remove(0)
+}
+
+// Makes the calls and saves of the sessions, one session after another, and answers their lines.
+fn play_sessions<L: Ledger, D: Shelf>(
+    alloc: Global,
+    core: &mut Core<D>,
+    script: Script,
+    mut chest: Vec<Vec<Box<dyn PointFilter + Send>>>,
     blank: Blank,
 ) -> Result<String, AllocError>
     requires name { blank.name ≡ L.name }
@@ -125,18 +211,27 @@ fn play_lines<L: Ledger, D: Shelf>(
     requires fresh { core.old.history.entries ≡ [] }
     requires inside { IsSome core.old.shelf }
     requires selected { IsSome (D.selected core.old.opening) }
-    requires built { AreBuilt lines.items }
+    requires boxes { AllByRecursion (λ boxes. length boxes.items < 2 ^ 32) chest.items }
+    requires fits { FitsFilters (map length (states_of (λ b. state b) chest.items)) (lists_of script) }
     ensures between { IsBetweenLines core.old.history.base core.old.opening core.new }
-    ensures calls { OnOk result (calls_made core.new.history.entries ≡ lines_of lines.items) }
+    ensures sessions { OnOk result (AreSessions 8 (lists_of script) (states_of (λ b. state b) chest.items) core.new.history.entries) }
     ensures played { IfOk result (λ text. ArePlayed core.new.history.base core.new.history.entries (string_bytes text)) }
 {
-    let mut desk = Desk::new(alloc)?;
     let mut steps = Steps::<L>::new(blank);
     let mut text = String::new(alloc);
-    let mut index = 0;
-    for line in lines {
-        play_line(alloc, core, index, line, &mut desk, &mut steps, &mut text)?;
-        index += 1;
+    let mut session: u8 = 0;
+    for lines in script.into_lists() {
+        let boxes = first_boxes(alloc, &mut chest);
+        play_lines(
+            alloc,
+            core,
+            session,
+            lines.into_items(),
+            boxes,
+            &mut steps,
+            &mut text,
+        )?;
+        session += 1;
     }
     Ok(text)
 }
@@ -168,7 +263,7 @@ fn ends_by_fault(entry: &Entry) -> bool
 {
     match entry.kind {
         EntryKind::End => matches!(entry.reply, Reply::SaveFault { .. }),
-        EntryKind::Asked(_) | EntryKind::Start => false,
+        EntryKind::Asked { .. } | EntryKind::Start => false,
     }
 }
 
@@ -184,21 +279,23 @@ fn has_save_fault(entries: &[Entry]) -> bool
     false
 }
 
-/// Makes the calls and saves of the first session one after another. Answers the text of the run: a line for each reply, and the
-/// order line.
+/// Makes the calls and saves of the sessions, one session after another. Answers the text of the run: a line for each reply, and
+/// the order line.
 pub fn play<D: Shelf>(
     alloc: Global,
     core: &mut Core<D>,
-    lines: Vec<Line>,
+    script: Script,
+    chest: Vec<Vec<Box<dyn PointFilter + Send>>>,
 ) -> Result<Replies, AllocError>
     requires fresh { core.old.history.entries ≡ [] }
     requires inside { IsSome core.old.shelf }
     requires selected { IsSome (D.selected core.old.opening) }
-    requires built { AreBuilt lines.items }
+    requires boxes { AllByRecursion (λ boxes. length boxes.items < 2 ^ 32) chest.items }
+    requires fits { FitsFilters (map length (states_of (λ b. state b) chest.items)) (lists_of script) }
     ensures between { IsBetweenLines core.old.history.base core.old.opening core.new }
-    ensures told { IfOk result (IsToldOf core.old.history.base lines.items core.new.history.entries) }
+    ensures told { IfOk result (IsToldOf core.old.history.base (lists_of script) (states_of (λ b. state b) chest.items) core.new.history.entries) }
 {
-    let mut text = play_lines::<Brand, D>(alloc, core, lines, Blank::new(1))?;
+    let mut text = play_sessions::<Brand, D>(alloc, core, script, chest, Blank::new(1))?;
     let words = order_words(alloc, core.entries())?;
     print_order(alloc, &mut text, words.as_slice())?;
     let save_failed = has_save_fault(core.entries());

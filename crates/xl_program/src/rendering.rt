@@ -1,7 +1,7 @@
-ghost use Rattle.std.specs.Prelude.{◌≡◌, ◌⊎◌, ℕ, List, Option, Some};
-ghost use Rattle.xl_program.specs.Command.{render as render_of};
-ghost use Rattle.xl_program.specs.Outcome.{ComesTo, ShelfCause, shelved};
-ghost use Rattle.xl_program.specs.Parts.{StopsRender};
+ghost use Rattle.std.specs.Prelude.{◌≡◌, ◌⊎◌, Some};
+ghost use Rattle.spec_command.specs.Arguments.{render as render_of};
+ghost use Rattle.xl_program.specs.Outcome.{Given, ComesTo, ShelfCause, shelved};
+ghost use Rattle.xl_program.specs.Parts.{StopsReport};
 
 use crate::loading::read_document;
 use crate::stopped::Stopped;
@@ -16,11 +16,11 @@ pub fn render<K: Sink, D: Shelf>(
     sink: &mut K,
     shelf: &mut D,
 ) -> Result<(), Stopped>
-    ensures comes { (left : Option (List ℕ)) → ComesTo K.held K.faults left
+    ensures comes { (given : Given) → ComesTo K.held K.faults given
         (shelved D.content D.selected D.disk D.reading_faults D.saving_faults shelf.old)
         (shelved D.content D.selected D.disk D.reading_faults D.saving_faults shelf.new)
         (render_of name.now) sink.old sink.new result }
-    ensures stops { StopsRender (D.content shelf.old name.now) result }
+    ensures stops { StopsReport (D.content shelf.old name.now) result }
     ensures cause { ShelfCause (D.reading_faults shelf.old) (D.reading_faults shelf.new) result }
     ensures selected { (D.selected shelf.new ≡ D.selected shelf.old) ⊎ (D.selected shelf.new ≡ Some name.now) }
 {

@@ -1,5 +1,5 @@
 ghost use Rattle.spec_history.specs.Calls.{most_entries};
-ghost use Rattle.std.specs.Prelude.{◌≡◌, ◌+◌, ◌≤◌, length, IfOk, IsSome};
+ghost use Rattle.std.specs.Prelude.{◌≡◌, ◌+◌, ◌<◌, ◌≤◌, length, IfOk, IsSome};
 ghost use Rattle.spec_history.specs.Kept.{IsLegal};
 ghost use Rattle.xl_core.specs.Editing.{known};
 ghost use Rattle.xl_edit.specs.Replies.{reply_of};
@@ -35,19 +35,24 @@ fn save_document<D: Shelf>(alloc: Global, document: &Document, shelf: &mut D) ->
     }
 }
 
-/// Makes a save of the first session, from its start to its end.
+/// Makes a save of a session, from its start to its end.
 ///
 /// Where memory ran out for the file the save has ended too.
-pub fn save_latest<D: Shelf>(alloc: Global, core: &mut Core<D>) -> Result<Reply, AllocError>
+pub fn save_latest<D: Shelf>(
+    alloc: Global,
+    core: &mut Core<D>,
+    session: u8,
+) -> Result<Reply, AllocError>
+    requires session { session < 8 }
     requires inside { IsSome core.old.shelf }
     requires legal { IsLegal core.old.history.base core.old.history.entries }
     requires selected { IsSome (D.selected core.old.opening) }
     requires few { length core.old.history.entries + 2 ≤ most_entries }
     ensures between { IsBetweenLines core.old.history.base core.old.opening core.new }
-    ensures saved { IfOk result (λ reply. core.new.history ≡ with_save core.old.history (reply_of reply)) }
+    ensures saved { IfOk result (λ reply. core.new.history ≡ with_save core.old.history session (reply_of reply)) }
     ensures text { IfOk result (λ reply. HasText reply) }
 {
-    let (document, mut shelf) = match core.begin_save(alloc, 0)? {
+    let (document, mut shelf) = match core.begin_save(alloc, session)? {
         Begun::Snapshot {
             version: _,
             document,
@@ -56,7 +61,7 @@ pub fn save_latest<D: Shelf>(alloc: Global, core: &mut Core<D>) -> Result<Reply,
         Begun::Out | Begun::Full => unreachable!(),
     };
     let how = save_document(alloc, &document, &mut shelf);
-    let reply = core.end_save(0, shelf, how);
+    let reply = core.end_save(session, shelf, how);
     match how {
         SaveEnd::Done | SaveEnd::Fault => Ok(reply),
         SaveEnd::Memory => Err(AllocError),

@@ -1,7 +1,7 @@
 use spec_fields::ReadRefused;
 
 /// Why a command did not end well.
-#[derive(Drop)]
+#[derive(Clone, Copy, Debug, PartialEq, Eq)]
 pub enum Stopped {
     SourceFault,
     /// The script is refused at a line, counted from 1.

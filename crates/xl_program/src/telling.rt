@@ -17,7 +17,8 @@ const SHELF_FAULT: u8 = 6;
 
 const SINK_FAULT: u8 = 7;
 
-const MEMORY: u8 = 8;
+/// The status where memory ran out.
+pub const MEMORY: u8 = 8;
 
 // Tells a line and answers its status, unless memory ran out for it.
 fn tell_text<K: Sink>(sink: &mut K, text: Result<String, AllocError>, status: u8) -> u8

@@ -115,5 +115,5 @@ pub fn script(alloc: Global, draws: &mut Draws) -> Result<Script, AllocError>
         let list = session_lines(alloc, draws, session)?;
         lists.push(list)?;
     }
-    Ok(Script::of(alloc, lists))
+    Ok(Script::of(lists))
 }

@@ -5,4 +5,4 @@ pub mod Looking
 pub mod Asking
 pub mod Steps
 pub mod Counted
-mod Built
+mod Fits

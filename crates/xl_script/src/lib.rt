@@ -23,7 +23,7 @@ mod words;
 pub use bad_line::{BadLine, BadLineOrMemory};
 pub use parsing::parse;
 pub use printing::{print_order, print_reply};
-pub use script::{Line, Lines, Script};
+pub use script::{Line, Lines, SESSIONS, Script};
 pub use spec_text::OrderWord;
 pub use xl_edit::{Call, Edit, Edits, Group, Reply};
 

@@ -1,9 +1,10 @@
 ghost use Rattle.std.specs.Prelude.{◌≡◌, ◌<◌, ◌≤◌, ◌^◌, length, count_by, ◌==◌, IfOk};
 ghost use Rattle.spec_script.specs.Script as grammar;
+ghost use Rattle.spec_script.specs.Fits.{FitsFilters};
 ghost use Rattle.spec_script.specs.Served.{is_served};
 ghost use Rattle.spec_script.specs.Words.{lines_of};
-ghost use Rattle.xl_script.specs.Built.{IsOfFirst};
 ghost use Rattle.xl_script.specs.Gives.{ScriptOf};
+ghost use Rattle.xl_script.specs.Lines.{lists_of};
 ghost use Rattle.xl_script.specs.Sessions.{TakenAs, ParsedAs};
 
 use crate::bad_line::{BadLine, BadLineOrMemory};
@@ -98,7 +99,7 @@ fn read(alloc: Global, text: &[u8], chests: &[u32]) -> Result<Script, BadLineOrM
 /// A text of more than 2^24 bytes is refused at the line of byte 2^24, whatever follows.
 pub fn parse(alloc: Global, text: &[u8], chests: &[u32]) -> Result<Script, BadLineOrMemory>
     ensures read { ScriptOf result (grammar.script text.now chests.now) }
-    ensures built { IfOk result IsOfFirst }
+    ensures fits { IfOk result (λ script. FitsFilters chests.now (lists_of script)) }
 {
     match read(alloc, text, chests) {
         Ok(script) => Ok(script),

@@ -1,8 +1,4 @@
 use super::*;
-use crate::commands::command_of;
-use crate::script::SESSIONS;
-use crate::sessions::Sessions;
-use std::alloc::{AllocError, Global};
 use std::test::Fail;
 use xl_edit::{EditRefused, NodeId};
 
@@ -44,9 +40,9 @@ fn bad_line_is_named(rt: HostRuntime) {
 }
 
 #[test]
-fn lines_of_one_session_are_served(rt: HostRuntime) -> Result<(), Fail> {
+fn lines_of_each_kind_are_served(rt: HostRuntime) -> Result<(), Fail> {
     let text =
-        b"0 begin 7\n0 opacity 1 9\n0 rename 1 -\n0 end\n0 undo 1\n0 redo\n0 top\n0 save\n0 newgroup 0 0 -";
+        b"0 begin 7\n0 opacity 1 9\n0 filter 1 0 0 1 1 3\n0 end\n0 undo 1\n0 redo\n0 top\n0 save\n0 forget 3\n0 newgroup 0 0 -";
     let script = parse(rt.alloc(), text, &CHESTS)?;
     assert!(rt;
         matches!(
@@ -57,6 +53,7 @@ fn lines_of_one_session_are_served(rt: HostRuntime) -> Result<(), Fail> {
                 Line::Call(Call::Redo),
                 Line::Call(Call::Top),
                 Line::Save,
+                Line::Forget(3),
                 Line::Call(Call::Edit(_)),
             ]
         )
@@ -66,74 +63,39 @@ fn lines_of_one_session_are_served(rt: HostRuntime) -> Result<(), Fail> {
 
 #[test]
 fn lines_that_are_not_served_are_bad(rt: HostRuntime) {
-    assert_eq!(rt; bad_line(rt, b"0 undo\n1 undo"), 2);
     assert_eq!(rt; bad_line(rt, b"0 undo\n0 peek 0 0 0"), 2);
-    assert_eq!(rt;
-        bad_line(rt, b"0 begin\n0 opacity 1 0\n0 filter 1 0 0 1 1 3\n0 end"),
-        3
-    );
-    assert_eq!(rt; bad_line(rt, b"0 save\n0 forget 3"), 2);
-    assert_eq!(rt; bad_line(rt, b"0 undo\n0 begin\n0 opacity 1 0"), 2);
-}
-
-// The script of the whole grammar: of lines that are served and of those that are not. None where a line is not taken,
-// or a group is not ended.
-fn taken(alloc: Global, lines: &[&[u8]]) -> Result<Option<Script>, AllocError> {
-    let mut sessions = Sessions::new(alloc, &CHESTS)?;
-    let mut number: u32 = 1;
-    for line in lines {
-        let Some(asked) = command_of(alloc, line)? else {
-            return Ok(None);
-        };
-        if asked.session >= SESSIONS || !sessions.take(alloc, number, asked)? {
-            return Ok(None);
-        }
-        number = number.saturating_add(1);
-    }
-    match sessions.never_ended() {
-        Some(_) => Ok(None),
-        None => Ok(Some(sessions.into_script(alloc)?)),
-    }
+    assert_eq!(rt; bad_line(rt, b"7 undo\n3 peek 2 1 4\n"), 2);
 }
 
 #[test]
 fn each_session_has_its_lines(rt: HostRuntime) -> Result<(), Fail> {
-    let lines = [
-        b"0 undo 1".as_slice(),
-        b"3 peek 2 1 4",
-        b"7 save",
-        b"0 redo",
-        b"7 forget 2",
-    ];
-    let Some(script) = taken(rt.alloc(), &lines)? else {
-        assert!(rt; false);
-        return Ok(());
-    };
+    let text = b"0 undo 1\n3 tile 2 1 4\n7 save\n0 redo\n7 forget 2\n";
+    let script = parse(rt.alloc(), text, &CHESTS)?;
     assert!(rt;
         matches!(
             script.lines(0),
             [Line::Call(Call::Undo(Some(1))), Line::Call(Call::Redo)]
         )
     );
-    assert!(rt; matches!(script.lines(3), [Line::Call(Call::Peek(NodeId(2), _))]));
+    assert!(rt; matches!(script.lines(3), [Line::Call(Call::Tile(NodeId(2), _))]));
     assert!(rt; matches!(script.lines(7), [Line::Save, Line::Forget(2)]));
     assert!(rt; script.lines(1).is_empty());
     Ok(())
 }
 
 #[test]
+fn eight_sessions_are_taken(rt: HostRuntime) {
+    assert_eq!(rt; bad_line(rt, b"7 undo"), 0);
+    assert_eq!(rt; bad_line(rt, b"7 undo\n8 undo"), 2);
+    assert_eq!(rt; bad_line(rt, b"9 undo"), 1);
+    assert_eq!(rt; bad_line(rt, b"07 undo"), 1);
+}
+
+#[test]
 fn group_is_one_call(rt: HostRuntime) -> Result<(), Fail> {
-    let lines = [
-        b"0 begin 7".as_slice(),
-        b"1 top",
-        b"0 offset 1 -3 4",
-        b"0 rename 1 0aFF",
-        b"0 end",
-    ];
-    let Some(script) = taken(rt.alloc(), &lines)? else {
-        assert!(rt; false);
-        return Ok(());
-    };
+    let text =
+        b"0 begin 7\n1 top\n0 offset 1 -3 4\n1 begin\n0 rename 1 0aFF\n1 delete 1\n0 end\n1 end\n";
+    let script = parse(rt.alloc(), text, &CHESTS)?;
     let [Line::Call(Call::Edit(group))] = script.lines(0) else {
         assert!(rt; false);
         return Ok(());
@@ -152,74 +114,84 @@ fn group_is_one_call(rt: HostRuntime) -> Result<(), Fail> {
             ]
         )
     );
-    Ok(())
-}
-
-// Whether these lines are taken.
-fn are_taken(rt: HostRuntime, lines: &[&[u8]]) -> Result<bool, AllocError> {
-    Ok(taken(rt.alloc(), lines)?.is_some())
-}
-
-#[test]
-fn each_keyword_is_taken(rt: HostRuntime) -> Result<(), Fail> {
-    let painting = [
-        b"0 fill 1 0 0 1 1 00".as_slice(),
-        b"0 write 1 0 0 1 1 00",
-        b"0 filter 1 0 0 1 1 3",
-        b"0 copy 1 0 0 1 1 2 0 0",
-        b"0 fillmask 1 0 0 1 1 9",
-        b"0 fillchannel 0 0 0 1 1 9",
-        b"0 select 0 0 1 1 255",
-        b"0 selectnone",
-        b"0 addchannel 41",
-        b"0 dropchannel 0",
-        b"0 colours 000102",
-    ];
-    assert!(rt; are_taken(rt, &painting)?);
-    let structure = [
-        b"0 opacity 1 9".as_slice(),
-        b"0 mode 1 22",
-        b"0 visible 1 1",
-        b"0 offset 1 0 -1",
-        b"0 rename 1 -",
-        b"0 applymask 1 0",
-        b"0 addmask 1",
-        b"0 dropmask 1",
-        b"0 newlayer 0 0 -1 1 8192 1 5 41",
-        b"0 newgroup 0 0 -",
-        b"0 delete 1",
-        b"0 restack 1 0 0",
-    ];
-    assert!(rt; are_taken(rt, &structure)?);
-    let calls = [
-        b"0 begin".as_slice(),
-        b"0 delete 1",
-        b"0 end",
-        b"0 undo",
-        b"0 redo",
-        b"0 top",
-        b"0 save",
-        b"0 tile 0 0 0",
-        b"0 peek 0 0 0",
-        b"0 forget 3",
-    ];
-    assert!(rt; are_taken(rt, &calls)?);
+    assert!(rt;
+        matches!(
+            script.lines(1),
+            [Line::Call(Call::Top), Line::Call(Call::Edit(_))]
+        )
+    );
     Ok(())
 }
 
 #[test]
-fn lines_outside_the_grammar_are_not_taken(rt: HostRuntime) -> Result<(), Fail> {
-    assert!(rt; !are_taken(rt, &[b"8 top"])?);
-    assert!(rt; !are_taken(rt, &[b"0"])?);
-    assert!(rt; !are_taken(rt, &[b"0 end"])?);
-    assert!(rt; !are_taken(rt, &[b"0 begin", b"0 end"])?);
-    assert!(rt; !are_taken(rt, &[b"0 begin", b"0 top"])?);
-    assert!(rt; !are_taken(rt, &[b"0 begin", b"0 delete 1"])?);
-    assert!(rt; !are_taken(rt, &[b"0 forget 3", b"0 filter 1 0 0 1 1 3"])?);
-    assert!(rt; !are_taken(rt, &[b"0 filter 1 0 0 1 1 4"])?);
-    assert!(rt; !are_taken(rt, &[b"0 offset 1 -0 0"])?);
-    assert!(rt; !are_taken(rt, &[b"0 newlayer 0 0 0 0 0 1 1 -"])?);
+fn group_has_1024_edits_at_most(rt: HostRuntime) -> Result<(), Fail> {
+    let mut text = String::new(rt.alloc());
+    text.push_str("2 begin\n")?;
+    for _ in 0..1024 {
+        text.push_str("2 delete 1\n")?;
+    }
+    let fits = text.len();
+    text.push_str("2 delete 1\n")?;
+    let whole = text.as_bytes();
+    // Without its end the group is refused at its begin.
+    assert_eq!(rt; bad_line(rt, &whole[..fits]), 1);
+    assert_eq!(rt; bad_line(rt, whole), 1026);
     Ok(())
+}
+
+#[test]
+fn filters_are_there_until_they_are_forgotten(rt: HostRuntime) {
+    assert_eq!(rt;
+        bad_line(
+            rt,
+            b"0 filter 1 0 0 1 1 3\n0 forget 3\n0 forget 0\n0 filter 1 0 0 1 1 2"
+        ),
+        0
+    );
+    assert_eq!(rt; bad_line(rt, b"0 filter 1 0 0 1 1 4"), 1);
+    assert_eq!(rt; bad_line(rt, b"0 forget 4"), 1);
+    assert_eq!(rt; bad_line(rt, b"0 forget 3\n0 forget 3"), 2);
+    assert_eq!(rt;
+        bad_line(
+            rt,
+            b"0 forget 3\n1 filter 1 0 0 1 1 3\n0 filter 1 0 0 1 1 3"
+        ),
+        3
+    );
+    assert_eq!(rt; bad_line(rt, b"0 begin\n0 delete 1\n0 forget 3\n0 end"), 3);
+}
+
+#[test]
+fn sessions_without_a_number_have_no_filter(rt: HostRuntime) {
+    let chests = [1];
+    let alloc = rt.alloc();
+    assert!(rt; parse(alloc, b"0 filter 1 0 0 1 1 0", &chests).is_ok());
+    assert!(rt; parse(alloc, b"0 filter 1 0 0 1 1 1", &chests).is_err());
+    assert!(rt; parse(alloc, b"1 filter 1 0 0 1 1 0", &chests).is_err());
+}
+
+#[test]
+fn each_keyword_is_taken(rt: HostRuntime) {
+    let painting =
+        b"0 fill 1 0 0 1 1 00\n0 write 1 0 0 1 1 00\n0 filter 1 0 0 1 1 3\n0 copy 1 0 0 1 1 2 0 0\n0 fillmask 1 0 0 1 1 9\n0 fillchannel 0 0 0 1 1 9\n0 select 0 0 1 1 255\n0 selectnone\n0 addchannel 41\n0 dropchannel 0\n0 colours 000102\n";
+    assert_eq!(rt; bad_line(rt, painting), 0);
+    let structure =
+        b"0 opacity 1 9\n0 mode 1 22\n0 visible 1 1\n0 offset 1 0 -1\n0 rename 1 -\n0 applymask 1 0\n0 addmask 1\n0 dropmask 1\n0 newlayer 0 0 -1 1 8192 1 5 41\n0 newgroup 0 0 -\n0 delete 1\n0 restack 1 0 0\n";
+    assert_eq!(rt; bad_line(rt, structure), 0);
+    let calls =
+        b"0 begin\n0 delete 1\n0 end\n0 undo\n0 redo\n0 top\n0 save\n0 tile 0 0 0\n0 forget 3\n";
+    assert_eq!(rt; bad_line(rt, calls), 0);
+}
+
+#[test]
+fn lines_outside_the_grammar_are_bad(rt: HostRuntime) {
+    assert_eq!(rt; bad_line(rt, b"0"), 1);
+    assert_eq!(rt; bad_line(rt, b"0 end"), 1);
+    assert_eq!(rt; bad_line(rt, b"0 begin\n0 end"), 2);
+    assert_eq!(rt; bad_line(rt, b"0 begin\n0 top"), 2);
+    assert_eq!(rt; bad_line(rt, b"0 top\n0 begin\n0 delete 1"), 2);
+    assert_eq!(rt; bad_line(rt, b"0 offset 1 -0 0"), 1);
+    assert_eq!(rt; bad_line(rt, b"0 newlayer 0 0 0 0 0 1 1 -"), 1);
 }
 
 #[test]

@@ -1,15 +1,15 @@
+use Rattle.xl_script.specs.Lines.{lists_of}
 use Rattle.xl_program.specs.Outcome.{Shelved, shelved}
-use Rattle.xl_program.proofs.Edited.{IsOpened, played_comes}
+use Rattle.xl_program.proofs.Edited.{IsOpened, played_comes, read_stopped, load_stops, play_stops}
 use Rattle.xl_program.proofs.editing.edit.Goals as goal
 
 pub returns-clause-comes : goal.returns-clause-comes
 returns-clause-comes g c =
-    let left = g.S.Source.left c.args.source.now in
     let before : Shelved = shelved g.D.Shelf.content g.D.Shelf.selected g.D.Shelf.disk g.D.Shelf.reading_faults g.D.Shelf.saving_faults c.args.shelf in
     let mid : Shelved = shelved g.D.Shelf.content g.D.Shelf.selected g.D.Shelf.disk g.D.Shelf.reading_faults g.D.Shelf.saving_faults c.read_document.new.shelf in
     let after : Shelved = shelved g.D.Shelf.content g.D.Shelf.selected g.D.Shelf.disk g.D.Shelf.reading_faults g.D.Shelf.saving_faults c.run_script-played.result.shelf in
     let loaded = c.in-Ok-read_document.ensures in
-    let then : IsOpened left before mid c.args.name.now c.in-Ok-read_document.document c.in-Ok.lines.items = record {
+    let then : IsOpened _ before mid c.args.name.now c.in-Ok-read_document.document (lists_of c.in-Ok.script) = record {
       holds = loaded.loads;
       read = c.in-Ok.ensures.reads;
       untouched = loaded.untouched;
@@ -18,3 +18,17 @@ returns-clause-comes g c =
     } in
     played_comes then after g.K.Sink.held g.K.Sink.faults c.args.sink.now c.write_replies.new.sink c.run_script-played.result.replies c.write_replies.result
     c.run_script-played.ensures c.write_replies.ensures
+
+pub returns-in-Err-clause-comes : goal.returns-in-Err-clause-comes
+returns-in-Err-clause-comes g c =
+    let before : Shelved = shelved g.D.Shelf.content g.D.Shelf.selected g.D.Shelf.disk g.D.Shelf.reading_faults g.D.Shelf.saving_faults c.args.shelf in
+    read_stopped g.K.Sink.held g.K.Sink.faults _ before c.args.name.now c.args.sink.now c.in-Err.stopped c.in-Err.ensures.reads
+
+pub returns-in-Err-read_document-clause-stops : goal.returns-in-Err-read_document-clause-stops
+returns-in-Err-read_document-clause-stops g c =
+    load_stops _ (g.D.Shelf.content c.args.shelf c.args.name.now) (lists_of c.in-Ok.script) c.in-Err-read_document.stopped c.in-Ok.ensures.reads c.in-Err-read_document.ensures.loads
+
+pub returns-clause-stops : goal.returns-clause-stops
+returns-clause-stops g c =
+    play_stops g.K.Sink.held g.K.Sink.faults c.args.sink.now c.write_replies.new.sink _ (g.D.Shelf.content c.args.shelf c.args.name.now) (lists_of c.in-Ok.script)
+    c.run_script-played.result.replies c.write_replies.result c.in-Ok.ensures.reads c.write_replies.ensures

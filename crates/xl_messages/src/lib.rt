@@ -1,0 +1,10 @@
+//! Sentences for people: why a command stopped, in the words of the field. Programs read the status and the lines of the
+//! standard output, which these sentences never change.
+#![tactic(auto)]
+
+mod faults;
+mod stops;
+#[cfg(test)]
+mod tests;
+
+pub use stops::message;

@@ -1,0 +1,54 @@
+use crate::faults::fault_text;
+use spec_fields::ReadRefused;
+use std::alloc::{AllocError, Global};
+use xl_command::{Command, command_of};
+use xl_program::Stopped;
+
+const USAGE: &str =
+    "these words are no command; the commands are\n  xcfedit render FILE              writes the picture of FILE as a PAM\n  xcfedit info FILE                writes the layers of FILE as a line of JSON\n  xcfedit edit FILE [--workers N]  runs a script from standard input on FILE, N from 0 to 8";
+
+/// The status where memory ran out.
+const MEMORY: u8 = 8;
+
+/// A sentence on how the words came to this status, other than 0: which file, what is wrong and where. `cause` is that of
+/// [`xl_program::Ended`]. It has no newline at its end.
+pub fn message<'a>(
+    alloc: Global,
+    words: &'a [&'a str],
+    status: u8,
+    cause: Option<Stopped>,
+) -> Result<String, AllocError> {
+    if status == MEMORY {
+        return String::from_str(alloc, "out of memory");
+    }
+    let (Some(command), Some(stopped)) = (command_of(alloc, words)?, cause) else {
+        return String::from_str(alloc, USAGE);
+    };
+    stop_text(alloc, file_of(command), stopped)
+}
+
+// The name of a command's file.
+fn file_of(command: Command<'_>) -> &str {
+    match command {
+        Command::Edit(name, _) | Command::Make(name, _) => name,
+        Command::Render(name) | Command::Info(name) => name,
+    }
+}
+
+fn stop_text(alloc: Global, name: &str, stopped: Stopped) -> Result<String, AllocError> {
+    match stopped {
+        Stopped::SourceFault => String::from_str(alloc, "the script cannot be read"),
+        Stopped::BadLine(number) => format!(in alloc; "script line {number} is not in the grammar"),
+        Stopped::ShelfFault => format!(in alloc; "{name}: the file cannot be read"),
+        Stopped::Refused(refused) => refusal_text(alloc, name, refused),
+        Stopped::SaveFault => format!(in alloc; "{name}: a save failed"),
+        Stopped::SinkFault => String::from_str(alloc, "the output cannot be written"),
+        Stopped::Memory => String::from_str(alloc, "out of memory"),
+    }
+}
+
+fn refusal_text(alloc: Global, name: &str, refused: ReadRefused) -> Result<String, AllocError> {
+    let fault = fault_text(alloc, refused)?;
+    let at = refused.at;
+    format!(in alloc; "{name}: {fault}, at byte {at}")
+}

@@ -1,0 +1,30 @@
+-- A source that was not read.
+use Rattle.std.proofs.Common.{◌≡◌, ℕ, List, [], Option, Some, None, inl, refl}
+use Rattle.spec_command.specs.Arguments.{Asked, edit, render, info, make}
+use Rattle.xl_ports.specs.Source.{led_by}
+use Rattle.xl_ports.proofs.Moments.{still}
+use Rattle.xl_program.specs.Command.{if_served}
+use Rattle.xl_program.specs.Outcome.{Takes, Shelved, IsUntouched, MaySave}
+
+led_by_nothing : (left : Option (List ℕ)) → left ≡ led_by [] left
+led_by_nothing None = refl
+led_by_nothing (Some more) = refl
+
+-- whatever was asked for
+pub nothing_taken : {S : Type 0} (left : S → Option (List ℕ)) (faults : S → ℕ) (s : S) (asked : Option Asked) → Takes left faults s s asked
+nothing_taken left faults s None = (refl, refl)
+nothing_taken left faults s (Some (edit name workers)) = ([], led_by_nothing (left s))
+nothing_taken left faults s (Some (render name)) = (refl, refl)
+nothing_taken left faults s (Some (info name)) = (refl, refl)
+nothing_taken left faults s (Some (make name seed)) = (refl, refl)
+
+pub untouched : (s : Shelved) → IsUntouched s s
+untouched s = record { contents = refl; quiet = still s.known.disk; saving = refl }
+
+-- nothing was saved
+pub nothing_saved : (s : Shelved) (given : Option Asked) → MaySave s s (if_served given)
+nothing_saved s None = untouched s
+nothing_saved s (Some (render name)) = untouched s
+nothing_saved s (Some (info name)) = untouched s
+nothing_saved s (Some (make name seed)) = untouched s
+nothing_saved s (Some (edit name workers)) = inl (untouched s)
