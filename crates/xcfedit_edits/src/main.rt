@@ -10,6 +10,13 @@ fn main(rt: HostRuntime) -> ExitCode {
     let mut source = StdSource::new(&rt);
     let mut sink = StdSink::new(&rt);
     let shelf = FileShelf::new(&rt);
-    let ended = run(alloc, &["edit", "one.xcf"], &mut source, &mut sink, shelf);
+    let ended = run(
+        alloc,
+        &["edit", "one.xcf"],
+        &mut source,
+        &mut sink,
+        shelf,
+        Vec::new(alloc),
+    );
     ExitCode::from(ended.status)
 }

@@ -1,34 +1,36 @@
-ghost use Rattle.std.specs.Prelude.{◌≤◌, ◌^◌, length};
-
-use crate::tests::ONE;
+use crate::tests::{ONE, plain_sink, status_of};
 use std::alloc::{AllocError, Global};
-use std::sync::Arc;
 use std::test::Fail;
-use xl_fields::ReadRefusedOrMemory;
-use xl_read::decode;
-use xl_report::info;
+use xl_fakes::MemorySink;
 
-// The line of a file, and no text where the file is refused.
-fn line(alloc: Global, bytes: Vec<u8>) -> Result<String, AllocError>
-    requires { length bytes.items ≤ 2 ^ 31 }
-{
-    let Ok(file) = Arc::new(alloc, bytes) else {
-        return Err(AllocError);
-    };
-    match decode(alloc, &file) {
-        Ok(document) => info(alloc, &document),
-        Err(ReadRefusedOrMemory::Refused(_)) => Ok(String::new(alloc)),
-        Err(ReadRefusedOrMemory::Memory) => Err(AllocError),
-    }
+// The status of telling of f.
+fn describe(alloc: Global, file: &[u8], sink: &mut MemorySink) -> Result<u8, AllocError> {
+    status_of(alloc, &["info", "f"], file, Vec::new(alloc), sink)
 }
 
 #[test]
 fn one_layer_of_one_pixel(rt: HostRuntime) -> Result<(), Fail> {
+    let mut sink = plain_sink(rt.alloc());
+    let line =
+        b"{\"base\":0,\"channels\":[],\"height\":1,\"layers\":[{\"height\":1,\"id\":1,\"mask\":false,\"mode\":0,\"name\":\"41\",\"offset\":[0,0],\"opacity\":255,\"type\":1,\"visible\":true,\"width\":1}],\"selection\":false,\"version\":0,\"width\":1}\n";
+    assert_eq!(rt; describe(rt.alloc(), &ONE, &mut sink)?, 0);
+    assert_eq!(rt; sink.held(), line.as_slice());
+    Ok(())
+}
+
+#[test]
+fn a_refused_file_has_no_line(rt: HostRuntime) -> Result<(), Fail> {
+    let mut sink = plain_sink(rt.alloc());
+    assert_eq!(rt; describe(rt.alloc(), &ONE[..192], &mut sink)?, 4);
+    assert_eq!(rt; sink.held(), b"file refused 3 at 189\n".as_slice());
+    Ok(())
+}
+
+#[test]
+fn a_failed_write_leaves_the_front_of_the_line(rt: HostRuntime) -> Result<(), Fail> {
     let alloc = rt.alloc();
-    let text = line(alloc, Vec::from_array(alloc, ONE)?)?;
-    assert_eq!(rt;
-        text.as_str(),
-        "{\"base\":0,\"channels\":[],\"height\":1,\"layers\":[{\"height\":1,\"id\":1,\"mask\":false,\"mode\":0,\"name\":\"41\",\"offset\":[0,0],\"opacity\":255,\"type\":1,\"visible\":true,\"width\":1}],\"selection\":false,\"version\":0,\"width\":1}\n"
-    );
+    let mut sink = MemorySink::new(alloc, 8, vec![in alloc; 1]?);
+    assert_eq!(rt; describe(alloc, &ONE, &mut sink)?, 7);
+    assert_eq!(rt; sink.held(), b"{\"base\":".as_slice());
     Ok(())
 }

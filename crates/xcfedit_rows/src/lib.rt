@@ -1,11 +1,9 @@
-//! Commands run over devices in memory: what they write, what they save, and how they end; and a file as a line of JSON.
+//! Commands run over devices in memory: what they write, and how they end; and a file as a line of JSON.
+//!
+//! Scripts are run by `edited_files`, and devices that fail by `failing_devices`.
 #![tactic(auto)]
 
 #[cfg(test)]
 mod describing;
-#[cfg(test)]
-mod edits;
-#[cfg(test)]
-mod saves;
 #[cfg(test)]
 mod tests;

@@ -1,0 +1,319 @@
+//! Runs over devices in memory of which one call fails, or all from one on: what was written, the status, and what a crash may
+//! leave of the file.
+//!
+//! `data/one.xcf` is the worked file of one pixel, and `stdout` what each run must give.
+#![tactic(auto)]
+
+use std::alloc::{AllocError, Global};
+use std::process::ExitCode;
+use std::{fs, io};
+use xl_fakes::{MemoryShelf, MemorySink, MemorySource};
+use xl_program::{Ended, run};
+
+/// The last byte of the length word behind the image's properties, which is ignored where a file is read.
+const END_LENGTH: usize = 42;
+
+/// The name of the file on the shelf.
+const NAME: &str = "f";
+
+/// The calls of the shelf: the selection, two loads, and five of each save.
+const FIRST_SAVE: u32 = 3;
+
+const SECOND_SAVE: u32 = 8;
+
+const ALL_CALLS: u32 = 13;
+
+/// The sync of the first save.
+const SYNC: u32 = 5;
+
+const ONE_SAVE: &str = "0 save";
+
+const TWO_SAVES: &str = "0 save\n0 fill 1 0 0 1 1 00000000\n0 save";
+
+/// The calls that fail, by their numbers from 0. Of the shelf all fail from `stop` on.
+#[derive(Clone, Copy)]
+struct Failing {
+    read: Option<u32>,
+    write: Option<u32>,
+    call: Option<u32>,
+    stop: Option<u32>,
+}
+
+/// None fails.
+const NONE: Failing = Failing {
+    read: None,
+    write: None,
+    call: None,
+    stop: None,
+};
+
+/// The contents that are told by a letter: `o`, `0` and `1`.
+#[derive(Drop)]
+struct Contents {
+    /// The worked file, which is not as it is written.
+    old: Vec<u8>,
+    written: Vec<u8>,
+    filled: Vec<u8>,
+}
+
+fn contents_of(alloc: Global, file: &[u8]) -> Result<Contents, AllocError> {
+    let written = file.to_vec(alloc)?;
+    let mut old = file.to_vec(alloc)?;
+    if let Some(byte) = old.get_mut(END_LENGTH) {
+        *byte = 7;
+    }
+    let mut filled = file.to_vec(alloc)?;
+    filled.truncate(file.len().saturating_sub(4));
+    filled.extend_from_slice(&[0; 4])?;
+    Ok(Contents {
+        old,
+        written,
+        filled,
+    })
+}
+
+fn list_of(alloc: Global, number: Option<u32>) -> Result<Vec<u32>, AllocError> {
+    let mut list = Vec::new(alloc);
+    if let Some(number) = number {
+        list.push(number)?;
+    }
+    Ok(list)
+}
+
+// Runs words with a script over the old file. The script comes in pieces of seven bytes.
+fn run_words(
+    alloc: Global,
+    asked: Asked<'_>,
+    old: &[u8],
+    failing: Failing,
+    sink: &mut MemorySink,
+) -> Result<Ended<MemoryShelf>, AllocError> {
+    let mut files = Vec::new(alloc);
+    files.push((String::from_str(alloc, NAME)?, old.to_vec(alloc)?))?;
+    let shelf = MemoryShelf::new(alloc, files, list_of(alloc, failing.call)?, failing.stop)?;
+    let script = asked.script.as_bytes().to_vec(alloc)?;
+    let mut source = MemorySource::new(script, 7, list_of(alloc, failing.read)?);
+    Ok(run(
+        alloc,
+        &asked.words,
+        &mut source,
+        sink,
+        shelf,
+        Vec::new(alloc),
+    ))
+}
+
+fn letter(content: &Option<Vec<u8>>, known: &Contents) -> char {
+    match content {
+        Some(bytes) if bytes.as_slice() == known.old.as_slice() => 'o',
+        Some(bytes) if bytes.as_slice() == known.written.as_slice() => '0',
+        Some(bytes) if bytes.as_slice() == known.filled.as_slice() => '1',
+        _ => '?',
+    }
+}
+
+// What a crash may leave, and first what a read gives.
+fn left(alloc: Global, shelf: &MemoryShelf, known: &Contents) -> Result<String, AllocError> {
+    let mut letters = String::new(alloc);
+    for content in shelf.leaves(NAME) {
+        letters.push(letter(content, known))?;
+    }
+    Ok(letters)
+}
+
+// Which calls fail, in words.
+fn told(alloc: Global, failing: Failing) -> Result<String, AllocError> {
+    let mut text = String::new(alloc);
+    let kinds = [
+        ("read", failing.read),
+        ("write", failing.write),
+        ("call", failing.call),
+        ("all from call", failing.stop),
+    ];
+    for (kind, number) in kinds {
+        if let Some(number) = number {
+            let part = format!(in alloc; ", {kind} {number}")?;
+            text.push_str(part.as_str())?;
+        }
+    }
+    Ok(text)
+}
+
+/// A command, its script, and how many bytes are written at a time.
+#[derive(Clone, Copy)]
+struct Asked<'a> {
+    words: [&'a str; 2],
+    script: &'a str,
+    step: usize,
+}
+
+// The edit of the file by a script.
+fn edit(script: &str) -> Asked<'_> {
+    Asked {
+        words: ["edit", NAME],
+        script,
+        step: 1 << 20,
+    }
+}
+
+const RENDER: Asked<'static> = Asked {
+    words: ["render", NAME],
+    script: "",
+    step: 1 << 20,
+};
+
+/// What is shown of runs, one after another.
+#[derive(Drop)]
+struct Shown<'a> {
+    rt: &'a HostRuntime,
+    known: &'a Contents,
+}
+
+impl<'a> Shown<'a> {
+    // Shows what a run came to: the status, what a crash may leave, and what was written.
+    fn show(&self, asked: Asked<'_>, failing: Failing) -> io::Result<()> {
+        let alloc = self.rt.alloc();
+        let mut sink = MemorySink::new(alloc, asked.step.max(1), list_of(alloc, failing.write)?);
+        let ended = run_words(alloc, asked, &self.known.old, failing, &mut sink)?;
+        let letters = left(alloc, &ended.shelf, self.known)?;
+        let fails = told(alloc, failing)?;
+        let [verb, name] = asked.words;
+        let status = ended.status;
+        let line = format!(in alloc; "== {verb} {name}{fails}: status {status} left {letters}")?;
+        self.rt.println(line.as_str())?;
+        let text = String::from_utf8_lossy(alloc, sink.held())?;
+        self.rt.println(text.as_str())
+    }
+
+    // Saves of which a call fails, and all calls from one on.
+    fn show_saves(&self) -> io::Result<()> {
+        self.show(edit(ONE_SAVE), NONE)?;
+        for call in 0..SECOND_SAVE {
+            self.show(
+                edit(ONE_SAVE),
+                Failing {
+                    call: Some(call),
+                    ..NONE
+                },
+            )?;
+        }
+        self.show(
+            edit("0 save\n0 save"),
+            Failing {
+                call: Some(SYNC),
+                ..NONE
+            },
+        )?;
+        for call in 0..ALL_CALLS + 1 {
+            self.show(
+                edit(TWO_SAVES),
+                Failing {
+                    stop: Some(call),
+                    ..NONE
+                },
+            )?;
+        }
+        Ok(())
+    }
+
+    // Reads of the script that fail.
+    fn show_reads(&self) -> io::Result<()> {
+        for read in 0..4 {
+            let failing = Failing {
+                read: Some(read),
+                ..NONE
+            };
+            self.show(edit("0 undo\n0 undo\n0 undo\n"), failing)?;
+        }
+        Ok(())
+    }
+
+    // Writes that fail, of the output and of the line that tells why a command stopped.
+    fn show_writes(&self) -> io::Result<()> {
+        for write in 0..3 {
+            let failing = Failing {
+                write: Some(write),
+                ..NONE
+            };
+            self.show(
+                Asked {
+                    step: 10,
+                    ..edit("0 undo\n0 undo")
+                },
+                failing,
+            )?;
+            self.show(Asked { step: 10, ..RENDER }, failing)?;
+            self.show(
+                Asked {
+                    step: 5,
+                    ..edit("0 blur")
+                },
+                failing,
+            )?;
+            self.show(
+                Asked {
+                    words: ["render", "-"],
+                    step: 3,
+                    ..RENDER
+                },
+                failing,
+            )?;
+        }
+        let failing = Failing {
+            call: Some(SYNC),
+            write: Some(1),
+            ..NONE
+        };
+        self.show(
+            Asked {
+                step: 7,
+                ..edit(ONE_SAVE)
+            },
+            failing,
+        )
+    }
+
+    // Files that cannot be read.
+    fn show_loads(&self) -> io::Result<()> {
+        self.show(
+            Asked {
+                words: ["edit", "g"],
+                ..edit("0 undo")
+            },
+            NONE,
+        )?;
+        self.show(
+            Asked {
+                words: ["render", "g"],
+                ..RENDER
+            },
+            NONE,
+        )?;
+        for call in 0..FIRST_SAVE {
+            self.show(
+                RENDER,
+                Failing {
+                    call: Some(call),
+                    ..NONE
+                },
+            )?;
+        }
+        Ok(())
+    }
+}
+
+fn show_all(rt: &HostRuntime) -> io::Result<()> {
+    let known = contents_of(rt.alloc(), &fs::read(rt, "one.xcf")?)?;
+    let shown = Shown { rt, known: &known };
+    shown.show_saves()?;
+    shown.show_reads()?;
+    shown.show_writes()?;
+    shown.show_loads()
+}
+
+fn main(rt: HostRuntime) -> ExitCode {
+    match show_all(&rt) {
+        Ok(()) => ExitCode::SUCCESS,
+        Err(_) => ExitCode::FAILURE,
+    }
+}
