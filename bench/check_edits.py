@@ -1,11 +1,12 @@
 #!/usr/bin/env python3
 """Compares `xcfedit edit` with the plain model of xcf_edits.py on random scripts.
 
-    check_edits.py BIN CORPUS [--scripts N] [--lines N] [--seed S] [--restack]
+    check_edits.py BIN CORPUS [--scripts N] [--lines N] [--seed S] [--sessions]
     check_edits.py --write FOLDER CORPUS [..]
 
 BIN is the program. CORPUS is a folder with XCF files; those of at most 60,000 bytes are edited. For each script the
 text, the status and the file that a save leaves are compared; a script that disagrees is kept, and its path is told.
+With --sessions the scripts have lines of all eight sessions, and filters; without, those of session 0 alone.
 With --write the scripts are not run: FOLDER takes the files, and its folder `cases` the scripts with their texts, and
 the command is printed that runs them in crates/xcfedit without a proof. Saved files are not compared then.
 The exit status is 1 where something disagrees.
@@ -20,18 +21,20 @@ import tempfile
 
 from xcf_drafts import EditRefused, all_nodes, found
 from xcf_edits import History, group_children, run
+from xcf_filters import SHIPPED, Chest
 from xcf_reading import MODES, Refused, read
-from xcf_script import EDITS, parse
+from xcf_script import EDITS, SESSIONS, parse
 
 SMALL = 60_000
 
 
 class Author:
-    """Writes lines that mostly fit the document at hand."""
+    """Writes the lines of one session that mostly fit the document at hand, without the session's digit."""
 
-    def __init__(self, draw, doc, restack):
-        self.draw, self.history = draw, History(doc)
-        self.keywords = [keyword for keyword in EDITS if restack or keyword != "restack"]
+    def __init__(self, draw, history, with_filters):
+        self.draw, self.history = draw, history
+        self.keywords = [keyword for keyword in EDITS if with_filters or keyword != "filter"]
+        self.chest, self.slots = Chest(), list(range(len(SHIPPED))) if with_filters else []
 
     @property
     def doc(self):
@@ -93,6 +96,10 @@ class Author:
         number = self.layer()
         x, y, w, h = self.layer_rect(number, 6)
         return number, x, y, w, h, self.bytes(min(w * h * self.bpp(number), 200))
+
+    def filter(self):
+        number = self.layer()
+        return (number, *self.layer_rect(number), self.draw.choice(self.slots))
 
     def copy(self):
         number, other = self.layer(), self.layer()
@@ -165,26 +172,31 @@ class Author:
         return (self.bytes(3 * self.draw.randint(1, 256)),)
 
     def edit(self):
-        keyword = self.draw.choice(self.keywords)
-        return " ".join(["0", keyword] + [str(word) for word in getattr(self, keyword)()])
+        keyword = self.draw.choice([each for each in self.keywords if each != "filter" or self.slots])
+        return " ".join([keyword] + [str(word) for word in getattr(self, keyword)()])
 
     def group(self):
         guard = "" if self.often(0.6) else " %d" % (self.history.version - (0 if self.often(0.6) else 1))
         guard = guard if "-" not in guard else " 7"
-        return ["0 begin" + guard] + [self.edit() for _ in range(self.draw.randint(1, 6))] + ["0 end"]
+        return ["begin" + guard] + [self.edit() for _ in range(self.draw.randint(1, 6))] + ["end"]
 
     def undo(self):
         if self.often(0.7) or not self.history.done:
-            return "0 undo"
-        return "0 undo %d" % (self.history.done[-1][0] + (0 if self.often(0.6) else 1))
+            return "undo"
+        return "undo %d" % (self.history.done[-1][0] + (0 if self.often(0.6) else 1))
 
     def tile(self):
         columns, rows = -(-self.doc.width // 64), -(-self.doc.height // 64)
         stack = self.parent()
-        return "0 tile %d %d %d" % (stack, self.draw.randrange(columns + (not self.often())), self.draw.randrange(rows))
+        return "tile %d %d %d" % (stack, self.draw.randrange(columns + (not self.often())), self.draw.randrange(rows))
+
+    def forget(self):
+        slot = self.draw.choice(self.slots)
+        self.slots.remove(slot)
+        return "forget %d" % slot
 
     def call(self):
-        """The lines of the next call."""
+        """The lines of the next call, or of a filter that is dropped."""
         what = self.draw.random()
         if what < 0.45:
             return [self.edit()]
@@ -193,18 +205,44 @@ class Author:
         if what < 0.7:
             return [self.undo()]
         if what < 0.8:
-            return ["0 redo"]
-        return [self.tile() if what < 0.97 else self.draw.choice(("0 top", "0 save"))]
+            return ["redo"]
+        if what < 0.82 and self.slots:
+            return [self.forget()]
+        return [self.tile() if what < 0.97 else self.draw.choice(("top", "save"))]
 
-    def script(self, count):
-        lines = []
+    def play(self, items):
+        for what, words in items:
+            if what == "forget":
+                self.chest.forget(*words)
+            elif what == "edit":
+                self.history.edit(*words, self.chest)
+            elif what in ("undo", "redo"):
+                getattr(self.history, what)(*words)
+
+    def lines(self, count, session):
+        """The lines of so many calls, which are played on the history."""
+        found = []
         for _ in range(count):
-            call = self.call()
-            lines += call
-            for what, words in parse("\n".join(call).encode()):
-                if what in ("edit", "undo", "redo"):
-                    getattr(self.history, what)(*words)
-        return ("\n".join(lines) + "\n").encode()
+            call = ["%d %s" % (session, line) for line in self.call()]
+            self.play(parse("\n".join(call).encode())[session])
+            found += call
+        return found
+
+
+def merged(draw, lists):
+    """The lines of some sessions in any order that keeps each session's own."""
+    turns = [place for place, lines in enumerate(lists) for _ in lines]
+    draw.shuffle(turns)
+    rest = [iter(lines) for lines in lists]
+    return [next(rest[place]) for place in turns]
+
+
+def random_script(draw, doc, count, sessions):
+    """A script of about so many calls. Sessions are played one after another, and so written in this order."""
+    history = History(doc)
+    numbers = sorted(draw.sample(range(SESSIONS), draw.randint(1, SESSIONS))) if sessions else [0]
+    lists = [Author(draw, history, sessions).lines(-(-count // len(numbers)), number) for number in numbers]
+    return ("\n".join(merged(draw, lists)) + "\n").encode()
 
 
 def sources_of(corpus):
@@ -275,7 +313,7 @@ def random_cases(given):
     draw, sources = random.Random(given.seed), sources_of(given.corpus)
     for _ in range(given.scripts):
         data = draw.choice(sources)
-        yield data, Author(draw, read(data), given.restack).script(given.lines)
+        yield data, random_script(draw, read(data), given.lines, given.sessions)
 
 
 def arguments():
@@ -286,7 +324,7 @@ def arguments():
     parser.add_argument("--scripts", type=int, default=100, metavar="N")
     parser.add_argument("--lines", type=int, default=40, metavar="N")
     parser.add_argument("--seed", type=int, default=1, metavar="S")
-    parser.add_argument("--restack", action="store_true")
+    parser.add_argument("--sessions", action="store_true")
     given = parser.parse_args()
     if (given.program is None) == (given.write is None):
         parser.error("either BIN or --write FOLDER")

@@ -1,15 +1,14 @@
 #!/usr/bin/env python3
-"""Writes rows for tests in Rattle: small files, and scripts with what `edit` must give of them.
+"""Writes the rows of the crate `edited_files`: small files, scripts on them, and what `edit` must give of each.
 
-    make_edit_rows.py FOLDER [--restack]
+    make_edit_rows.py FOLDER
 
-FOLDER takes some Rattle modules. The texts and the digests of the saved files are those of xcf_edits.py, which knows
-nothing of the engine. With --restack the rows of that edit are written too.
+FOLDER, the crate's, takes `data` and `stdout`. The texts and the digests of the files afterwards are those of xcf_edits.py,
+which knows nothing of the engine.
 """
 
 import argparse
 import hashlib
-import json
 import os
 
 from xcf_edits import run
@@ -74,7 +73,15 @@ def one():
     return file_of(0, 1, 1, 0, [], [Drawable(b"A", rows, [], kind=1)])
 
 
-FILES = {"ONE": one(), "FOREST": forest(), "GREY": grey(), "INDEXED": indexed(), "VAST": vast()}
+def clear_group():
+    """A group of opacity 0, in which a layer of one pixel is."""
+    rows = Pixels(1, 1, [lambda y, byte=byte: bytes([byte]) for byte in (200, 100, 50, 255)])
+    group = Drawable(b"G", Pixels(1, 1, [lambda y: b"\0"] * 4), [(29, b""), word_property(30, 0), word_property(6, 0)], kind=1)
+    return file_of(3, 1, 1, 0, [], [group, Drawable(b"L", rows, [word_property(30, 0, 0)], kind=1)])
+
+
+FILES = {"one": one(), "forest": forest(), "grey": grey(), "indexed": indexed(), "vast": vast(), "grouped": clear_group(),
+         "cut": one()[:-1]}
 WITH_GROUPS = ("tile 0 0 0", "tile 1 0 0")
 FLAT = ("tile 0 0 0",)
 
@@ -162,8 +169,11 @@ def chain(edits, tiles):
 
 
 def over_one():
-    """Scripts that stand in the documents."""
+    """Scripts that stand in the documents, and short ones."""
     return [
+        ["opacity 1 0", "tile 0 0 0", "undo", "undo"], ["fill 1 0 0 1 1 01020304", "tile 0 0 0"],
+        ["opacity 99 1", "fill 1 0 0 2 1 00000000", "fill 1 0 0 1 1 00"], ["tile 7 0 0", "tile 0 1 0"],
+        ["save"], ["save", "fill 1 0 0 1 1 00000000", "save"], [], ["# 0 undo", "", "# none"], ["# a", "undo", "blur 1"],
         ["visible 1 0", "tile 0 0 0", "undo", "undo", "top"],
         ["opacity 1 10", "opacity 1 20", "undo 1", "undo", "redo", "opacity 1 30", "redo"],
         ["begin", "opacity 1 9", "visible 1 0", "opacity 99 1", "end", "begin 7", "opacity 1 9", "end", "top"],
@@ -205,58 +215,117 @@ def over_indexed():
     return found + REFUSED["INDEXED"]
 
 
-def modules(restack):
-    """For each module its tables: a name, the file, and scripts as lists of lines without the session."""
+# Lines that are in no script, and some that are in one.
+LINES = (
+    ["blur 1"], ["end"], ["begin", "end"], ["begin", "undo", "end"], ["undo", "begin", "opacity 2 9"], ["opacity 2 256"],
+    ["opacity 2 01"], ["fill 2 0 0 1 1 0"], ["tile 0 0"], ["# nothing", "", "undo "], ["rename 1 6E65"], [""], ["undo", ""],
+)
+
+
+def grouped():
+    """A clear group shows nothing but in its own tile."""
+    return [["tile 0 0 0", "tile 1 0 0", "opacity 1 255", "tile 0 0 0", "tile 1 0 0", "save"]]
+
+
+def of_session(lines, session=0):
+    """A script. Its last line has no end."""
+    return "\n".join("%d %s" % (session, line) if line[:1] not in ("", "#") else line for line in lines)
+
+
+# Scripts of several sessions, and of filters.
+
+FILTERED = (
+    back_and_forth("filter 2 0 0 3 2 0", WITH_GROUPS), back_and_forth("filter 3 0 0 2 2 1", WITH_GROUPS),
+    back_and_forth("filter 4 1 0 3 3 2", WITH_GROUPS),
+    # the fade grows with each use
+    [*["filter 4 0 0 4 3 3", "tile 0 0 0"] * 4, "undo", "redo", "filter 2 0 0 1 1 3", "save"],
+    back_and_forth("filter 2 0 0 3 2 0", WITH_GROUPS, ["select 0 1 2 2 128", "select 1 1 1 1 255"]),
+    # a refused group uses no filter, and neither does one whose guard fails
+    ["begin", "filter 4 0 0 4 3 3", "filter 9 0 0 1 1 3", "end", "filter 4 0 0 4 3 3", "tile 0 0 0", "begin 7", "filter 4 0 0 4 3 3",
+     "end", "filter 4 0 0 4 3 3", "tile 0 0 0"],
+    ["begin", "filter 4 0 0 4 3 3", "filter 4 0 0 4 3 3", "filter 2 0 0 3 2 3", "end", *WITH_GROUPS, "undo", *WITH_GROUPS, "save"],
+    ["filter 9 0 0 1 1 0", "filter 1 0 0 0 1 0", "filter 2 0 0 0 1 0", "filter 2 0 0 4 1 0", "filter 0 0 0 1 1 0"],
+    ["forget 3", "filter 2 0 0 1 1 3"], ["forget 4"], ["filter 2 0 0 1 1 4"], ["forget 0", "forget 0"],
+    ["begin", "forget 0", "end"], ["forget 0", "filter 2 0 0 1 1 1", "forget 1", "top", "forget 2", "save"],
+)
+FILTERED_GREY = (back_and_forth("filter 1 0 0 3 2 2", FLAT), back_and_forth("filter 2 0 0 3 2 0", FLAT))
+FILTERED_INDEXED = (["filter 1 0 0 3 2 0", "filter 1 0 0 2 2 0", "filter 2 0 0 1 1 1"],)
+
+def by_all(*lines):
+    """Each line by each session, with the session's number where the line asks for one."""
+    return ["%d %s" % (k, line % k if "%" in line else line) for line in lines for k in (7, 5, 3, 1, 0, 2, 4, 6)]
+
+
+# Whole lines. Session 0 is played first, then session 1, and so on.
+SESSIONS = (
+    ["1 opacity 2 9", "0 opacity 2 10", "1 top", "0 top", "1 undo", "0 save"],
+    ["7 newlayer 0 0 0 0 1 1 1 -", "3 newlayer 0 0 0 0 1 1 1 -", "3 undo", "7 undo 2", "7 redo", "7 undo", "3 top"],
+    ["3 save", "5 fill 4 0 0 4 3 01020304", "5 save", "4 tile 0 0 0", "6 tile 0 0 0", "6 undo", "6 tile 0 0 0"],
+    ["0 begin", "1 begin", "0 opacity 2 9", "1 opacity 2 10", "1 visible 3 0", "0 end", "1 end", "2 tile 0 0 0", "2 save"],
+    ["0 begin", "1 begin", "1 opacity 2 9", "1 end"], ["1 begin", "0 begin", "0 opacity 2 9"],
+    ["1 end"], ["0 begin", "0 opacity 2 9", "1 end"], ["8 top"], ["00 top"], ["7 begin", "7 opacity 2 9", "0 top", "7 end", "7 top"],
+    ["0 filter 4 0 0 4 3 3", "1 filter 4 0 0 4 3 3", "0 filter 4 0 0 4 3 3", "1 tile 0 0 0", "0 tile 0 0 0"],
+    ["0 forget 0", "1 filter 4 0 0 4 3 0", "1 tile 0 0 0"], ["0 forget 0", "1 filter 4 0 0 4 3 0", "0 filter 4 0 0 4 3 0"],
+    ["1 filter 4 0 0 4 3 0", "0 begin 0", "0 filter 4 0 0 4 3 0", "0 end", "1 begin 0", "1 filter 4 0 0 4 3 0", "1 end", "1 undo",
+     "1 undo", "1 tile 0 0 0"],
+    by_all("fill 4 0 0 1 1 010203%02d", "tile 0 0 0", "undo", "redo", "save"),
+    ["0 peek 0 0 0"],
+)
+
+
+def sets():
+    """For each set of rows its tables: a name, the file, and scripts."""
+    plain = {
+        "over_one": ("one", over_one()), "over_forest": ("forest", over_forest()), "over_grey": ("grey", over_grey()),
+        "over_indexed": ("indexed", over_indexed()), "refused": ("forest", REFUSED["FOREST"]),
+        "too_large": ("vast", REFUSED["VAST"]), "histories": ("forest", HISTORIES), "restacked": ("forest", RESTACKED),
+        "lines": ("forest", LINES), "refused_file": ("cut", (["undo"], ["blur"])), "grouped": ("grouped", grouped()),
+    }
+    filtered = {"filtered": ("forest", FILTERED), "filtered_grey": ("grey", FILTERED_GREY),
+                "filtered_indexed": ("indexed", FILTERED_INDEXED)}
     return {
-        "pixel_rows": [("OVER_FOREST", "FOREST", over_forest())],
-        "flat_rows": [("OVER_ONE", "ONE", over_one()), ("OVER_GREY", "GREY", over_grey()),
-                      ("OVER_INDEXED", "INDEXED", over_indexed())],
-        "refused_rows": [("REFUSED", "FOREST", REFUSED["FOREST"]), ("TOO_LARGE", "VAST", REFUSED["VAST"])],
-        "history_rows": [("HISTORIES", "FOREST", HISTORIES)],
-        **({"restack_rows": [("RESTACKED", "FOREST", RESTACKED)]} if restack else {}),
+        "rows": [(name, file, [of_session(lines) for lines in scripts]) for name, (file, scripts) in plain.items()],
+        "session_rows": [
+            *((name, file, [of_session(lines) for lines in scripts]) for name, (file, scripts) in filtered.items()),
+            ("filtered_by_2", "forest", [of_session(lines, 2) for lines in FILTERED]),
+            ("sessions", "forest", ["\n".join(lines) for lines in SESSIONS]),
+        ],
     }
 
 
-DOCUMENTED = {
-    "FOREST": "A group of two layers, one with a mask, over a layer; and a channel.",
-    "GREY": "Two grey layers, one with alpha, a channel and a selection.",
-    "INDEXED": "Two indexed layers, one with alpha, of three colours.",
-    "VAST": "No layer; fifteen times the canvas is 2^28 - 1 pixels.",
-}
-
-
-def bytes_text(name, data):
-    return "/// %s\npub const %s: [u8; %d] = [%s];\n" % (DOCUMENTED[name], name, len(data), ", ".join(map(str, data)))
-
-
-def row_text(data, lines):
-    script = "".join("0 %s\n" % line for line in lines)
+def row_texts(head, data, script):
+    """The row, and what it must give."""
     status, text, saved = run(data, script.encode())
-    assert status == 0, script + text
     digest = hashlib.sha256(data if saved is None else saved).hexdigest()
-    return "    (\n        %s,\n        %s,\n        %s,\n    ),\n" % tuple(map(json.dumps, (script, text, digest)))
+    return "\n" + head + script, "%s%sstatus %d file %s\n" % (head, text, status, digest)
 
 
-def table_text(name, file, scripts):
-    head = "/// Over %s.\npub const %s: [(&'static str, &'static str, &'static str); %d] = [\n" % (file, name, len(scripts))
-    return head + "".join(row_text(FILES[file], lines) for lines in scripts) + "];\n"
+def set_texts(tables):
+    """The rows of a set, and what they must give."""
+    found = [row_texts("== %s.xcf %s %d\n" % (file, name, count), FILES[file], script)
+             for name, file, scripts in tables for count, script in enumerate(scripts, 1)]
+    return tuple("".join(texts) for texts in zip(*found))
 
 
-def write_module(folder, name, about, texts):
-    with open(os.path.join(folder, name + ".rt"), "w", encoding="ascii") as out:
-        out.write("//! %s Written by `bench/make_edit_rows.py`.\n\n" % about + "\n".join(texts))
+def put(folder, name, data):
+    with open(os.path.join(folder, name), "wb") as out:
+        out.write(data)
 
 
 def main():
     parser = argparse.ArgumentParser(description=__doc__, formatter_class=argparse.RawDescriptionHelpFormatter)
     parser.add_argument("folder", metavar="FOLDER")
-    parser.add_argument("--restack", action="store_true")
     given = parser.parse_args()
-    texts = [bytes_text(name, data) for name, data in FILES.items() if name in DOCUMENTED]
-    write_module(given.folder, "small_files", "Files as they are written.", texts)
-    for name, tables in modules(given.restack).items():
-        about = "Scripts, each with its text and with the SHA-256 of the file afterwards."
-        write_module(given.folder, name, about, [table_text(*table) for table in tables])
+    data = os.path.join(given.folder, "data")
+    os.makedirs(data, exist_ok=True)
+    for name, file in FILES.items():
+        put(data, name + ".xcf", file)
+    wanted = ""
+    for name, tables in sets().items():
+        rows, texts = set_texts(tables)
+        put(data, name, b"Written by bench/make_edit_rows.py." + rows.encode())
+        wanted += texts
+    put(given.folder, "stdout", wanted.encode())
 
 
 if __name__ == "__main__":

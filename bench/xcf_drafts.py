@@ -182,6 +182,14 @@ def changed_plane(doc, plane, rect, corner, pixels, rule):
     return made
 
 
+def filtered(pixels, kind, table):
+    """Pixels of a layer's type with each colour byte put through a table. The alpha stays."""
+    new, bpp = bytearray(pixels.translate(table)), BYTES_PER_PIXEL[kind]
+    if kind % 2 == 1:
+        new[bpp - 1::bpp] = pixels[bpp - 1::bpp]
+    return bytes(new)
+
+
 def change_layer(doc, node, rect, pixels):
     rule = replaced if doc.base == 2 else mixed
     node.plane = changed_plane(doc, node.plane, rect, (node.x, node.y), pixels, rule)
@@ -195,10 +203,10 @@ def clear_sheet(doc, name):
 # The edits, each with its checks in their order. Each changes the document that it gets, or is refused.
 
 class Draft:
-    """A document that is being changed, and the next id."""
+    """A document that is being changed, the next id, and the filters that are asked for tables."""
 
-    def __init__(self, doc, next_id):
-        self.doc, self.next_id = copied(doc), next_id
+    def __init__(self, doc, next_id, chest):
+        self.doc, self.next_id, self.chest = copied(doc), next_id, chest
 
     def fill(self, number, x, y, w, h, pixel):
         node = layer(self.doc, number)
@@ -213,6 +221,15 @@ class Draft:
         if len(pixels) != node.plane.bpp * w * h:
             raise EditRefused(7)
         change_layer(self.doc, node, (x, y, w, h), pixels)
+
+    def filter(self, number, x, y, w, h, slot):
+        node = layer(self.doc, number)
+        check_inside(node.plane, (x, y, w, h))
+        if self.doc.base == 2:
+            raise EditRefused(7)
+        bpp = node.plane.bpp
+        old = b"".join(bytes(node.plane.row(y + row)[x * bpp:(x + w) * bpp]) for row in range(h))
+        change_layer(self.doc, node, (x, y, w, h), filtered(old, node.kind, self.chest.table(slot)))
 
     def copy(self, number, x, y, w, h, source, u, v):
         found(self.doc, number), found(self.doc, source)

@@ -1,17 +1,20 @@
 #!/usr/bin/env python3
-"""What `xcfedit edit FILE` prints for a script of session 0, by the rules of docs/FORMAT.md, apart from the engine.
+"""What `xcfedit edit FILE` prints for a script, by the rules of docs/FORMAT.md, apart from the engine.
 
     xcf_edits.py FILE SCRIPT [--save OUT]
 
-Each version is a whole document. With --save the last save of the script writes OUT. The status is 0, 3 where a line is
-bad, and 4 where the file is refused. Filters and peeks are not known, as little as other sessions.
+The sessions are played one after another, each with the four filters of the program. Each version is a whole document.
+With --save the last save of the script writes OUT. The status is 0, 3 where a line is bad, and 4 where the file is refused.
+The line of a peek is a bad one.
 """
 
 import argparse
+import copy
 import hashlib
 import sys
 
 from xcf_drafts import Draft, EditRefused, all_nodes, copied
+from xcf_filters import Chest
 from xcf_picture import bytes_of, stack_row
 from xcf_reading import Refused, read
 from xcf_script import BadLine, parse
@@ -50,16 +53,18 @@ class History:
         self.doc, self.version = doc, self.version + 1
         return "changed %d %d %d" % (self.version, group, self.next_id)
 
-    def edit(self, guard, edits):
+    def edit(self, guard, edits, chest):
+        """The reply. Only an accepted group uses filters of the chest."""
         if guard is not None and guard != self.version:
             return "moved %d" % self.version
-        draft = Draft(self.doc, self.next_id)
+        draft = Draft(self.doc, self.next_id, copy.deepcopy(chest))
         for index, (keyword, words) in enumerate(edits):
             try:
                 getattr(draft, keyword)(*words)
             except EditRefused as refused:
                 value = "" if refused.value is None else " %d" % refused.value
                 return "refused %d %d%s" % (index, refused.cause, value)
+        chest.slots = draft.chest.slots
         self.done.append((self.next_group, self.doc, draft.doc))
         self.undone, self.next_id, self.next_group = [], draft.next_id, self.next_group + 1
         return self.moved_to(draft.doc, self.done[-1][0])
@@ -94,20 +99,32 @@ class History:
         return "tile %d %s" % (self.version, tile_digest(self.doc, nodes, column, row))
 
 
-def session_text(history, calls):
-    lines, order = [], ["order"]
-    for index, (what, words) in enumerate(calls):
-        lines.append("0.%d %s\n" % (index, getattr(history, what)(*words)))
-        order += ["0.%d" % index] + (["0.%de" % index] if what == "save" else [])
-    return "".join(lines) + " ".join(order) + "\n"
+def play(history, session, items):
+    """The lines of a session, and its words of the order."""
+    chest, lines, order = Chest(), [], []
+    for what, words in items:
+        if what == "forget":
+            chest.forget(*words)
+            continue
+        call = "%d.%d" % (session, len(lines))
+        more = (chest,) if what == "edit" else ()
+        lines.append("%s %s\n" % (call, getattr(history, what)(*words, *more)))
+        order += [call] + ([call + "e"] if what == "save" else [])
+    return lines, order
+
+
+def text_of(history, sessions):
+    played = [play(history, session, items) for session, items in enumerate(sessions)]
+    lines = "".join(line for session_lines, _ in played for line in session_lines)
+    return lines + " ".join(["order"] + [word for _, order in played for word in order]) + "\n"
 
 
 def run(data, script):
     """The status, the text, and the file that the last save wrote, or none."""
     try:
-        calls = parse(script)
+        sessions = parse(script)
         history = History(read(data))
-        text = session_text(history, calls)
+        text = text_of(history, sessions)
     except BadLine as bad:
         return 3, bad.text(), None
     except Refused as refused:

@@ -1,11 +1,12 @@
 """The calls of a script, or its first bad line, by the rules of docs/FORMAT.md.
 
-A call is (what, words): an edit group is ("edit", (guard, edits)) with edits of the form (keyword, words).
+A script gives a list for each of the eight sessions. An item is (what, words): an edit group is ("edit", (guard, edits))
+with edits of the form (keyword, words). ("forget", (slot,)) stands among the calls and is none.
 """
 
 import re
 
-MAX_BYTES, MAX_CALLS, MAX_EDITS = 2**24, 2**19, 1024
+MAX_BYTES, MAX_CALLS, MAX_EDITS, SESSIONS = 2**24, 2**19, 1024, 8
 NUMBER, HEX = re.compile(rb"0|[1-9][0-9]*"), re.compile(rb"(?:[0-9a-fA-F]{2})+")
 
 
@@ -69,10 +70,12 @@ def colours(word):
     return found
 
 
+DIGITS = [b"%d" % session for session in range(SESSIONS)]
 RECT = (place, place, place, place)
 EDITS = {
     "fill": (number, *RECT, data),
     "write": (number, *RECT, data),
+    "filter": (number, *RECT, number),
     "copy": (number, *RECT, number, place, place),
     "fillmask": (number, *RECT, byte),
     "fillchannel": (number, *RECT, byte),
@@ -103,6 +106,7 @@ CALLS = {
     "top": ((),),
     "save": ((),),
     "tile": ((number, number, number),),
+    "forget": ((number,),),
 }
 
 
@@ -113,45 +117,49 @@ def read_words(readers, words):
 
 
 def read_line(line):
-    """The keyword of a line of session 0 and what its words are."""
+    """The session of a line, its keyword, and what its words are."""
     session, *words = line.split(b" ")
-    if session != b"0" or not words:
+    if session not in DIGITS or not words:
         raise NotInGrammar
     keyword = words[0].decode("latin-1")
     forms = (EDITS[keyword],) if keyword in EDITS else CALLS.get(keyword, ())
     for readers in forms:
         if len(readers) == len(words) - 1:
-            return keyword, read_words(readers, words[1:])
+            return int(session), keyword, read_words(readers, words[1:])
     raise NotInGrammar
 
 
-class Reading:
-    """The calls so far, and the group that is open: its line, its guard and its edits."""
+class Session:
+    """The items so far, the slots of the chest, and the group that is open: its line, its guard and its edits."""
 
-    def __init__(self):
-        self.calls, self.open, self.guard, self.edits = [], None, None, []
+    def __init__(self, slots):
+        self.items, self.slots = [], set(range(slots))
+        self.open, self.guard, self.edits = None, None, []
 
-    def begin_call(self):
-        if len(self.calls) == MAX_CALLS:
+    def check_slot(self, keyword, words):
+        if keyword in ("filter", "forget") and words[-1] not in self.slots:
             raise NotInGrammar
+
+    def begins_call(self, keyword):
+        return self.open is None and keyword not in ("end", "forget")
 
     def take(self, keyword, words, line):
+        self.check_slot(keyword, words)
         if self.open is not None:
             self.take_inside(keyword, words)
-            return
-        if keyword == "end":
+        elif keyword == "end":
             raise NotInGrammar
-        self.begin_call()
-        if keyword == "begin":
+        elif keyword == "begin":
             self.open, self.guard, self.edits = line, words[0] if words else None, []
         elif keyword in EDITS:
-            self.calls.append(("edit", (None, [(keyword, words)])))
+            self.items.append(("edit", (None, [(keyword, words)])))
         else:
-            self.calls.append((keyword, words))
+            self.slots -= set(words) if keyword == "forget" else set()
+            self.items.append((keyword, words))
 
     def take_inside(self, keyword, words):
         if keyword == "end" and self.edits:
-            self.calls.append(("edit", (self.guard, self.edits)))
+            self.items.append(("edit", (self.guard, self.edits)))
             self.open = None
         elif keyword in EDITS and len(self.edits) < MAX_EDITS:
             self.edits.append((keyword, words))
@@ -159,11 +167,29 @@ class Reading:
             raise NotInGrammar
 
 
-def parse(text):
-    """The calls of a script of session 0. Any other line is bad, and so are those of filters and of peeks."""
+class Reading:
+    """The sessions so far, and how many calls they have begun together."""
+
+    def __init__(self, chests):
+        self.sessions, self.calls = [Session(slots) for slots in chests], 0
+
+    def take(self, number_of_session, keyword, words, line):
+        session = self.sessions[number_of_session]
+        begins = session.begins_call(keyword)
+        if begins and self.calls == MAX_CALLS:
+            raise NotInGrammar
+        session.take(keyword, words, line)
+        self.calls += begins
+
+    def never_ended(self):
+        return min((session.open for session in self.sessions if session.open is not None), default=None)
+
+
+def parse(text, chests=(4,) * SESSIONS):
+    """The items of each session, where each has that many filters. A line of a peek is bad."""
     if len(text) > MAX_BYTES:
         raise BadLine(text[:MAX_BYTES].count(b"\n") + 1)
-    reading = Reading()
+    reading = Reading(chests)
     for count, line in enumerate(text.split(b"\n"), 1):
         if line == b"" or line[:1] == b"#":
             continue
@@ -171,6 +197,6 @@ def parse(text):
             reading.take(*read_line(line), count)
         except NotInGrammar:
             raise BadLine(count) from None
-    if reading.open is not None:
-        raise BadLine(reading.open)
-    return reading.calls
+    if reading.never_ended() is not None:
+        raise BadLine(reading.never_ended())
+    return [session.items for session in reading.sessions]

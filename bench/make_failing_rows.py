@@ -1,0 +1,90 @@
+#!/usr/bin/env python3
+"""Writes what the runs of the crate `failing_devices` must give, by the rules of docs/FORMAT.md and of docs/ARCHITECTURE.md.
+
+    make_failing_rows.py FOLDER
+
+FOLDER is the crate's. Nothing is run: the texts are those of the rules, cut where the write that fails stands.
+"""
+
+import argparse
+import os
+
+SELECT, LOADS, SYNC, SWAP, SETTLE, ONE_SAVE, TWO_SAVES = 0, (1, 2), 5, 6, 7, 8, 13
+PAM = "P7\nWIDTH 1\nHEIGHT 1\nDEPTH 4\nMAXVAL 255\nTUPLTYPE RGB_ALPHA\nENDHDR\n".encode() + bytes((200, 100, 50, 255))
+SHELF_FAULT = (6, "o", "shelf fault\n")
+
+
+def saves(*replies):
+    """The text of a script of saves with a fill between them."""
+    lines = ["0.0 %s 0\n" % replies[0]]
+    if len(replies) == 1:
+        return lines[0] + "order 0.0 0.0e\n"
+    return lines[0] + "0.1 changed 1 1 2\n0.2 %s 1\norder 0.0 0.0e 0.1 0.2 0.2e\n" % replies[1]
+
+
+def failed_call(call):
+    """A script of one save, of which a call fails: the status, what a crash may leave, and the text."""
+    if call < 3:
+        return SHELF_FAULT
+    left = "o" if call < SWAP else "o0" if call == SWAP else "0o"
+    return 6, left, saves("save fault")
+
+
+def stopped_at(call):
+    """Two saves, where all calls from one on fail."""
+    if call < 3:
+        return SHELF_FAULT
+    if call < ONE_SAVE:
+        return 6, "o" if call < SETTLE else "0o", saves("save fault", "save fault")
+    if call < TWO_SAVES:
+        return 6, "0" if call < TWO_SAVES - 1 else "10", saves("saved", "save fault")
+    return 0, "1", saves("saved", "saved")
+
+
+def cut(text, step, write):
+    """What is written before the write that fails."""
+    return text[:step * write]
+
+
+def rows_of_saves():
+    yield "edit f", (0, "0", saves("saved"))
+    for call in range(ONE_SAVE):
+        yield "edit f, call %d" % call, failed_call(call)
+    yield "edit f, call %d" % SYNC, (6, "0", "0.0 save fault 0\n0.1 saved 0\norder 0.0 0.0e 0.1 0.1e\n")
+    for call in range(TWO_SAVES + 1):
+        yield "edit f, all from call %d" % call, stopped_at(call)
+
+
+def rows_of_streams():
+    nothing = "".join("0.%d nothing to undo\n" % i for i in range(3)) + "order 0.0 0.1 0.2\n"
+    for read in range(4):
+        # 21 bytes in pieces of seven, and then the end
+        yield "edit f, read %d" % read, (5, "o", "source fault\n") if read < 4 else (0, "o", nothing)
+    two = "".join("0.%d nothing to undo\n" % i for i in range(2)) + "order 0.0 0.1\n"
+    for write in range(3):
+        yield "edit f, write %d" % write, (7, "o", cut(two, 10, write))
+        yield "render f, write %d" % write, (7, "o", cut(PAM, 10, write).decode())
+        yield "edit f, write %d" % write, (3, "o", cut("bad line 1\n", 5, write))
+        yield "render -, write %d" % write, (2, "o", cut("usage\n", 3, write))
+    yield "edit f, write 1, call %d" % SYNC, (7, "o", cut(saves("save fault"), 7, 1))
+
+
+def rows_of_loads():
+    yield "edit g", SHELF_FAULT
+    yield "render g", SHELF_FAULT
+    for call in (SELECT, *LOADS):
+        yield "render f, call %d" % call, SHELF_FAULT
+
+
+def main():
+    parser = argparse.ArgumentParser(description=__doc__, formatter_class=argparse.RawDescriptionHelpFormatter)
+    parser.add_argument("folder", metavar="FOLDER")
+    given = parser.parse_args()
+    with open(os.path.join(given.folder, "stdout"), "w", encoding="ascii") as out:
+        for rows in (rows_of_saves(), rows_of_streams(), rows_of_loads()):
+            for head, (status, left, text) in rows:
+                out.write("== %s: status %d left %s\n%s\n" % (head, status, left, text))
+
+
+if __name__ == "__main__":
+    main()
