@@ -5,7 +5,7 @@ use xl_fakes::MemorySink;
 
 // The status of telling of f.
 fn describe(alloc: Global, file: &[u8], sink: &mut MemorySink) -> Result<u8, AllocError> {
-    status_of(alloc, &["info", "f"], file, Vec::new(alloc), sink)
+    status_of(alloc, &["info", "f"], file, sink)
 }
 
 #[test]
