@@ -4,9 +4,6 @@
 //! ends ahead of the line end before the next row.
 #![tactic(auto)]
 
-ghost use Rattle.std.specs.List.{AllByRecursion};
-ghost use Rattle.std.specs.Prelude.{◌<◌, ◌≤◌, ◌^◌, length, IfOk};
-
 use sha2::{Digest, Sha256};
 use std::alloc::{AllocError, Global};
 use std::process::ExitCode;
@@ -27,31 +24,7 @@ const NAME: &str = "f";
 
 const SESSIONS: usize = 8;
 
-// The filters of a session, in its slots 0 to 3.
-fn filters(alloc: Global) -> Result<Vec<Box<dyn PointFilter + Send>>, AllocError>
-    ensures { IfOk result (λ boxes. length boxes.items < 2 ^ 32) }
-{
-    let mut boxes: Vec<Box<dyn PointFilter + Send>> = Vec::with_capacity(alloc, 4)?;
-    boxes.push(Box::new(alloc, Invert::new(0))?)?;
-    boxes.push(Box::new(alloc, Threshold::new(128))?)?;
-    boxes.push(Box::new(alloc, Posterize::new(4))?)?;
-    boxes.push(Box::new(alloc, Fade::new(100))?)?;
-    Ok(boxes)
-}
-
-// The filters of each session.
-fn filters_of_sessions(alloc: Global) -> Result<Vec<Vec<Box<dyn PointFilter + Send>>>, AllocError>
-    ensures lists { IfOk result (λ chest. length chest.items ≤ 8) }
-    ensures boxes { IfOk result (λ chest. AllByRecursion (λ boxes. length boxes.items < 2 ^ 32) chest.items) }
-{
-    let mut chest = Vec::with_capacity(alloc, SESSIONS)?;
-    for _ in 0..SESSIONS {
-        chest.push(filters(alloc)?)?;
-    }
-    Ok(chest)
-}
-
-// Runs a script on a file, which is kept in memory.
+// Runs a script on a file, which is kept in memory. Each session has four filters, in its slots 0 to 3.
 fn edit(
     alloc: Global,
     file: Vec<u8>,
@@ -63,7 +36,15 @@ fn edit(
     let shelf = MemoryShelf::new(alloc, files, Vec::new(alloc), None)?;
     let script = script.as_bytes().to_vec(alloc)?;
     let mut source = MemorySource::new(script, 7, Vec::new(alloc));
-    let chest = filters_of_sessions(alloc)?;
+    let mut chest: Vec<Vec<Box<dyn PointFilter + Send>>> = Vec::with_capacity(alloc, SESSIONS)?;
+    for _ in 0..SESSIONS {
+        let mut boxes: Vec<Box<dyn PointFilter + Send>> = Vec::with_capacity(alloc, 4)?;
+        boxes.push(Box::new(alloc, Invert::new(0))?)?;
+        boxes.push(Box::new(alloc, Threshold::new(128))?)?;
+        boxes.push(Box::new(alloc, Posterize::new(4))?)?;
+        boxes.push(Box::new(alloc, Fade::new(100))?)?;
+        chest.push(boxes)?;
+    }
     Ok(run(alloc, &["edit", NAME], &mut source, sink, shelf, chest))
 }
 

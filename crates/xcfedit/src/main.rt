@@ -3,15 +3,12 @@
 //! Where a command stops, a sentence on the standard error says why.
 #![tactic(auto)]
 
-ghost use Rattle.std.specs.List.{AllByRecursion};
-ghost use Rattle.std.specs.Prelude.{◌<◌, ◌≤◌, ◌^◌, length, IfOk};
-
 use std::alloc::{AllocError, Global};
 use std::process::ExitCode;
 use std::{env, io};
 use xl_filters::{Fade, Invert, PointFilter, Posterize, Threshold};
 use xl_messages::message;
-use xl_program::run;
+use xl_program::{Ended, run};
 use xl_real::{FileShelf, StdSink, StdSource};
 
 /// The status where all went well.
@@ -29,28 +26,22 @@ fn words_given(rt: &HostRuntime) -> io::Result<Vec<String>> {
     Ok(words.collect(rt.alloc())?)
 }
 
-// The filters of a session, in its slots 0 to 3.
-fn filters(alloc: Global) -> Result<Vec<Box<dyn PointFilter + Send>>, AllocError>
-    ensures { IfOk result (λ boxes. length boxes.items < 2 ^ 32) }
-{
-    let mut boxes: Vec<Box<dyn PointFilter + Send>> = Vec::with_capacity(alloc, 4)?;
-    boxes.push(Box::new(alloc, Invert::new(0))?)?;
-    boxes.push(Box::new(alloc, Threshold::new(128))?)?;
-    boxes.push(Box::new(alloc, Posterize::new(4))?)?;
-    boxes.push(Box::new(alloc, Fade::new(100))?)?;
-    Ok(boxes)
-}
-
-// The filters of each session.
-fn filters_of_sessions(alloc: Global) -> Result<Vec<Vec<Box<dyn PointFilter + Send>>>, AllocError>
-    ensures lists { IfOk result (λ chest. length chest.items ≤ 8) }
-    ensures boxes { IfOk result (λ chest. AllByRecursion (λ boxes. length boxes.items < 2 ^ 32) chest.items) }
-{
-    let mut chest = Vec::with_capacity(alloc, SESSIONS)?;
+// Does what the words ask for, over the real devices. Each session has four filters, in its slots 0 to 3.
+fn run_with_filters(rt: &HostRuntime, words: &[&str]) -> Result<Ended<FileShelf>, AllocError> {
+    let alloc = rt.alloc();
+    let mut chest: Vec<Vec<Box<dyn PointFilter + Send>>> = Vec::with_capacity(alloc, SESSIONS)?;
     for _ in 0..SESSIONS {
-        chest.push(filters(alloc)?)?;
+        let mut boxes: Vec<Box<dyn PointFilter + Send>> = Vec::with_capacity(alloc, 4)?;
+        boxes.push(Box::new(alloc, Invert::new(0))?)?;
+        boxes.push(Box::new(alloc, Threshold::new(128))?)?;
+        boxes.push(Box::new(alloc, Posterize::new(4))?)?;
+        boxes.push(Box::new(alloc, Fade::new(100))?)?;
+        chest.push(boxes)?;
     }
-    Ok(chest)
+    let mut source = StdSource::new(rt);
+    let mut sink = StdSink::new(rt);
+    let shelf = FileShelf::new(rt);
+    Ok(run(alloc, words, &mut source, &mut sink, shelf, chest))
 }
 
 fn started(rt: &HostRuntime) -> Result<u8, AllocError> {
@@ -65,11 +56,7 @@ fn started(rt: &HostRuntime) -> Result<u8, AllocError> {
     for word in &given {
         words.push(word.as_str())?;
     }
-    let mut source = StdSource::new(rt);
-    let mut sink = StdSink::new(rt);
-    let shelf = FileShelf::new(rt);
-    let chest = filters_of_sessions(alloc)?;
-    let ended = run(alloc, &words, &mut source, &mut sink, shelf, chest);
+    let ended = run_with_filters(rt, &words)?;
     if ended.status != DONE
         && let Ok(text) = message(alloc, &words, ended.status, ended.cause)
     {
