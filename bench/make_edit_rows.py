@@ -1,10 +1,10 @@
 #!/usr/bin/env python3
 """Writes the rows of the crate `edited_files`: small files, scripts on them, and what `edit` must give of each.
 
-    make_edit_rows.py FOLDER
+    make_edit_rows.py FOLDER [--sessions]
 
 FOLDER, the crate's, takes `data` and `stdout`. The texts and the digests of the files afterwards are those of xcf_edits.py,
-which knows nothing of the engine.
+which knows nothing of the engine. With --sessions `stdout` has the rows of several sessions and of filters too.
 """
 
 import argparse
@@ -315,6 +315,7 @@ def put(folder, name, data):
 def main():
     parser = argparse.ArgumentParser(description=__doc__, formatter_class=argparse.RawDescriptionHelpFormatter)
     parser.add_argument("folder", metavar="FOLDER")
+    parser.add_argument("--sessions", action="store_true")
     given = parser.parse_args()
     data = os.path.join(given.folder, "data")
     os.makedirs(data, exist_ok=True)
@@ -324,7 +325,7 @@ def main():
     for name, tables in sets().items():
         rows, texts = set_texts(tables)
         put(data, name, b"Written by bench/make_edit_rows.py." + rows.encode())
-        wanted += texts
+        wanted += texts if name == "rows" or given.sessions else ""
     put(given.folder, "stdout", wanted.encode())
 
 

@@ -9,22 +9,19 @@ use std::alloc::{AllocError, Global};
 use std::process::ExitCode;
 use std::{fs, io};
 use xl_fakes::{MemoryShelf, MemorySource};
-use xl_filters::{Fade, Invert, PointFilter, Posterize, Threshold};
 use xl_ports::write_all;
 use xl_program::{Ended, run};
 use xl_real::StdSink;
 
 /// The files that have rows.
-const SETS: [&str; 2] = ["rows", "session_rows"];
+const SETS: [&str; 1] = ["rows"];
 
 const ROW_MARK: &str = "\n== ";
 
 /// The name of the file on the shelf.
 const NAME: &str = "f";
 
-const SESSIONS: usize = 8;
-
-// Runs a script on a file, which is kept in memory. Each session has four filters, in its slots 0 to 3.
+// Runs a script on a file, which is kept in memory.
 fn edit(
     alloc: Global,
     file: Vec<u8>,
@@ -36,16 +33,14 @@ fn edit(
     let shelf = MemoryShelf::new(alloc, files, Vec::new(alloc), None)?;
     let script = script.as_bytes().to_vec(alloc)?;
     let mut source = MemorySource::new(script, 7, Vec::new(alloc));
-    let mut chest: Vec<Vec<Box<dyn PointFilter + Send>>> = Vec::with_capacity(alloc, SESSIONS)?;
-    for _ in 0..SESSIONS {
-        let mut boxes: Vec<Box<dyn PointFilter + Send>> = Vec::with_capacity(alloc, 4)?;
-        boxes.push(Box::new(alloc, Invert::new(0))?)?;
-        boxes.push(Box::new(alloc, Threshold::new(128))?)?;
-        boxes.push(Box::new(alloc, Posterize::new(4))?)?;
-        boxes.push(Box::new(alloc, Fade::new(100))?)?;
-        chest.push(boxes)?;
-    }
-    Ok(run(alloc, &["edit", NAME], &mut source, sink, shelf, chest))
+    Ok(run(
+        alloc,
+        &["edit", NAME],
+        &mut source,
+        sink,
+        shelf,
+        Vec::new(alloc),
+    ))
 }
 
 // The line behind what a run wrote.
