@@ -9,7 +9,7 @@ use Rattle.spec_document.specs.declared.Base.TheVariants.{Rgb}
 use Rattle.spec_forest.specs.Forest.{none, leaf}
 use Rattle.spec_document.specs.Document.{Document}
 use Rattle.spec_hierarchy.specs.Layout.{words}
-use Rattle.spec_layout.specs.Fields.{property_list}
+use Rattle.spec_props.specs.Layout.{property_list}
 use Rattle.spec_layout.specs.Layout.{Item, item_values, Written}
 
 abbrev one : List ℕ

@@ -9,6 +9,7 @@ use Rattle.spec_document.specs.declared.Owner.TheVariants.{Image, Layer, Channel
 use Rattle.spec_document.specs.Limits.{interprets, IsKept, AreKept}
 use Rattle.spec_fields.specs.declared.ReadRefused.{ReadRefused}
 use Rattle.spec_fields.specs.Reading.{Read, ◌>>=◌}
+use Rattle.spec_fields.specs.Field.{word_at}
 use Rattle.spec_fields.proofs.Steps.{onward}
 use Rattle.spec_fields.proofs.All.{all_append}
 use Rattle.spec_props.specs.Meaning.{Property}
@@ -40,7 +41,7 @@ pub record Front (file : List ℕ) (owner : Owner) (at i : ℕ) (props : Props) 
   pub is : props ≡ props_of owner (up_to list props.places.end)
   pub checked : AllByRecursion (IsChecked owner) list
   pub few : length props.kept ≤ 256
-  pub place : props.places.end ≤ 2 ^ 33
+  pub place : props.places.end < 2 ^ 63
   pub rest : (room : ℕ) → i + room ≡ 1024 → behind list (list_at room (256 - length props.kept) file owner props.places.end) ≡ list_at 1024 256 file owner at
 
 places_end : (owner : Owner) (ps : Properties) → (places_of owner ps).end ≡ ps.end
@@ -49,7 +50,7 @@ places_end Layer ps = refl
 places_end Channel ps = refl
 places_end Mask ps = refl
 
-pub start : (file : List ℕ) (owner : Owner) (at : ℕ) (props : Props) → at ≤ 2 ^ 33 → props ≡ props_of owner (up_to [] at) → Front file owner at 0 props
+pub start : (file : List ℕ) (owner : Owner) (at : ℕ) (props : Props) → at < 2 ^ 63 → props ≡ props_of owner (up_to [] at) → Front file owner at 0 props
 start file owner at props small e =
     let end_is : props.places.end ≡ at = ap (λ (q : Props). q.places.end) e ∙ places_end owner (up_to [] at) in
     let none_kept : length props.kept ≡ 0 = ap (λ (q : Props). length q.kept) e in
@@ -82,7 +83,7 @@ step_of : (file : List ℕ) (owner : Owner) (at i kind : ℕ) (payload : List �
     → ((room : ℕ) → list_at (suc room) (256 - length props.kept) file owner props.places.end
     ≡ with_first (property props.places.end kind payload) (list_at room (kept_after owner kind (256 - length props.kept)) file owner (props.places.end + 8 + length payload)))
     → (interprets owner kind || nat_lt 0 (256 - length props.kept)) ≡ true
-    → props.places.end + 8 + length payload ≤ 2 ^ 33
+    → props.places.end + 8 + length payload < 2 ^ 63
     → IsChecked owner (property 0 kind payload)
     → after ≡ props_after owner (property props.places.end kind payload) props
     → Front file owner at (i + 1) after
@@ -111,7 +112,7 @@ pub step : (file : List ℕ) (owner : Owner) (at i k kind : ℕ) (payload : List
     → ((room : ℕ) → list_at (suc room) (256 - k) file owner props.places.end
     ≡ with_first (property props.places.end kind payload) (list_at room (kept_after owner kind (256 - k)) file owner (props.places.end + 8 + length payload)))
     → (interprets owner kind || nat_lt 0 (256 - k)) ≡ true
-    → props.places.end + 8 + length payload ≤ 2 ^ 33
+    → props.places.end + 8 + length payload < 2 ^ 63
     → IsChecked owner (property 0 kind payload)
     → after ≡ props_after owner (property props.places.end kind payload) props
     → Front file owner at (i + 1) after
@@ -153,3 +154,14 @@ kept_are file owner at i props front = record {
   few = front.few;
   each = subst (AllByRecursion (IsKept owner)) (sym (ap (λ (q : Props). q.kept) front.is)) (each_kept owner front.list front.checked);
 }
+
+halted : {A B : Type 0} (read : Read A) (refused : ReadRefused) (rest : A → Read B) → read ≡ Err refused → (read >>= rest) ≡ Err refused
+halted read refused rest h = ap (λ r. r >>= rest) h
+
+-- where there is no word, there is no list
+pub no_word : (file : List ℕ) (owner : Owner) (at room kept : ℕ) (refused : ReadRefused) → word_at file at ≡ Err refused → list_at (suc room) kept file owner at ≡ Err refused
+unfolding list_at
+no_word file owner at room kept refused e = halted (word_at file at) refused _ e
+
+pub no_list : (file : List ℕ) (owner : Owner) (at : ℕ) (refused : ReadRefused) → word_at file at ≡ Err refused → props_read file owner at ≡ Err refused
+no_list file owner at refused e = ap (λ (r : Read Properties). r >>= (λ ps. Ok (props_of owner ps))) (no_word file owner at 1023 256 refused e)

@@ -16,12 +16,13 @@ use Rattle.spec_fields.specs.Field.{word_value}
 use Rattle.spec_props.specs.Meaning.{payload_word, is_set, colour_number, colours_in, path_words}
 use Rattle.xl_props.specs.Known.{AreOffsets}
 use Rattle.xl_props.specs.Props.{property, opacity_in, mode_in, offsets_in}
-use Rattle.xl_props.specs.Written.{word, words, flag_word, mode_word, offset_words, all_colours, colour_bytes}
+use Rattle.spec_fields.specs.Put.{word}
+use Rattle.spec_props.specs.Layout.{path_bytes as words, all_colours, colour_bytes}
+use Rattle.xl_props.specs.Written.{flag_word, mode_word, offset_words}
 use Rattle.xl_props.proofs.Lengths.{length_word, length_words}
 
 -- the word in front
 pub word_front : (n : ℕ) (rest : List ℕ) → n < 2 ^ 32 → word_value (word n ++ rest) 0 ≡ n
-unfolding word
 word_front n rest h = from_be_bytes-to_be_bytes_4 n h
 
 -- a word behind the one in front
@@ -31,7 +32,6 @@ word_behind n rest at =
     ap (λ xs. from_be_bytes w32 (take 4 xs)) (ap (λ k. drop k (word n ++ rest)) e ∙ drop-append-add (word n) rest at)
 
 pub one_word : (n : ℕ) → n < 2 ^ 32 → word_value (word n) 0 ≡ n
-unfolding word
 one_word n h = from_be_bytes-to_be_bytes_4 n h
 
 pub opacity_back : (kind n : ℕ) → n ≤ 255 → opacity_in (property 0 kind (word n)) ≡ n
@@ -80,7 +80,6 @@ pub mode_back : (kind : ℕ) (mode : Mode) → mode_in (property 0 kind (mode_wo
 mode_back kind mode = ap (λ o. unwrap_or o Normal) (code_back 0 kind mode)
 
 pub flag_back : (kind : ℕ) (flag : Bool) → is_set (property 0 kind (flag_word flag)) ≡ flag
-unfolding word
 flag_back kind true = refl
 flag_back kind false = refl
 
@@ -95,6 +94,7 @@ word_of_offset (pos n) h = let near : pos n ≤ℤ pos 262144 = h.1 in omega (ar
 word_of_offset (negsuc n) h = omega arith
 
 pub offsets_back : (at kind : ℕ) (o : ℤ × ℤ) → AreOffsets o → offsets_in (property at kind (offset_words o)) ≡ o
+unfolding offset_words
 offsets_back at kind o h =
     let x = word_front (cast_unsigned w32 o.0) (word (cast_unsigned w32 o.1)) (word_of_offset o.0 h.0) in
     let y = word_behind (cast_unsigned w32 o.0) (word (cast_unsigned w32 o.1)) 0 ∙ one_word (cast_unsigned w32 o.1) (word_of_offset o.1 h.1) in

@@ -10,7 +10,9 @@ use Rattle.xl_props.specs.declared.answer.Known.{Known}
 use Rattle.xl_props.specs.Known.{unknown, part_of, AreFewColours, AreOffsets, IsPath, IsKnown}
 use Rattle.xl_props.specs.Props.{property, known_of}
 use Rattle.xl_props.specs.After.{known_after}
-use Rattle.xl_props.specs.Written.{word, words, flag_word, mode_word, offset_words, colour_bytes, one_byte, if_there, if_so, image_list, channel_list, layer_list, known_list}
+use Rattle.spec_fields.specs.Put.{word}
+use Rattle.spec_props.specs.Layout.{path_bytes as words, colour_bytes, if_so}
+use Rattle.xl_props.specs.Written.{flag_word, mode_word, offset_words, one_byte, if_there, image_list, channel_list, layer_list, known_list}
 use Rattle.xl_props.proofs.More.{known_more}
 use Rattle.xl_props.proofs.Inverse.{opacity_back, mode_back, flag_back, offsets_back, path_back, colours_back}
 use Rattle.xl_props.proofs.Placed.{placed}

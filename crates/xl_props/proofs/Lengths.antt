@@ -5,10 +5,10 @@ use Rattle.std.specs.List.{AllByRecursion}
 use Rattle.std.proofs.lemmas.Grind.{flat_map-append}
 use Rattle.spec_document.specs.Document.{Kept}
 use Rattle.spec_document.specs.Limits.{IsColour}
-use Rattle.xl_props.specs.Written.{word, words, all_colours, colour_bytes, raw, spelled, all_spelled}
+use Rattle.spec_fields.specs.Put.{word}
+use Rattle.spec_props.specs.Layout.{path_bytes as words, all_colours, colour_bytes, property as raw, spelled, all_spelled}
 
 pub length_word : (n : ℕ) → length (word n) ≡ 4
-unfolding word
 length_word n = refl
 
 pub length_words : (ns : List ℕ) → length (words ns) ≡ 4 * length ns

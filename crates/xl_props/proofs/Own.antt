@@ -17,7 +17,9 @@ use Rattle.spec_props.specs.Rules.{rule, rule_of, is_offset}
 use Rattle.xl_props.specs.declared.answer.Known.{Known}
 use Rattle.xl_props.specs.Known.{part_of, AreFewColours, AreOffsets, IsPath, IsKnown}
 use Rattle.xl_props.specs.Props.{property}
-use Rattle.xl_props.specs.Written.{word, words, flag_word, mode_word, offset_words, colour_bytes, one_byte, raw, if_there, if_so, image_list, layer_list, known_list}
+use Rattle.spec_fields.specs.Put.{word}
+use Rattle.spec_props.specs.Layout.{path_bytes as words, colour_bytes, property as raw, if_so}
+use Rattle.xl_props.specs.Written.{flag_word, mode_word, offset_words, one_byte, if_there, image_list, layer_list, known_list}
 use Rattle.xl_props.proofs.Lengths.{length_words, length_colours}
 use Rattle.xl_props.proofs.Inverse.{code_back, offsets_back, count_back}
 use Rattle.xl_props.proofs.Placed.{IsWritable}
@@ -75,22 +77,18 @@ own_layer kind payload small not_end known short rules = record {
 }
 
 own_opacity : (n : ℕ) → IsOwn Layer (raw 6 (word n))
-unfolding word
 own_opacity n = own_layer 6 (word n) (omega arith) (λ e. omega (arith, e)) refl (omega arith) (λ at. refl)
 
 own_mode : (mode : Mode) → IsOwn Layer (raw 7 (mode_word mode))
-unfolding word
 own_mode mode =
     own_layer 7 (mode_word mode) (omega arith) (λ e. omega (arith, e)) refl (omega arith)
     (λ at. ap (λ o. rule (not (is_none o)) (fault_with ModeRefused (at + 8) (payload_word (property at 7 (mode_word mode)) 0)) None) (code_back at 7 mode))
 
 own_visible : (flag : Bool) → IsOwn Layer (raw 8 (flag_word flag))
-unfolding word
 own_visible true = own_layer 8 (flag_word true) (omega arith) (λ e. omega (arith, e)) refl (omega arith) (λ at. refl)
 own_visible false = own_layer 8 (flag_word false) (omega arith) (λ e. omega (arith, e)) refl (omega arith) (λ at. refl)
 
 own_apply_mask : (flag : Bool) → IsOwn Layer (raw 11 (flag_word flag))
-unfolding word
 own_apply_mask true = own_layer 11 (flag_word true) (omega arith) (λ e. omega (arith, e)) refl (omega arith) (λ at. refl)
 own_apply_mask false = own_layer 11 (flag_word false) (omega arith) (λ e. omega (arith, e)) refl (omega arith) (λ at. refl)
 
@@ -103,7 +101,7 @@ near z h =
     ap (λ b. b && int_le z (pos 262144)) (true_from_T (int_le (negsuc 262143) z) h.0.le) ∙ true_from_T (int_le z (pos 262144)) h.1.le
 
 own_offsets : (o : ℤ × ℤ) → AreOffsets o → IsOwn Layer (raw 15 (offset_words o))
-unfolding word
+unfolding offset_words
 own_offsets o h =
     own_layer 15 (offset_words o) (omega arith) (λ e. omega (arith, e)) refl (omega arith)
     (λ at. let p = property at 15 (offset_words o) in

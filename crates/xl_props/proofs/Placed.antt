@@ -16,7 +16,8 @@ use Rattle.spec_props.specs.Reading.{is_colour_map}
 use Rattle.spec_props.specs.Holds.{IsColourMap, HasProperty, Follow}
 use Rattle.spec_props.proofs.Trusted.{trusted}
 use Rattle.xl_props.specs.Props.{property}
-use Rattle.xl_props.specs.Written.{word, raw, spelled, all_spelled}
+use Rattle.spec_fields.specs.Put.{word}
+use Rattle.spec_props.specs.Layout.{property as raw, spelled, all_spelled}
 use Rattle.xl_props.proofs.Lengths.{length_word}
 
 -- what may be written in a list of this owner
@@ -39,7 +40,6 @@ behind_all at [] = at
 behind_all at (k ∷ ks) = behind_all (at + 8 + length k.payload) ks
 
 has_word : (file : List ℕ) (at n : ℕ) → n < 2 ^ 32 → HasBytes file at (word n) → HasWord file at n
-unfolding word
 has_word file at n small h = record { fits = omega (arith, h.fits); is = ap (from_be_bytes w32) h.are ∙ from_be_bytes-to_be_bytes_4 n small }
 
 -- the parts of a property that stands in a file

@@ -17,7 +17,9 @@ use Rattle.xl_props.specs.declared.answer.Known.{Known}
 use Rattle.xl_props.specs.Known.{unknown, part_of, IsKnown}
 use Rattle.xl_props.specs.Props.{property, known_of}
 use Rattle.xl_props.specs.After.{as_kept}
-use Rattle.xl_props.specs.Written.{word, words, flag_word, mode_word, offset_words, colour_bytes, one_byte, raw, if_there, if_so, image_list, channel_list, layer_list, known_list, all_spelled, written, ReadsBack}
+use Rattle.spec_fields.specs.Put.{word}
+use Rattle.spec_props.specs.Layout.{path_bytes as words, colour_bytes, property as raw, if_so, all_spelled}
+use Rattle.xl_props.specs.Written.{flag_word, mode_word, offset_words, one_byte, if_there, image_list, channel_list, layer_list, known_list, written, ReadsBack}
 use Rattle.xl_props.proofs.Placed.{IsWritable, placed, behind_all, next_of, they_follow}
 use Rattle.xl_props.proofs.KnownBack.{after_all, known_from, then_more, known_back}
 use Rattle.xl_props.proofs.Others.{all_tell_nothing, kept_writable}

@@ -1,12 +1,12 @@
--- How a list of properties is written.
-use Rattle.std.specs.Prelude.{◌≡◌, ℕ, ◌+◌, Ok, Bool, true, false, ℤ, List, [], ◌∷◌, ◌++◌, length, Option, Some, None}
-use Rattle.std.specs.List.{flat_map}
-use Rattle.std.specs.Int.{w32, to_be_bytes, cast_unsigned}
+-- What is written of the values of a list and of the properties that are kept.
+use Rattle.std.specs.Prelude.{◌≡◌, ℕ, ◌+◌, Ok, Bool, ℤ, List, [], ◌∷◌, ◌++◌, length, Option, Some, None}
 use Rattle.spec_blend.specs.declared.Mode.{Mode}
 use Rattle.spec_blend.specs.Blend.{mode_code}
 use Rattle.spec_document.specs.declared.Owner.{Owner}
 use Rattle.spec_document.specs.Document.{Kept}
 use Rattle.spec_document.specs.Limits.{AreKept}
+use Rattle.spec_fields.specs.Put.{word}
+use Rattle.spec_props.specs.Layout.{flag, point_bytes, path_bytes, colour_bytes, property, if_so, property_list}
 use Rattle.xl_props.specs.declared.answer.Known.{Known}
 use Rattle.spec_props.specs.Meaning.{kept_of}
 use Rattle.spec_props.specs.Reading.{Properties, properties_at}
@@ -14,47 +14,22 @@ use Rattle.spec_props.specs.Holds.{HasProperties}
 use Rattle.xl_props.specs.Known.{IsKnown}
 use Rattle.xl_props.specs.Props.{known_of}
 
--- four bytes, the highest first
-unfoldable pub word : ℕ → List ℕ
-word n = to_be_bytes w32 n
-
-abbrev pub words : List ℕ → List ℕ
-words ns = flat_map word ns
-
 abbrev pub flag_word : Bool → List ℕ
-flag_word true = word 1
-flag_word false = word 0
+flag_word b = word (flag b)
 
 abbrev pub mode_word : Mode → List ℕ
 mode_word mode = word (mode_code mode)
 
--- x and y as signed words
-abbrev pub offset_words : ℤ × ℤ → List ℕ
-offset_words o = word (cast_unsigned w32 o.0) ++ word (cast_unsigned w32 o.1)
-
-abbrev pub all_colours : List (List ℕ) → List ℕ
-all_colours colours = flat_map (λ colour. colour) colours
-
--- how many colours, and then each
-abbrev pub colour_bytes : List (List ℕ) → List ℕ
-colour_bytes colours = word (length colours) ++ all_colours colours
+unfoldable pub offset_words : ℤ × ℤ → List ℕ
+offset_words o = point_bytes o.0 o.1
 
 abbrev pub one_byte : ℕ → List ℕ
 one_byte b = b ∷ []
 
--- a property of these bytes
-abbrev pub raw : (kind : ℕ) → (payload : List ℕ) → Kept
-raw kind payload = record { kind = kind; payload = payload }
-
 -- the property of a value that is there
 abbrev pub if_there : {A : Type 0} → (kind : ℕ) → (A → List ℕ) → Option A → List Kept
 if_there kind payload None = []
-if_there kind payload (Some x) = raw kind (payload x) ∷ []
-
--- the mark of what is so
-abbrev pub if_so : (kind : ℕ) → Bool → List Kept
-if_so kind true = raw kind [] ∷ []
-if_so kind false = []
+if_there kind payload (Some x) = property kind (payload x) ∷ []
 
 abbrev pub image_list : Known → List Kept
 image_list k = if_there 1 colour_bytes k.colours ++ if_there 17 one_byte k.compression
@@ -65,23 +40,16 @@ channel_list k = if_so 4 k.selection
 -- the mark of a group comes first, since other readers start a group afresh where they meet it
 abbrev pub layer_list : Known → List Kept
 layer_list k =
-    if_so 29 k.group ++ (if_there 30 words k.path ++ (if_there 6 word k.opacity ++ (if_there 7 mode_word k.mode
+    if_so 29 k.group ++ (if_there 30 path_bytes k.path ++ (if_there 6 word k.opacity ++ (if_there 7 mode_word k.mode
     ++ (if_there 8 flag_word k.visible ++ (if_there 11 flag_word k.apply_mask ++ if_there 15 offset_words k.offsets)))))
 
 -- the properties of the values, in the order in which they are written
 abbrev pub known_list : Known → List Kept
 known_list k = image_list k ++ (channel_list k ++ layer_list k)
 
--- a property: its number, how many bytes it has, and these
-abbrev pub spelled : Kept → List ℕ
-spelled k = word k.kind ++ (word (length k.payload) ++ k.payload)
-
-abbrev pub all_spelled : List Kept → List ℕ
-all_spelled ks = flat_map spelled ks
-
 -- the values, the properties that are kept, and the end
 abbrev pub written : Known → List Kept → List ℕ
-written known kept = all_spelled (known_list known ++ (kept ++ raw 0 [] ∷ []))
+written known kept = property_list (known_list known) kept
 
 -- one owner interprets each of the values and none of the properties that are kept, and all are in their ranges
 abbrev pub CanBeWritten : Known → List Kept → Type 0

@@ -29,8 +29,7 @@ fn is_user_unit(owner: Owner, kind: u32) -> bool
 
 /// How many bytes a payload at an offset has, where `n` is its length word.
 fn true_len(bytes: &[u8], owner: Owner, kind: u32, at: usize, n: usize) -> usize
-    requires file { length bytes.now ≤ 2 ^ 31 }
-    requires place { at ≤ 2 ^ 31 + 8 }
+    requires place { at ≤ length bytes.now }
     requires length_word { n ≤ 2 ^ 24 }
     ensures read { result ≡ true_length bytes.now owner kind at n }
     ensures few { result ≤ 2 ^ 24 }
@@ -45,7 +44,6 @@ fn true_len(bytes: &[u8], owner: Owner, kind: u32, at: usize, n: usize) -> usize
 /// How many bytes of payload the property at an offset has, or its first fault.
 #[tactic(auto, unfolding(spec_props::specs::Reading::payload_length_at))]
 pub fn payload_len(bytes: &[u8], owner: Owner, kind: u32, at: usize) -> Result<usize, ReadRefused>
-    requires file { length bytes.now ≤ 2 ^ 31 }
     requires place { at + 4 ≤ length bytes.now }
     ensures read { result ≡ payload_length_at bytes.now owner kind at }
     ensures fits { IfOk result (λ n. at + 8 + n ≤ length bytes.now) }

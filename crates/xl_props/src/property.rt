@@ -14,7 +14,6 @@ use xl_fields::{Kind, ReadRefused, refused, u32_at};
 /// The payload of the property at an offset, or its first fault.
 #[tactic(auto, unfolding(spec_props::specs::Reading::property_at))]
 fn payload_at(bytes: &[u8], owner: Owner, kind: u32, at: usize) -> Result<&[u8], ReadRefused>
-    requires file { length bytes.now ≤ 2 ^ 31 }
     requires place { at + 4 ≤ length bytes.now }
     requires not_end { kind ≢ 0 }
     ensures read { IsPropertyAt bytes.now owner kind at result }
@@ -42,7 +41,6 @@ pub fn next_property(
     kept: usize,
     at: usize,
 ) -> Result<Option<(u32, &[u8])>, ReadRefused>
-    requires file { length bytes.now ≤ 2 ^ 31 }
     ensures goes_on { GoesOn kept bytes.now owner at result }
     ensures room { IfOk result (λ next. IfSome next (λ p. (interprets owner p.0 || nat_lt 0 kept) ≡ true)) }
     ensures end { IfOk result (λ next. IfNone next (at + 8 ≤ length bytes.now)) }

@@ -1,7 +1,9 @@
 //! One property after another, each at the end of what was written. Out of memory, a part of one may stand behind.
 
 ghost use Rattle.std.specs.Prelude.{◌≡◌, ◌+◌, ◌*◌, ◌^◌, ◌<◌, ◌≤◌, ◌++◌, length, OnOk, OnErr, IfSome};
-ghost use Rattle.xl_props.specs.Written.{word, words, flag_word, mode_word, offset_words, all_colours, colour_bytes, one_byte, raw, if_there, if_so, spelled, all_spelled};
+ghost use Rattle.spec_fields.specs.Put.{word};
+ghost use Rattle.spec_props.specs.Layout.{path_bytes as words, all_colours, colour_bytes, property as raw, if_so, spelled, all_spelled};
+ghost use Rattle.xl_props.specs.Written.{flag_word, mode_word, offset_words, one_byte, if_there};
 ghost use Rattle.xl_fields.specs.Behind.{BeginsWith};
 ghost use Rattle.xl_props.specs.Known.{AreFewColours};
 
@@ -13,7 +15,6 @@ use std::alloc::{AllocError, Global};
 use xl_blend::code_of;
 use xl_fields::put_u32;
 
-#[tactic(auto, unfolding(crate::specs::Written::word))]
 fn put_word(alloc: Global, out: &mut Vec<u8>, value: u32) -> Result<(), AllocError>
     ensures ok { OnOk result (out.new.items ≡ out.old.items ++ word value) }
     ensures err { OnErr result (out.new.items ≡ out.old.items) }

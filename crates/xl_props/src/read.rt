@@ -22,7 +22,6 @@ const MAX_KEPT: usize = 256;
 /// The end of a list, which alone may stand behind as many properties as a list has at most.
 #[tactic(auto, unfolding(spec_props::specs::Reading::list_at, spec_props::specs::Reading::end_at))]
 fn end_of_full(bytes: &[u8], at: usize) -> Result<(), ReadRefused>
-    requires { at ≤ 2 ^ 33 }
     ensures read { EndsFull bytes.now at result }
     ensures fits { IfOk result (λ _. at + 8 ≤ length bytes.now) }
 {
@@ -44,8 +43,6 @@ pub fn read_props(
     at: usize,
     owner: Owner,
 ) -> Result<Props, ReadRefusedOrMemory>
-    requires file { length bytes.now ≤ 2 ^ 31 }
-    requires place { at ≤ 2 ^ 33 }
     ensures read { Gives result (props_read bytes.now owner at) }
     ensures known { IfOk result (λ props. IsKnown owner props.known) }
     ensures kept { IfOk result (λ props. AreKept owner props.kept) }
@@ -53,6 +50,8 @@ pub fn read_props(
     ensures next { IfOk result (λ props. props.next ≡ props.places.end + 8) }
     ensures within { IfOk result (λ props. props.next ≤ length bytes.now) }
 {
+    // No offset has a list where it has no word. Behind this, sums of offsets stay small.
+    u32_at(bytes, at)?;
     let mut props = nothing(alloc, at);
     for _count in 0..MAX_PROPERTIES {
         let end = props.places.end;

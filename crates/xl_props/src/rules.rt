@@ -1,4 +1,4 @@
-ghost use Rattle.std.specs.Prelude.{◌≡◌, ◌≢◌, ◌+◌, ◌≤◌, ◌^◌, length, IsTrue, OnOk, OnErr, None};
+ghost use Rattle.std.specs.Prelude.{◌≡◌, ◌≢◌, ◌+◌, ◌<◌, ◌^◌, length, IsTrue, OnOk, OnErr, None};
 ghost use Rattle.spec_fields.specs.Reading.{unless};
 ghost use Rattle.spec_props.specs.Rules.{of_length, is_offset, mode_rule, offsets_rule, path_rule, layer_rule, image_rule, channel_rule, rule_of};
 ghost use Rattle.xl_props.specs.Props.{property};
@@ -24,7 +24,7 @@ fn has_length(at: usize, kind: u32, payload: &[u8], n: usize) -> Result<(), Read
 }
 
 fn check_mode(at: usize, kind: u32, payload: &[u8]) -> Result<(), ReadRefused>
-    requires place { at ≤ 2 ^ 32 }
+    requires place { at < 2 ^ 63 }
     requires word { length payload.now ≡ 4 }
     ensures exact { result ≡ unless (mode_rule (property at kind payload.now)) }
     ensures anywhere { OnOk result (mode_rule (property 0 kind payload.now) ≡ None) }
@@ -48,7 +48,7 @@ pub fn is_in_range(offset: i32) -> bool
 }
 
 fn check_offsets(at: usize, kind: u32, payload: &[u8]) -> Result<(), ReadRefused>
-    requires place { at ≤ 2 ^ 32 }
+    requires place { at < 2 ^ 63 }
     requires words { length payload.now ≡ 8 }
     ensures exact { result ≡ unless (offsets_rule (property at kind payload.now)) }
     ensures anywhere { OnOk result (offsets_rule (property 0 kind payload.now) ≡ None) }
@@ -73,7 +73,7 @@ fn check_path(at: usize, kind: u32, payload: &[u8]) -> Result<(), ReadRefused>
 }
 
 fn check_layer(at: usize, kind: u32, payload: &[u8]) -> Result<(), ReadRefused>
-    requires place { at ≤ 2 ^ 32 }
+    requires place { at < 2 ^ 63 }
     ensures exact { result ≡ unless (layer_rule (property at kind payload.now)) }
     ensures anywhere { OnOk result (layer_rule (property 0 kind payload.now) ≡ None) }
 {
@@ -97,7 +97,7 @@ fn check_layer(at: usize, kind: u32, payload: &[u8]) -> Result<(), ReadRefused>
 }
 
 fn check_compression(at: usize, kind: u32, payload: &[u8]) -> Result<(), ReadRefused>
-    requires place { at ≤ 2 ^ 32 }
+    requires place { at < 2 ^ 63 }
     requires number { kind ≡ 17 }
     ensures exact { result ≡ unless (image_rule (property at kind payload.now)) }
     ensures anywhere { OnOk result (image_rule (property 0 kind payload.now) ≡ None) }
@@ -115,7 +115,7 @@ fn check_compression(at: usize, kind: u32, payload: &[u8]) -> Result<(), ReadRef
 }
 
 fn check_image(at: usize, kind: u32, payload: &[u8]) -> Result<(), ReadRefused>
-    requires place { at ≤ 2 ^ 32 }
+    requires place { at < 2 ^ 63 }
     ensures exact { result ≡ unless (image_rule (property at kind payload.now)) }
     ensures anywhere { OnOk result (image_rule (property 0 kind payload.now) ≡ None) }
 {
@@ -141,7 +141,7 @@ fn check_channel(at: usize, kind: u32, payload: &[u8]) -> Result<(), ReadRefused
 
 /// The rules of the property of a kind whose type word stands at an offset.
 pub fn check_rules(at: usize, owner: Owner, kind: u32, payload: &[u8]) -> Result<(), ReadRefused>
-    requires place { at ≤ 2 ^ 32 }
+    requires place { at < 2 ^ 63 }
     ensures exact { result ≡ unless (rule_of owner (property at kind payload.now)) }
     ensures anywhere { OnOk result (rule_of owner (property 0 kind payload.now) ≡ None) }
 {

@@ -1,4 +1,4 @@
-ghost use Rattle.std.specs.Prelude.{◌≡◌, ◌+◌, ◌^◌, ◌≤◌, [], length, OnOk};
+ghost use Rattle.std.specs.Prelude.{◌≡◌, ◌+◌, ◌^◌, ◌<◌, [], length, OnOk};
 ghost use Rattle.spec_document.specs.Limits.{interprets};
 ghost use Rattle.spec_document.specs.declared.Owner.{Owner};
 ghost use Rattle.xl_props.specs.Props.{property, props_of};
@@ -40,7 +40,7 @@ pub fn is_interpreted(owner: Owner, kind: u32) -> bool
 
 /// Nothing is known, and the list ends where it begins.
 pub fn nothing(alloc: Global, at: usize) -> Props
-    requires { at ≤ 2 ^ 33 }
+    requires { at < 2 ^ 63 }
     ensures { (owner : Owner) → result ≡ props_of owner (record { list = []; end = at }) }
 {
     Props {
@@ -98,7 +98,7 @@ pub fn add(
     kind: u32,
     payload: &[u8],
 ) -> Result<(), AllocError>
-    requires place { props.old.places.end ≤ 2 ^ 33 }
+    requires place { props.old.places.end < 2 ^ 63 }
     requires checked { IsChecked owner (property 0 kind payload.now) }
     ensures { OnOk result (props.new ≡ props_after owner (property props.old.places.end kind payload.now) props.old) }
 {

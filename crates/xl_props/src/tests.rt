@@ -3,6 +3,7 @@ use crate::{
 };
 use spec_blend::Mode;
 use std::test::Fail;
+use xl_fields::{Kind, ReadRefusedOrMemory};
 
 /// A layer of opacity 128 in mode 3, at 3 and -5, with a tattoo, and the end.
 const LAYER: [u8; 60] = [
@@ -20,6 +21,17 @@ fn a_layer_is_read(rt: HostRuntime) -> Result<(), Fail> {
     assert_eq!(rt; props.kept.len(), 1);
     assert_eq!(rt; props.places.kept.as_slice(), [40].as_slice());
     assert_eq!(rt; props.next, 60);
+    Ok(())
+}
+
+#[test]
+fn behind_the_file_there_is_no_list(rt: HostRuntime) -> Result<(), Fail> {
+    for at in [57, 60, 61, usize::MAX] {
+        let read = read_props(rt.alloc(), &LAYER, at, Owner::Layer);
+        assert!(rt;
+            matches!(&read, Err(ReadRefusedOrMemory::Refused(refused)) if refused.kind == Kind::Truncated && refused.at == at as u64)
+        );
+    }
     Ok(())
 }
 

@@ -6,8 +6,6 @@ use xl_fields::{Kind, ReadRefused, refused, string_at};
 /// The offset behind four names.
 #[tactic(auto, unfolding(spec_props::specs::Unit::names_end))]
 fn four_names_end(bytes: &[u8], at: usize) -> Result<usize, ReadRefused>
-    requires file { length bytes.now ≤ 2 ^ 31 }
-    requires place { at ≤ 2 ^ 31 + 8 }
     ensures read { result ≡ names_end 4 bytes.now at }
     ensures after { IfOk result (λ end. (at ≤ end) × (end ≤ at + 4 * 4101)) }
     ensures inside { IfOk result (λ end. end ≤ length bytes.now) }
@@ -21,8 +19,7 @@ fn four_names_end(bytes: &[u8], at: usize) -> Result<usize, ReadRefused>
 /// The end of a unit at an offset by its five names, where `n` is the wrong length word that its first name makes.
 #[tactic(auto, unfolding(spec_props::specs::Unit::named_end))]
 fn end_by_names(bytes: &[u8], at: usize, n: usize) -> Result<usize, ReadRefused>
-    requires file { length bytes.now ≤ 2 ^ 31 }
-    requires place { at ≤ 2 ^ 31 + 8 }
+    requires place { at ≤ length bytes.now }
     ensures read { result ≡ named_end bytes.now at n }
     ensures after { IfOk result (λ end. (at + 12 ≤ end) × (end ≤ at + 8 + 5 * 4101)) }
     ensures inside { IfOk result (λ end. end ≤ length bytes.now) }
@@ -36,8 +33,7 @@ fn end_by_names(bytes: &[u8], at: usize, n: usize) -> Result<usize, ReadRefused>
 
 /// How many bytes a unit at an offset has, where `n` is its length word.
 pub fn unit_len(bytes: &[u8], at: usize, n: usize) -> usize
-    requires file { length bytes.now ≤ 2 ^ 31 }
-    requires place { at ≤ 2 ^ 31 + 8 }
+    requires place { at ≤ length bytes.now }
     requires length_word { n ≤ 2 ^ 24 }
     ensures read { result ≡ unit_length bytes.now at n }
     ensures few { result ≤ 2 ^ 24 }

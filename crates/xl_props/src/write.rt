@@ -3,7 +3,8 @@ ghost use Rattle.spec_document.specs.declared.Owner.{Owner};
 ghost use Rattle.spec_document.specs.Limits.{AreKept};
 ghost use Rattle.xl_fields.specs.Behind.{BeginsWith};
 ghost use Rattle.xl_props.specs.Known.{AreFewColours};
-ghost use Rattle.xl_props.specs.Written.{image_list, channel_list, layer_list, all_spelled, written, CanBeWritten};
+ghost use Rattle.spec_props.specs.Layout.{all_spelled};
+ghost use Rattle.xl_props.specs.Written.{image_list, channel_list, layer_list, written, CanBeWritten};
 
 use crate::answer::Known;
 use crate::kept_list::{Kept, PropList};

@@ -1,6 +1,6 @@
 use Rattle.std.proofs.Common.{◌≡◌, ◌++◌, take}
 use Rattle.xl_fields.specs.Behind.{BeginsWith}
-use Rattle.xl_props.specs.Written.{all_colours}
+use Rattle.spec_props.specs.Layout.{all_colours}
 use Rattle.xl_props.proofs.put.put_bytes_of_each.Given as goal
 
 abbrev pub invariant-loop-colour : goal.invariant-loop-colour

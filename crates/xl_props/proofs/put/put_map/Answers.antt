@@ -1,5 +1,6 @@
 use Rattle.std.proofs.Common.{◌+◌, ◌*◌, length, sym}
-use Rattle.xl_props.specs.Written.{word, all_colours}
+use Rattle.spec_fields.specs.Put.{word}
+use Rattle.spec_props.specs.Layout.{all_colours}
 use Rattle.xl_props.proofs.Lengths.{length_colours, headed_parts, onto}
 use Rattle.xl_props.proofs.put.put_map.Goals as goal
 

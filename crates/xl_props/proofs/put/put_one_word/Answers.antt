@@ -1,5 +1,5 @@
 use Rattle.std.proofs.Common.{sym}
-use Rattle.xl_props.specs.Written.{word}
+use Rattle.spec_fields.specs.Put.{word}
 use Rattle.xl_props.proofs.Lengths.{length_word, headed, onto}
 use Rattle.xl_props.proofs.put.put_one_word.Goals as goal
 

@@ -1,5 +1,5 @@
 use Rattle.std.proofs.Common.{◌*◌, length, arith}
-use Rattle.xl_props.specs.Written.{words}
+use Rattle.spec_props.specs.Layout.{path_bytes as words}
 use Rattle.xl_props.proofs.Lengths.{length_words, headed, onto}
 use Rattle.xl_props.proofs.put.put_places.Goals as goal
 

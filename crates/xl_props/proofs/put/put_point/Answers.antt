@@ -1,11 +1,13 @@
 use Rattle.std.proofs.Common.{◌≡◌, ◌++◌, length, ap, ◌∙◌, arith, length-append}
 use Rattle.std.specs.Int.{w32, cast_unsigned}
 use Rattle.std.proofs.lemmas.Int.{to_z-of_z}
-use Rattle.xl_props.specs.Written.{word}
+use Rattle.spec_fields.specs.Put.{word}
+use Rattle.xl_props.specs.Written.{offset_words}
 use Rattle.xl_props.proofs.Lengths.{length_word, headed_parts, onto}
 use Rattle.xl_props.proofs.put.put_point.Goals as goal
 
 pub returns-clause-ok : goal.returns-clause-ok
+unfolding offset_words
 returns-clause-ok c =
     let head = c.put_head.new.out.items in
     let first = c.put_word.new.out.items in

@@ -1,6 +1,6 @@
 use Rattle.std.proofs.Common.{◌≡◌, ◌++◌, take}
 use Rattle.xl_fields.specs.Behind.{BeginsWith}
-use Rattle.xl_props.specs.Written.{words}
+use Rattle.spec_props.specs.Layout.{path_bytes as words}
 use Rattle.xl_props.proofs.put.put_words.Given as goal
 
 abbrev pub invariant-loop-value : goal.invariant-loop-value

@@ -1,9 +1,17 @@
-use Rattle.std.proofs.Common.{rules, suc, ◌-◌, length, refl, arith}
-use Rattle.xl_props.proofs.Front.{start, step, ended, faulty, known_is, kept_are}
+use Rattle.std.proofs.Common.{rules, suc, ◌-◌, length, refl, sym, arith}
+use Rattle.spec_fields.proofs.FieldsBack.{word_back}
+use Rattle.xl_props.proofs.Front.{start, step, no_list, ended, faulty, known_is, kept_are}
 use Rattle.xl_props.proofs.read.read_props.Goals as goal
 
 pub loop-count-init : goal.loop-count-init
-loop-count-init c = start c.args.bytes.now c.args.owner c.args.at c.nothing-props.result c.requires.place (c.nothing-props.ensures c.args.owner)
+loop-count-init c =
+    let word = word_back c.args.bytes.now c.args.at _ (sym c.in_ok-u32_at.ensures) in
+    start c.args.bytes.now c.args.owner c.args.at c.nothing-props.result (omega (arith, word.fits)) (c.nothing-props.ensures c.args.owner)
+
+pub returns-in_err-u32_at-clause-read : goal.returns-in_err-u32_at-clause-read
+returns-in_err-u32_at-clause-read c =
+    let fault = no_list c.args.bytes.now c.args.owner c.args.at c.in_err-u32_at.field-0.0 (sym c.in_err-u32_at.ensures) in
+    search rules
 
 pub returns-in_err-next_property-clause-read : goal.returns-in_err-next_property-clause-read
 returns-in_err-next_property-clause-read c =

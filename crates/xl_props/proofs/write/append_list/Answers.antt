@@ -1,6 +1,6 @@
 use Rattle.std.proofs.Common.{[], ◌++◌, ◌∙◌, ap}
 use Rattle.std.proofs.lemmas.Result.{on_ok_weaker}
-use Rattle.xl_props.specs.Written.{raw, all_spelled}
+use Rattle.spec_props.specs.Layout.{property as raw, all_spelled}
 use Rattle.xl_props.proofs.Lengths.{joined, ended}
 use Rattle.xl_props.proofs.write.append_list.Goals as goal
 

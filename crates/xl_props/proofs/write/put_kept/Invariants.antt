@@ -1,6 +1,6 @@
 use Rattle.std.proofs.Common.{◌≡◌, ◌++◌, take}
 use Rattle.xl_fields.specs.Behind.{BeginsWith}
-use Rattle.xl_props.specs.Written.{all_spelled}
+use Rattle.spec_props.specs.Layout.{all_spelled}
 use Rattle.xl_props.proofs.write.put_kept.Given as goal
 
 abbrev pub invariant-loop-property : goal.invariant-loop-property
