@@ -12,7 +12,7 @@ use Rattle.spec_edit.specs.Apply.{At}
 use Rattle.spec_edit.proofs.EditsLimited.{keeps}
 use Rattle.xl_edit.specs.declared.refused.EditRefusedOrMemory.{EditRefusedOrMemory}
 use Rattle.xl_edit.specs.Applied.{at, Applies, Makes, MakesBy}
-use Rattle.xl_edit.specs.Found.{outcome}
+use Rattle.xl_checks.specs.Found.{outcome}
 use Rattle.xl_edit.specs.Kept.{KeepsLimits}
 
 -- what is not refused has no cause

@@ -1,33 +1,20 @@
 -- The selection that an edit leaves.
-use Rattle.std.proofs.Common.{◌≡◌, ℕ, ◌+◌, ◌-◌, ◌*◌, ◌<◌, ◌≤◌, Bool, true, false, ◌&&◌, cond, nat_lt, List, [], ◌∷◌, slice_index, refl, sym, ◌∙◌, ap, arith, ℤ, pos, negsuc, ◌+ℤ◌, ◌-ℤ◌, ◌^◌}
+use Rattle.std.proofs.Common.{◌≡◌, ℕ, ◌+◌, ◌-◌, ◌*◌, ◌<◌, ◌≤◌, nat_lt, List, [], ◌∷◌, slice_index, sym, ◌∙◌, ap, arith, ℤ, pos, negsuc, ◌+ℤ◌, ◌^◌}
 use Rattle.std.specs.Prelude.{Some, nat_le, ◌≤ℤ◌}
-use Rattle.std.proofs.lemmas.Bool.{leb-true, ltb-true, false≢true}
+use Rattle.std.proofs.lemmas.Bool.{leb-true, ltb-true}
 use Rattle.std.proofs.lemmas.Int.{ints}
 use Rattle.std.proofs.lemmas.Nat.{mul-add-lt, mul-le}
 use Rattle.spec_grid.specs.declared.Rect.{Rect}
-use Rattle.spec_grid.specs.Rect.{has_point, part_above_0}
+use Rattle.spec_grid.specs.Rect.{has_point}
 use Rattle.spec_document.specs.Plane.{Plane, byte_at}
 use Rattle.spec_document.specs.Document.{Document, Channel}
 use Rattle.spec_edit.specs.Edit.{select}
 use Rattle.spec_edit.specs.Effect.{effect, with_rect, with_plane, selection_of}
+use Rattle.xl_grid.specs.declared.tiling.TheConstants.{MAX_SIDE}
 use Rattle.xl_tiles.specs.Alike.{AreAlike}
 use Rattle.xl_tiles.specs.Written.{IsWithin, from_edge, written}
 use Rattle.xl_edit.specs.Canvas.{AreFlat}
-use Rattle.xl_edit.proofs.FilledPlanes.{plane_of-same}
-
-choose : (t : Bool) (a b old : ℕ) → (t ≡ true → a ≡ b) → cond t a old ≡ cond t b old
-choose true a b old h = h refl
-choose false a b old h = refl
-
-edge_is : (x X : ℕ) → X ≤ x → from_edge x (pos X) ≡ x - X
-edge_is x X h = let e : pos x -ℤ pos X ≡ pos (x - X) = omega (arith, ints) in ap part_above_0 e
-
-all_four : (a b c d : Bool) → ((a && b) && (c && d)) ≡ true → (a ≡ true) × (b ≡ true) × (c ≡ true) × (d ≡ true)
-all_four true true true true e = (refl, refl, refl, refl)
-all_four true true true false e = absurd (false≢true e)
-all_four true true false d e = absurd (false≢true e)
-all_four true false c d e = absurd (false≢true e)
-all_four false b c d e = absurd (false≢true e)
+use Rattle.xl_edit.proofs.FilledPlanes.{plane_of-same, choose, edge_is, all_four}
 
 inside : (col row w h : ℕ) → col < w → row < h → row * w + col < w * h
 inside col row w h hc hr = mul-add-lt row w col h hr hc
@@ -81,6 +68,6 @@ span_within (pos X) n w low high = omega (arith, ints, high)
 span_within (negsuc X) n w low high = absurd (omega (arith, ints, low))
 
 -- a rectangle of a canvas has so few pixels
-pub few_within : (w h : ℕ) (r : Rect) → IsWithin w h r → w ≤ 8192 → h ≤ 8192 → r.w * r.h ≤ 2 ^ 26
+pub few_within : (w h : ℕ) (r : Rect) → IsWithin w h r → w ≤ MAX_SIDE → h ≤ MAX_SIDE → r.w * r.h ≤ 2 ^ 26
 few_within w h r within wide high =
-    mul-le r.w r.h 8192 8192 (omega (arith, span_within r.x r.w w within.left within.right, wide)) (omega (arith, span_within r.y r.h h within.top within.bottom, high))
+    mul-le r.w r.h MAX_SIDE MAX_SIDE (omega (arith, span_within r.x r.w w within.left within.right, wide)) (omega (arith, span_within r.y r.h h within.top within.bottom, high))

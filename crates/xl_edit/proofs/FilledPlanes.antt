@@ -24,14 +24,14 @@ plane_of-same w h n f g same =
     plane-ext (plane_of w h n f) (plane_of w h n g) refl refl refl (omega (arith, length-plane_of f w h n)) (omega (arith, length-plane_of g w h n))
     (λ x y c hx hy hc. byte_at-plane_of f w h n x y c hx hy hc ∙ (same x y c hx hy hc ∙ sym (byte_at-plane_of g w h n x y c hx hy hc)))
 
-choose : (t : Bool) (a b old : ℕ) → (t ≡ true → a ≡ b) → cond t a old ≡ cond t b old
+pub choose : (t : Bool) (a b old : ℕ) → (t ≡ true → a ≡ b) → cond t a old ≡ cond t b old
 choose true a b old h = h refl
 choose false a b old h = refl
 
-edge_is : (x X : ℕ) → X ≤ x → from_edge x (pos X) ≡ x - X
+pub edge_is : (x X : ℕ) → X ≤ x → from_edge x (pos X) ≡ x - X
 edge_is x X h = let e : pos x -ℤ pos X ≡ pos (x - X) = omega (arith, ints) in ap part_above_0 e
 
-all_four : (a b c d : Bool) → ((a && b) && (c && d)) ≡ true → (a ≡ true) × (b ≡ true) × (c ≡ true) × (d ≡ true)
+pub all_four : (a b c d : Bool) → ((a && b) && (c && d)) ≡ true → (a ≡ true) × (b ≡ true) × (c ≡ true) × (d ≡ true)
 all_four true true true true e = (refl, refl, refl, refl)
 all_four true true true false e = absurd (false≢true e)
 all_four true true false d e = absurd (false≢true e)

@@ -16,7 +16,7 @@ use Rattle.xl_tiles.specs.Written.{IsWithin}
 use Rattle.xl_edit.specs.declared.places.Part.TheVariants.{Pixels}
 use Rattle.xl_edit.specs.Filling.{AreRows, byte_in, in_rows}
 use Rattle.xl_edit.specs.Filtered.{AreFiltered, colours_of, filters, byte_through}
-use Rattle.xl_edit.specs.Found.{sheet_of_layer}
+use Rattle.xl_checks.specs.Found.{sheet_of_layer}
 use Rattle.xl_edit.specs.Paint.{Paints, site_of_sheet}
 use Rattle.xl_edit.proofs.MixedRows.{old_byte, old_length}
 use Rattle.xl_edit.proofs.PaintMade.{pixels_painted}

@@ -1,5 +1,5 @@
 -- What an edit that is made leaves is within the limits of a document.
-use Rattle.std.proofs.Common.{◌≡◌, ℕ, ◌^◌, true, false, nat_eq, List, [], refl, sym, ◌∙◌, ap, subst, arith}
+use Rattle.std.proofs.Common.{◌≡◌, ℕ, ◌^◌, true, false, nat_eq, List, [], sym, ◌∙◌, ap, subst, arith}
 use Rattle.std.specs.Prelude.{Ok}
 use Rattle.std.specs.List.{IsDistinct}
 use Rattle.spec_forest.specs.Forest.{Forest, ids}
@@ -12,7 +12,7 @@ use Rattle.xl_doc.specs.declared.node.Node.{Node}
 use Rattle.xl_doc.specs.Nodes.{nodes_of}
 use Rattle.xl_doc.specs.Sound.{IsSound}
 use Rattle.xl_edit.specs.Applied.{at, Makes}
-use Rattle.xl_edit.proofs.Seen.{ids-nodes_of}
+use Rattle.xl_checks.proofs.Seen.{ids-nodes_of}
 
 -- Any next id does that is above all ids, and these are words.
 pub made_limits : (d new : Document) (edit : Edit) → IsDocument d → IsEdit edit → makes_node edit ≡ false → Makes d new edit (Ok tt) → IsDocument new

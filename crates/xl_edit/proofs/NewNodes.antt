@@ -19,7 +19,7 @@ use Rattle.xl_edit.specs.Applied.{at}
 use Rattle.xl_edit.specs.Built.{HasNext}
 use Rattle.xl_edit.specs.Kept.{KeepsLimits}
 use Rattle.xl_edit.specs.Nodes.{one_node}
-use Rattle.xl_edit.proofs.Seen.{Sees, sees}
+use Rattle.xl_checks.proofs.Seen.{Sees, sees}
 
 -- the document is what the edit makes of it, and the next id is taken
 pub node_made : (d new : Document) (next : ℕ) (table : List ℕ) (e : Edit) → makes_node e ≡ true → refusal d e ≡ None → effect d next table e ≡ new

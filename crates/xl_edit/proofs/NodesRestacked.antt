@@ -19,8 +19,8 @@ use Rattle.xl_doc.specs.declared.node.Node.{Node}
 use Rattle.xl_doc.specs.Nodes.{nodes_of, layer_of, group_of, MarksAgree}
 use Rattle.xl_doc.proofs.NodesOf.{stack-nodes_of}
 use Rattle.xl_edit.specs.Children.{is_child}
-use Rattle.xl_edit.proofs.NodesMoved.{nodes-without, nodes-above, nodes-put_into, marks-above, marks-without, marks-put_into, children-nodes_of, ancestors-nodes_of, levels-nodes_of}
-use Rattle.xl_edit.proofs.Seen.{Sees, sees}
+use Rattle.xl_checks.proofs.NodesMoved.{nodes-without, nodes-above, nodes-put_into, marks-above, marks-without, marks-put_into, children-nodes_of, ancestors-nodes_of, levels-nodes_of}
+use Rattle.xl_checks.proofs.Seen.{Sees, sees}
 use Rattle.xl_edit.proofs.Stacks.{no_group_seen}
 use Rattle.xl_edit.proofs.WithoutBranch.{one, children_left, levels_found}
 

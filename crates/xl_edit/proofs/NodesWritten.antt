@@ -12,7 +12,7 @@ use Rattle.xl_doc.specs.declared.node.Body.{Body}
 use Rattle.xl_doc.specs.declared.node.Body.TheVariants.{Leaf, Group}
 use Rattle.xl_doc.specs.Nodes.{nodes_of, layer_of, group_of, IsLeaf, IsGroup, MarksAgree}
 use Rattle.xl_edit.proofs.OneNode.{Agree, same_changes, only_leaf, only_group, with_leaf-same, with_group-same}
-use Rattle.xl_edit.proofs.Seen.{ids-nodes_of, Sees, sees, IsLeafAt, leaf_seen, IsGroupAt, group_seen}
+use Rattle.xl_checks.proofs.Seen.{ids-nodes_of, Sees, sees, IsLeafAt, leaf_seen, IsGroupAt, group_seen}
 
 either : {A B : Type 0} → (f : A → B) (test : Bool) (x y : A) → f (cond test x y) ≡ cond test (f x) (f y)
 either f true x y = refl

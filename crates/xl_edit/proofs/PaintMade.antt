@@ -20,10 +20,11 @@ use Rattle.xl_edit.specs.declared.places.Part.{Part}
 use Rattle.xl_edit.specs.declared.places.Part.TheVariants.{Pixels, Mask}
 use Rattle.xl_edit.specs.Applied.{at, MakesBy}
 use Rattle.xl_edit.specs.Filling.{AreRows, byte_in, in_rows}
-use Rattle.xl_edit.specs.Found.{IsLayer, sheet_of_layer, sheet_found}
-use Rattle.xl_edit.specs.Paint.{IsPieceOf, IsPiece, IsMaskPiece, PaintsPlane, PaintsMask, Paints, with_piece, site_of_sheet, site_of_mask, rect_from, writes, copies, fills_mask}
+use Rattle.xl_checks.specs.Found.{IsLayer, sheet_of_layer, sheet_found}
+use Rattle.xl_edit.specs.Paint.{IsPieceOf, IsPiece, IsMaskPiece, PaintsPlane, PaintsMask, Paints, with_piece, site_of_sheet, site_of_mask, writes, copies, fills_mask}
+use Rattle.xl_checks.specs.Rects.{rect_from}
 use Rattle.xl_edit.proofs.OneNode.{same_leaf}
-use Rattle.xl_edit.proofs.LayerFound.{is_layer-weaker}
+use Rattle.xl_checks.proofs.LayerFound.{is_layer-weaker}
 use Rattle.xl_edit.proofs.FilledRows.{given_are_rows, whole_rows}
 use Rattle.xl_edit.proofs.FilledPlanes.{painted, listed_is, copied_is}
 

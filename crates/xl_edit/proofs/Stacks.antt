@@ -1,6 +1,6 @@
 -- Stacks of a document's nodes, and of the tree that keeps them.
-use Rattle.std.proofs.Common.{◌≡◌, ℕ, ◌+◌, ◌≤◌, Bool, true, false, cond, eqb, nat_eq, List, [], length, refl, sym, ◌∙◌, ap, subst, arith}
-use Rattle.std.specs.Prelude.{Option, Some, None, option_map, unwrap_or}
+use Rattle.std.proofs.Common.{◌≡◌, ℕ, ◌+◌, ◌≤◌, Bool, true, false, cond, eqb, nat_eq, List, refl, sym, ◌∙◌, ap, subst, arith}
+use Rattle.std.specs.Prelude.{Option, Some, None, unwrap_or}
 use Rattle.std.specs.List.{IsDistinct}
 use Rattle.spec_forest.specs.Forest.{Forest, ids, levels, Found, nothing, a_leaf, a_group, find}
 use Rattle.spec_forest.specs.Changes.{put_into}
@@ -21,8 +21,8 @@ use Rattle.xl_doc.specs.declared.node.Body.{Body}
 use Rattle.xl_doc.specs.declared.node.Body.TheVariants.{Leaf, Group}
 use Rattle.xl_doc.specs.Nodes.{nodes_of, is_group_body, IsLeaf, IsGroup, MarksAgree}
 use Rattle.xl_edit.specs.Nodes.{one_node}
-use Rattle.xl_edit.proofs.Seen.{Sees, sees, ids-nodes_of}
-use Rattle.xl_edit.proofs.NodesMoved.{children-nodes_of, levels-nodes_of, nodes-put_into}
+use Rattle.xl_checks.proofs.Seen.{Sees, sees, ids-nodes_of}
+use Rattle.xl_checks.proofs.NodesMoved.{children-nodes_of, levels-nodes_of, nodes-put_into}
 
 pub no_group_seen : (id : ℕ) (found : Found Node Node) (seen : Found doc.Layer doc.Group) → Sees found seen → no_group id seen ≡ no_group id found
 no_group_seen id nothing seen s = ap (no_group id) s
@@ -58,10 +58,6 @@ levels_put parent place branch f distinct there deep low =
 pub both_none : {A : Type 0} → (a b : Option A) → first_some a b ≡ None → (a ≡ None) × (b ≡ None)
 both_none None b e = (refl, e)
 both_none (Some x) b e = cc
-
-pub length_or : (o : Option (List ℕ)) → unwrap_or (option_map length o) 0 ≡ length (unwrap_or o [])
-length_or None = refl
-length_or (Some xs) = refl
 
 -- a node that no rule misses is found in the tree
 pub found_there : (id : ℕ) (t : Forest Node Node) → MarksAgree t → no_node_found id (find id (nodes_of t)) ≡ None → no_node id (find id t) ≡ None

@@ -3,7 +3,6 @@ pub mod Calls
 pub mod Replies
 pub mod Applied
 pub mod Built
-pub mod Found
 pub mod Kept
 pub mod Paint
 pub mod Fields

@@ -1,5 +1,5 @@
 -- The bytes that an edit writes into the pixels or the mask of a layer.
-use Rattle.std.specs.Prelude.{◌≡◌, ℕ, ◌+◌, ◌*◌, false, List, length, slice_index, Option, Some, None, option_map, pos}
+use Rattle.std.specs.Prelude.{◌≡◌, ℕ, ◌+◌, ◌*◌, false, List, length, slice_index, Option, Some, None, option_map}
 use Rattle.spec_grid.specs.declared.Rect.{Rect}
 use Rattle.spec_document.specs.Plane.{Plane, byte_at}
 use Rattle.spec_document.specs.Document.{Document, Layer, Channel}
@@ -10,7 +10,7 @@ use Rattle.xl_tiles.specs.Written.{IsWithin, written}
 use Rattle.xl_edit.specs.declared.places.Site.{Site}
 use Rattle.xl_edit.specs.declared.places.Part.{Part}
 use Rattle.xl_edit.specs.declared.places.Part.TheVariants.{Pixels, Mask}
-use Rattle.xl_edit.specs.Found.{sheet_of_layer}
+use Rattle.xl_checks.specs.Found.{sheet_of_layer}
 
 -- the rectangle lies on the plane, and the bytes are as many as it has there
 pub record IsPieceOf (rect : Rect) (bytes : List ℕ) (p : Plane) : Type 0 where
@@ -53,10 +53,6 @@ site_of_sheet d s = record { x = s.x; y = s.y; indexed = is_indexed d.base }
 -- where its mask lies; no byte of it is a place of a colour map
 abbrev pub site_of_mask : Sheet → Site
 site_of_mask s = record { x = s.x; y = s.y; indexed = false }
-
--- a rectangle of the same sides at a column and row
-abbrev pub rect_from : (u v : ℕ) → Rect → Rect
-rect_from u v rect = record { x = pos u; y = pos v; w = rect.w; h = rect.h }
 
 -- what a fill, a write, a copy and the fill of a mask make of a layer
 abbrev pub fills : Document → Rect → (pixel : List ℕ) → Layer → Layer

@@ -9,10 +9,9 @@ ghost use Rattle.xl_edit.specs.Canvas.{AreFlat};
 ghost use Rattle.xl_tiles.specs.Written.{IsWithin};
 
 use crate::blank::zeros;
-use crate::checks::{check_colours, check_new_channel, check_select};
 use crate::refused::EditRefusedOrMemory;
-use crate::rules::check_channel;
 use std::alloc::{AllocError, Global};
+use xl_checks::{check_channel, check_colours, check_new_channel, check_select};
 use xl_doc::{Bytes, Channel, ColourMap, Document, Rect};
 use xl_tiles::repeated;
 

@@ -11,9 +11,9 @@ ghost use Rattle.xl_edit.specs.Channels.{IsChannelPiece, PaintsChannel};
 use crate::filling::filled_flat;
 use crate::places::Site;
 use crate::refused::EditRefusedOrMemory;
-use crate::rules::lies_on;
 use spec_edit::EditRefused;
 use std::alloc::{AllocError, Global};
+use xl_checks::lies_on;
 use xl_doc::{Channel, Channels, Document, Rect};
 
 /// Fills a rectangle of a channel with a byte, through the selection. Errors: `NoChannel`, `OutsideLayer`.

@@ -11,8 +11,8 @@ ghost use Rattle.xl_edit.specs.Fields.{layer_with, group_with, with_field};
 ghost use Rattle.xl_edit.specs.Kept.{KeepsLimits};
 
 use crate::refused::EditRefusedOrMemory;
-use crate::rules::{check_name, check_node, mode_at};
 use std::alloc::Global;
+use xl_checks::{check_name, check_node, mode_at};
 use xl_doc::{Bytes, Document, Mode, Node, NodeId, Tree};
 
 /// The kind of the property that keeps an opacity as a float, which newer programs prefer to the byte.

@@ -6,7 +6,7 @@ ghost use Rattle.spec_edit.specs.Refusal.{node, refusal};
 ghost use Rattle.xl_edit.specs.declared.places.Part.TheVariants.{Pixels};
 ghost use Rattle.xl_edit.specs.Applied.{IsCause, MakesBy};
 ghost use Rattle.xl_edit.specs.Filtered.{AreFiltered, colours_of, filters};
-ghost use Rattle.xl_edit.specs.Found.{IsLayer};
+ghost use Rattle.xl_checks.specs.Found.{IsLayer};
 ghost use Rattle.xl_edit.specs.Paint.{Paints};
 ghost use Rattle.xl_tiles.specs.Area.{bytes_in};
 ghost use Rattle.xl_tiles.specs.Block.{byte_after};
@@ -14,12 +14,12 @@ ghost use Rattle.xl_tiles.specs.Written.{IsWithin};
 
 use crate::filling::laid_or_given;
 use crate::painting::put;
-use crate::pixel_checks::filterable;
 use crate::pixels::site_of;
 use crate::places::Part;
 use crate::refused::EditRefusedOrMemory;
-use crate::weighing::{corner, old_bytes};
+use crate::weighing::old_bytes;
 use std::alloc::{AllocError, Global};
+use xl_checks::{corner, filterable};
 use xl_doc::{Document, Layer, NodeId, Rect};
 use xl_filters::Table;
 

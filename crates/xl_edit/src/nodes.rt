@@ -11,14 +11,14 @@ ghost use Rattle.xl_edit.specs.Applied.{at, Applies, Makes};
 ghost use Rattle.xl_edit.specs.Built.{HasNext};
 ghost use Rattle.xl_edit.specs.Kept.{KeepsLimits};
 ghost use Rattle.xl_edit.specs.Nodes.{one_node};
+ghost use Rattle.xl_tree.specs.declared.forest.TheConstants.{MAX_NODES};
 ghost use Rattle.xl_tree.specs.Ids.{IsNew};
 ghost use Rattle.xl_tree.specs.Refusals.{put_refusal};
 
 use crate::blank::{blank_group, blank_layer};
-use crate::checks::{check_new_group, check_new_layer};
 use crate::refused::EditRefusedOrMemory;
-use crate::rules::check_node;
 use std::alloc::{AllocError, Global};
+use xl_checks::{check_new_group, check_new_layer, check_node};
 use xl_doc::{Bytes, Document, Node, NodeId, Tree};
 use xl_tree::Branch;
 
@@ -101,7 +101,7 @@ pub(crate) fn new_layer(
 // Puts a node without children into a stack.
 fn put_node(doc: &mut Document, parent: NodeId, place: u32, id: NodeId, node: Node)
     requires new { IsNew id.0 doc.old.nodes }
-    requires few { size doc.old.nodes < 512 }
+    requires few { size doc.old.nodes < MAX_NODES }
     requires place { put_refusal parent.0 place doc.old.nodes ≡ None }
     requires deep { too_deep doc.old.nodes parent.0 1 ≡ None }
     requires limits { KeepsLimits doc.old (record doc.old { nodes = put_into parent.0 place (one_node id.0 node) doc.old.nodes }) }
@@ -114,7 +114,7 @@ fn put_node_in(tree: &mut Tree<Node>, parent: NodeId, place: u32, id: NodeId, no
     requires ids { IsDistinct nat_eq (ids tree.old) }
     requires marks { MarksAgree tree.old }
     requires new { IsNew id.0 (nodes_of tree.old) }
-    requires few { size (nodes_of tree.old) < 512 }
+    requires few { size (nodes_of tree.old) < MAX_NODES }
     requires place { put_refusal parent.0 place (nodes_of tree.old) ≡ None }
     requires deep { too_deep (nodes_of tree.old) parent.0 1 ≡ None }
     ensures done { nodes_of tree.new ≡ put_into parent.0 place (one_node id.0 node) (nodes_of tree.old) }

@@ -7,7 +7,7 @@ ghost use Rattle.spec_edit.specs.Effect.{with_plane};
 ghost use Rattle.spec_edit.specs.Refusal.{node};
 ghost use Rattle.xl_tiles.specs.Written.{written};
 ghost use Rattle.xl_doc.specs.Nodes.{nodes_of, layer_of, IsLeaf, MarksAgree};
-ghost use Rattle.xl_edit.specs.Found.{IsLayer, sheet_of_layer};
+ghost use Rattle.xl_checks.specs.Found.{IsLayer, sheet_of_layer};
 ghost use Rattle.xl_edit.specs.Paint.{IsPiece, IsMaskPiece, IsSheetPiece, with_piece, sheet_with};
 
 use crate::places::Part;

@@ -5,21 +5,20 @@ ghost use Rattle.spec_edit.specs.Refusal.{node, refusal};
 ghost use Rattle.xl_edit.specs.declared.places.Part.TheVariants.{Pixels, Mask};
 ghost use Rattle.xl_edit.specs.Applied.{IsCause, Makes};
 ghost use Rattle.xl_edit.specs.Filling.{IsNearby};
-ghost use Rattle.xl_edit.specs.Found.{IsLayer};
+ghost use Rattle.xl_checks.specs.Found.{IsLayer};
 ghost use Rattle.xl_tiles.specs.Area.{bytes_in};
 ghost use Rattle.xl_tiles.specs.Written.{IsWithin};
-ghost use Rattle.xl_edit.specs.Paint.{Paints, PaintsMask, fills, writes, copies, fills_mask, rect_from, site_of_sheet, site_of_mask};
+ghost use Rattle.xl_edit.specs.Paint.{Paints, PaintsMask, fills, writes, copies, fills_mask, site_of_sheet, site_of_mask};
+ghost use Rattle.xl_checks.specs.Rects.{rect_from};
 
-use crate::checks::fillable;
 use crate::filling::{filled, filled_flat, laid, laid_or_given};
 use crate::painting::put;
-use crate::pixel_checks::{copyable, mask_fillable, moved, writable};
 use crate::places::{Part, Site};
 use crate::refused::EditRefusedOrMemory;
-use crate::rules::is_indexed;
 use crate::weighing::{is_whole, old_bytes};
 use spec_edit::EditRefused;
 use std::alloc::{AllocError, Global};
+use xl_checks::{copyable, fillable, is_indexed, mask_fillable, moved, writable};
 use xl_doc::{Document, Layer, NodeId, Rect};
 
 /// Where the pixels of a layer lie.

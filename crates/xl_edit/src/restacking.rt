@@ -7,12 +7,12 @@ ghost use Rattle.spec_edit.specs.Refusal.{bad_place, children, inside, no_node, 
 ghost use Rattle.xl_doc.specs.Nodes.{nodes_of, MarksAgree};
 ghost use Rattle.xl_edit.specs.Applied.{Makes};
 ghost use Rattle.xl_edit.specs.Children.{is_at_top, is_child};
-ghost use Rattle.xl_edit.specs.Found.{outcome};
+ghost use Rattle.xl_checks.specs.Found.{outcome};
 ghost use Rattle.xl_tree.specs.Refusals.{restack_refusal};
 
 use crate::refused::EditRefusedOrMemory;
-use crate::rules::{check_depth, check_node, check_parent, child_count, know_limits};
 use spec_edit::EditRefused;
+use xl_checks::{check_depth, check_node, check_parent, child_count, know_limits};
 use xl_doc::{Document, Node, NodeId, Tree};
 use xl_tree::{Split, Stack};
 

@@ -6,41 +6,23 @@ ghost use Rattle.xl_edit.specs.Filling.{weight_at, byte_in, in_rows, AreRows, Ha
 ghost use Rattle.xl_tiles.specs.Area.{bytes_in};
 ghost use Rattle.xl_tiles.specs.Sized.{IsSized};
 ghost use Rattle.xl_tiles.specs.Written.{IsWithin};
+ghost use Rattle.xl_grid.specs.declared.tiling.TheConstants.{MAX_SIDE};
 
 use crate::mixing::{mix_at, spread, threshold};
 use crate::places::Site;
 use std::alloc::{AllocError, Global};
+use xl_checks::corner;
 use xl_doc::{Document, Plane, Rect};
 use xl_tiles::ROOM;
 
 /// The room that a row of the selection takes.
 const ROW_ROOM: usize = 40960;
 
-// Tells contracts of the sides of a plane.
-fn told(plane: &Plane)
-    ensures { IsSized plane.now }
-{
-    let _width = plane.width();
-}
-
-/// The corner of a rectangle of a plane.
-pub(crate) fn corner(plane: &Plane, rect: Rect) -> (u32, u32)
-    requires { IsWithin plane.now.width plane.now.height rect }
-    ensures x { result.0 ≡ part_above_0 rect.x }
-    ensures y { result.1 ≡ part_above_0 rect.y }
-    ensures across { result.0 + rect.w ≤ plane.now.width }
-    ensures down { result.1 + rect.h ≤ plane.now.height }
-    ensures sized { IsSized plane.now }
-{
-    told(plane);
-    (rect.x as u32, rect.y as u32)
-}
-
 // A column and row of a plane on the canvas.
 fn on_canvas(site: Site, x: u32, y: u32) -> (i32, i32)
     requires site { IsNearby site }
-    requires column { x ≤ 8192 }
-    requires row { y ≤ 8192 }
+    requires column { x ≤ MAX_SIDE }
+    requires row { y ≤ MAX_SIDE }
     ensures column { result.0 ≡ site.x +ℤ pos x }
     ensures row { result.1 ≡ site.y +ℤ pos y }
     ensures near { IsNear result.0 }
@@ -52,9 +34,9 @@ fn on_canvas(site: Site, x: u32, y: u32) -> (i32, i32)
 fn weigh_pixels(doc: &Document, site: Site, x: u32, y: u32, weights: &mut [u8], room: &mut [u8])
     requires site { IsNearby site }
     requires room { length room.old ≡ 40960 }
-    requires column { x ≤ 8192 }
-    requires row { y ≤ 8192 }
-    requires short { length weights.old ≤ 8192 }
+    requires column { x ≤ MAX_SIDE }
+    requires row { y ≤ MAX_SIDE }
+    requires short { length weights.old ≤ MAX_SIDE }
     ensures size { length weights.new ≡ length weights.old }
     ensures each { (k : ℕ) → k < length weights.old → slice_index weights.new k ≡ weight_at doc.now site (x + k) y }
 {
@@ -78,9 +60,9 @@ fn weigh_row(
 )
     requires site { IsNearby site }
     requires room { length room.old ≡ 40960 }
-    requires column { x ≤ 8192 }
-    requires row { y ≤ 8192 }
-    requires short { length weights.old ≤ 8192 }
+    requires column { x ≤ MAX_SIDE }
+    requires row { y ≤ MAX_SIDE }
+    requires short { length weights.old ≤ MAX_SIDE }
     requires wide { length wide.old ≡ length weights.old * bpp }
     ensures each { (k c : ℕ) → k < length weights.old → c < bpp → slice_index wide.new (k * bpp + c) ≡ weight_at doc.now site (x + k) y }
 {

@@ -4,7 +4,7 @@ use Rattle.spec_edit.specs.Edit as edits
 use Rattle.spec_edit.specs.Refusal.{node}
 use Rattle.xl_edit.specs.declared.places.Part.TheVariants.{Pixels}
 use Rattle.xl_edit.specs.Filtered.{filters}
-use Rattle.xl_edit.specs.Found.{IsLayer}
+use Rattle.xl_checks.specs.Found.{IsLayer}
 use Rattle.xl_edit.specs.Paint.{Paints}
 use Rattle.xl_edit.proofs.PaintMade.{paint_fits, paint_made}
 use Rattle.xl_edit.proofs.filtering.filter.Goals as goal

@@ -1,5 +1,5 @@
 -- What was asked of the layer is said of the document's node.
-use Rattle.std.proofs.Common.{◌≡◌, ◌*◌, length, ◌∙◌, ap, sym, subst}
+use Rattle.std.proofs.Common.{◌*◌, ◌∙◌, ap, sym, subst}
 use Rattle.spec_edit.specs.Refusal.{node}
 use Rattle.xl_doc.specs.Sheet.{Sheet}
 use Rattle.xl_edit.specs.declared.places.Part.TheVariants.{Pixels}
@@ -8,7 +8,7 @@ use Rattle.xl_edit.specs.Filling.{AreRows, byte_in, in_rows}
 use Rattle.xl_edit.specs.Filtered.{filters}
 use Rattle.xl_edit.specs.Paint.{Paints}
 use Rattle.xl_edit.proofs.FilteredRows.{filter_painted}
-use Rattle.xl_edit.proofs.LayerFound.{of_sheet}
+use Rattle.xl_checks.proofs.LayerFound.{of_sheet}
 use Rattle.xl_edit.proofs.filtering.filter_bytes.Goals as goal
 
 pub laid_or_given-requires-clause-new : goal.laid_or_given-requires-clause-new

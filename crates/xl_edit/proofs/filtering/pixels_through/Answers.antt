@@ -1,4 +1,4 @@
-use Rattle.std.proofs.Common.{length, arith}
+use Rattle.std.proofs.Common.{arith}
 use Rattle.xl_edit.proofs.FilteredRows.{none_through, pixel_through}
 use Rattle.xl_edit.proofs.Weights.{pixel_fits}
 use Rattle.xl_edit.proofs.filtering.pixels_through.Goals as goal

@@ -3,11 +3,12 @@ use Rattle.std.proofs.Common.{◌≡◌, ℕ, ◌<◌, cond, sym, ◌∙◌, ap,
 use Rattle.std.specs.Prelude.{Ok, Err, is_ok}
 use Rattle.spec_forest.specs.Forest.{Forest}
 use Rattle.spec_forest.specs.Changes.{put_into}
+use Rattle.xl_tree.specs.declared.forest.TheConstants.{MAX_NODES}
 use Rattle.xl_tree.specs.Places.{alone}
 use Rattle.xl_tree.specs.Refusals.{answer_with}
 use Rattle.xl_doc.specs.declared.node.Node.{Node}
 use Rattle.xl_doc.specs.Nodes.{nodes_of, is_group_body, MarksAgree}
-use Rattle.xl_edit.proofs.NodesMoved.{size-nodes_of, nodes-put_into, marks-put_into}
+use Rattle.xl_checks.proofs.NodesMoved.{size-nodes_of, nodes-put_into, marks-put_into}
 use Rattle.xl_edit.proofs.NewNodes.{new_in_tree}
 use Rattle.xl_edit.proofs.Stacks.{put_refusal-nodes_of, low_with_one, marks_one}
 use Rattle.xl_edit.proofs.nodes.put_node_in.Goals as goal
@@ -16,7 +17,7 @@ pub insert-requires-clause-new : goal.insert-requires-clause-new
 insert-requires-clause-new c = new_in_tree c.args.id.0 c.args.tree.now c.requires.marks c.requires.new
 
 pub insert-requires-clause-few : goal.insert-requires-clause-few
-insert-requires-clause-few c = let P : ℕ → Type 0 = λ n. n < 512 in subst P (size-nodes_of c.args.tree.now) c.requires.few
+insert-requires-clause-few c = let P : ℕ → Type 0 = λ n. n < MAX_NODES in subst P (size-nodes_of c.args.tree.now) c.requires.few
 
 pub insert-requires-clause-low : goal.insert-requires-clause-low
 insert-requires-clause-low c = λ free.

@@ -4,7 +4,7 @@ use Rattle.std.specs.Prelude.{Ok, Err, is_ok}
 use Rattle.spec_forest.specs.Changes.{without}
 use Rattle.xl_tree.specs.Refusals.{answer_of}
 use Rattle.xl_doc.specs.Nodes.{nodes_of, MarksAgree}
-use Rattle.xl_edit.proofs.NodesMoved.{nodes-without, marks-without}
+use Rattle.xl_checks.proofs.NodesMoved.{nodes-without, marks-without}
 use Rattle.xl_edit.proofs.Stacks.{found_there}
 use Rattle.xl_edit.proofs.nodes.take_node.Goals as goal
 

@@ -5,10 +5,10 @@ use Rattle.spec_forest.specs.Forest.{find}
 use Rattle.xl_tree.specs.Reads.{node_of}
 use Rattle.xl_tree.specs.Writes.{with_node}
 use Rattle.xl_edit.specs.Paint.{IsPiece, with_piece}
-use Rattle.xl_edit.proofs.Seen.{IsLeafAt}
+use Rattle.xl_checks.proofs.Seen.{IsLeafAt}
 use Rattle.xl_edit.proofs.NodesWritten.{layer_written, marks-with_node-leaf, with_node-same}
 use Rattle.xl_edit.proofs.Lent.{lent, not_lent}
-use Rattle.xl_edit.proofs.LayerFound.{not_absent, leaf_at, holds_of_leaf}
+use Rattle.xl_checks.proofs.LayerFound.{not_absent, leaf_at, holds_of_leaf}
 use Rattle.xl_edit.proofs.painting.put_at.Goals as goal
 
 pub unreachable-requires : goal.unreachable-requires

@@ -2,7 +2,7 @@
 use Rattle.spec_edit.specs.Refusal.{node}
 use Rattle.xl_edit.specs.declared.places.Part.TheVariants.{Pixels}
 use Rattle.xl_edit.specs.Paint.{Paints, writes}
-use Rattle.xl_edit.proofs.LayerFound.{of_sheet}
+use Rattle.xl_checks.proofs.LayerFound.{of_sheet}
 use Rattle.xl_edit.proofs.PaintMade.{given_painted}
 use Rattle.xl_edit.proofs.pixels.check_given.Goals as goal
 

@@ -5,8 +5,9 @@ use Rattle.xl_doc.specs.Sheet.{Sheet}
 use Rattle.xl_edit.specs.declared.places.Part.TheVariants.{Pixels}
 use Rattle.xl_edit.specs.declared.places.Site.{Site}
 use Rattle.xl_edit.specs.Filling.{AreRows, byte_in, in_rows}
-use Rattle.xl_edit.specs.Paint.{Paints, copies, rect_from}
-use Rattle.xl_edit.proofs.LayerFound.{of_sheet}
+use Rattle.xl_edit.specs.Paint.{Paints, copies}
+use Rattle.xl_checks.specs.Rects.{rect_from}
+use Rattle.xl_checks.proofs.LayerFound.{of_sheet}
 use Rattle.xl_edit.proofs.MixedRows.{old_length}
 use Rattle.xl_edit.proofs.PaintMade.{copy_painted}
 use Rattle.xl_edit.proofs.pixels.copy_bytes.Goals as goal

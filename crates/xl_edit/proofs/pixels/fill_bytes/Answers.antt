@@ -7,7 +7,7 @@ use Rattle.xl_edit.specs.declared.places.Part.TheVariants.{Pixels}
 use Rattle.xl_edit.specs.declared.places.Site.{Site}
 use Rattle.xl_edit.specs.Filling.{AreRows, byte_in}
 use Rattle.xl_edit.specs.Paint.{Paints, fills}
-use Rattle.xl_edit.proofs.LayerFound.{of_sheet}
+use Rattle.xl_checks.proofs.LayerFound.{of_sheet}
 use Rattle.xl_edit.proofs.PaintMade.{pixels_painted}
 use Rattle.xl_edit.proofs.pixels.fill_bytes.Goals as goal
 

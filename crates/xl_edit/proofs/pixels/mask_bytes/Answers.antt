@@ -2,7 +2,7 @@
 use Rattle.spec_edit.specs.Refusal.{node}
 use Rattle.xl_edit.specs.declared.places.Part.TheVariants.{Mask}
 use Rattle.xl_edit.specs.Paint.{Paints, fills_mask}
-use Rattle.xl_edit.proofs.LayerFound.{of_sheet}
+use Rattle.xl_checks.proofs.LayerFound.{of_sheet}
 use Rattle.xl_edit.proofs.PaintMade.{mask_painted}
 use Rattle.xl_edit.proofs.pixels.mask_bytes.Goals as goal
 

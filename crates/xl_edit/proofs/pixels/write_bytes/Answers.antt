@@ -6,7 +6,7 @@ use Rattle.xl_edit.specs.declared.places.Part.TheVariants.{Pixels}
 use Rattle.xl_edit.specs.declared.places.Site.{Site}
 use Rattle.xl_edit.specs.Filling.{AreRows, byte_in, in_rows}
 use Rattle.xl_edit.specs.Paint.{Paints, writes}
-use Rattle.xl_edit.proofs.LayerFound.{of_sheet}
+use Rattle.xl_checks.proofs.LayerFound.{of_sheet}
 use Rattle.xl_edit.proofs.PaintMade.{write_painted}
 use Rattle.xl_edit.proofs.pixels.write_bytes.Goals as goal
 
