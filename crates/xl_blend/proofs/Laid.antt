@@ -178,6 +178,16 @@ blended_by_normal mode below above blended result small opaque blended_is result
     let colours = pixel_by (blend mode below.r above.r) (blend mode below.g above.g) (blend mode below.b above.b) above.a in
     result_is ∙ ap (over_normal below) blended_is ∙ over_opaque_is below colours small opaque ∙ sym (blended_over_opaque mode below above small opaque)
 
+-- the same by three means
+pub blended_by_bytes : (mode : Mode) (below above result : Pixel) (r g b : ℕ) → above.a ≤ 255 → below.a ≡ 255
+    → r ≡ mean 255 above.a (blend mode below.r above.r) below.r → g ≡ mean 255 above.a (blend mode below.g above.g) below.g → b ≡ mean 255 above.a (blend mode below.b above.b) below.b
+    → result ≡ record { r = r; g = g; b = b; a = 255 }
+    → result ≡ over_blended mode below above
+blended_by_bytes mode below above result r g b small opaque r_is g_is b_is result_is =
+    let made = pixel_by (mean 255 above.a (blend mode below.r above.r) below.r) (mean 255 above.a (blend mode below.g above.g) below.g) (mean 255 above.a (blend mode below.b above.b) below.b) 255 in
+    let parts : pixel_by r g b 255 ≡ made = rw (r_is, g_is, b_is) refl in
+    result_is ∙ parts ∙ sym (blended_over_opaque mode below above small opaque)
+
 chosen_either : (test : Bool) (p q r : Pixel) → (test ≡ true → r ≡ p) → (test ≡ false → q ≡ r) → cond test p q ≡ r
 chosen_either true p q r first second = sym (first refl)
 chosen_either false p q r first second = second refl

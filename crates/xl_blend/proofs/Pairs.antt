@@ -25,7 +25,7 @@ high_bytes_of_pair x y x_small y_small =
     rw (moved, bytes) (omega arith)
 
 -- the rounded quotient by 255, by two shifts
-rounded : (n : ℕ) → n ≤ 65025 → (n + 128 + (n + 128) / 256) / 256 ≡ (2 * n + 255) / 510
+pub rounded : (n : ℕ) → n ≤ 65025 → (n + 128 + (n + 128) / 256) / 256 ≡ (2 * n + 255) / 510
 rounded n small = omega arith
 
 -- the same for two numbers in one word
@@ -36,7 +36,7 @@ rounded_pair m n m_small n_small =
     let second : bit_and (pair (m + 128 + (m + 128) / 256) (n + 128 + (n + 128) / 256) / 256) 16711935 ≡ pair ((m + 128 + (m + 128) / 256) / 256) ((n + 128 + (n + 128) / 256) / 256) = high_bytes_of_pair (m + 128 + (m + 128) / 256) (n + 128 + (n + 128) / 256) (omega arith) (omega arith) in
     rw (first, added, second, rounded m m_small, rounded n n_small) refl
 
-weighed : (part a b : ℕ) → part ≤ 255 → a ≤ 255 → b ≤ 255 → a * part + b * (255 - part) ≤ 65025
+pub weighed : (part a b : ℕ) → part ≤ 255 → a ≤ 255 → b ≤ 255 → a * part + b * (255 - part) ≤ 65025
 weighed part a b part_small a_small b_small =
     omega (arith, mul-le-mul_right part a_small, mul-le-mul_right (255 - part) b_small)
 

@@ -19,7 +19,7 @@ pub fn blend(mode: Mode, i: u8, m: u8) -> u8
         Mode::Multiply => mul_bytes(i, m),
         Mode::Screen => screen(i, m),
         Mode::Overlay => overlay(i, m),
-        Mode::Difference => i.abs_diff(m),
+        Mode::Difference => i.max(m) - i.min(m),
         Mode::Addition => i + m,
         Mode::Subtract => i.saturating_sub(m),
         Mode::DarkenOnly => i.min(m),

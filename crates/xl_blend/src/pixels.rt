@@ -7,7 +7,7 @@ use crate::bytes::{mean, mean_by};
 use crate::colours::blend;
 use crate::count::Steps;
 use crate::normal::{over_normal, over_opaque};
-use crate::words::{alpha, mul_bytes, of_bytes, wide_of};
+use crate::words::{alpha, mix_byte, mul_bytes, of_bytes, wide_of};
 use spec_blend::{Mode, Pixel};
 use std::sync::ledger::Ledger;
 
@@ -60,9 +60,9 @@ pub fn blend_by(mode: Mode, below: Pixel, above: Pixel, whole: u32, reciprocal: 
     of_bytes(r, g, b, lower.a)
 }
 
-/// The same over an opaque pixel.
+/// The same over an opaque pixel, by pairs of bytes.
 #[inline(always)]
-pub fn blend_opaque(mode: Mode, below: Pixel, above: Pixel) -> Pixel
+fn blend_by_pairs(mode: Mode, below: Pixel, above: Pixel) -> Pixel
     requires { below.a ≡ 255 }
     ensures { result ≡ laid_blended mode below above }
 {
@@ -72,6 +72,36 @@ pub fn blend_opaque(mode: Mode, below: Pixel, above: Pixel) -> Pixel
     let g = u32::from(blend(mode, lower.g as u8, upper.g as u8));
     let b = u32::from(blend(mode, lower.b as u8, upper.b as u8));
     over_opaque(below, of_bytes(r, g, b, upper.a))
+}
+
+/// The same over an opaque pixel, by single bytes.
+#[inline(always)]
+fn blend_by_bytes(mode: Mode, below: Pixel, above: Pixel) -> Pixel
+    requires { below.a ≡ 255 }
+    ensures { result ≡ laid_blended mode below above }
+{
+    let lower = wide_of(below);
+    let upper = wide_of(above);
+    let red = u32::from(blend(mode, lower.r as u8, upper.r as u8));
+    let green = u32::from(blend(mode, lower.g as u8, upper.g as u8));
+    let blue = u32::from(blend(mode, lower.b as u8, upper.b as u8));
+    let r = mix_byte(upper.a, red, lower.r);
+    let g = mix_byte(upper.a, green, lower.g);
+    let b = mix_byte(upper.a, blue, lower.b);
+    of_bytes(r, g, b, 255)
+}
+
+/// The same over an opaque pixel. Pairs take less time, but where a quotient is looked up the loop is compiled to vectors only by
+/// single bytes.
+#[inline(always)]
+pub fn blend_opaque(mode: Mode, below: Pixel, above: Pixel) -> Pixel
+    requires { below.a ≡ 255 }
+    ensures { result ≡ laid_blended mode below above }
+{
+    match mode {
+        Mode::Divide | Mode::Dodge => blend_by_bytes(mode, below, above),
+        _ => blend_by_pairs(mode, below, above),
+    }
 }
 
 /// A pixel laid over another in a mode.

@@ -3,7 +3,7 @@
 //! Loops over words, in place of fields, are compiled to vector instructions.
 ghost use Rattle.std.specs.Prelude.{◌≡◌, ◌≤◌, ◌%◌, ◌/◌};
 ghost use Rattle.spec_blend.specs.Blend.{mul as product};
-ghost use Rattle.spec_blend.specs.Over.{IsPixel};
+ghost use Rattle.spec_blend.specs.Over.{IsPixel, mean as laid_mean};
 ghost use Rattle.xl_blend.specs.Words.{word_of, pixel_of, pair, mixed_pair};
 
 use spec_blend::Pixel;
@@ -119,6 +119,19 @@ pub fn mul_bytes(a: u32, b: u32) -> u32
     ensures part_of_left { result ≤ a }
 {
     let sum = a * b + 128;
+    sum + (sum >> 8) >> 8
+}
+
+/// The mean of two bytes, where the one above has the weight `part` of 255.
+#[inline(always)]
+pub fn mix_byte(part: u32, above: u32, below: u32) -> u32
+    requires part { part ≤ 255 }
+    requires above { above ≤ 255 }
+    requires below { below ≤ 255 }
+    ensures value { result ≡ laid_mean 255 part above below }
+    ensures byte { result ≤ 255 }
+{
+    let sum = above * part + below * (255 - part) + 128;
     sum + (sum >> 8) >> 8
 }
 

@@ -11,7 +11,17 @@ pub const MAX_CODES: u32 = 8192;
 // A short code is put by one write of so many bytes, where the plane has them: the codes behind it put the rest.
 const BLOCK: usize = 32;
 
+// Out of line, or both ways of writing a run become one call with a length.
+#[inline(never)]
+fn put_long_run(out: &mut [u8], at: usize, len: usize, value: u8)
+    requires { at + len ≤ length out.old }
+    ensures { take (at + len) out.new ≡ take at out.old ++ replicate len value }
+{
+    out[at..at + len].fill(value);
+}
+
 // What stands in the plane behind the run is unspecified.
+#[inline(always)]
 fn put_run(out: &mut [u8], at: usize, len: usize, value: u8)
     requires { at + len ≤ length out.old }
     ensures { take (at + len) out.new ≡ take at out.old ++ replicate len value }
@@ -19,7 +29,7 @@ fn put_run(out: &mut [u8], at: usize, len: usize, value: u8)
     if len <= BLOCK && out.len() - at >= BLOCK {
         out[at..at + BLOCK].fill(value);
     } else {
-        out[at..at + len].fill(value);
+        put_long_run(out, at, len, value);
     }
 }
 
