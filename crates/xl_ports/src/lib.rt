@@ -1,11 +1,13 @@
-//! The outside as the engine sees it: a source of bytes, a sink for bytes, and a shelf of files.
+//! The outside as the engine sees it: a source of bytes, a sink for bytes, a shelf of files, and a gate that sessions and
+//! workers pass.
 //!
-//! Each is a trait with a count of its faults, so that whoever calls it can say that a failure was the outside's.
-//! What it holds is known where the implementation says so, as those in memory do. Here are also the loops over
-//! these calls that take all the bytes.
+//! Each but the gate is a trait with a count of its faults, so that whoever calls it can say that a failure was the
+//! outside's. What it holds is known where the implementation says so, as those in memory do. Here are also the loops
+//! over these calls that take all the bytes.
 #![tactic(auto)]
 
 mod failed;
+mod gate;
 mod loading;
 mod reading;
 mod room;
@@ -15,6 +17,7 @@ mod source;
 mod writing;
 
 pub use failed::{Failed, FailedOrMemory};
+pub use gate::{Actor, Gate, Place};
 pub use loading::load_all;
 pub use reading::read_all;
 pub use shelf::Shelf;

@@ -1,14 +1,16 @@
-//! The real devices: standard input, standard output, and files by their paths.
+//! The real devices: standard input, standard output, files by their paths, and a gate that holds nobody.
 //!
-//! They count their faults. What they hold is not known to contracts, and nothing of it is proved.
+//! The devices count their faults. What they hold is not known to contracts, and nothing of it is proved.
 #![tactic(auto)]
 
 mod drafts;
 mod file_shelf;
+mod open_gate;
 mod places;
 mod std_sink;
 mod std_source;
 
 pub use file_shelf::FileShelf;
+pub use open_gate::OpenGate;
 pub use std_sink::StdSink;
 pub use std_source::StdSource;
