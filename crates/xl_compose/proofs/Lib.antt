@@ -8,3 +8,10 @@ pub mod StackRows
 pub mod Recomposed
 pub mod PictureRows
 pub mod Costs
+pub mod PieceRuns
+pub mod AddedPieces
+pub mod LevelRooms
+pub mod PictureBytes
+pub mod CleanGroups
+pub mod JobPieces
+pub mod SampleSound

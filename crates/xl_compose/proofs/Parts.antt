@@ -28,15 +28,15 @@ module _ (xs ys : List Pixel) (a n : ℕ) (many : length ys ≡ n) (fits : a + n
   front : length (take a xs) ≡ a
   front = length-take-le a xs (omega arith)
 
-  put_before : (k : ℕ) → k < a → pixel (put_mid a n xs ys) k ≡ pixel xs k
+  pub put_before : (k : ℕ) → k < a → pixel (put_mid a n xs ys) k ≡ pixel xs k
   put_before k h = get_or_append_left (take a xs) (ys ++ post_of a n xs) clear k (omega (arith, front)) ∙ get_or-take a xs k clear h
 
-  put_inside : (k : ℕ) → a ≤ k → k < a + n → pixel (put_mid a n xs ys) k ≡ pixel ys (k - a)
+  pub put_inside : (k : ℕ) → a ≤ k → k < a + n → pixel (put_mid a n xs ys) k ≡ pixel ys (k - a)
   put_inside k low high =
       get_or-append_right (take a xs) (ys ++ post_of a n xs) a k clear front low
       ∙ get_or_append_left ys (post_of a n xs) clear (k - a) (omega (arith, many))
 
-  put_after : (k : ℕ) → a + n ≤ k → pixel (put_mid a n xs ys) k ≡ pixel xs k
+  pub put_after : (k : ℕ) → a + n ≤ k → pixel (put_mid a n xs ys) k ≡ pixel xs k
   put_after k h =
       let there : a + (n + (k - a - n)) ≡ k = omega arith in
       get_or-append_right (take a xs) (ys ++ post_of a n xs) a k clear front (omega arith)

@@ -6,3 +6,10 @@ pub mod Masks
 pub mod Source
 pub mod Neat
 pub mod Rows
+pub mod Job
+pub mod Pieces
+pub mod NodePieces
+pub mod Added
+pub mod Levels
+pub mod JobRoom
+pub mod Sample

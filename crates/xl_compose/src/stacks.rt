@@ -25,7 +25,8 @@ pub const CLEAR: Pixel = Pixel {
     a: 0,
 };
 
-fn clear_row(row: &mut [Pixel])
+/// Clears all pixels.
+pub fn clear_row(row: &mut [Pixel])
     ensures length { length row.new ≡ length row.old }
     ensures each { (k : ℕ) → pixel row.new k ≡ clear }
 {
@@ -34,8 +35,8 @@ fn clear_row(row: &mut [Pixel])
     }
 }
 
-// The bottommost visible node is laid as normal.
-fn mode_above(some_under: bool, mode: Mode) -> Mode
+/// The bottommost visible node is laid as normal.
+pub fn mode_above(some_under: bool, mode: Mode) -> Mode
     ensures { result ≡ mode_over some_under mode }
 {
     if some_under { mode } else { Mode::Normal }

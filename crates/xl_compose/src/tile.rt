@@ -4,12 +4,14 @@ ghost use Rattle.spec_forest.specs.Forest.{stack_at};
 ghost use Rattle.spec_grid.specs.Grid.{is_on_grid};
 ghost use Rattle.spec_picture.specs.Picture.{project};
 ghost use Rattle.xl_compose.specs.Cost.{visible_below};
+ghost use Rattle.xl_compose.specs.Rows.{row_bytes};
 
+use crate::bytes::write_row;
 use crate::recompose::Composer;
 use std::alloc::{AllocError, Global};
 use std::marker::Model;
 use std::sync::ledger::Ledger;
-use xl_blend::Steps;
+use xl_blend::{Pixel, Steps};
 use xl_doc::{Document, MAX_SIDE, NodeId, TileAt};
 use xl_grid::tile_rect;
 
@@ -64,6 +66,15 @@ impl Picture {
         ensures { length self.new ≡ len }
     {
         self.bytes.resize(len, 0).unwrap();
+    }
+
+    /// Takes over the bytes of pixels. It takes no memory.
+    pub(crate) fn set_pixels(&mut self, pixels: &[Pixel])
+        requires { length pixels.now ≤ 4096 }
+        ensures { self.new ≡ row_bytes pixels.now }
+    {
+        self.set_len(4 * pixels.len());
+        write_row(pixels, self.bytes.as_mut_slice());
     }
 }
 

@@ -1,0 +1,117 @@
+//! Pieces laid one upon another.
+ghost use Rattle.std.specs.Prelude.{◌≡◌, ◌+◌, ◌*◌, ◌<◌, ◌≤◌, ◌⊎◌, ℕ, length};
+ghost use Rattle.spec_blend.specs.Over.{clear, over};
+ghost use Rattle.spec_picture.specs.Source.{faded};
+ghost use Rattle.xl_compose.specs.Laid.{pixel};
+ghost use Rattle.xl_compose.specs.Levels.{AreIn, AreShown, IsIn, IsLaid, points};
+ghost use Rattle.xl_compose.specs.Neat.{IsNeat};
+ghost use Rattle.xl_compose.specs.Pieces.{kept_pixel, weight, weights};
+
+use crate::lay::lay_part;
+use crate::own::own_row;
+use crate::pieces::{Piece, What};
+use crate::source::lay_layer;
+use crate::span::Band;
+use crate::stacks::clear_row;
+use std::sync::ledger::Ledger;
+use xl_blend::{Mode, Pixel, Steps, fade_row};
+
+// Lays the picture of n pixels that follows the one at a place over it, with an opacity.
+fn lay_next<L: Ledger>(
+    mode: Mode,
+    opacity: u8,
+    at: usize,
+    n: usize,
+    room: &mut [Pixel],
+    source: &mut [Pixel],
+    steps: &mut Steps<L>,
+)
+    requires room { at + n + n ≤ length room.old }
+    requires source { n ≤ length source.old }
+    ensures length { length room.new ≡ length room.old }
+    ensures here { (i : ℕ) → i < n → pixel room.new (at + i) ≡ over mode (pixel room.old (at + i)) (faded opacity (pixel room.old (at + n + i))) }
+    ensures beside { (i : ℕ) → (i < at) ⊎ (at + n ≤ i) → pixel room.new i ≡ pixel room.old i }
+    ensures cost { steps.new ≡ steps.old + n }
+{
+    let above = &mut source[..n];
+    above.copy_from_slice(&room[at + n..at + n + n]);
+    fade_row(above, opacity);
+    lay_part(mode, room, at, above, steps);
+}
+
+// The pixels of a picture that was kept.
+fn kept_row(bytes: &[u8], row: &mut [Pixel])
+    requires { length bytes.now ≡ 4 * length row.old }
+    ensures length { length row.new ≡ length row.old }
+    ensures each { (k : ℕ) → k < length row.old → pixel row.new k ≡ kept_pixel bytes.now k }
+{
+    own_row(1, &[], bytes, row);
+}
+
+// Lays a piece. The room holds the pictures of all levels, one after another.
+fn lay_piece<L: Ledger>(
+    colours: &[[u8; 3]],
+    piece: &Piece,
+    band: Band,
+    room: &mut [Pixel],
+    source: &mut [Pixel],
+    bytes: &mut [u8],
+    steps: &mut Steps<L>,
+)
+    requires right { band.x + band.w ≤ 8192 }
+    requires below { band.y + band.h ≤ 8192 }
+    requires high { band.h ≤ 64 }
+    requires fits { IsIn (length room.old) band piece.now }
+    requires row { band.w ≤ length source.old }
+    requires source { points band ≤ length source.old }
+    requires bytes { 32768 + 320 * band.w ≤ length bytes.old }
+    requires neat { (v k : ℕ) → v < band.h → k < band.w → IsNeat (pixel room.old (piece.now.level * points band + (v * band.w + k))) }
+    ensures length { length room.new ≡ length room.old }
+    ensures laid { IsLaid colours.now band piece.now room.old room.new }
+    ensures cost { steps.new ≤ steps.old + weight piece.now.what * points band }
+{
+    let n = band.h as usize * band.w as usize;
+    let at = piece.level as usize * n;
+    match &piece.what {
+        What::Blank => clear_row(&mut room[at..at + n]),
+        What::Leaf {
+            mode,
+            opacity,
+            layer,
+        } => {
+            let picture = &mut room[at..at + n];
+            lay_layer(
+                *mode, colours, *opacity, layer, band, picture, source, bytes, steps,
+            );
+        }
+        What::Clean { picture } => kept_row(picture.bytes(), &mut room[at..at + n]),
+        What::Stack { mode, opacity } => lay_next(*mode, *opacity, at, n, room, source, steps),
+    }
+}
+
+/// Lays pieces upon pictures without anything. The room holds the pictures of all levels, one after another, and `source` one picture.
+pub fn lay_pieces<L: Ledger>(
+    colours: &[[u8; 3]],
+    pieces: &[Piece],
+    band: Band,
+    room: &mut [Pixel],
+    source: &mut [Pixel],
+    bytes: &mut [u8],
+    steps: &mut Steps<L>,
+)
+    requires right { band.x + band.w ≤ 8192 }
+    requires below { band.y + band.h ≤ 8192 }
+    requires high { band.h ≤ 64 }
+    requires fit { AreIn (length room.old) band pieces.now }
+    requires row { band.w ≤ length source.old }
+    requires source { points band ≤ length source.old }
+    requires bytes { 32768 + 320 * band.w ≤ length bytes.old }
+    requires blank { (i : ℕ) → pixel room.old i ≡ clear }
+    ensures length { length room.new ≡ length room.old }
+    ensures shown { AreShown colours.now band pieces.now room.new }
+    ensures cost { steps.new ≤ steps.old + weights pieces.now * points band }
+{
+    for i in 0..pieces.len() {
+        lay_piece(colours, &pieces[i], band, room, source, bytes, steps);
+    }
+}
