@@ -19,11 +19,12 @@ use Rattle.spec_world.specs.declared.SaveEnd.TheVariants.{Done, Fault, Memory}
 use Rattle.spec_world.specs.World.{World, Job, document_now, result_of, stack_ids, first_world, free_entries}
 use Rattle.spec_world.specs.Events.{Event, submits, takes, finishes, begins_save, ends_save, save_starts, start_where, end_reply, end_where, MayHappen, after, Happen, place_of}
 use Rattle.spec_world.specs.Right.{IsJob, InstallsRight, IsRight}
-use Rattle.spec_world.proofs.RightSlot.{DamageIsSound, DamageIsAlwaysSound, IsRightSlot}
+use Rattle.spec_world.specs.RightSlot.{DamageIsSound, DamageIsAlwaysSound, IsRightSlot}
 use Rattle.spec_world.proofs.Lasting.{unchanged}
 use Rattle.spec_world.proofs.SlotLaws.{right-start}
 use Rattle.spec_world.proofs.Entered.{enters}
-use Rattle.spec_world.proofs.Standing.{IsStanding, standing-entry}
+use Rattle.spec_world.specs.Standing.{IsStanding}
+use Rattle.spec_world.proofs.Standing.{standing-entry}
 use Rattle.spec_world.proofs.Filled.{slots-of-slot, is_installed, not-late, standing-finish}
 use Rattle.spec_world.proofs.Stacks.{stacks-listed, slots_of-added, is_cache-all-added}
 use Rattle.spec_world.proofs.Taken.{standing-take}
@@ -31,7 +32,7 @@ use Rattle.spec_world.proofs.Submitted.{keeps-enough, standing-submit}
 
 -- ---- the start
 
-start-slots : (base : Document) (stack : ℕ)
+pub start-slots : (base : Document) (stack : ℕ)
     → slots_of (first_world base).cache stack ≡ cond (has_stack base stack) (Some (blank_slots base.width base.height 0)) None
 start-slots base stack =
     slots_of-added base 0 (stack_ids base) no_slots stack ∙ ap (λ b. cond b (Some (blank_slots base.width base.height 0)) None) (stacks-listed base stack)
@@ -71,7 +72,7 @@ standing-starts base w session None is e =
     go true next = is
     go false next = next
 
-may-end : (base : Document) (w : World) (out : Saving) (how : SaveEnd) → w.state.out ≡ Some out → MayEnd w.state.out out.session out.index (end_reply how out.version)
+pub may-end : (base : Document) (w : World) (out : Saving) (how : SaveEnd) → w.state.out ≡ Some out → MayEnd w.state.out out.session out.index (end_reply how out.version)
 may-end base w out Done e = subst (λ o. MayEnd o out.session out.index (saved out.version)) (sym e) (refl, refl, refl)
 may-end base w out Fault e = subst (λ o. MayEnd o out.session out.index (save_fault out.version)) (sym e) (refl, refl, refl)
 may-end base w out Memory e = subst (λ o. MayEnd o out.session out.index (save_memory out.version)) (sym e) (refl, refl, refl)
@@ -138,8 +139,13 @@ standing-right base w is sound = record {
   installs = all-installs base w w.jobs is sound is.jobs;
 }
 
+pub always-sound : (base : Document) → IsDocument base → DamageIsAlwaysSound base
+always-sound base within es version first last = version-keeps base es version within first last
+
+-- each world that stands is right
+pub right : (base : Document) (w : World) → IsDocument base → IsStanding base w → IsRight base w
+right base w within is = standing-right base w is (subst (DamageIsSound base) (sym is.replayed) (always-sound base within w.entries))
+
 pub all-right : (base : Document) → IsDocument base → (events : List Event) (w : World) → Happen base (first_world base) events w → IsRight base w
 all-right base within events w happen =
-    let sound : DamageIsAlwaysSound base = λ es version first last. version-keeps base es version within first last in
-    let is = standing-all base (first_world base) events w (standing-start base) sound happen in
-    standing-right base w is (subst (DamageIsSound base) (sym is.replayed) (sound w.entries))
+    right base w within (standing-all base (first_world base) events w (standing-start base) (always-sound base within) happen)

@@ -18,10 +18,11 @@ use Rattle.spec_world.specs.World.{World, document_now, stack_ids, rects_of, mar
 use Rattle.spec_world.specs.Events.{with_entry}
 use Rattle.spec_history.specs.Marks.{came_at, marks}
 use Rattle.spec_world.specs.Right.{slot_after}
-use Rattle.spec_world.proofs.RightSlot.{DamageIsSound, IsRightSlot}
+use Rattle.spec_world.specs.RightSlot.{DamageIsSound, IsRightSlot}
 use Rattle.spec_world.proofs.SlotLaws.{OneMore, before, right-came, right-version}
 use Rattle.spec_world.proofs.Entered.{Enters}
-use Rattle.spec_world.proofs.Standing.{WasShown, IsStanding, last-same, shown-lasts, jobs-last, seen-bound}
+use Rattle.spec_world.specs.Standing.{WasShown, IsStanding}
+use Rattle.spec_world.proofs.Standing.{last-same, shown-lasts, jobs-last, seen-bound}
 use Rattle.spec_world.proofs.Stacks.{came-listed, slots_of-added, is_cache-all-added}
 
 -- whether some rectangle of a group behind a version meets a tile

@@ -20,10 +20,11 @@ use Rattle.spec_history.proofs.Bounds.{last_tile-snoc}
 use Rattle.spec_world.specs.World.{World, Job, document_now, result_of}
 use Rattle.spec_world.specs.Events.{with_entry, show_slot, place_of, cache_with_result, finish_job}
 use Rattle.spec_world.specs.Right.{IsJob}
-use Rattle.spec_world.proofs.RightSlot.{DamageIsSound, IsRightSlot}
+use Rattle.spec_world.specs.RightSlot.{DamageIsSound, IsRightSlot}
 use Rattle.spec_world.proofs.SlotLaws.{right-shown, right-installed}
 use Rattle.spec_world.proofs.Entered.{Enters}
-use Rattle.spec_world.proofs.Standing.{WasShown, IsStanding, same-tile, changed-slot, same-stacks}
+use Rattle.spec_world.specs.Standing.{WasShown, IsStanding}
+use Rattle.spec_world.proofs.Standing.{same-tile, changed-slot, same-stacks}
 
 pub eq-swap : (a b : ℕ) → (a == b) ≡ (b == a)
 eq-swap a b = go (a == b) (b == a) refl refl

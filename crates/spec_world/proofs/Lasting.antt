@@ -10,7 +10,7 @@ use Rattle.spec_history.specs.Kept.{cause_meets, damaged_at}
 use Rattle.spec_history.specs.TilesStay.{StackStays}
 use Rattle.spec_history.specs.Marks.{came_at, marks, last_of, marked_at}
 use Rattle.spec_world.specs.Right.{IsPictureAt}
-use Rattle.spec_world.proofs.RightSlot.{DamageIsSound, WasGoodEnough}
+use Rattle.spec_world.specs.RightSlot.{DamageIsSound, WasGoodEnough}
 
 -- the versions of s are those of t, with the groups behind them
 pub record Lasts (base : Document) (s t : State) : Type 0 where

@@ -1,7 +1,6 @@
 pub mod Shown
 pub mod Rows
 pub mod Interleaved
-pub mod RightSlot
 pub mod Lasting
 pub mod SlotLaws
 pub mod Entered
@@ -13,3 +12,5 @@ pub mod Taken
 pub mod Submitted
 pub mod AllRight
 pub mod Marked
+pub mod Exact
+pub mod StaysExact

@@ -20,7 +20,7 @@ use Rattle.spec_world.proofs.SlotLaws.{OneMore, before}
 use Rattle.spec_world.proofs.Entered.{enters}
 use Rattle.spec_world.proofs.Changed.{meets, meets-same, or-none, slots_of-between}
 
-exact-slot : (base : Document) (w : World) (t : State) (stack : ℕ) (at : TileAt) (slots : Slots) (slot : Slot) → IsRight base w → OneMore base w.state t
+pub exact-slot : (base : Document) (w : World) (t : State) (stack : ℕ) (at : TileAt) (slots : Slots) (slot : Slot) → IsRight base w → OneMore base w.state t
     → slots_of w.cache stack ≡ Some slots
     → slot_at (mark_slots (rects_of (slice_get t.causes (latest t - 1)) stack) (latest t) slots) at ≡ Some slot
     → SlotIsMarked base t stack at (slot_of w.cache stack at) slot
@@ -95,7 +95,7 @@ exact-call base w session call tables (changed v g n) is step peeks change follo
 exact-call base w session call tables reply is step peeks change follows = absurd (true≢false (sym change))
 
 -- a tile or a peek makes no version
-tile-never : (d : Document) (k : ℕ) (at : TileAt) (reply : Reply) → is_changed reply ≡ false → is_changed (tile_reply d k at reply) ≡ false
+pub tile-never : (d : Document) (k : ℕ) (at : TileAt) (reply : Reply) → is_changed reply ≡ false → is_changed (tile_reply d k at reply) ≡ false
 tile-never d k at reply same = go (not (has_stack d k)) (not (is_on_grid d.width d.height at))
   where
     go : (a b : Bool) → is_changed (cond a (no_stack k) (cond b outside_tile reply)) ≡ false

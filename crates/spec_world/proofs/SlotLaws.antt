@@ -15,7 +15,7 @@ use Rattle.spec_history.specs.TilesStay.{StackStays}
 use Rattle.spec_history.specs.Marks.{came_at, marks, marked_at}
 use Rattle.spec_world.specs.Right.{slot_after, IsPictureAt}
 use Rattle.spec_world.specs.Events.{show_slot}
-use Rattle.spec_world.proofs.RightSlot.{DamageIsSound, WasGoodEnough, IsRightSlot}
+use Rattle.spec_world.specs.RightSlot.{DamageIsSound, WasGoodEnough, IsRightSlot}
 use Rattle.spec_world.proofs.Lasting.{Lasts, stack-lasts, picture-lasts, was_there-before, good_enough-lasts, marked_at-lasts, marked_at-next, unmarked-same, unchanged}
 
 no-some : {A : Type 0} (x : A) → None ≡ Some x → ⊥

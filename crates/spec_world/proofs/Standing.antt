@@ -4,36 +4,22 @@ use Rattle.std.specs.Prelude.{Option, Some, None, IfSome, is_some, option_map, u
 use Rattle.std.specs.List.{AllByRecursion}
 use Rattle.std.proofs.lemmas.Bool.{and_parts, and_left, and_right, eqb-true}
 use Rattle.spec_grid.specs.declared.TileAt.{TileAt}
-use Rattle.spec_grid.specs.Grid.{is_on_grid}
 use Rattle.spec_document.specs.Document.{Document}
 use Rattle.spec_cache.specs.Slots.{Slot, Slots, change_slot, same_tile}
-use Rattle.spec_cache.specs.Cache.{Cache, IsCache, slots_of, has_slots, slot_of, change_stack}
+use Rattle.spec_cache.specs.Cache.{Cache, slots_of, has_slots, slot_of, change_stack}
 use Rattle.spec_cache.proofs.Found.{slots_of-changed, slot_of-changed}
 use Rattle.spec_history.specs.Machine.{State, latest, document_at, has_stack}
-use Rattle.spec_history.specs.History.{Entry, replay, after_entry, is_changed}
-use Rattle.spec_history.specs.Kept.{IsLegal, last_tile, or_earlier, shown_version}
+use Rattle.spec_history.specs.History.{Entry, after_entry, is_changed}
+use Rattle.spec_history.specs.Kept.{last_tile, or_earlier, shown_version}
 use Rattle.spec_history.proofs.Bounds.{last_tile-snoc}
 use Rattle.spec_world.specs.World.{World, Job, document_now}
 use Rattle.spec_world.specs.Events.{with_entry}
-use Rattle.spec_world.specs.Right.{EachSlot, IsJob}
-use Rattle.spec_world.proofs.RightSlot.{IsRightSlot}
+use Rattle.spec_world.specs.Right.{IsJob}
+use Rattle.spec_world.specs.Standing.{WasShown, IsStanding}
+use Rattle.spec_world.specs.RightSlot.{IsRightSlot}
 use Rattle.spec_world.proofs.Lasting.{Lasts, stack-lasts}
 use Rattle.spec_world.proofs.SlotLaws.{right-lasts}
 use Rattle.spec_world.proofs.Entered.{Enters}
-
--- the last tile call of a tile was of a version that is there, and of a tile on the canvas
-pub record WasShown (base : Document) (s : State) (at : TileAt) (version : ℕ) : Type 0 where
-  pub there : version ≤ latest s
-  pub on_grid : is_on_grid base.width base.height at ≡ true
-
-pub record IsStanding (base : Document) (w : World) : Type 0 where
-  pub legal : IsLegal base w.entries
-  pub replayed : w.state ≡ replay base w.entries
-  pub slots : IsCache base.width base.height w.cache
-  pub stacks : (stack : ℕ) → has_slots w.cache stack ≡ has_stack (document_now base w.state) stack
-  pub seen : (stack : ℕ) (at : TileAt) → IfSome (last_tile stack at w.entries) (WasShown base w.state at)
-  pub each : EachSlot w (λ stack at slot. IsRightSlot base w.state stack at (last_tile stack at w.entries) slot)
-  pub jobs : AllByRecursion (IsJob base w.state) w.jobs
 
 -- ---- what stays
 

@@ -20,10 +20,11 @@ use Rattle.spec_history.proofs.Canvas.{canvas-document}
 use Rattle.spec_world.specs.World.{World, document_now, free_entries, cache_after}
 use Rattle.spec_world.specs.Events.{peek_reply, where_tile, reply_to, cache_of, with_entry, with_call, Outcome, submit}
 use Rattle.spec_world.specs.Right.{IsPictureAt}
-use Rattle.spec_world.proofs.RightSlot.{DamageIsSound, DamageIsAlwaysSound}
+use Rattle.spec_world.specs.RightSlot.{DamageIsSound, DamageIsAlwaysSound}
 use Rattle.spec_world.proofs.SlotLaws.{all-there, shown-is, kept-shown}
 use Rattle.spec_world.proofs.Entered.{Enters, enters}
-use Rattle.spec_world.proofs.Standing.{WasShown, IsStanding, seen-bound, standing-entry}
+use Rattle.spec_world.specs.Standing.{WasShown, IsStanding}
+use Rattle.spec_world.proofs.Standing.{seen-bound, standing-entry}
 use Rattle.spec_world.proofs.Filled.{slots-of-slot, standing-tile}
 use Rattle.spec_world.proofs.Changed.{standing-version}
 
@@ -33,30 +34,30 @@ sound-after base w e sound enters = subst (DamageIsSound base) (sym enters.repla
 -- ---- calls that are no tile and no peek
 
 -- the cache stays where nothing changed, and follows the version else
-abbrev Keeps : Document → (s t : State) → Call → Cache → Type 0
+abbrev pub Keeps : Document → (s t : State) → Call → Cache → Type 0
 Keeps base s t call kept = (r : Reply) → is_changed r ≡ false → cache_of base s t call r kept ≡ kept
 
-keeps-edit : (base : Document) (s t : State) (guard : Option ℕ) (es : List Edit) (kept : Cache) → Keeps base s t (edit guard es) kept
+pub keeps-edit : (base : Document) (s t : State) (guard : Option ℕ) (es : List Edit) (kept : Cache) → Keeps base s t (edit guard es) kept
 keeps-edit base s t guard es kept (changed v g n) e = absurd (true≢false e)
 keeps-edit base s t guard es kept r e = refl
 
-keeps-undo : (base : Document) (s t : State) (named : Option ℕ) (kept : Cache) → Keeps base s t (undo named) kept
+pub keeps-undo : (base : Document) (s t : State) (named : Option ℕ) (kept : Cache) → Keeps base s t (undo named) kept
 keeps-undo base s t named kept (changed v g n) e = absurd (true≢false e)
 keeps-undo base s t named kept r e = refl
 
-keeps-redo : (base : Document) (s t : State) (kept : Cache) → Keeps base s t redo kept
+pub keeps-redo : (base : Document) (s t : State) (kept : Cache) → Keeps base s t redo kept
 keeps-redo base s t kept (changed v g n) e = absurd (true≢false e)
 keeps-redo base s t kept r e = refl
 
-keeps-top : (base : Document) (s t : State) (kept : Cache) → Keeps base s t top kept
+pub keeps-top : (base : Document) (s t : State) (kept : Cache) → Keeps base s t top kept
 keeps-top base s t kept (changed v g n) e = absurd (true≢false e)
 keeps-top base s t kept r e = refl
 
-keeps-peek : (base : Document) (s t : State) (stack : ℕ) (at : TileAt) (kept : Cache) → Keeps base s t (peek stack at) kept
+pub keeps-peek : (base : Document) (s t : State) (stack : ℕ) (at : TileAt) (kept : Cache) → Keeps base s t (peek stack at) kept
 keeps-peek base s t stack at kept (changed v g n) e = absurd (true≢false e)
 keeps-peek base s t stack at kept r e = refl
 
-abbrev entry_of : World → (session : ℕ) → Call → (tables : List (List ℕ)) → Reply → Entry
+abbrev pub entry_of : World → (session : ℕ) → Call → (tables : List (List ℕ)) → Reply → Entry
 entry_of w session call tables reply = record { session = session; index = next_index w.entries session; kind = asked call tables; reply = reply }
 
 -- with a reply that makes no version
@@ -165,7 +166,7 @@ kept-picture base w stack at is = go (slot_of w.cache stack at) refl
         shown-is base w.state stack at (last_tile stack at w.entries) slot (sym (is.stacks stack) ∙ slots-of-slot w.cache stack at slot p) (is.each stack at slot p)
 
 -- such a reply to a peek is one that the machine allows, and shows what is kept
-peek-allowed : (base : Document) (s : State) (stack : ℕ) (at : TileAt) (kept : Option Shown) (least : Option ℕ) (seen : ℕ) → seen ≤ latest s
+pub peek-allowed : (base : Document) (s : State) (stack : ℕ) (at : TileAt) (kept : Option Shown) (least : Option ℕ) (seen : ℕ) → seen ≤ latest s
     → IfSome kept (λ k. IsPictureAt base s stack at k.version k.picture) → IfSome least (λ n. IsSomeAnd kept (λ k. n ≤ k.version))
     → MayPeek base s stack (peek_reply kept seen) × MeetsKept least (peek_reply kept seen) × (is_changed (peek_reply kept seen) ≡ false)
 peek-allowed base s stack at None None seen le picture enough = (le, tt, refl)
@@ -185,7 +186,7 @@ peek-allowed base s stack at (Some k) least seen le picture enough = go (nat_lt 
     go true e = ((le, ltb-true k.version seen e), meets-stale least enough, refl)
     go false e = ((picture.there, picture.has), meets-tile least enough, refl)
 
-meets-plain : (o : Option ℕ) (node : ℕ) → MeetsKept o (no_stack node) × MeetsKept o outside_tile
+pub meets-plain : (o : Option ℕ) (node : ℕ) → MeetsKept o (no_stack node) × MeetsKept o outside_tile
 meets-plain None node = (tt, tt)
 meets-plain (Some k) node = (tt, tt)
 

@@ -12,7 +12,7 @@ use Rattle.spec_history.specs.Machine.{latest}
 use Rattle.spec_world.specs.World.{World}
 use Rattle.spec_world.specs.Events.{add_job, take_job}
 use Rattle.spec_world.specs.Right.{IsJob}
-use Rattle.spec_world.proofs.Standing.{IsStanding}
+use Rattle.spec_world.specs.Standing.{IsStanding}
 use Rattle.spec_world.proofs.Filled.{all-behind}
 
 -- a tile of a stack that has slots, on the grid
@@ -32,7 +32,7 @@ divided i c r some below = (div-lt_iff_lt-mul some).1 (subst (λ n. i < n) (mul_
 same-eqb : (n : ℕ) → (n == n) ≡ true
 same-eqb n = eq-eqb n n refl
 
-numbered-on : (w h i : ℕ) → i < tiles_along w * tiles_along h → is_on_grid w h (tile_numbered w i) ≡ true
+pub numbered-on : (w h i : ℕ) → i < tiles_along w * tiles_along h → is_on_grid w h (tile_numbered w i) ≡ true
 numbered-on w h i below =
     let some = positive i (tiles_along w) (tiles_along h) below in
     and_from (nat_lt (i % tiles_along w) (tiles_along w)) (nat_lt (i / tiles_along w) (tiles_along h))

@@ -4,6 +4,7 @@
 ghost use Rattle.spec_document.specs.Document.{Document};
 ghost use Rattle.spec_document.specs.Limits.{IsDocument};
 ghost use Rattle.spec_world.specs.Right.{WorldsAreRight, CallsMarkExactly};
+ghost use Rattle.spec_world.specs.Exact.{StartsExact, StaysExact, AnswersExactly};
 
 /// How a save ended.
 #[derive(Clone, Copy, Debug, PartialEq, Eq)]
@@ -25,4 +26,22 @@ pub fn worlds_are_right()
 /// leaves all other slots as they were.
 pub fn calls_mark_exactly()
     ensures { (base : Document) → CallsMarkExactly base }
+{}
+
+// ---- worlds to which no job brings a result
+
+/// As a document is opened, no slot keeps anything, and nothing has to be kept.
+pub fn first_slots_are_exact()
+    ensures { (base : Document) → StartsExact base }
+{}
+
+/// Where no result of a job is handed in, each slot of a right world keeps just what has to be kept: the picture of the last tile call
+/// of its tile, up to the version before the one that damages it next.
+pub fn slots_stay_exact()
+    ensures { (base : Document) → IsDocument base → StaysExact base }
+{}
+
+/// So a peek by a caller that has seen the latest version has one answer, by the history alone.
+pub fn exact_slots_answer_peeks()
+    ensures { (base : Document) → AnswersExactly base }
 {}

@@ -1,0 +1,10 @@
+pub mod Joined
+pub mod Between
+pub mod Once
+pub mod Standing
+pub mod Few
+pub mod InTurn
+pub mod Turns
+pub mod Trees
+pub mod Listed
+pub mod Back

@@ -1,0 +1,7 @@
+use Rattle.std.proofs.Common.{◌≡◌, drop}
+use Rattle.xl_damage.specs.Marks.{pairs_of}
+use Rattle.xl_marks.specs.Change.{marked_by}
+use Rattle.xl_marks.proofs.damage.Damage.mark.Given as goal
+
+abbrev pub invariant-loop-stack : goal.invariant-loop-stack
+invariant-loop-stack l = marked_by (pairs_of (drop l.stack-index l.stack-items)) l.version l.cache ≡ marked_by (pairs_of l.stack-items) l.version l.initial.cache

@@ -1,0 +1,5 @@
+pub mod Change
+pub mod Group
+pub mod Pool
+pub mod Steps
+pub mod Sample

@@ -1,0 +1,67 @@
+//! The stacks of a document.
+ghost use Rattle.std.specs.Prelude.{◌≡◌, ◌≤◌, ◌++◌, length, IfOk, OnOk};
+ghost use Rattle.spec_history.specs.Machine.{has_stack};
+ghost use Rattle.spec_world.specs.World.{group_ids, stack_ids};
+ghost use Rattle.xl_damage.specs.Marks.{numbers};
+ghost use Rattle.xl_doc.specs.Nodes.{nodes_of};
+ghost use Rattle.xl_marks.specs.Change.{came_to};
+
+use std::alloc::{AllocError, Global};
+use xl_doc::{Document, Node, NodeId};
+use xl_tree::{Split, Stack};
+
+/// Adds the groups among these nodes, at any depth.
+fn add_groups(list: &mut Vec<NodeId>, nodes: Stack<'_, Node>) -> Result<(), AllocError>
+    ensures { OnOk result (numbers list.new.items ≡ numbers list.old.items ++ group_ids (nodes_of nodes.entry)) }
+{
+    match nodes.split() {
+        Split::Empty => Ok(()),
+        Split::Leaf { under, .. } => add_groups(list, under),
+        Split::Group {
+            id,
+            children,
+            under,
+            ..
+        } => {
+            list.push(id)?;
+            add_groups(list, children)?;
+            add_groups(list, under)
+        }
+    }
+}
+
+/// The image and the groups.
+pub(crate) fn stacks(alloc: Global, doc: &Document) -> Result<Vec<NodeId>, AllocError>
+    ensures value { IfOk result (λ list. numbers list.items ≡ stack_ids doc.now) }
+    ensures few { IfOk result (λ list. length list.items ≤ 513) }
+{
+    let mut list = Vec::new(alloc);
+    list.push(NodeId(0))?;
+    add_groups(&mut list, doc.tree.top())?;
+    Ok(list)
+}
+
+fn has_stack(doc: &Document, stack: NodeId) -> bool
+    ensures { result ≡ has_stack doc.now stack.0 }
+{
+    doc.tree.stack(stack).is_some()
+}
+
+/// The stacks of the new document that the old one has not.
+pub(crate) fn stacks_that_came(
+    alloc: Global,
+    old: &Document,
+    new: &Document,
+) -> Result<Vec<NodeId>, AllocError>
+    ensures value { IfOk result (λ list. numbers list.items ≡ came_to old.now new.now) }
+    ensures few { IfOk result (λ list. length list.items ≤ 513) }
+{
+    let all = stacks(alloc, new)?;
+    let mut came = Vec::new(alloc);
+    for stack in all.as_slice() {
+        if !has_stack(old, *stack) {
+            came.push(*stack)?;
+        }
+    }
+    Ok(came)
+}
