@@ -1,19 +1,25 @@
 -- A call takes one number of a group at most.
-use Rattle.std.proofs.Common.{ℕ, ◌+◌, ◌≤◌, Bool, true, false, cond, List, [], ◌∷◌, arith}
+use Rattle.std.proofs.Common.{ℕ, ◌+◌, ◌≤◌, Bool, true, false, cond, not, List, [], ◌∷◌, arith}
 use Rattle.std.specs.Prelude.{Option, Result, Ok, Err}
 use Rattle.spec_edit.specs.Apply.{At, Refused, apply_group}
 use Rattle.spec_history.specs.Machine as machine
-use Rattle.spec_history.specs.Machine.{Call, moved, not_top, names}
+use Rattle.spec_cache.specs.Cache.{kept}
+use Rattle.spec_history.specs.Machine.{Call, moved, not_top, no_stack, outside_tile, tile_of, names, has_stack}
 use Rattle.xl_core.specs.Steps.{Step}
-use Rattle.xl_core.specs.Now.{Now, Told, told, stays, made_now, taken_back, undone_of, redone_of}
+use Rattle.spec_damage.specs.Damage.{Pair}
+use Rattle.spec_grid.specs.declared.TileAt.{TileAt}
+use Rattle.spec_grid.specs.Grid.{is_on_grid}
+use Rattle.spec_world.specs.Events.{peek_reply}
+use Rattle.xl_marks.specs.Group.{damage_along}
+use Rattle.xl_core.specs.Now.{Now, Told, told, stays, at_now, made_now, taken_back, undone_of, redone_of, where_tile, with_tile}
 
 few_either : (n : ℕ) (b : Bool) (t u : Told) → t.now.next_group ≤ n → u.now.next_group ≤ n → (cond b t u).now.next_group ≤ n
 few_either n true t u one other = one
 few_either n false t u one other = other
 
-groups-made : (old : Now) (r : Result At Refused) → (made_now old r).now.next_group ≤ old.next_group + 1
-groups-made old (Ok at) = omega arith
-groups-made old (Err r) = omega arith
+groups-made : (old : Now) (damage : List Pair) (r : Result At Refused) → (made_now old damage r).now.next_group ≤ old.next_group + 1
+groups-made old damage (Ok at) = omega arith
+groups-made old damage (Err r) = omega arith
 
 groups-undone : (old : Now) (named : Option ℕ) (us : List Step) → (undone_of old named us).now.next_group ≤ old.next_group + 1
 groups-undone old named [] = omega arith
@@ -24,12 +30,21 @@ groups-redone : (old : Now) (rs : List Step) → (redone_of old rs).now.next_gro
 groups-redone old [] = omega arith
 groups-redone old (r ∷ rs) = omega arith
 
-pub groups-told : (old : Now) (call : Call) (tables : List (List ℕ)) → (told old call tables).now.next_group ≤ old.next_group + 1
-groups-told old (machine.edit guard edits) tables =
-    let r = apply_group (record { document = old.document; next = old.next_id }) edits tables in
-    few_either (old.next_group + 1) (names guard old.version) (made_now old r) (stays old (moved old.version)) (groups-made old r) (omega arith)
-groups-told old (machine.undo named) tables = groups-undone old named old.undo
-groups-told old machine.redo tables = groups-redone old old.redo
-groups-told old (machine.tile stack at) tables = omega arith
-groups-told old (machine.peek stack at) tables = omega arith
-groups-told old machine.top tables = omega arith
+-- an answer about a tile
+groups-tile : (old : Now) (stack : ℕ) (at : TileAt) (there : Told) → there.now.next_group ≤ old.next_group + 1 → (where_tile old stack at there).now.next_group ≤ old.next_group + 1
+groups-tile old stack at there few =
+    let n = old.next_group + 1 in
+    let on = few_either n (not (is_on_grid old.document.width old.document.height at)) (stays old outside_tile) there (omega arith) few in
+    few_either n (not (has_stack old.document stack)) (stays old (no_stack stack)) (cond (not (is_on_grid old.document.width old.document.height at)) (stays old outside_tile) there)
+    (omega arith) on
+
+pub groups-told : (old : Now) (call : Call) (seen : ℕ) (tables : List (List ℕ)) → (told old call seen tables).now.next_group ≤ old.next_group + 1
+groups-told old (machine.edit guard edits) seen tables =
+    let r = apply_group (at_now old) edits tables in
+    let damage = damage_along (at_now old) edits tables in
+    few_either (old.next_group + 1) (names guard old.version) (made_now old damage r) (stays old (moved old.version)) (groups-made old damage r) (omega arith)
+groups-told old (machine.undo named) seen tables = groups-undone old named old.undo
+groups-told old machine.redo seen tables = groups-redone old old.redo
+groups-told old (machine.tile stack at) seen tables = groups-tile old stack at (record { reply = tile_of old.version; now = with_tile old stack at }) (omega arith)
+groups-told old (machine.peek stack at) seen tables = groups-tile old stack at (stays old (peek_reply (kept old.cache stack at old.version) seen)) (omega arith)
+groups-told old machine.top seen tables = omega arith

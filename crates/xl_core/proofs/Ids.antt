@@ -19,7 +19,7 @@ has_ids base entries now made stands =
     let few : length entries ≤ most_entries = omega arith in
     let asks = short_asks base entries stands.small short few in
     let most = short_next base entries stands.within stands.small are short few in
-    let there : HasIds (at_now (now_of base s)) most_edits = record {
+    let there : HasIds (at_now (now_of base s now.cache)) most_edits = record {
       is = version_below base entries (latest s) stands.within are (omega (arith, asks));
       room = omega (arith, most);
     } in

@@ -1,4 +1,6 @@
 mod Numbers
+mod OneSlot
+mod CleanTiles
 mod Simulates
 mod GroupNumbers
 mod WithinTypes
@@ -6,6 +8,9 @@ mod Opened
 mod Ids
 mod Groups
 mod Asking
+mod Sides
 mod Making
 mod GoesOn
+mod Pictures
+pub mod Submitted
 pub mod Saves

@@ -46,6 +46,10 @@ leaves chest after old edits tables Memory allowed asked h =
 leaves chest after old edits tables (Refused index cause) allowed asked h =
     absurd (not_refused (apply_group old edits tables) (record { index = index; cause = cause }) allowed h)
 
+-- all of the filters were asked
+pub all_part : (chest after : List (Option FilterState)) (edits : List Edit) (tables : List (List ℕ)) → AreAsked chest after edits tables → IsPartUsed chest after edits
+all_part chest after edits tables asked = (length edits, subst (IsUsed chest after) (sym (take_all (length edits) edits (omega arith))) asked.used)
+
 -- none of the filters was asked
 pub none_part : (chest : List (Option FilterState)) (edits : List Edit) → IsPartUsed chest chest edits
 none_part chest edits = (0, subst (IsUsed chest chest) (sym (take_none edits)) (unused chest)) where

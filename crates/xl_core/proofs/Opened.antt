@@ -7,6 +7,7 @@ use Rattle.spec_document.specs.Limits.{IsDocument}
 use Rattle.spec_document.proofs.Elements.{all-each}
 use Rattle.spec_forest.specs.Forest.{ids, size}
 use Rattle.spec_history.specs.History.{Entry}
+use Rattle.spec_world.proofs.AllRight.{standing-start}
 use Rattle.xl_doc.specs.Numbered.{AreNumbered}
 use Rattle.xl_core.specs.Now.{Now, first_now, Stands}
 
@@ -34,6 +35,7 @@ opened d numbered within = record {
   is_now = refl;
   groups = lit≤ tt;
   indices = λ session here. zero_at 8 session;
+  pictures = standing-start d;
 }
 
 pub stands_opened : (d base : Document) (entries : List Entry) (now : Now) → base ≡ d → entries ≡ [] → now ≡ first_now d

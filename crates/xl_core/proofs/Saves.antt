@@ -4,8 +4,8 @@ use Rattle.std.specs.Prelude.{◌==◌, ◌&&◌, not, slice_index, slice_set, O
 use Rattle.std.specs.declared.snapshot.Snapshot.{Snapshot}
 use Rattle.spec_document.specs.Document.{Document}
 use Rattle.spec_history.specs.Machine.{Call, Reply, saved, State, Saving, latest, document_at}
-use Rattle.spec_history.specs.History.{Entry, asked, starts, ends, replay, next_index, is_end_kind, latest_of, document_of, EndsWith, MayEnd}
-use Rattle.spec_history.proofs.Growing.{replay-snoc, next_index-snoc, IsLegal-snoc}
+use Rattle.spec_history.specs.History.{Entry, asked, starts, ends, replay, next_index, is_end_kind, is_changed, latest_of, document_of, EndsWith, MayEnd}
+use Rattle.spec_history.proofs.Growing.{replay-snoc, next_index-snoc}
 use Rattle.spec_history.proofs.Versions.{latest_of-legal}
 use Rattle.spec_world.specs.declared.SaveEnd.{SaveEnd}
 use Rattle.spec_world.specs.declared.SaveEnd.TheVariants.{Done, Fault, Memory}
@@ -25,6 +25,7 @@ use Rattle.xl_core.specs.declared.saving.Place.{Place}
 use Rattle.xl_core.specs.declared.saving.Place.TheVariants.{In, Out}
 use Rattle.xl_core.proofs.WithinTypes.{calls-snoc}
 use Rattle.xl_core.proofs.GoesOn.{counted, out-call}
+use Rattle.xl_core.proofs.Pictures.{pictures-entry}
 
 -- ---- what stands
 
@@ -41,15 +42,17 @@ stands_started base entries now made session stands eight within none few =
     let more : length (entries ++ e ∷ []) ≡ length entries + 1 = length-append entries (e ∷ []) in
     let owed : entries_owed (replay base (entries ++ e ∷ [])).out ≡ 1 = ap (λ t. entries_owed t.out) (replay-snoc base entries e) in
     let groups = stands.groups in
+    let pictures = pictures-entry base entries now made e stands (index, none, last) tt refl (λ stack at. refl) in
     record {
       within = stands.within;
       small = stands.small;
       calls = calls-snoc entries e stands.calls tt;
-      legal = IsLegal-snoc base entries e stands.legal (index, none, last) tt;
+      legal = pictures.legal;
       few = omega (arith, more, few, owed);
-      is_now = stands.is_now ∙ ap (now_of base) (sym (replay-snoc base entries e));
+      is_now = stands.is_now ∙ ap (λ t. now_of base t now.cache) (sym (replay-snoc base entries e));
       groups = omega (arith, more, groups);
       indices = counted made entries e eight within refl stands.indices;
+      pictures = pictures;
     }
 
 ends_with : (how : SaveEnd) (version : ℕ) → EndsWith version (end_reply how version)
@@ -60,6 +63,11 @@ ends_with Memory version = refl
 may_end : (out : Option Saving) (session : ℕ) (how : SaveEnd) → IsOutOf out session → MayEnd out session (index_out out) (end_reply how (version_out out))
 may_end None session how is = absurd is
 may_end (Some out) session how is = (is, refl, ends_with how out.version)
+
+end_unchanged : (how : SaveEnd) (version : ℕ) → is_changed (end_reply how version) ≡ false
+end_unchanged Done version = refl
+end_unchanged Fault version = refl
+end_unchanged Memory version = refl
 
 owed_out : (out : Option Saving) (session : ℕ) → IsOutOf out session → entries_owed out ≡ 1
 owed_out None session is = absurd is
@@ -91,15 +99,17 @@ stands_ended base entries now made session how stands out =
     let before = owed_out s.out session out in
     let few = stands.few in
     let groups = stands.groups in
+    let pictures = pictures-entry base entries now made e stands (may_end s.out session how out) tt (end_unchanged how (version_out s.out)) (λ stack at. refl) in
     record {
       within = stands.within;
       small = stands.small;
       calls = calls-snoc entries e stands.calls tt;
-      legal = IsLegal-snoc base entries e stands.legal (may_end s.out session how out) tt;
+      legal = pictures.legal;
       few = omega (arith, more, few, owed, before);
-      is_now = stands.is_now ∙ ap (now_of base) (sym (replay-snoc base entries e));
+      is_now = stands.is_now ∙ ap (λ t. now_of base t now.cache) (sym (replay-snoc base entries e));
       groups = omega (arith, more, groups);
       indices = λ s here. stands.indices s here ∙ sym (not_counted entries e refl s);
+      pictures = pictures;
     }
 
 -- the last version and its document are those of the history

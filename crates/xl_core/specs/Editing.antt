@@ -1,7 +1,13 @@
 -- A core as contracts see it: a document's history and the shelf on which it is saved.
-use Rattle.std.specs.Prelude.{◌≡◌, ℕ, ◌+◌, ◌<◌, ◌≤◌, List, [], ◌∷◌, ◌++◌, length, Option, Some, None, IsSome}
-use Rattle.spec_history.specs.Machine.{Reply, saved, Saving}
-use Rattle.spec_history.specs.History.{Entry, starts, ends, replay, next_index}
+use Rattle.std.specs.Prelude.{◌≡◌, ℕ, ◌+◌, ◌<◌, ◌≤◌, true, List, [], ◌∷◌, ◌++◌, length, Option, Some, None, IsSome}
+use Rattle.spec_grid.specs.Grid.{is_on_grid}
+use Rattle.spec_picture.specs.Picture.{project}
+use Rattle.spec_cache.specs.Cache.{Cache, Place, after_take, install, is_clean}
+use Rattle.spec_history.specs.Machine as machine
+use Rattle.spec_history.specs.Machine.{Call, Reply, saved, Saving, has_stack}
+use Rattle.spec_history.specs.History.{Entry, starts, ends, replay, next_index, document_of}
+use Rattle.spec_world.specs.World.{World}
+use Rattle.spec_world.specs.Events.{submit}
 use Rattle.spec_world.specs.declared.SaveEnd.{SaveEnd}
 use Rattle.spec_world.specs.Events.{end_reply}
 use Rattle.xl_ports.specs.Disk.{Disk}
@@ -10,17 +16,67 @@ use Rattle.spec_saves.specs.Shelf.{Known, ShelfIsRight}
 use Rattle.spec_saves.specs.Returns.{Returns}
 use Rattle.spec_history.specs.Calls.{most_entries}
 use Rattle.xl_core.specs.History.{History, version, document}
+use Rattle.xl_core.specs.Now.{world_of}
+use Rattle.xl_compose.specs.Job.{Job}
+use Rattle.xl_compose.specs.declared.clean.Done.{Done}
 use Rattle.xl_core.specs.declared.saving.Begun.{Begun}
 use Rattle.xl_core.specs.declared.saving.Begun.TheVariants.{Snapshot, Out, Full}
 
--- The history, the shelf as the document was opened, as each save's start has handed it out, and as it is where no save is out;
--- and for how many calls, undos and redos among them, there is room without more memory.
+-- The history and the pictures that are kept; the shelf as the document was opened, as each save's start has handed it out, and as it
+-- is where no save is out; and for how many calls, undos and redos among them, there is room without more memory.
 pub record Editing (K : Type 0) : Type 0 where
   pub history : History
+  pub cache : Cache
   pub opening : K
   pub handed : List K
   pub shelf : Option K
   pub spare : ℕ
+
+-- ---- the world
+
+-- the history and the kept pictures as a world, apart from the jobs that are out
+abbrev pub world : {K : Type 0} → Editing K → World
+world c = world_of c.history.base c.history.entries c.cache
+
+-- a session's call is the event of the world
+abbrev pub IsSubmitted : {K : Type 0} → (old : Editing K) → (session : ℕ) → Call → (seen : ℕ) → (tables : List (List ℕ)) → Reply → (new : Editing K) → Type 0
+IsSubmitted old session call seen tables reply new =
+    let o = submit old.history.base (world old) session call seen tables in
+    (new.history.base ≡ old.history.base) × (reply ≡ o.reply) × (world new ≡ o.world)
+
+-- every call but a tile, and the tile whose slot is clean
+abbrev pub TakesNoStep : Cache → Call → Type 0
+TakesNoStep cache (machine.tile stack at) = is_clean cache stack at ≡ true
+TakesNoStep cache (machine.edit guard edits) = Unit {0}
+TakesNoStep cache (machine.undo named) = Unit {0}
+TakesNoStep cache machine.redo = Unit {0}
+TakesNoStep cache (machine.peek stack at) = Unit {0}
+TakesNoStep cache machine.top = Unit {0}
+
+-- ---- jobs
+
+-- the next marked slot is taken
+abbrev pub taken : {K : Type 0} → Editing K → Editing K
+taken c = record c { cache = after_take c.cache }
+
+-- the tile that a job composes
+abbrev pub place_of_job : Job → Place
+place_of_job job = record { stack = job.stack; at = job.at }
+
+-- the tile that a picture is of
+abbrev pub place_done : Done → Place
+place_done done = record { stack = done.node.0; at = done.at }
+
+-- the picture is that of its version, which is there, of a stack that was there then and a tile of the canvas
+pub record IsPictureOf (h : History) (done : Done) : Type 0 where
+  pub version : done.version ≤ version h
+  pub has : has_stack (document_of h.base h.entries done.version) done.node.0 ≡ true
+  pub on_grid : is_on_grid h.base.width h.base.height done.at ≡ true
+  pub picture : done.picture ≡ project (document_of h.base h.entries done.version) done.node.0 done.at
+
+-- it is handed in
+abbrev pub handed_in : {K : Type 0} → Editing K → Done → Editing K
+handed_in c done = record c { cache = install (place_done done) done.version done.picture c.cache }
 
 -- ---- shelves
 
@@ -55,6 +111,7 @@ pub record KeepsShelf {K : Type 0} (old new : Editing K) : Type 0 where
 -- all is as before, and there is no less room
 pub record IsAsBefore {K : Type 0} (old new : Editing K) : Type 0 where
   pub history : new.history ≡ old.history
+  pub cache : new.cache ≡ old.cache
   pub opening : new.opening ≡ old.opening
   pub handed : new.handed ≡ old.handed
   pub shelf : new.shelf ≡ old.shelf

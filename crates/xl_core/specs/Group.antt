@@ -2,9 +2,11 @@
 use Rattle.std.specs.Prelude.{◌≡◌, ℕ, ◌+◌, ◌-◌, ◌^◌, ◌<◌, List, Option, Result, Ok, Err}
 use Rattle.spec_filters.specs.declared.FilterState.{FilterState}
 use Rattle.spec_edit.specs.Edit.{Edit}
-use Rattle.spec_edit.specs.Apply.{At, apply_group}
+use Rattle.spec_edit.specs.Apply.{At, apply, apply_group}
 use Rattle.spec_edit.specs.Limited.{IsAt}
 use Rattle.spec_tables.specs.Agrees.{IsPartUsed}
+use Rattle.xl_edit.specs.declared.refused.EditRefusedOrMemory.{EditRefusedOrMemory}
+use Rattle.xl_edit.specs.declared.refused.EditRefusedOrMemory.TheVariants as edits
 use Rattle.xl_core.specs.declared.group.GroupRefusedOrMemory.{GroupRefusedOrMemory}
 use Rattle.xl_core.specs.declared.group.GroupRefusedOrMemory.TheVariants.{Memory, Refused}
 
@@ -12,6 +14,12 @@ use Rattle.xl_core.specs.declared.group.GroupRefusedOrMemory.TheVariants.{Memory
 pub record HasIds (a : At) (edits : ℕ) : Type 0 where
   pub is : IsAt a
   pub room : a.next + edits < 2 ^ 32 - 1
+
+-- the edit is applied whole with this table, or it is refused, or memory ran out
+abbrev pub IsAppliedOne : (old new : At) → Edit → (table : List ℕ) → Result (Unit {0}) EditRefusedOrMemory → Type 0
+IsAppliedOne old new edit table (Ok done) = apply old edit table ≡ Ok new
+IsAppliedOne old new edit table (Err (edits.Refused cause)) = apply old edit table ≡ Err cause
+IsAppliedOne old new edit table (Err edits.Memory) = Unit {0}
 
 -- All edits are applied with these tables, or the first that is refused is named, or memory ran out. Only where all are is it said
 -- what is left.

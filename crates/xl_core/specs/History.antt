@@ -44,4 +44,5 @@ Answers old session call tables reply new =
 -- the bytes are those of the tile that was asked for, at the version that is named
 abbrev pub Shows : History → Call → Reply → (bytes : List ℕ) → Type 0
 Shows h (machine.tile stack at) (machine.tile_of version) bytes = bytes ≡ project (document_of h.base h.entries version) stack at
+Shows h (machine.peek stack at) (machine.tile_of version) bytes = bytes ≡ project (document_of h.base h.entries version) stack at
 Shows h call reply bytes = Unit {0}

@@ -1,23 +1,31 @@
 -- What stands now, as far as calls ask for it.
-use Rattle.std.specs.Prelude.{◌≡◌, ℕ, ◌+◌, ◌^◌, ◌≤◌, ◌<◌, max, if◌then◌else◌, List, [], ◌∷◌, length, map, fold, slice_index, Option, Some, None, Result, Ok, Err}
+use Rattle.std.specs.Prelude.{◌≡◌, ℕ, ◌+◌, ◌-◌, ◌^◌, ◌≤◌, ◌<◌, not, max, if◌then◌else◌, List, [], ◌∷◌, true, false, length, map, fold, slice_index, slice_get, Option, Some, None, IsSomeAnd, Result, Ok, Err}
 use Rattle.std.specs.List.{AllByRecursion}
 use Rattle.spec_grid.specs.declared.TileAt.{TileAt}
+use Rattle.spec_grid.specs.Grid.{is_on_grid}
 use Rattle.spec_forest.specs.Forest.{ids}
 use Rattle.spec_document.specs.Document.{Document}
 use Rattle.spec_document.specs.Limits.{IsDocument}
 use Rattle.spec_picture.specs.Picture.{project}
 use Rattle.spec_edit.specs.Edit.{Edit}
 use Rattle.spec_edit.specs.Apply.{At, Refused, apply_group}
+use Rattle.spec_damage.specs.Damage.{Pair}
+use Rattle.spec_cache.specs.Slots.{Slot, Shown, change_slot}
+use Rattle.spec_cache.specs.Cache.{Cache, Place, no_slots, slot_of, change_stack, kept}
 use Rattle.spec_history.specs.Machine as machine
-use Rattle.spec_history.specs.Machine.{Call, Reply, changed, refused, moved, nothing_to_undo, nothing_to_redo, not_top, tile_of, stale, no_stack, outside_tile, top_is, saved, save_fault, save_memory, history_full, tile_reply, names, State, Done, latest, document_at}
+use Rattle.spec_history.specs.Machine.{Call, Reply, changed, refused, moved, nothing_to_undo, nothing_to_redo, not_top, tile_of, stale, no_stack, outside_tile, top_is, saved, save_fault, save_memory, history_full, names, Cause, State, Done, latest, document_at, has_stack}
 use Rattle.spec_history.specs.History.{Entry, replay, next_index}
 use Rattle.spec_history.specs.Kept.{IsLegal}
 use Rattle.spec_history.specs.Limited.{AreCalls}
-use Rattle.spec_world.specs.World.{entries_owed}
 use Rattle.spec_history.specs.Calls.{most_entries}
-use Rattle.xl_core.specs.Steps.{Step}
+use Rattle.spec_world.specs.World.{World, entries_owed, stack_ids, add_stacks}
+use Rattle.spec_world.specs.Events.{peek_reply, show_slot}
+use Rattle.spec_world.specs.Standing.{IsStanding}
+use Rattle.xl_marks.specs.Change.{IsCacheOf, gone_along}
+use Rattle.xl_marks.specs.Group.{damage_along}
+use Rattle.xl_core.specs.Steps.{Step, change_of, stepped}
 
--- the last document, the groups that can be undone and redone, the next one first, and the next numbers
+-- the last document, the groups that can be undone and redone, the next one first, the next numbers, and the pictures that are kept
 pub record Now : Type 0 where
   pub document : Document
   pub undo : List Step
@@ -25,9 +33,10 @@ pub record Now : Type 0 where
   pub next_id : ℕ
   pub next_group : ℕ
   pub version : ℕ
+  pub cache : Cache
 
 abbrev pub first_now : Document → Now
-first_now d = record { document = d; undo = []; redo = []; next_id = 1 + fold max 0 (ids d.nodes); next_group = 1; version = 0 }
+first_now d = record { document = d; undo = []; redo = []; next_id = 1 + fold max 0 (ids d.nodes); next_group = 1; version = 0; cache = add_stacks (stack_ids d) d 0 no_slots }
 
 -- what the next edit begins with
 abbrev pub at_now : Now → At
@@ -51,36 +60,41 @@ stays now reply = record { reply = reply; now = now }
 abbrev pub next_version : Now → (group : ℕ) → Told
 next_version now group = record { reply = changed (now.version + 1) group now.next_id; now = record now { version = now.version + 1 } }
 
+-- the pictures that are kept when a step was taken
+abbrev pub kept_after : Now → Step → Cache
+kept_after old s = gone_along (change_of s) (old.version + 1) old.cache
+
+-- the step that a group of edits takes
+abbrev pub step_made : Now → At → (damage : List Pair) → Step
+step_made old at damage = record { group = old.next_group; from = old.document; to = at.document; damage = damage }
+
 -- a group that was made can be undone, and nothing can be redone any more
-abbrev pub accepted : Now → At → Told
-accepted old at =
+abbrev pub accepted : Now → At → (damage : List Pair) → Told
+accepted old at damage =
     let mid : Now = record {
       document = at.document;
-      undo = record { group = old.next_group; from = at.document; to = old.document } ∷ old.undo;
+      undo = stepped (step_made old at damage) ∷ old.undo;
       redo = [];
       next_id = at.next;
       next_group = old.next_group + 1;
       version = old.version;
+      cache = kept_after old (step_made old at damage);
     } in
     next_version mid old.next_group
 
-abbrev pub made_now : Now → Result At Refused → Told
-made_now old (Err r) = stays old (refused r.index r.cause)
-made_now old (Ok at) = accepted old at
+abbrev pub made_now : Now → (damage : List Pair) → Result At Refused → Told
+made_now old damage (Err r) = stays old (refused r.index r.cause)
+made_now old damage (Ok at) = accepted old at damage
 
 -- a group of edits, whose guard may have moved, made with the tables of its filters, or refused
 abbrev pub edited : Now → (guard : Option ℕ) → List Edit → (tables : List (List ℕ)) → Told
 edited old guard edits tables =
-    let made = made_now old (apply_group (at_now old) edits tables) in
+    let made = made_now old (damage_along (at_now old) edits tables) (apply_group (at_now old) edits tables) in
     if names guard old.version then made else stays old (moved old.version)
-
--- a step is taken, and leads back from then on
-abbrev pub stepped : Step → Step
-stepped s = record { group = s.group; from = s.to; to = s.from }
 
 -- the document before a group stands again, which can be redone
 abbrev pub taken_back : Now → Step → List Step → Told
-taken_back old s ss = next_version (record old { document = s.to; undo = ss; redo = stepped s ∷ old.redo }) s.group
+taken_back old s ss = next_version (record old { document = s.to; undo = ss; redo = stepped s ∷ old.redo; cache = kept_after old s }) s.group
 
 abbrev pub undone_of : Now → (named : Option ℕ) → List Step → Told
 undone_of old named [] = stays old nothing_to_undo
@@ -92,7 +106,7 @@ undone old named = undone_of old named old.undo
 
 -- the document after a group stands again, which can be undone
 abbrev pub made_again : Now → Step → List Step → Told
-made_again old s ss = next_version (record old { document = s.to; undo = stepped s ∷ old.undo; redo = ss }) s.group
+made_again old s ss = next_version (record old { document = s.to; undo = stepped s ∷ old.undo; redo = ss; cache = kept_after old s }) s.group
 
 abbrev pub redone_of : Now → List Step → Told
 redone_of old [] = stays old nothing_to_redo
@@ -102,35 +116,58 @@ redone_of old (s ∷ ss) = made_again old s ss
 abbrev pub redone : Now → Told
 redone old = redone_of old old.redo
 
+-- an answer about a tile, where its stack and the tile are there
+abbrev pub where_tile : Now → (stack : ℕ) → TileAt → Told → Told
+where_tile old stack at there =
+    if not (has_stack old.document stack) then stays old (no_stack stack) else
+    if not (is_on_grid old.document.width old.document.height at) then stays old outside_tile else there
+
+-- with these pictures
+abbrev pub with_cache : Now → Cache → Now
+with_cache old cache = record old { cache = cache }
+
+-- the slot of a tile is clean
+abbrev pub with_tile : Now → (stack : ℕ) → TileAt → Now
+with_tile old stack at = record old { cache = change_stack stack (change_slot at (show_slot (project old.document stack at))) old.cache }
+
 abbrev pub shown : Now → (stack : ℕ) → TileAt → Told
-shown old stack at = stays old (tile_reply old.document stack at (tile_of old.version))
+shown old stack at = where_tile old stack at (record { reply = tile_of old.version; now = with_tile old stack at })
+
+-- what is kept of a tile, where that is as late as what was seen
+abbrev pub peeked : Now → (stack : ℕ) → TileAt → (seen : ℕ) → Told
+peeked old stack at seen = where_tile old stack at (stays old (peek_reply (kept old.cache stack at old.version) seen))
 
 -- the group that an undo would undo
 abbrev pub top_of : List Step → Option ℕ
 top_of [] = None
 top_of (s ∷ ss) = Some s.group
 
--- what a call is told whose filters answered these tables
-abbrev pub told : Now → Call → (tables : List (List ℕ)) → Told
-told old (machine.edit guard edits) tables = edited old guard edits tables
-told old (machine.undo named) tables = undone old named
-told old machine.redo tables = redone old
-told old (machine.tile stack at) tables = shown old stack at
-told old (machine.peek stack at) tables = shown old stack at
-told old machine.top tables = stays old (top_is (top_of old.undo) old.version)
+-- what a call is told by a session that has seen a version, and whose filters answered these tables
+abbrev pub told : Now → Call → (seen : ℕ) → (tables : List (List ℕ)) → Told
+told old (machine.edit guard edits) seen tables = edited old guard edits tables
+told old (machine.undo named) seen tables = undone old named
+told old machine.redo seen tables = redone old
+told old (machine.tile stack at) seen tables = shown old stack at
+told old (machine.peek stack at) seen tables = peeked old stack at seen
+told old machine.top seen tables = stays old (top_is (top_of old.undo) old.version)
 
 -- the bytes are those of the tile that was asked for, where it is shown
 abbrev pub ShowsTile : Document → (stack : ℕ) → TileAt → Reply → (bytes : List ℕ) → Type 0
 ShowsTile d stack at (tile_of version) bytes = bytes ≡ project d stack at
 ShowsTile d stack at reply bytes = Unit {0}
 
-abbrev pub ShowsNow : Document → Call → Reply → (bytes : List ℕ) → Type 0
-ShowsNow d (machine.tile stack at) reply bytes = ShowsTile d stack at reply bytes
-ShowsNow d (machine.edit guard edits) reply bytes = Unit {0}
-ShowsNow d (machine.undo named) reply bytes = Unit {0}
-ShowsNow d machine.redo reply bytes = Unit {0}
-ShowsNow d (machine.peek stack at) reply bytes = Unit {0}
-ShowsNow d machine.top reply bytes = Unit {0}
+-- the bytes are those of the picture that is kept, where it is shown
+abbrev pub ShowsKept : Option Shown → Reply → (bytes : List ℕ) → Type 0
+ShowsKept kept (tile_of version) bytes = IsSomeAnd kept (λ k. (version ≡ k.version) × (bytes ≡ k.picture))
+ShowsKept kept reply bytes = Unit {0}
+
+abbrev pub ShowsNow : Now → Call → Reply → (bytes : List ℕ) → Type 0
+ShowsNow now (machine.tile stack at) reply bytes = ShowsTile now.document stack at reply bytes
+ShowsNow now (machine.peek stack at) reply bytes = ShowsKept (kept now.cache stack at now.version) reply bytes
+ShowsNow now (machine.edit guard edits) reply bytes = Unit {0}
+ShowsNow now (machine.undo named) reply bytes = Unit {0}
+ShowsNow now machine.redo reply bytes = Unit {0}
+ShowsNow now machine.top reply bytes = Unit {0}
 
 -- a tile that is handed out leaves its bytes in the desk; after any other reply the desk is as before
 abbrev pub KeepsDesk : Reply → (old new : List ℕ) → Type 0
@@ -150,35 +187,65 @@ KeepsDesk (save_fault version) old new = new ≡ old
 KeepsDesk (save_memory version) old new = new ≡ old
 KeepsDesk history_full old new = new ≡ old
 
+-- ---- the pictures that are kept
+
+-- What is kept is of the document, a clean slot's picture is the document's, and no slot was marked after this version.
+pub record IsKept (d : Document) (cache : Cache) (version : ℕ) : Type 0 where
+  pub of : IsCacheOf d cache
+  pub clean : (stack : ℕ) (at : TileAt) (slot : Slot) → slot_of cache stack at ≡ Some slot → slot.marked ≡ false → slot.picture ≡ Some (project d stack at)
+  pub marks : (stack : ℕ) (at : TileAt) (slot : Slot) → slot_of cache stack at ≡ Some slot → slot.marked_at ≤ version
+
+abbrev pub IsKeptNow : Now → Type 0
+IsKeptNow now = IsKept now.document now.cache now.version
+
+-- the tile is one of a stack of the document
+pub record IsTileOf (d : Document) (p : Place) : Type 0 where
+  pub has : has_stack d p.stack ≡ true
+  pub on_grid : is_on_grid d.width d.height p.at ≡ true
+
 -- ---- what stands in the machine
+
+-- the damage of the group behind a version
+abbrev pub damage_behind : Option Cause → List Pair
+damage_behind None = []
+damage_behind (Some c) = damage_along c.old c.edits c.tables
+
+abbrev pub damage_at : State → (version : ℕ) → List Pair
+damage_at s version = damage_behind (slice_get s.causes (version - 1))
 
 -- the step back over a group
 abbrev pub undo_of : Document → State → Done → Step
-undo_of base s d = record { group = d.group; from = document_at base s d.after; to = document_at base s d.before }
+undo_of base s d = record { group = d.group; from = document_at base s d.after; to = document_at base s d.before; damage = damage_at s d.after }
 
 -- the step forth over it
 abbrev pub redo_of : Document → State → Done → Step
-redo_of base s d = record { group = d.group; from = document_at base s d.before; to = document_at base s d.after }
+redo_of base s d = record { group = d.group; from = document_at base s d.before; to = document_at base s d.after; damage = damage_at s d.after }
 
--- what stands in a state of the machine
-abbrev pub now_of : Document → State → Now
-now_of base s = record {
+-- what stands in a state of the machine, beside the pictures that are kept
+abbrev pub now_of : Document → State → Cache → Now
+now_of base s cache = record {
   document = document_at base s (latest s);
   undo = map (undo_of base s) s.undo;
   redo = map (redo_of base s) s.redo;
   next_id = s.next_id;
   next_group = s.next_group;
   version = latest s;
+  cache = cache;
 }
 
+-- the entries and the pictures that are kept as a world, apart from the jobs that are out
+abbrev pub world_of : Document → List Entry → Cache → World
+world_of base entries cache = record { entries = entries; state = replay base entries; cache = cache; jobs = [] }
+
 -- What stands is what the machine has come to after the entries, each of whose calls is within its type, and made counts each
--- session's calls. The base is within its limits, and its ids are small.
+-- session's calls. The base is within its limits, and its ids are small. The pictures that are kept are right.
 pub record Stands (base : Document) (entries : List Entry) (now : Now) (made : List ℕ) : Type 0 where
   pub within : IsDocument base
   pub small : AllByRecursion (λ id. id ≤ 2 ^ 31) (ids base.nodes)
   pub calls : AreCalls entries
   pub legal : IsLegal base entries
   pub few : length entries + entries_owed (replay base entries).out ≤ most_entries
-  pub is_now : now ≡ now_of base (replay base entries)
+  pub is_now : now ≡ now_of base (replay base entries) now.cache
   pub groups : now.next_group ≤ length entries + 1
   pub indices : (session : ℕ) → session < 8 → slice_index made session ≡ next_index entries session
+  pub pictures : IsStanding base (world_of base entries now.cache)

@@ -1,22 +1,26 @@
 //! Edits that are made together.
-ghost use Rattle.std.specs.Prelude.{◌≡◌, ℕ, ◌+◌, ◌-◌, ◌≤◌, true, cond, List, [], None, Ok, drop, length, IfOk, IfErr, OnOk, OnErr};
+ghost use Rattle.std.specs.Prelude.{◌≡◌, ℕ, ◌+◌, ◌-◌, ◌≤◌, ◌++◌, true, cond, List, [], None, Ok, drop, length, IfOk, IfErr, OnOk, OnErr};
 ghost use Rattle.std.specs.List.{AllByRecursion};
+ghost use Rattle.spec_damage.specs.Damage as pairs;
 ghost use Rattle.spec_document.specs.Limits.{AreBytes};
 ghost use Rattle.spec_edit.specs.Apply.{apply_group, is_filter, first_table};
 ghost use Rattle.spec_edit.specs.Edit.{IsEdit};
 ghost use Rattle.spec_history.specs.Calls.{most_edits};
 ghost use Rattle.spec_tables.specs.Acceptance.{filter_count, refused_in, slot_of};
 ghost use Rattle.spec_tables.specs.Agrees.{AreThere, AreAsked, IsPartUsed};
-ghost use Rattle.xl_core.specs.Group.{HasIds, AppliesGroup, IsRefusal, LeavesChest};
+ghost use Rattle.xl_core.specs.Group.{HasIds, IsAppliedOne, AppliesGroup, IsRefusal, LeavesChest};
 ghost use Rattle.xl_core.specs.declared.group.GroupRefusedOrMemory.TheVariants.{Memory};
 ghost use Rattle.xl_edit.specs.Applied.{at};
+ghost use Rattle.xl_edit.specs.Built.{HasNext};
 ghost use Rattle.xl_edit.specs.Edits.{edit_of, edits_of};
 ghost use Rattle.xl_filters.specs.Chests.{states_in};
+ghost use Rattle.xl_marks.specs.Group.{damage_along};
 
 use std::alloc::{AllocError, Global};
 use xl_doc::Document;
 use xl_edit::{Edit, EditRefused, EditRefusedOrMemory, apply};
 use xl_filters::{Chest, FilterKind, FilterState, PointFilter, Table, Tables};
+use xl_marks::Damage;
 
 /// Why a group was not made: memory ran out, or an edit is refused, which is counted from 0.
 #[derive(Drop)]
@@ -33,12 +37,14 @@ impl From<AllocError> for GroupRefusedOrMemory {
     }
 }
 
-/// What a group of edits leaves: a document and its next id, and the tables that the group's filters answered.
+/// What a group of edits leaves: a document and its next id, the tables that the group's filters answered, and what of which pictures
+/// the group may have changed.
 #[derive(Drop)]
 pub(crate) struct Made {
     pub document: Document,
     pub next_id: u32,
     pub tables: Tables,
+    pub damage: Damage,
 }
 
 /// Makes a group of edits on a share of a document. The filters are asked when it is known that no edit is refused, which no table
@@ -56,6 +62,7 @@ pub(crate) fn make_group(
     requires there { AreThere (states_in state chest.old) (edits_of edits.now) }
 
     ensures made { IfOk result (λ made. apply_group (at document.now next_id) (edits_of edits.now) made.tables ≡ Ok (at made.document made.next_id)) }
+    ensures damage { IfOk result (λ made. made.damage ≡ damage_along (at document.now next_id) (edits_of edits.now) made.tables) }
     ensures bytes { IfOk result (λ made. AllByRecursion AreBytes made.tables) }
     ensures asked { IfOk result (λ made. AreAsked (states_in state chest.old) (states_in state chest.new) (edits_of edits.now) made.tables) }
 
@@ -107,34 +114,48 @@ fn try_group(
     requires tables { length tables ≡ filter_count (edits_of edits.now) }
     ensures made { IfOk result (λ made. apply_group (at document.now next_id) (edits_of edits.now) tables ≡ Ok (at made.document made.next_id)) }
     ensures tables { IfOk result (λ made. made.tables ≡ tables) }
+    ensures damage { IfOk result (λ made. made.damage ≡ damage_along (at document.now next_id) (edits_of edits.now) tables) }
     ensures refused { IfErr result (IsRefusal (at document.now next_id) (edits_of edits.now) tables) }
 {
     let mut document = document.share(alloc)?;
     let mut next_id = next_id;
-    apply_group(alloc, &mut document, &mut next_id, edits, tables.as_slice())?;
+    let mut damage = Damage::new(alloc);
+    apply_group(
+        alloc,
+        &mut document,
+        &mut next_id,
+        edits,
+        tables.as_slice(),
+        &mut damage,
+    )?;
     Ok(Made {
         document,
         next_id,
         tables,
+        damage,
     })
 }
 
-// Applies the edits in turn, each filter with the next table. `next_id` is the id that the next new node gets.
+// Applies the edits in turn, each filter with the next table. `next_id` is the id that the next new node gets, and `damage` what the
+// edits so far may have changed.
 //
 // A refusal and out of memory leave what the edits before have made, which the caller drops.
-#[tactic(auto, using(crate::proofs::Groups::begins, crate::proofs::Groups::next_is_edit, crate::proofs::Groups::next_has_id, crate::proofs::Groups::next_has_table, crate::proofs::Groups::stops, crate::proofs::Groups::is_done))]
+#[tactic(auto, using(crate::proofs::Groups::begins, crate::proofs::Groups::next_is_edit, crate::proofs::Groups::next_has_id, crate::proofs::Groups::next_has_table, crate::proofs::Groups::stops, crate::proofs::Groups::is_done, crate::proofs::Groups::is_damaged))]
 fn apply_group(
     alloc: Global,
     document: &mut Document,
     next_id: &mut u32,
     edits: &[Edit],
     tables: &[Table],
+    damage: &mut Damage,
 ) -> Result<(), GroupRefusedOrMemory>
     requires few { length edits.now ≤ most_edits }
     requires each { AllByRecursion IsEdit (edits_of edits.now) }
     requires ids { HasIds (at document.old next_id.old) (length edits.now) }
     requires tables { length tables.now ≡ filter_count (edits_of edits.now) }
-    ensures { AppliesGroup (at document.old next_id.old) (at document.new next_id.new) (edits_of edits.now) tables.now result }
+    requires none { damage.old ≡ [] }
+    ensures applied { AppliesGroup (at document.old next_id.old) (at document.new next_id.new) (edits_of edits.now) tables.now result }
+    ensures damage { OnOk result (damage.new ≡ damage_along (at document.old next_id.old) (edits_of edits.now) tables.now) }
 {
     let blank = blank_table();
     let mut taken = 0;
@@ -142,7 +163,7 @@ fn apply_group(
         let table = table_for(edit, tables, taken, &blank);
         know_bytes(table);
         taken += filter_count(edit);
-        match apply(alloc, document, next_id, edit, table) {
+        match apply_one(alloc, document, next_id, edit, table, damage) {
             Ok(()) => {}
             Err(EditRefusedOrMemory::Refused(cause)) => {
                 return Err(GroupRefusedOrMemory::Refused {
@@ -153,6 +174,28 @@ fn apply_group(
             Err(EditRefusedOrMemory::Memory) => return Err(GroupRefusedOrMemory::Memory),
         }
     }
+    Ok(())
+}
+
+// Applies an edit, and adds what it may have changed.
+#[tactic(auto, using(crate::proofs::Groups::accepts, crate::proofs::Groups::makes))]
+fn apply_one(
+    alloc: Global,
+    document: &mut Document,
+    next_id: &mut u32,
+    edit: &Edit,
+    table: &Table,
+    damage: &mut Damage,
+) -> Result<(), EditRefusedOrMemory>
+    requires edit { IsEdit (edit_of edit.now) }
+    requires next { HasNext document.old next_id.old (edit_of edit.now) }
+    ensures applied { IsAppliedOne (at document.old next_id.old) (at document.new next_id.new) (edit_of edit.now) table.now result }
+    ensures damage { OnOk result (damage.new ≡ damage.old ++ pairs.damage document.old (edit_of edit.now)) }
+{
+    let before = document.share(alloc)?;
+    let id = *next_id;
+    apply(alloc, document, next_id, edit, table)?;
+    damage.add(alloc, &before, document, id, edit)?;
     Ok(())
 }
 

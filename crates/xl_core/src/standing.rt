@@ -1,60 +1,45 @@
-//! What stands now: the last document, and what an undo or a redo gives.
-ghost use Rattle.std.specs.Prelude.{◌≡◌, ◌+◌, ◌<◌, ◌≤◌, ◌^◌, [], length, IfOk, IsOk, OnOk, OnErr, Some};
+//! What stands now: the last document, what an undo or a redo gives, and the pictures that are kept.
+ghost use Rattle.std.specs.Prelude.{◌≡◌, ◌+◌, ◌<◌, ◌≤◌, ◌^◌, true, [], length, option_map, IfOk, IfSome, IsOk, OnOk, OnErr, Some, None};
 ghost use Rattle.std.specs.List.{AllByRecursion};
-ghost use Rattle.spec_document.specs.Limits.{IsDocument};
-ghost use Rattle.spec_grid.specs.Grid.{is_on_grid};
-ghost use Rattle.spec_history.specs.Machine.{has_stack as document_has_stack, names};
-ghost use Rattle.spec_history.specs.Calls.{most_edits};
-ghost use Rattle.xl_core.specs.Group.{HasIds};
-ghost use Rattle.xl_core.specs.Now.{first_now, at_now, edited, accepted, undone, taken_back, redone, next_version, shown, top_of, told, Tells, ShowsTile, ShowsNow, KeepsDesk};
-ghost use Rattle.xl_core.specs.Room.{IsUndoOrRedo};
-ghost use Rattle.xl_doc.specs.Numbered.{AreNumbered};
-ghost use Rattle.spec_document.specs.Limits.{AreBytes};
+ghost use Rattle.spec_cache.specs.Cache.{no_slots, is_clean, kept, next_place, after_take, finish, install};
+ghost use Rattle.spec_document.specs.Limits.{AreBytes, IsDocument};
 ghost use Rattle.spec_edit.specs.Edit.{IsEdit};
+ghost use Rattle.spec_history.specs.Calls.{IsCall, most_edits};
 ghost use Rattle.spec_history.specs.Limited as limited;
 ghost use Rattle.spec_history.specs.Machine as machine;
 ghost use Rattle.spec_tables.specs.Agrees.{AreThere, AreAsked, IsPartUsed, edits_made};
-ghost use Rattle.xl_edit.specs.Built.{IsBuilt};
-ghost use Rattle.xl_filters.specs.Chests.{states_in};
+ghost use Rattle.spec_world.specs.World.{add_stacks, stack_ids};
+ghost use Rattle.xl_compose.specs.Job.{StandsFor};
+ghost use Rattle.xl_core.specs.Editing.{TakesNoStep, place_of_job, place_done};
+ghost use Rattle.xl_core.specs.Group.{HasIds};
+ghost use Rattle.xl_core.specs.Now.{first_now, at_now, with_cache, accepted, edited, undone, taken_back, redone, next_version, shown, peeked, top_of, told, Tells, ShowsTile, ShowsKept, ShowsNow, KeepsDesk, IsKeptNow, IsTileOf};
+ghost use Rattle.xl_core.specs.Room.{IsUndoOrRedo};
+ghost use Rattle.xl_core.specs.Steps.{IsChange};
+ghost use Rattle.xl_doc.specs.Numbered.{AreNumbered};
+ghost use Rattle.xl_edit.specs.Applied.{at};
 ghost use Rattle.xl_edit.specs.Calls.{call_of};
 ghost use Rattle.xl_edit.specs.Edits.{edits_of};
 ghost use Rattle.xl_edit.specs.Replies.{reply_of};
+ghost use Rattle.xl_filters.specs.Chests.{states_in};
 
+use crate::answered::{Answered, is_named, unasked};
 use crate::desk::Desk;
 use crate::group::{GroupRefusedOrMemory, Made, make_group};
+use crate::step::{Step, limits};
+use crate::tile::{has_stack, has_tile, look, show};
 use std::alloc::{AllocError, Global};
 use std::marker::Model;
 use std::mem;
 use std::sync::ledger::Ledger;
 use xl_blend::Steps;
-use xl_compose::recompose_tile;
+use xl_cache::{Cache, Finished};
+use xl_compose::{Done, Job, Picture, job};
 use xl_doc::{Document, NodeId, TileAt};
 use xl_edit::{Call, Edit, Reply};
 use xl_filters::{Chest, PointFilter, Tables};
-use xl_grid::grid;
-use xl_undo::Record;
+use xl_marks::Change;
 
-/// A group of edits that was made, or undone: its number, and the record that leads back.
-#[derive(Drop)]
-struct Step {
-    group: u32,
-    record: Record,
-}
-
-impl Model for Step {
-    ghost use Rattle.std.specs.Coded.{codes};
-    ghost use Rattle.spec_document.specs.Code.{coded_document};
-    ghost use Rattle.xl_core.specs.Steps as steps;
-
-    ghost Value = { steps.Step };
-
-    ghost coded = { Prim.hlevel (codes, coded_document) };
-
-    ghost view = { λ s. record { group = s.group; from = s.record.from; to = s.record.to } };
-}
-
-/// The last version's document with what its next changes need. The group that is undone next is the last of `undo`, and the one
-/// that is redone next is the last of `redo`.
+/// The last version's document and what its next changes need. The last of `undo` is undone next, and the last of `redo` redone.
 #[derive(Drop)]
 pub(crate) struct Standing {
     document: Document,
@@ -63,6 +48,7 @@ pub(crate) struct Standing {
     next_id: u32,
     next_group: u32,
     version: u32,
+    cache: Cache,
 }
 
 impl Model for Standing {
@@ -70,12 +56,11 @@ impl Model for Standing {
     ghost use Rattle.std.specs.Coded.{codes};
     ghost use Rattle.spec_document.specs.Code.{coded_document};
     ghost use Rattle.xl_core.specs.Room.{NowWithRoom, least_room};
+    ghost use Rattle.xl_core.specs.Steps.{Lead};
 
     ghost Value = { NowWithRoom };
 
     ghost coded = { Prim.hlevel (codes, coded_document) };
-
-    ghost use Rattle.xl_core.specs.Steps.{Lead};
 
     ghost view = { λ s. record {
       what = record {
@@ -85,6 +70,7 @@ impl Model for Standing {
         next_id = s.next_id;
         next_group = s.next_group;
         version = s.version;
+        cache = s.cache;
       };
       room = least_room (vec_capacity s.undo) (vec_len s.undo) (vec_capacity s.redo) (vec_len s.redo);
     } };
@@ -92,52 +78,10 @@ impl Model for Standing {
     ghost invariant = { λ s. Lead s.document (reverse s.undo.items) × Lead s.document (reverse s.redo.items) };
 }
 
-/// The reply to a call, and the tables that its filters answered.
-#[derive(Drop)]
-pub(crate) struct Answered {
-    pub reply: Reply,
-    pub tables: Tables,
-}
-
-// A reply of a call that asked no filter.
-fn unasked(alloc: Global, reply: Reply) -> Answered
-    ensures reply { result.reply ≡ reply }
-    ensures tables { result.tables ≡ [] }
-{
-    Answered {
-        reply,
-        tables: Tables::new(alloc),
-    }
-}
-
-// Whether the document has this stack.
-fn has_stack(document: &Document, node: NodeId) -> bool
-    ensures { result ≡ document_has_stack document.now node.0 }
-{
-    document.tree.stack(node).is_some()
-}
-
-// Whether the canvas has this tile.
-fn has_tile(document: &Document, at: TileAt) -> bool
-    ensures { result ≡ is_on_grid document.now.width document.now.height at }
-{
-    let (columns, rows) = grid(document.width, document.height);
-    at.col < columns && at.row < rows
-}
-
-// Whether a number that may be named is this one.
-fn is_named(named: Option<u32>, number: u32) -> bool
-    ensures { result ≡ names named number }
-{
-    match named {
-        None => true,
-        Some(named) => named == number,
-    }
-}
-
 impl Standing {
-    /// Version 0 of a document.
-    pub(crate) fn new(alloc: Global, document: Document) -> Standing
+    /// Version 0 of a document, with the pictures that are kept of it, none yet.
+    pub(crate) fn new(alloc: Global, document: Document, cache: Cache) -> Standing
+        requires cache { cache ≡ add_stacks (stack_ids document) document 0 no_slots }
         requires numbered { AreNumbered document.nodes }
         ensures first { result.what ≡ first_now document }
         ensures within { IsDocument document }
@@ -150,6 +94,7 @@ impl Standing {
             next_id,
             next_group: 1,
             version: 0,
+            cache,
         }
     }
 
@@ -186,27 +131,28 @@ impl Standing {
         self.redo.reserve(n)
     }
 
-    /// Answers a call. A tile leaves its bytes in the desk; no other answer touches these. After out of memory all is as before, but
+    /// Answers a call. Only an answer that is a tile leaves its bytes in the desk. After out of memory all is as before, but
     /// that the first filters of a group may have been asked.
     pub(crate) fn answer<L: Ledger>(
         &mut self,
         alloc: Global,
         call: &Call,
+        seen: u32,
         desk: &mut Desk,
         steps: &mut Steps<L>,
     ) -> Result<Answered, AllocError>
-        requires built { IsBuilt (call_of call.now) }
+        requires call { IsCall (call_of call.now) }
+        requires kept { IsKeptNow self.old.what }
         requires there { AreThere (states_in state desk.old.chest) (limited.edits_of (call_of call.now)) }
         requires versions { self.old.what.version < 2 ^ 31 }
         requires groups { self.old.what.next_group < 2 ^ 31 }
         requires ids { HasIds (at_now self.old.what) most_edits }
-
-        ensures told { IfOk result (λ a. Tells (told self.old.what (call_of call.now) a.tables) (reply_of a.reply) self.new.what) }
+        ensures told { IfOk result (λ a. Tells (told self.old.what (call_of call.now) seen a.tables) (reply_of a.reply) self.new.what) }
         ensures asked { IfOk result (λ a. AreAsked (states_in state desk.old.chest) (states_in state desk.new.chest) (edits_made (call_of call.now) (reply_of a.reply)) a.tables) }
         ensures bytes { IfOk result (λ a. AllByRecursion AreBytes a.tables) }
-        ensures shown { IfOk result (λ a. ShowsNow self.new.what.document (call_of call.now) (reply_of a.reply) desk.new.out) }
+        ensures shown { IfOk result (λ a. ShowsNow self.new.what (call_of call.now) (reply_of a.reply) desk.new.out) }
         ensures desk { IfOk result (λ a. KeepsDesk (reply_of a.reply) desk.old.out desk.new.out) }
-
+        ensures steps { TakesNoStep self.old.what.cache (call_of call.now) → steps.new ≡ steps.old }
         ensures as_before { OnErr result (self.new.what ≡ self.old.what) }
         ensures room { self.old.room ≤ self.new.room + 1 }
         ensures room_as_before { OnErr result (self.old.room ≤ self.new.room) }
@@ -222,17 +168,13 @@ impl Standing {
             Call::Undo(named) => Ok(unasked(alloc, self.undo(*named)?)),
             Call::Redo => Ok(unasked(alloc, self.redo()?)),
             Call::Tile(node, at) => {
-                let reply = self.tile(alloc, *node, *at, desk, steps)?;
-                Ok(unasked(alloc, reply))
+                Ok(unasked(alloc, self.tile(alloc, *node, *at, &mut desk.out, steps)?))
             }
-            Call::Peek(_, _) => unreachable!(),
+            Call::Peek(node, at) => Ok(unasked(alloc, self.peek(*node, *at, seen, &mut desk.out))),
             Call::Top => {
+                let version = self.version;
                 let group = self.top();
-                let reply = Reply::Top {
-                    group,
-                    version: self.version,
-                };
-                Ok(unasked(alloc, reply))
+                Ok(unasked(alloc, Reply::Top { group, version }))
             }
         }
     }
@@ -248,14 +190,13 @@ impl Standing {
         requires few { length edits.now ≤ most_edits }
         requires each { AllByRecursion IsEdit (edits_of edits.now) }
         requires there { AreThere (states_in state chest.old) (edits_of edits.now) }
+        requires kept { IsKeptNow self.old.what }
         requires versions { self.old.what.version < 2 ^ 31 }
         requires groups { self.old.what.next_group < 2 ^ 31 }
         requires ids { HasIds (at_now self.old.what) most_edits }
-
         ensures told { IfOk result (λ a. Tells (edited self.old.what guard (edits_of edits.now) a.tables) (reply_of a.reply) self.new.what) }
         ensures asked { IfOk result (λ a. AreAsked (states_in state chest.old) (states_in state chest.new) (edits_made (machine.edit guard (edits_of edits.now)) (reply_of a.reply)) a.tables) }
         ensures bytes { IfOk result (λ a. AllByRecursion AreBytes a.tables) }
-
         ensures chest { OnErr result (IsPartUsed (states_in state chest.old) (states_in state chest.new) (edits_of edits.now)) }
         ensures as_before { OnErr result (self.new.what ≡ self.old.what) }
         ensures room { self.old.room ≤ self.new.room + 1 }
@@ -264,7 +205,7 @@ impl Standing {
         if !is_named(guard, self.version) {
             return Ok(unasked(alloc, Reply::Moved { now: self.version }));
         }
-        self.undo.reserve(1)?;
+        self.reserve(1)?;
         let made = match make_group(alloc, &self.document, self.next_id, edits, chest) {
             Ok(made) => made,
             Err(GroupRefusedOrMemory::Refused { index, cause }) => {
@@ -276,16 +217,35 @@ impl Standing {
             document,
             next_id,
             tables,
+            damage,
         } = made;
+        let change = Change::new(alloc, &self.document, &document, damage)?;
+        let reply = self.accept(document, next_id, change);
+        Ok(Answered { reply, tables })
+    }
+
+    // The document that a group has left takes the document's place. It takes no memory.
+    fn accept(&mut self, document: Document, next_id: u32, change: Change) -> Reply
+        requires change { IsChange self.old.what.document document change }
+        requires kept { IsKeptNow self.old.what }
+        requires versions { self.old.what.version < 2 ^ 31 }
+        requires groups { self.old.what.next_group < 2 ^ 31 }
+        requires room { 1 ≤ self.old.room }
+        ensures told { Tells (accepted self.old.what (at document next_id) change.damage) (reply_of result) self.new.what }
+        ensures room { self.old.room ≤ self.new.room + 1 }
+    {
         let group = self.next_group;
+        limits(&self.document);
+        limits(&document);
+        let mut change = change;
+        change.go(&mut self.cache, self.version + 1);
         let before = mem::replace(&mut self.document, document);
         self.next_id = next_id;
         self.next_group += 1;
-        let record = Record::new(before, &self.document);
-        self.undo.push_reserved(Step { group, record });
+        self.undo
+            .push_reserved(Step::back(group, before, &self.document, change));
         self.redo.clear();
-        let reply = self.next_version(group);
-        Ok(Answered { reply, tables })
+        self.next_version(group)
     }
 
     // The group that an undo would undo.
@@ -295,12 +255,13 @@ impl Standing {
         let Some(last) = self.undo.as_slice().last() else {
             return None;
         };
-        Some(last.group)
+        Some(last.group())
     }
 
     // Gives back the document before the last group, if it is the one that is named.
     fn undo(&mut self, named: Option<u32>) -> Result<Reply, AllocError>
-        requires { self.old.what.version < 2 ^ 31 }
+        requires kept { IsKeptNow self.old.what }
+        requires versions { self.old.what.version < 2 ^ 31 }
         ensures told { IfOk result (λ reply. Tells (undone self.old.what named) (reply_of reply) self.new.what) }
         ensures as_before { OnErr result (self.new.what ≡ self.old.what) }
         ensures room { self.old.room ≤ self.new.room + 1 }
@@ -317,15 +278,16 @@ impl Standing {
         let Some(mut back) = self.undo.pop() else {
             unreachable!();
         };
-        let group = back.group;
-        back.record.revert(&mut self.document);
+        let group = back.group();
+        back.take(&mut self.document, &mut self.cache, self.version + 1);
         self.redo.push_reserved(back);
         Ok(self.next_version(group))
     }
 
     // Gives the document after the group that was undone last.
     fn redo(&mut self) -> Result<Reply, AllocError>
-        requires { self.old.what.version < 2 ^ 31 }
+        requires kept { IsKeptNow self.old.what }
+        requires versions { self.old.what.version < 2 ^ 31 }
         ensures told { IfOk result (λ reply. Tells (redone self.old.what) (reply_of reply) self.new.what) }
         ensures as_before { OnErr result (self.new.what ≡ self.old.what) }
         ensures room { self.old.room ≤ self.new.room + 1 }
@@ -336,8 +298,8 @@ impl Standing {
         let Some(mut forth) = self.redo.pop() else {
             return Ok(Reply::NothingToRedo);
         };
-        let group = forth.group;
-        forth.record.revert(&mut self.document);
+        let group = forth.group();
+        forth.take(&mut self.document, &mut self.cache, self.version + 1);
         self.undo.push_reserved(forth);
         Ok(self.next_version(group))
     }
@@ -356,20 +318,23 @@ impl Standing {
         }
     }
 
-    // Leaves a tile of the last version in the desk.
+    // Leaves a tile of the last version in `out`. Its slot is clean from then on.
     fn tile<L: Ledger>(
-        &self,
+        &mut self,
         alloc: Global,
         node: NodeId,
         at: TileAt,
-        desk: &mut Desk,
+        out: &mut Picture,
         steps: &mut Steps<L>,
     ) -> Result<Reply, AllocError>
-        ensures told { IfOk result (λ reply. Tells (shown self.now.what node.0 at) (reply_of reply) self.now.what) }
-        ensures shown { IfOk result (λ reply. ShowsTile self.now.what.document node.0 at (reply_of reply) desk.new.out) }
-        ensures desk { IfOk result (λ reply. KeepsDesk (reply_of reply) desk.old.out desk.new.out) }
-        ensures chest { desk.new.chest ≡ desk.old.chest }
-        ensures out_as_before { OnErr result (desk.new.out ≡ desk.old.out) }
+        requires kept { IsKeptNow self.old.what }
+        ensures told { IfOk result (λ reply. Tells (shown self.old.what node.0 at) (reply_of reply) self.new.what) }
+        ensures shown { IfOk result (λ reply. ShowsTile self.new.what.document node.0 at (reply_of reply) out.new) }
+        ensures desk { IfOk result (λ reply. KeepsDesk (reply_of reply) out.old out.new) }
+        ensures steps { is_clean self.old.what.cache node.0 at ≡ true → steps.new ≡ steps.old }
+        ensures as_before { OnErr result (self.new.what ≡ self.old.what) }
+        ensures room { self.new.room ≡ self.old.room }
+        ensures out_as_before { OnErr result (out.new ≡ out.old) }
     {
         if !has_stack(&self.document, node) {
             return Ok(Reply::NoStack { node: node.0 });
@@ -377,8 +342,58 @@ impl Standing {
         if !has_tile(&self.document, at) {
             return Ok(Reply::OutsideTile);
         }
-        recompose_tile(alloc, &self.document, node, at, &mut desk.out, steps)?;
         let version = self.version;
+        show(
+            alloc,
+            &self.document,
+            &mut self.cache,
+            node,
+            at,
+            version,
+            out,
+            steps,
+        )?;
         Ok(Reply::Tile { version })
+    }
+
+    // Leaves what is kept of a tile in `out`, where it is as late as what was seen.
+    fn peek(&self, node: NodeId, at: TileAt, seen: u32, out: &mut Picture) -> Reply
+        ensures told { Tells (peeked self.now.what node.0 at seen) (reply_of result) self.now.what }
+        ensures shown { ShowsKept (kept self.now.what.cache node.0 at self.now.what.version) (reply_of result) out.new }
+        ensures desk { KeepsDesk (reply_of result) out.old out.new }
+    {
+        if !has_stack(&self.document, node) {
+            return Reply::NoStack { node: node.0 };
+        }
+        if !has_tile(&self.document, at) {
+            return Reply::OutsideTile;
+        }
+        look(&self.cache, node, at, self.version, seen, out)
+    }
+
+    /// A job for the next marked slot, which counts as taken. None where no slot is marked, which takes no memory.
+    pub(crate) fn take_job(&mut self, alloc: Global) -> Result<Option<Job>, AllocError>
+        requires kept { IsKeptNow self.old.what }
+        requires place { IfSome (next_place self.old.what.cache) (IsTileOf self.old.what.document) }
+        ensures place { IfOk result (λ job. option_map place_of_job job ≡ next_place self.old.what.cache) }
+        ensures stands { IfOk result (λ job. IfSome job (λ j. StandsFor self.old.what.document j.stack j.at self.old.what.version j)) }
+        ensures what { self.new.what ≡ with_cache self.old.what (after_take self.old.what.cache) }
+        ensures room { self.new.room ≡ self.old.room }
+        ensures none { next_place self.old.what.cache ≡ None → IsOk result }
+    {
+        let Some((node, at)) = self.cache.take() else {
+            return Ok(None);
+        };
+        let job = job(alloc, &self.document, node, at, self.version, &self.cache)?;
+        Ok(Some(job))
+    }
+
+    /// Keeps a picture, unless its tile was marked at a later version or its stack is gone.
+    pub(crate) fn finish(&mut self, done: Done) -> Finished
+        ensures finished { result ≡ finish self.old.what.cache (place_done done) done.version }
+        ensures what { self.new.what ≡ with_cache self.old.what (install (place_done done) done.version done.picture self.old.what.cache) }
+        ensures room { self.new.room ≡ self.old.room }
+    {
+        self.cache.install(done)
     }
 }

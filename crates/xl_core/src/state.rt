@@ -1,9 +1,13 @@
-ghost use Rattle.std.specs.Prelude.{◌≡◌, ◌+◌, ◌<◌, ◌≤◌, ◌^◌, List, length, [], Some, IfOk, IfErr, IsOk, OnOk, OnErr, IsSome};
+ghost use Rattle.std.specs.Prelude.{◌≡◌, ◌+◌, ◌<◌, ◌≤◌, ◌^◌, List, length, [], Some, None, option_map, IfOk, IfErr, IfSome, IsOk, OnOk, OnErr, IsSome};
 ghost use Rattle.spec_history.specs.Kept.{IsLegal};
+ghost use Rattle.spec_cache.specs.Cache.{no_slots, next_place, finish};
+ghost use Rattle.spec_world.specs.World.{stack_ids, add_stacks};
 ghost use Rattle.spec_world.specs.Events.{IsOutOf};
-ghost use Rattle.spec_history.specs.Calls.{most_entries};
-ghost use Rattle.xl_core.specs.History.{version, document, Answers, Shows};
-ghost use Rattle.xl_core.specs.Editing.{known, out_of, IsRight, ComesBack, KeepsShelf, IsAsBefore, Begins, HandsOut, Ends};
+ghost use Rattle.spec_world.specs.Right as worlds;
+ghost use Rattle.xl_compose.specs.Job.{StandsFor};
+ghost use Rattle.spec_history.specs.Calls.{IsCall, most_entries};
+ghost use Rattle.xl_core.specs.History.{version, document, Shows};
+ghost use Rattle.xl_core.specs.Editing.{known, world, IsSubmitted, TakesNoStep, taken, place_of_job, place_done, IsPictureOf, handed_in, out_of, IsRight, ComesBack, KeepsShelf, IsAsBefore, Begins, HandsOut, Ends};
 ghost use Rattle.xl_core.specs.Now.{KeepsDesk};
 ghost use Rattle.xl_core.specs.Room.{IsUndoOrRedo};
 ghost use Rattle.xl_doc.specs.Numbered.{AreNumbered};
@@ -12,7 +16,6 @@ ghost use Rattle.spec_history.specs.History.{asked};
 ghost use Rattle.spec_history.specs.Limited.{edits_of};
 ghost use Rattle.spec_tables.specs.Agrees.{Agrees, AreThere, IsAfter, IsPartAfter};
 ghost use Rattle.spec_tables.specs.Tables.{expected_tables};
-ghost use Rattle.xl_edit.specs.Built.{IsBuilt};
 ghost use Rattle.xl_filters.specs.Chests.{states_in};
 ghost use Rattle.xl_edit.specs.Calls.{call_of};
 ghost use Rattle.xl_edit.specs.Replies.{reply_of};
@@ -27,9 +30,12 @@ use std::marker::Model;
 use std::snapshot::Snapshot;
 use std::sync::ledger::Ledger;
 use xl_blend::Steps;
+use xl_cache::{Cache, Finished};
+use xl_compose::{Done, Job};
 use xl_doc::Document;
 use xl_edit::{Call, Reply};
 use xl_filters::PointFilter;
+use xl_marks::first_cache;
 use xl_ports::Shelf;
 
 /// How many entries a history has at most.
@@ -65,6 +71,7 @@ impl<D: Shelf> Model for Core<D> {
 
     ghost view = { λ c. record {
       history = record { base = c.base; entries = c.entries.items };
+      cache = c.standing.what.cache;
       opening = c.opening.value;
       handed = all_seen c.handed.items;
       shelf = shelf_in c.place;
@@ -73,6 +80,16 @@ impl<D: Shelf> Model for Core<D> {
 
     ghost invariant = { λ c. Stands c.base c.entries.items c.standing.what c.made
         × Holds (known D.selected D.disk D.reading_faults D.saving_faults) c.base c.entries.items c.opening.value (all_seen c.handed.items) c.place (vec_capacity c.entries) };
+}
+
+// A share of a document, and the slots of its stacks.
+fn first_parts(alloc: Global, doc: &Document) -> Result<(Document, Cache), AllocError>
+    ensures base { IfOk result (λ parts. parts.0 ≡ doc.now) }
+    ensures cache { IfOk result (λ parts. parts.1 ≡ add_stacks (stack_ids doc.now) doc.now 0 no_slots) }
+{
+    let base = doc.share(alloc)?;
+    let cache = first_cache(alloc, doc)?;
+    Ok((base, cache))
 }
 
 impl<D: Shelf> Core<D> {
@@ -84,13 +101,14 @@ impl<D: Shelf> Core<D> {
     ) -> Result<Core<D>, AllocFailed<(Document, D)>>
         requires numbered { AreNumbered doc.nodes }
         requires selected { IsSome (D.selected shelf) }
-        ensures ok { IfOk result (λ core. core ≡ record { history = record { base = doc; entries = [] }; opening = shelf; handed = []; shelf = Some shelf; spare = core.spare }) }
+        ensures ok { IfOk result (λ core. core ≡ record { history = record { base = doc; entries = [] }; cache = add_stacks (stack_ids doc) doc 0 no_slots; opening = shelf; handed = []; shelf = Some shelf; spare = core.spare }) }
+        ensures right { IfOk result (λ core. worlds.IsRight doc (world core)) }
         ensures back { IfErr result (λ failed. failed.value ≡ (doc, shelf)) }
     {
-        match doc.share(alloc) {
-            Ok(base) => Ok(Core {
+        match first_parts(alloc, &doc) {
+            Ok((base, cache)) => Ok(Core {
                 base,
-                standing: Standing::new(alloc, doc),
+                standing: Standing::new(alloc, doc, cache),
                 made: [0; 8],
                 entries: Vec::new(alloc),
                 opening: Snapshot::of(&shelf),
@@ -129,10 +147,10 @@ impl<D: Shelf> Core<D> {
 
     /// Makes a call of a session, which has seen the versions up to `seen`.
     ///
-    /// A tile leaves its bytes in the desk; no other answer touches these. The filters that a group names are in the desk's chest.
-    /// They are asked where the group is accepted, once for each of its edits that names them and in their order, and else not. It
-    /// never touches the shelf, and leaves room for the entry that a save owes. After out of memory all is as before, but that the
-    /// filters of the group's first edits may have been asked. It lowers `spare` by at most 1.
+    /// Only an answer that is a tile, to a tile or a peek, leaves its bytes in the desk. The filters that a group names are in the
+    /// chest. They are asked where the group is accepted, once for each of its edits that names them and in their order, and else
+    /// not. It never touches the shelf, and leaves room for the entry that a save owes. After out of memory all is as before, but
+    /// that the filters of the group's first edits may have been asked. It lowers `spare` by at most 1.
     pub fn submit<L: Ledger>(
         &mut self,
         alloc: Global,
@@ -144,11 +162,13 @@ impl<D: Shelf> Core<D> {
     ) -> Result<Reply, AllocError>
         requires session { session < 8 }
         requires seen { seen ≤ version self.old.history }
-        requires built { IsBuilt (call_of call) }
+        requires built { IsCall (call_of call) }
         requires there { AreThere (states_in state desk.old.chest) (edits_of (call_of call)) }
 
         ensures answered { (filters : List FilterState) → Agrees (states_in state desk.old.chest) filters
-            → IfOk result (λ reply. Answers self.old.history session (call_of call) (expected_tables filters (asked (call_of call) []) (reply_of reply)) (reply_of reply) self.new.history) }
+            → IfOk result (λ reply. IsSubmitted self.old session (call_of call) seen (expected_tables filters (asked (call_of call) []) (reply_of reply)) (reply_of reply) self.new) }
+        ensures right { IfOk result (λ reply. worlds.IsRight self.new.history.base (world self.new)) }
+        ensures steps { TakesNoStep self.old.cache (call_of call) → steps.new ≡ steps.old }
         ensures chest { IfOk result (λ reply. IsAfter (states_in state desk.old.chest) (states_in state desk.new.chest) (call_of call) (reply_of reply)) }
         ensures shown { IfOk result (λ reply. Shows self.new.history (call_of call) (reply_of reply) desk.new.out) }
         ensures shelf { KeepsShelf self.old self.new }
@@ -166,7 +186,7 @@ impl<D: Shelf> Core<D> {
             return Ok(Reply::HistoryFull);
         }
         self.entries.reserve(1 + owed)?;
-        let answered = self.standing.answer(alloc, &call, desk, steps)?;
+        let answered = self.standing.answer(alloc, &call, seen, desk, steps)?;
         let reply = answered.reply;
         let tables = answered.tables;
         let index = self.made[session as usize];
@@ -180,6 +200,28 @@ impl<D: Shelf> Core<D> {
         Ok(reply)
     }
 
+    /// Takes the next marked slot: a job that composes its tile at the last version, where a clean slot of a group below gives its
+    /// picture. None exactly where no slot is marked, and that takes no memory. After out of memory the slot counts as taken.
+    pub fn take_job(&mut self, alloc: Global) -> Result<Option<Job>, AllocError>
+        ensures place { IfOk result (λ job. option_map place_of_job job ≡ next_place self.old.cache) }
+        ensures stands { IfOk result (λ job. IfSome job (λ j. StandsFor (document self.old.history) j.stack j.at (version self.old.history) j)) }
+        ensures after { self.new ≡ taken self.old }
+        ensures none { next_place self.old.cache ≡ None → IsOk result }
+        ensures right { worlds.IsRight self.new.history.base (world self.new) }
+    {
+        self.standing.take_job(alloc)
+    }
+
+    /// Keeps a picture that was composed, unless its tile was marked at a later version or its stack is gone. It takes no memory.
+    pub fn finish(&mut self, done: Done) -> Finished
+        requires done { IsPictureOf self.old.history done }
+        ensures finished { result ≡ finish self.old.cache (place_done done) done.version }
+        ensures kept { self.new ≡ handed_in self.old done }
+        ensures right { worlds.IsRight self.new.history.base (world self.new) }
+    {
+        self.standing.finish(done)
+    }
+
     /// Begins a save of a session: the last version with a share of its document and the shelf, which is out until `end_save`.
     ///
     /// It makes an entry, and takes the room for that of its end, so that `spare` is not lower. `Out` where the shelf is out, and
@@ -189,6 +231,7 @@ impl<D: Shelf> Core<D> {
         ensures begun { IfOk result (λ begun. Begins self.old session begun self.new) }
         ensures right { IfOk result (λ begun. HandsOut (IsRight (known D.selected D.disk D.reading_faults D.saving_faults) self.old) begun) }
         ensures legal { IsLegal self.new.history.base self.new.history.entries }
+        ensures pictures { IfOk result (λ begun. worlds.IsRight self.new.history.base (world self.new)) }
         ensures few { length self.new.history.entries ≤ most_entries }
         ensures as_before { OnErr result (IsAsBefore self.old self.new) }
         ensures spare { self.old.spare ≤ self.new.spare }
@@ -234,6 +277,7 @@ impl<D: Shelf> Core<D> {
         ensures ended { Ends self.old session how shelf (reply_of result) self.new }
         ensures spare { self.old.spare ≤ self.new.spare }
         ensures legal { IsLegal self.new.history.base self.new.history.entries }
+        ensures pictures { worlds.IsRight self.new.history.base (world self.new) }
         ensures few { length self.new.history.entries ≤ most_entries }
     {
         let Place::Out { index, version } = std::mem::replace(&mut self.place, Place::In(shelf))
@@ -268,6 +312,13 @@ impl<D: Shelf> Core<D> {
         ensures { result.now ≡ self.now.history.entries }
     {
         self.entries.as_slice()
+    }
+
+    /// Tells contracts that the pictures that are kept are right, as they are whatever was done.
+    pub fn know_right(&self)
+        ensures { worlds.IsRight self.now.history.base (world self.now) }
+    {
+        let _entries = self.entries.len();
     }
 
     /// The last version's number.

@@ -11,6 +11,9 @@ use Rattle.xl_core.specs.Now.{Stands}
 use Rattle.xl_core.specs.Room.{spare_of}
 use Rattle.xl_core.specs.declared.saving.Place.TheVariants.{Out}
 use Rattle.xl_core.proofs.Saves.{version_is, document_is, none_out, seen-snoc, stands_started, holds_started}
+use Rattle.xl_core.proofs.GoesOn.{few_made}
+use Rattle.xl_core.proofs.Pictures.{is_right}
+use Rattle.xl_core.proofs.Submitted.{right_same}
 use Rattle.xl_core.proofs.state.Core.begin_save.Goals as goal
 use Rattle.xl_core.proofs.state.Core.begin_save.Given as given
 
@@ -49,6 +52,22 @@ stands g c =
     (sym (items g c))
     (stands_started c.self.inside.base c.self.inside.entries.items c.self.inside.standing.what c.self.inside.made c.args.session c.self.invariant.0 c.self.told
     c.requires.session (none g c) (few g c))
+
+-- where nothing was done all is right as before
+pub returns-in-Out-clause-pictures : goal.returns-in-Out-clause-pictures
+returns-in-Out-clause-pictures g c =
+    right_same _ _ c.self.view_is (is_right c.self.inside.base c.self.inside.entries.items c.self.inside.standing.what c.self.inside.made c.self.invariant.0)
+
+pub returns-then-len-gt-MOST_ENTRIES-clause-pictures : goal.returns-then-len-gt-MOST_ENTRIES-clause-pictures
+returns-then-len-gt-MOST_ENTRIES-clause-pictures g c =
+    right_same _ _ c.self.view_is (is_right c.self.inside.base c.self.inside.entries.items c.self.inside.standing.what c.self.inside.made c.self.invariant.0)
+
+pub overflow_add-self : goal.overflow_add-self
+overflow_add-self g c =
+    omega (arith, few_made c.self.inside.base c.self.inside.entries.items c.self.inside.standing.what c.self.inside.made c.self.invariant.0 c.args.session c.requires.session)
+
+pub returns-clause-pictures : goal.returns-clause-pictures
+returns-clause-pictures g c = is_right c.self.inside.base _ _ _ (stands g c)
 
 pub returns-clause-legal : goal.returns-clause-legal
 returns-clause-legal g c = (stands g c).legal
@@ -100,6 +119,7 @@ returns-clause-begun g c =
       subst (λ e. length e.history.entries + 2 ≤ most_entries) c.self.view_is (few g c),
       (λ i. record {
         history = record { base = base; entries = start i };
+        cache = standing.cache;
         opening = c.self.inside.opening.value;
         handed = handed g c i;
         shelf = shelf_in (c.in-In.ensures.after i);

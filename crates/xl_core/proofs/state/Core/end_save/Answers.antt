@@ -11,6 +11,7 @@ use Rattle.xl_core.specs.Holding.{all_seen, IsPlace, Holds}
 use Rattle.xl_core.specs.Now.{Stands}
 use Rattle.xl_core.specs.declared.saving.Place.TheVariants.{In}
 use Rattle.xl_core.proofs.Saves.{which_out, stands_ended, holds_ended}
+use Rattle.xl_core.proofs.Pictures.{is_right}
 use Rattle.xl_core.proofs.state.Core.end_save.Goals as goal
 use Rattle.xl_core.proofs.state.Core.end_save.Given as given
 
@@ -35,6 +36,9 @@ stands : (g : given.Over) (c : goal.After-push_reserved g) → Stands c.self.ins
 stands g c =
     subst (λ es. Stands c.self.inside.base es c.self.inside.standing.what c.self.inside.made) (sym (items g c))
     (stands_ended c.self.inside.base c.self.inside.entries.items c.self.inside.standing.what c.self.inside.made c.args.session c.args.how c.self.invariant.0 (is_out g c))
+
+pub returns-clause-pictures : goal.returns-clause-pictures
+returns-clause-pictures g c = is_right c.self.inside.base _ _ _ (stands g c)
 
 pub returns-clause-legal : goal.returns-clause-legal
 returns-clause-legal g c = (stands g c).legal

@@ -1,0 +1,2 @@
+mod Outs
+mod Stacks

@@ -1,0 +1,211 @@
+//! A core with its jobs.
+ghost use Rattle.std.specs.Prelude.{◌≡◌, ◌<◌, [], IfOk, IfSome};
+ghost use Rattle.spec_grid.specs.Grid.{is_on_grid};
+ghost use Rattle.spec_history.specs.Machine.{has_stack as document_has_stack};
+ghost use Rattle.kept_rows.specs.Asked.{IsPlain, PicturesStay, IsOfLast};
+ghost use Rattle.xl_core.specs.Editing.{IsPictureOf};
+ghost use Rattle.xl_doc.specs.Numbered.{AreNumbered};
+ghost use Rattle.xl_edit.specs.Calls.{call_of};
+ghost use Rattle.xl_filters.specs.Chests.{states_in};
+
+use crate::step::{Step, call};
+use std::alloc::{AllocError, Global};
+use std::marker::{Brand, Model};
+use std::sync::Arc;
+use std::sync::ledger::{Blank, Ledger};
+use xl_blend::Steps;
+use xl_compose::compose;
+use xl_core::{Core, Desk, Done, Finished, Picture};
+use xl_doc::{Document, NodeId, TileAt};
+use xl_edit::{Call, Reply};
+use xl_fakes::MemoryShelf;
+use xl_filters::Chest;
+use xl_grid::grid;
+use xl_ports::Shelf;
+use xl_read::decode;
+
+/// A core, the jobs that are out, which are composed, and what the last tile or peek has shown.
+#[derive(Drop)]
+pub struct Bench {
+    core: Core<MemoryShelf>,
+    outs: Vec<Done>,
+    shown: Picture,
+}
+
+impl Model for Bench {
+    ghost use Rattle.std.specs.Prelude.{ℕ, length};
+    ghost use Rattle.std.specs.List.{AllByRecursion};
+    ghost use Rattle.xl_core.specs.Editing.{IsPictureOf};
+
+    ghost Value = { ℕ };
+
+    ghost view = { λ b. length b.outs.items };
+
+    ghost invariant = { λ b. AllByRecursion (IsPictureOf b.core.history) b.outs.items };
+}
+
+// The document of a file.
+fn document(alloc: Global, file: &[u8]) -> Result<Document, AllocError>
+    ensures { IfOk result (λ document. AreNumbered document.nodes) }
+{
+    let bytes = file.to_vec(alloc)?;
+    if bytes.len() > 1 << 31 {
+        return Err(AllocError);
+    }
+    let shared = Arc::new(alloc, bytes)?;
+    match decode(alloc, &shared) {
+        Ok(document) => Ok(document),
+        Err(_) => Err(AllocError),
+    }
+}
+
+// A core over a shelf, on which a name is selected.
+fn core_over<D: Shelf>(alloc: Global, document: Document, shelf: D) -> Result<Core<D>, AllocError>
+    requires { AreNumbered document.nodes }
+{
+    let mut shelf = shelf;
+    if shelf.select("f").is_err() {
+        return Err(AllocError);
+    }
+    match Core::open(alloc, document, shelf) {
+        Ok(core) => Ok(core),
+        Err(_) => Err(AllocError),
+    }
+}
+
+// A desk without filters.
+fn plain_desk(alloc: Global) -> Result<Desk, AllocError>
+    ensures { IfOk result (λ desk. states_in state desk.chest ≡ []) }
+{
+    let Ok(chest) = Chest::new(alloc, Vec::new(alloc)) else {
+        return Err(AllocError);
+    };
+    match Desk::new(alloc, chest) {
+        Ok(desk) => Ok(desk),
+        Err(_) => Err(AllocError),
+    }
+}
+
+// Makes a call of a session that has seen the last version.
+fn submit<L: Ledger, D: Shelf>(
+    alloc: Global,
+    core: &mut Core<D>,
+    call: Call,
+    desk: &mut Desk,
+    blank: Blank,
+) -> Result<Reply, AllocError>
+    requires name { blank.name ≡ L.name }
+    requires parts { blank.parts ≡ L.parts }
+    requires some { 0 < blank.parts }
+    requires plain { IsPlain (call_of call) }
+    requires desk { states_in state desk.old.chest ≡ [] }
+    ensures { PicturesStay core.old.history core.new.history }
+{
+    let mut steps = Steps::<L>::new(blank);
+    core.know_right();
+    let seen = core.version();
+    core.submit(alloc, 0, call, seen, desk, &mut steps)
+}
+
+// Takes a job and composes it.
+fn compose_next<L: Ledger, D: Shelf>(
+    alloc: Global,
+    core: &mut Core<D>,
+    blank: Blank,
+) -> Result<Option<Done>, AllocError>
+    requires name { blank.name ≡ L.name }
+    requires parts { blank.parts ≡ L.parts }
+    requires some { 0 < blank.parts }
+    ensures same { core.new.history ≡ core.old.history }
+    ensures last { IfOk result (λ done. IfSome done (IsOfLast core.new.history)) }
+{
+    let mut steps = Steps::<L>::new(blank);
+    match core.take_job(alloc)? {
+        None => Ok(None),
+        Some(job) => Ok(Some(compose(job, &mut steps))),
+    }
+}
+
+// Whether the document has this stack.
+fn has_stack(document: &Document, node: NodeId) -> bool
+    ensures { result ≡ document_has_stack document.now node.0 }
+{
+    document.tree.stack(node).is_some()
+}
+
+// Whether the canvas has this tile.
+fn has_tile(document: &Document, at: TileAt) -> bool
+    ensures { result ≡ is_on_grid document.now.width document.now.height at }
+{
+    let (columns, rows) = grid(document.width, document.height);
+    at.col < columns && at.row < rows
+}
+
+// Takes a job and composes it, where it is of a tile that is there.
+fn next<D: Shelf>(alloc: Global, core: &mut Core<D>) -> Result<Option<Done>, AllocError>
+    ensures same { core.new.history ≡ core.old.history }
+    ensures right { IfOk result (λ done. IfSome done (IsPictureOf core.new.history)) }
+{
+    let Some(done) = compose_next::<Brand, D>(alloc, core, Blank::new(1))? else {
+        return Ok(None);
+    };
+    if !has_stack(core.document(), done.node) {
+        return Err(AllocError);
+    }
+    if !has_tile(core.document(), done.at) {
+        return Err(AllocError);
+    }
+    Ok(Some(done))
+}
+
+impl Bench {
+    /// The core of a file's document.
+    pub fn open(alloc: Global, file: &[u8]) -> Result<Bench, AllocError> {
+        let document = document(alloc, file)?;
+        let shelf = MemoryShelf::new(alloc, Vec::new(alloc), Vec::new(alloc), None)?;
+        let shown = Picture::blank(alloc)?;
+        let core = core_over(alloc, document, shelf)?;
+        Ok(Bench {
+            core,
+            outs: Vec::new(alloc),
+            shown,
+        })
+    }
+
+    /// The reply to a step.
+    pub fn ask(&mut self, alloc: Global, step: Step) -> Result<Reply, AllocError> {
+        let mut desk = plain_desk(alloc)?;
+        let call = call(alloc, step)?;
+        let reply = submit::<Brand, MemoryShelf>(
+            alloc,
+            &mut self.core,
+            call,
+            &mut desk,
+            Blank::new(1),
+        )?;
+        self.shown.copy_from(&desk.out);
+        Ok(reply)
+    }
+
+    /// What the last step has shown, which is nothing where it was no tile and no peek.
+    pub fn shown(&self) -> &[u8] {
+        self.shown.bytes()
+    }
+
+    /// Takes a job, which is out then behind the others. Its stack and its tile.
+    pub fn take(&mut self, alloc: Global) -> Result<Option<(u32, u32, u32)>, AllocError> {
+        self.outs.reserve(1)?;
+        let Some(done) = next(alloc, &mut self.core)? else {
+            return Ok(None);
+        };
+        let place = (done.node.0, done.at.col, done.at.row);
+        self.outs.push_reserved(done);
+        Ok(Some(place))
+    }
+
+    /// Hands in the job that was taken last.
+    pub fn finish(&mut self) -> Option<Finished> {
+        let done = self.outs.pop()?;
+        Some(self.core.finish(done))
+    }
+}

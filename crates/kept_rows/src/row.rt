@@ -1,0 +1,161 @@
+//! Rows of the tables, and whether they hold of a bench.
+use crate::bench::Bench;
+use crate::step::Step;
+use std::alloc::{AllocError, Global};
+use xl_core::Finished;
+use xl_edit::Reply;
+
+/// More tiles than any of the documents has.
+const MOST_TILES: u32 = 100;
+
+/// What is done next with a bench, and what comes of it.
+#[derive(Clone, Copy)]
+pub enum Row {
+    /// A step is answered by a new version, the group that made it, and the next id.
+    Changes(Step, u32, u32, u32),
+    Answers(Step, Reply),
+    /// The last tile or peek showed this pixel.
+    Shows([u8; 4]),
+    /// Jobs are taken until it is that of this stack at a column and a row.
+    Takes(u32, u32, u32),
+    /// The job that was taken last ends so.
+    Ends(Finished),
+    /// All tiles of so many stacks, so many of them in a row and in a column, are answered at this version.
+    Cleans(u32, u32, u32),
+    /// Jobs come of these stacks, one after another, and are handed in; then there is none.
+    Marks(&'static [u32]),
+}
+
+// Takes jobs until it is this tile's. Whether it was.
+fn take_until(alloc: Global, bench: &mut Bench, tile: (u32, u32, u32)) -> Result<bool, AllocError> {
+    for _ in 0..MOST_TILES {
+        match bench.take(alloc)? {
+            None => return Ok(false),
+            Some(place) => {
+                if place == tile {
+                    return Ok(true);
+                }
+            }
+        }
+    }
+    Ok(false)
+}
+
+// Takes the marked tiles and hands them in, as long as there are any. Their stacks.
+fn refreshed(alloc: Global, bench: &mut Bench) -> Result<Vec<u32>, AllocError> {
+    let mut stacks = Vec::new(alloc);
+    for _ in 0..MOST_TILES {
+        match bench.take(alloc)? {
+            None => return Ok(stacks),
+            Some(place) => {
+                stacks.push(place.0)?;
+                bench.finish();
+            }
+        }
+    }
+    Ok(stacks)
+}
+
+// Asks a tile. Whether it is of this version.
+fn is_shown(
+    alloc: Global,
+    bench: &mut Bench,
+    tile: (u32, u32, u32),
+    version: u32,
+) -> Result<bool, AllocError> {
+    let reply = bench.ask(alloc, Step::Tile(tile.0, tile.1, tile.2))?;
+    Ok(reply == Reply::Tile { version })
+}
+
+// Asks the tiles of a stack. Whether all are of this version.
+fn are_shown(
+    alloc: Global,
+    bench: &mut Bench,
+    stack: u32,
+    side: u32,
+    version: u32,
+) -> Result<bool, AllocError> {
+    for row in 0..side {
+        for col in 0..side {
+            if !is_shown(alloc, bench, (stack, col, row), version)? {
+                return Ok(false);
+            }
+        }
+    }
+    Ok(true)
+}
+
+// Asks the tiles of the first stacks. Whether all are of this version.
+fn cleans(
+    alloc: Global,
+    bench: &mut Bench,
+    stacks: u32,
+    side: u32,
+    version: u32,
+) -> Result<bool, AllocError> {
+    for stack in 0..stacks {
+        if !are_shown(alloc, bench, stack, side, version)? {
+            return Ok(false);
+        }
+    }
+    Ok(true)
+}
+
+// Whether a step is answered so.
+fn answers(alloc: Global, bench: &mut Bench, step: Step, reply: Reply) -> Result<bool, AllocError> {
+    Ok(bench.ask(alloc, step)? == reply)
+}
+
+// Whether this pixel was shown.
+fn shows(bench: &Bench, pixel: &[u8]) -> bool {
+    bench.shown() == pixel
+}
+
+// Whether the job that was taken last ends so.
+fn ends(bench: &mut Bench, finished: Finished) -> bool {
+    match bench.finish() {
+        None => false,
+        Some(end) => end == finished,
+    }
+}
+
+// Whether the marked tiles are of these stacks.
+fn marks(alloc: Global, bench: &mut Bench, stacks: &[u32]) -> Result<bool, AllocError> {
+    let found = refreshed(alloc, bench)?;
+    Ok(found.as_slice() == stacks)
+}
+
+// A new version.
+fn changed(version: u32, group: u32, next: u32) -> Reply {
+    Reply::Changed {
+        version,
+        group,
+        next,
+    }
+}
+
+// Whether a row holds.
+fn holds(alloc: Global, bench: &mut Bench, row: Row) -> Result<bool, AllocError> {
+    match row {
+        Row::Changes(step, version, group, next) => {
+            answers(alloc, bench, step, changed(version, group, next))
+        }
+        Row::Answers(step, reply) => answers(alloc, bench, step, reply),
+        Row::Shows(pixel) => Ok(shows(bench, pixel.as_slice())),
+        Row::Takes(stack, col, row) => take_until(alloc, bench, (stack, col, row)),
+        Row::Ends(finished) => Ok(ends(bench, finished)),
+        Row::Cleans(stacks, side, version) => cleans(alloc, bench, stacks, side, version),
+        Row::Marks(stacks) => marks(alloc, bench, stacks),
+    }
+}
+
+/// The first of some rows, counted from 0, that does not hold of a file's document after those before it.
+pub fn first_wrong(alloc: Global, file: &[u8], rows: &[Row]) -> Result<Option<usize>, AllocError> {
+    let mut bench = Bench::open(alloc, file)?;
+    for (i, row) in rows.iter().enumerate() {
+        if !holds(alloc, &mut bench, *row)? {
+            return Ok(Some(i));
+        }
+    }
+    Ok(None)
+}

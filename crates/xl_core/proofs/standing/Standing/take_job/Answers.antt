@@ -1,0 +1,9 @@
+-- The clean pictures are the document's, whichever slot was taken last.
+use Rattle.std.proofs.Common.{sym, subst}
+use Rattle.xl_core.specs.Now.{IsKeptNow}
+use Rattle.xl_core.proofs.CleanTiles.{are_clean_taken}
+use Rattle.xl_core.proofs.standing.Standing.take_job.Goals as goal
+
+pub job-requires-clause-clean : goal.job-requires-clause-clean
+job-requires-clause-clean c =
+    are_clean_taken c.self.inside.document c.self.inside.cache c.take.new.self c.self.inside.version c.in-Some.at (subst (λ s. IsKeptNow s.what) (sym c.self.view_is) c.requires.kept) c.take.ensures.rest
