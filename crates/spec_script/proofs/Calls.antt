@@ -9,11 +9,11 @@ use Rattle.spec_edit.specs.Edit.{Edit, IsEdit}
 use Rattle.spec_edit.specs.Effect.{changed_at}
 use Rattle.spec_history.specs.Machine as machine
 use Rattle.spec_history.specs.Calls.{most_edits}
-use Rattle.spec_script.specs.Words.{if_holds, number_below, lines_of, words_of}
+use Rattle.spec_script.specs.Words.{number_below, lines_of, words_of}
 use Rattle.spec_script.specs.Commands.{Command, Asked, an_edit, begins, ends, a_call, saves, forgets, Rule, Keyword, keywords, rule_in, rule_of, command_of, is_word}
-use Rattle.spec_script.specs.Script.{most_calls, Line, call, save, forget, Open, Session, Parsed, has_filter, has_its_filter, Taken, take_outside, take_inside, take_command, put_session, is_skipped, take_by, take_asked, take_line, or_refused, take_lines, never_ended, ended, closed, blank, line_of_byte, start, script_of}
+use Rattle.spec_script.specs.Script.{most_calls, Line, call, save, forget, Open, Session, Parsed, has_filter, has_its_filter, Taken, take_outside, take_inside, take_command, put_session, is_skipped, take_by, take_asked, take_line, or_refused, take_lines, never_ended, ended, closed, blank, line_of_byte, start, script}
 use Rattle.spec_script.specs.Limits.{IsLine, AreLines}
-use Rattle.spec_script.proofs.Limits.{IsCommand, Keeps, if-then, if-any, if-test, keeps-number, keeps-byte, keeps-fill, keeps-write, keeps-filter, keeps-copy, keeps-flag, keeps-one, keeps-select, keeps-fill_byte, keeps-offset, keeps-rename, keeps-new_layer, keeps-new_group, keeps-restack, keeps-name, keeps-colours, keeps-alone, keeps-optional, keeps-tile, keeps-forget}
+use Rattle.spec_script.proofs.Limits.{IsOwnCall, IsCommand, Keeps, if-then, if-any, keeps-number, keeps-byte, keeps-fill, keeps-write, keeps-filter, keeps-copy, keeps-flag, keeps-one, keeps-select, keeps-fill_byte, keeps-offset, keeps-rename, keeps-new_layer, keeps-new_group, keeps-restack, keeps-name, keeps-colours, keeps-alone, keeps-optional, keeps-tile, keeps-forget}
 
 -- ---- the rule of any keyword
 
@@ -128,7 +128,7 @@ keeps-in : (ks : List Keyword) (word : List ℕ) → AllKeep ks → Keeps (rule_
 keeps-in [] word all = λ words. tt
 keeps-in (k ∷ ks) word all = either-rule (is_word word k.word) k.rule (rule_in ks word) all.0 (keeps-in ks word all.1)
 
-keeps-command : (words : List (List ℕ)) → IfSome (command_of words) (λ asked. IsCommand asked.command)
+pub keeps-command : (words : List (List ℕ)) → IfSome (command_of words) (λ asked. IsCommand asked.command)
 keeps-command [] = tt
 keeps-command (s ∷ []) = tt
 keeps-command (s ∷ keyword ∷ words) =
@@ -157,12 +157,21 @@ if-taken : (b : Bool) (t : Option Taken) → (b ≡ true → IfSome t (λ k. IsS
 if-taken true t h = h refl
 if-taken false t h = tt
 
+-- such a call has no limits
+own-call : (c : machine.Call) → IsOwnCall c → IsLine (call c)
+own-call (machine.edit guard es) own = absurd own
+own-call (machine.undo named) own = tt
+own-call machine.redo own = tt
+own-call (machine.tile stack at) own = tt
+own-call (machine.peek stack at) own = tt
+own-call machine.top own = tt
+
 outside : (number : ℕ) (s : Session) (c : Command) → IsSession s → IsCommand c → IfSome (take_outside number s c) (λ t. IsSession t.session)
 outside number s (an_edit e) is c =
     if-taken (has_its_filter s e) _ (λ h. with-line s (call (machine.edit None (e ∷ []))) is (record { some = omega arith; few = omega arith; each = (c, tt) }))
 outside number s (begins guard) is c = record { lines = is.lines; open_is = record { few = omega arith; each = tt } }
 outside number s ends is c = tt
-outside number s (a_call k) is c = with-line s (call k) is c
+outside number s (a_call k) is c = with-line s (call k) is (own-call k c)
 outside number s saves is c = with-line s save is tt
 outside number s (forgets slot) is c =
     if-taken (has_filter s slot) _ (λ h. record { lines = all-behind IsLine s.lines (forget slot ∷ []) is.lines (tt, tt); open_is = is.open_is })
@@ -216,28 +225,26 @@ by-keeps number asked p all command =
     if-then (λ t. IsSession t.session) IsParsed (take_command number s s.open_group asked.command) _ (either number s s.open_group asked.command is is.open_is command) (λ t session.
     put p asked.session t all session))
 
-asked-keeps : (serves : Asked → Bool) (number : ℕ) (words : List (List ℕ)) (p : Parsed) → IsParsed p → IfSome (take_asked serves number words p) IsParsed
-asked-keeps serves number words p all =
+asked-keeps : (number : ℕ) (words : List (List ℕ)) (p : Parsed) → IsParsed p → IfSome (take_asked number words p) IsParsed
+asked-keeps number words p all =
     let Q : Asked → Type 0 = λ asked. IsCommand asked.command in
-    if-then Q IsParsed (command_of words) _ (keeps-command words) (λ asked command.
-    if-then Q IsParsed (if_holds (serves asked) asked) _ (if-test Q (serves asked) asked (λ e. command)) (λ served is.
-    by-keeps number served p all is))
+    if-then Q IsParsed (command_of words) _ (keeps-command words) (λ asked command. by-keeps number asked p all command)
 
-line-keeps : (serves : Asked → Bool) (number : ℕ) (line : List ℕ) (p : Parsed) → IsParsed p → IfSome (take_line serves number line p) IsParsed
-line-keeps serves number line p all = go (is_skipped line)
+line-keeps : (number : ℕ) (line : List ℕ) (p : Parsed) → IsParsed p → IfSome (take_line number line p) IsParsed
+line-keeps number line p all = go (is_skipped line)
   where
-    go : (b : Bool) → IfSome (cond b (Some p) (take_asked serves number (words_of line) p)) IsParsed
+    go : (b : Bool) → IfSome (cond b (Some p) (take_asked number (words_of line) p)) IsParsed
     go true = all
-    go false = asked-keeps serves number (words_of line) p all
+    go false = asked-keeps number (words_of line) p all
 
 or-refused : (number : ℕ) (o : Option Parsed) (rest : Parsed → Result Parsed ℕ) → IfSome o IsParsed → ((p : Parsed) → IsParsed p → IfOk (rest p) IsParsed) → IfOk (or_refused number o rest) IsParsed
 or-refused number None rest h f = tt
 or-refused number (Some p) rest h f = f p h
 
-lines-keep : (serves : Asked → Bool) (number : ℕ) (lines : List (List ℕ)) (p : Parsed) → IsParsed p → IfOk (take_lines serves number lines p) IsParsed
-lines-keep serves number [] p all = all
-lines-keep serves number (line ∷ lines) p all =
-    or-refused number (take_line serves number line p) (λ q. take_lines serves (suc number) lines q) (line-keeps serves number line p all) (λ q is. lines-keep serves (suc number) lines q is)
+lines-keep : (number : ℕ) (lines : List (List ℕ)) (p : Parsed) → IsParsed p → IfOk (take_lines number lines p) IsParsed
+lines-keep number [] p all = all
+lines-keep number (line ∷ lines) p all =
+    or-refused number (take_line number line p) (λ q. take_lines (suc number) lines q) (line-keeps number line p all) (λ q is. lines-keep (suc number) lines q is)
 
 all-lines : (ss : List Session) → AllByRecursion IsSession ss → AreLines (map (λ s. s.lines) ss)
 all-lines [] all = tt
@@ -255,10 +262,10 @@ blank-all : (chests numbers : List ℕ) → AllByRecursion IsSession (map (λ s.
 blank-all chests [] = tt
 blank-all chests (n ∷ ns) = (record { lines = tt; open_is = tt }, blank-all chests ns)
 
-pub script-keeps : (serves : Asked → Bool) (text chests : List ℕ) → IfOk (script_of serves text chests) AreLines
-script-keeps serves text chests = go (nat_le (length text) (2 ^ 24)) (closed-keeps (take_lines serves 1 (lines_of text) (start chests)) (lines-keep serves 1 (lines_of text) (start chests) (blank-all chests (count_from 0 8))))
+pub script-keeps : (text chests : List ℕ) → IfOk (script text chests) AreLines
+script-keeps text chests = go (nat_le (length text) (2 ^ 24)) (closed-keeps (take_lines 1 (lines_of text) (start chests)) (lines-keep 1 (lines_of text) (start chests) (blank-all chests (count_from 0 8))))
   where
-    go : (b : Bool) → IfOk (closed (take_lines serves 1 (lines_of text) (start chests))) AreLines
-        → IfOk (cond b (closed (take_lines serves 1 (lines_of text) (start chests))) (Err (line_of_byte text (2 ^ 24)))) AreLines
+    go : (b : Bool) → IfOk (closed (take_lines 1 (lines_of text) (start chests))) AreLines
+        → IfOk (cond b (closed (take_lines 1 (lines_of text) (start chests))) (Err (line_of_byte text (2 ^ 24)))) AreLines
     go true h = h
     go false h = tt

@@ -1,23 +1,21 @@
 -- The lines of a script fit the filters of their sessions.
-use Rattle.std.proofs.Common.{◌≡◌, ℕ, zero, suc, ◌+◌, ◌^◌, ◌≤◌, Bool, true, false, cond, ◌&&◌, nat_lt, nat_le, List, [], ◌∷◌, ◌++◌, length, map, filter, refl, sym, ap, subst, arith, length-append, ◌∙◌, true≢false}
-use Rattle.std.specs.Prelude.{Option, Some, None, IfSome, option_map, Result, Ok, Err, IfOk, slice_get, unwrap_or}
+use Rattle.std.proofs.Common.{◌≡◌, ℕ, zero, suc, ◌+◌, ◌^◌, ◌≤◌, Bool, true, false, cond, ◌&&◌, nat_lt, nat_le, List, [], ◌∷◌, ◌++◌, length, map, filter, refl, sym, ap, subst, arith, length-append, ◌∙◌}
+use Rattle.std.specs.Prelude.{Option, Some, None, IfSome, Result, Ok, Err, IfOk, slice_get, unwrap_or}
 use Rattle.std.specs.List.{AllByRecursion, list_all}
 use Rattle.std.proofs.lemmas.Bool.{and_parts, leb-true}
 use Rattle.std.proofs.lemmas.List.Folds.{list_all-append}
 use Rattle.std.proofs.lemmas.List.Elements.{filter-append}
 use Rattle.spec_grid.specs.Rect.{count_from}
-use Rattle.spec_edit.specs.Edit.{Edit}
 use Rattle.spec_edit.specs.Effect.{changed_at}
 use Rattle.spec_history.specs.Machine as machine
 use Rattle.spec_history.specs.Calls.{most_edits}
-use Rattle.spec_script.specs.Words.{if_holds, lines_of, words_of}
+use Rattle.spec_script.specs.Words.{lines_of, words_of}
 use Rattle.spec_script.specs.Commands.{Command, Asked, an_edit, begins, ends, a_call, saves, forgets, command_of}
-use Rattle.spec_script.specs.Served.{is_served_call, is_served_command, is_served}
 use Rattle.spec_script.specs.Script.{most_calls, Line, call, save, forget, Open, Session, Parsed, Taken, is_there, finds_filter, has_its_filter, has_filter, take_outside, take_inside, take_command, is_skipped, take_by, take_asked, take_line, or_refused, take_lines, never_ended, ended, closed, blank, line_of_byte, start, script, is_call}
 use Rattle.spec_script.specs.Limits.{IsLine, AreLines}
-use Rattle.spec_script.specs.Fits.{is_peek, finds_filters, IsFit, dropped_by, AreFit, EachFit, count_calls, FitsFilters}
-use Rattle.spec_script.proofs.Limits.{if-then, if-any, if-test}
-use Rattle.spec_script.proofs.Calls.{script-keeps}
+use Rattle.spec_script.specs.Fits.{finds_filters, IsFit, dropped_by, AreFit, EachFit, count_calls, FitsFilters}
+use Rattle.spec_script.proofs.Limits.{IsOwnCall, IsCommand, if-then}
+use Rattle.spec_script.proofs.Calls.{keeps-command, script-keeps}
 
 refused_or : (P : Parsed → Type 0) (number : ℕ) (o : Option Parsed) (rest : Parsed → Result Parsed ℕ) → IfSome o P → ((p : Parsed) → P p → IfOk (rest p) P)
     → IfOk (or_refused number o rest) P
@@ -28,7 +26,7 @@ refused_or P number (Some p) rest h f = f p h
 
 -- a line but for the limits of its call
 abbrev IsHeld : (filters : ℕ) (dropped : List ℕ) → Line → Type 0
-IsHeld filters dropped (call c) = (is_peek c ≡ false) × (finds_filters filters dropped c ≡ true)
+IsHeld filters dropped (call c) = finds_filters filters dropped c ≡ true
 IsHeld filters dropped save = Unit {0}
 IsHeld filters dropped (forget slot) = is_there filters dropped slot ≡ true
 
@@ -96,28 +94,28 @@ with-line given s line is outside held same one =
     }
 
 -- a call with a line of its own names no filter
-own-line : (filters : ℕ) (dropped : List ℕ) (c : machine.Call) → is_served_call c ≡ true → IsHeld filters dropped (call c)
-own-line filters dropped (machine.edit guard es) served = absurd (true≢false (sym served))
-own-line filters dropped (machine.undo named) served = (refl, refl)
-own-line filters dropped machine.redo served = (refl, refl)
-own-line filters dropped (machine.tile stack at) served = (refl, refl)
-own-line filters dropped (machine.peek stack at) served = absurd (true≢false (sym served))
-own-line filters dropped machine.top served = (refl, refl)
+own-line : (filters : ℕ) (dropped : List ℕ) (c : machine.Call) → IsOwnCall c → IsHeld filters dropped (call c)
+own-line filters dropped (machine.edit guard es) own = absurd own
+own-line filters dropped (machine.undo named) own = refl
+own-line filters dropped machine.redo own = refl
+own-line filters dropped (machine.tile stack at) own = refl
+own-line filters dropped (machine.peek stack at) own = refl
+own-line filters dropped machine.top own = refl
 
-taken-outside : (given number : ℕ) (s : Session) (c : Command) → IsFor given s → s.open_group ≡ None → is_served_command c ≡ true
+taken-outside : (given number : ℕ) (s : Session) (c : Command) → IsFor given s → s.open_group ≡ None → IsCommand c
     → IfSome (take_outside number s c) (IsStep given (calls_so_far s))
-taken-outside given number s (an_edit e) is outside served =
-    if-taken given (calls_so_far s) (has_its_filter s e) _ (λ there. with-line given s (call (machine.edit None (e ∷ []))) is outside (refl, rw there refl) refl refl)
-taken-outside given number s (begins guard) is outside served =
+taken-outside given number s (an_edit e) is outside command =
+    if-taken given (calls_so_far s) (has_its_filter s e) _ (λ there. with-line given s (call (machine.edit None (e ∷ []))) is outside (rw there refl) refl refl)
+taken-outside given number s (begins guard) is outside command =
     let none : begun_by s.open_group ≡ 0 = ap begun_by outside in
     record {
       after = record { filters_are = is.filters_are; lines_are = is.lines_are; dropped_are = is.dropped_are; group_is = refl };
       few = omega (arith, none);
     }
-taken-outside given number s ends is outside served = tt
-taken-outside given number s (a_call c) is outside served = with-line given s (call c) is outside (own-line s.filters s.dropped c served) refl refl
-taken-outside given number s saves is outside served = with-line given s save is outside tt refl refl
-taken-outside given number s (forgets slot) is outside served =
+taken-outside given number s ends is outside command = tt
+taken-outside given number s (a_call c) is outside command = with-line given s (call c) is outside (own-line s.filters s.dropped c command) refl refl
+taken-outside given number s saves is outside command = with-line given s save is outside tt refl refl
+taken-outside given number s (forgets slot) is outside command =
     let more = calls-more s.lines (forget slot) in
     if-taken given (calls_so_far s) (has_filter s slot) _ (λ there. record {
       after = record {
@@ -153,7 +151,7 @@ taken-inside given o s ends is inside =
     if-taken given (calls_so_far s) (nat_lt 0 (length o.edits)) _ (λ any. record {
       after = record {
         filters_are = is.filters_are;
-        lines_are = held-more s.filters [] s.lines ended is.lines_are (refl, subst (λ d. finds_filters s.filters d (machine.edit o.guard o.edits) ≡ true) (sym is.dropped_are) group);
+        lines_are = held-more s.filters [] s.lines ended is.lines_are (subst (λ d. finds_filters s.filters d (machine.edit o.guard o.edits) ≡ true) (sym is.dropped_are) group);
         dropped_are = dropped-more [] s.lines ended ∙ is.dropped_are;
         group_is = tt;
       };
@@ -164,10 +162,10 @@ taken-inside given o s (a_call c) is inside = tt
 taken-inside given o s saves is inside = tt
 taken-inside given o s (forgets slot) is inside = tt
 
-either : (given number : ℕ) (s : Session) (o : Option Open) (c : Command) → s.open_group ≡ o → IsFor given s → is_served_command c ≡ true
+either : (given number : ℕ) (s : Session) (o : Option Open) (c : Command) → s.open_group ≡ o → IsFor given s → IsCommand c
     → IfSome (take_command number s o c) (IsStep given (calls_so_far s))
-either given number s None c is_open is served = taken-outside given number s c is is_open served
-either given number s (Some o) c is_open is served = taken-inside given o s c is is_open
+either given number s None c is_open is command = taken-outside given number s c is is_open command
+either given number s (Some o) c is_open is command = taken-inside given o s c is is_open
 
 -- ---- all sessions
 
@@ -222,34 +220,32 @@ put chests p place s t so at step true e =
     record { each = at.put t.session step.after; few = omega arith; most = leb-true (p.calls + t.begun) most_calls e }
 put chests p place s t so at step false e = tt
 
-by-served : (chests : List ℕ) (number : ℕ) (asked : Asked) (p : Parsed) → IsSoFar chests p → is_served asked ≡ true → IfSome (take_by number asked p) (IsSoFar chests)
-by-served chests number asked p so served =
+by-held : (chests : List ℕ) (number : ℕ) (asked : Asked) (p : Parsed) → IsSoFar chests p → IsCommand asked.command → IfSome (take_by number asked p) (IsSoFar chests)
+by-held chests number asked p so command =
     if-then (IsPlace chests 0 p.sessions asked.session) (IsSoFar chests) (slice_get p.sessions asked.session) _ (place-of chests 0 p.sessions asked.session so.each) (λ s at.
     if-then (IsStep at.given (calls_so_far s)) (IsSoFar chests) (take_command number s s.open_group asked.command) _
-    (either at.given number s s.open_group asked.command refl at.is served) (λ t step.
+    (either at.given number s s.open_group asked.command refl at.is command) (λ t step.
     put chests p asked.session s t so at step (nat_le (p.calls + t.begun) most_calls) refl))
 
 -- ---- the lines of the text
 
-asked-served : (chests : List ℕ) (number : ℕ) (words : List (List ℕ)) (p : Parsed) → IsSoFar chests p → IfSome (take_asked is_served number words p) (IsSoFar chests)
-asked-served chests number words p so =
-    if-any (IsSoFar chests) (command_of words) _ (λ asked.
-    let Q : Asked → Type 0 = λ served. is_served served ≡ true in
-    if-then Q (IsSoFar chests) (if_holds (is_served asked) asked) _ (if-test Q (is_served asked) asked (λ e. e)) (λ served is.
-    by-served chests number served p so is))
+asked-held : (chests : List ℕ) (number : ℕ) (words : List (List ℕ)) (p : Parsed) → IsSoFar chests p → IfSome (take_asked number words p) (IsSoFar chests)
+asked-held chests number words p so =
+    let Q : Asked → Type 0 = λ asked. IsCommand asked.command in
+    if-then Q (IsSoFar chests) (command_of words) _ (keeps-command words) (λ asked command. by-held chests number asked p so command)
 
-line-served : (chests : List ℕ) (number : ℕ) (line : List ℕ) (p : Parsed) → IsSoFar chests p → IfSome (take_line is_served number line p) (IsSoFar chests)
-line-served chests number line p so = go (is_skipped line)
+line-held : (chests : List ℕ) (number : ℕ) (line : List ℕ) (p : Parsed) → IsSoFar chests p → IfSome (take_line number line p) (IsSoFar chests)
+line-held chests number line p so = go (is_skipped line)
   where
-    go : (b : Bool) → IfSome (cond b (Some p) (take_asked is_served number (words_of line) p)) (IsSoFar chests)
+    go : (b : Bool) → IfSome (cond b (Some p) (take_asked number (words_of line) p)) (IsSoFar chests)
     go true = so
-    go false = asked-served chests number (words_of line) p so
+    go false = asked-held chests number (words_of line) p so
 
-lines-served : (chests : List ℕ) (number : ℕ) (lines : List (List ℕ)) (p : Parsed) → IsSoFar chests p → IfOk (take_lines is_served number lines p) (IsSoFar chests)
-lines-served chests number [] p so = so
-lines-served chests number (line ∷ lines) p so =
-    refused_or (IsSoFar chests) number (take_line is_served number line p) (λ q. take_lines is_served (suc number) lines q) (line-served chests number line p so)
-    (λ q is. lines-served chests (suc number) lines q is)
+lines-taken : (chests : List ℕ) (number : ℕ) (lines : List (List ℕ)) (p : Parsed) → IsSoFar chests p → IfOk (take_lines number lines p) (IsSoFar chests)
+lines-taken chests number [] p so = so
+lines-taken chests number (line ∷ lines) p so =
+    refused_or (IsSoFar chests) number (take_line number line p) (λ q. take_lines (suc number) lines q) (line-held chests number line p so)
+    (λ q is. lines-taken chests (suc number) lines q is)
 
 blank-for : (chests : List ℕ) (session n : ℕ) → EachFor chests session (map (λ s. blank (unwrap_or (slice_get chests s) 0)) (count_from session n))
 blank-for chests session zero = tt
@@ -259,8 +255,8 @@ blank-calls : (chests : List ℕ) (session n : ℕ) → all_calls (map (λ s. bl
 blank-calls chests session zero = refl
 blank-calls chests session (suc n) = let rest = blank-calls chests (suc session) n in omega (arith, rest)
 
-start-served : (chests : List ℕ) → IsSoFar chests (start chests)
-start-served chests = let none = blank-calls chests 0 8 in record { each = blank-for chests 0 8; few = omega (arith, none); most = omega arith }
+start-held : (chests : List ℕ) → IsSoFar chests (start chests)
+start-held chests = let none = blank-calls chests 0 8 in record { each = blank-for chests 0 8; few = omega (arith, none); most = omega arith }
 
 -- ---- the lists
 
@@ -297,17 +293,17 @@ closed-held chests (Ok p) so = ended-held chests (never_ended p.sessions) p so
 lists-held : (text chests : List ℕ) → IfOk (script text chests) (AreListsHeld chests)
 lists-held text chests = go (nat_le (length text) (2 ^ 24))
   where
-    parsed : IfOk (closed (take_lines is_served 1 (lines_of text) (start chests))) (AreListsHeld chests)
-    parsed = closed-held chests (take_lines is_served 1 (lines_of text) (start chests)) (lines-served chests 1 (lines_of text) (start chests) (start-served chests))
+    parsed : IfOk (closed (take_lines 1 (lines_of text) (start chests))) (AreListsHeld chests)
+    parsed = closed-held chests (take_lines 1 (lines_of text) (start chests)) (lines-taken chests 1 (lines_of text) (start chests) (start-held chests))
 
-    go : (b : Bool) → IfOk (cond b (closed (take_lines is_served 1 (lines_of text) (start chests))) (Err (line_of_byte text (2 ^ 24)))) (AreListsHeld chests)
+    go : (b : Bool) → IfOk (cond b (closed (take_lines 1 (lines_of text) (start chests))) (Err (line_of_byte text (2 ^ 24)))) (AreListsHeld chests)
     go true = parsed
     go false = tt
 
 -- ---- with the limits
 
 line-fit : (filters : ℕ) (dropped : List ℕ) (line : Line) → IsLine line → IsHeld filters dropped line → IsFit filters dropped line
-line-fit filters dropped (call c) is held = (is, held.0, held.1)
+line-fit filters dropped (call c) is held = (is, held)
 line-fit filters dropped save is held = tt
 line-fit filters dropped (forget slot) is held = held
 
@@ -326,4 +322,4 @@ both chests (Err line) are held = tt
 both chests (Ok lists) are held = record { each = each-fit chests 0 lists are held.each; few = held.few }
 
 pub script-fits : (text chests : List ℕ) → IfOk (script text chests) (FitsFilters chests)
-script-fits text chests = both chests (script text chests) (script-keeps is_served text chests) (lists-held text chests)
+script-fits text chests = both chests (script text chests) (script-keeps text chests) (lists-held text chests)

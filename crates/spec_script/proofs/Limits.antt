@@ -8,16 +8,25 @@ use Rattle.spec_grid.specs.declared.TileAt.{TileAt}
 use Rattle.spec_document.specs.Limits.{AreBytes, IsSide}
 use Rattle.spec_edit.specs.Edit as edits
 use Rattle.spec_edit.specs.Edit.{Edit, IsEdit}
+use Rattle.spec_history.specs.Machine as machine
 use Rattle.spec_history.specs.Machine.{Call}
-use Rattle.spec_history.specs.Calls.{IsCall}
 use Rattle.spec_script.specs.Words.{◌>>=◌, if_holds, plain_number, number_below, number, hex_digit, hex_bytes, hex, is_digit, flag, coordinate, rect, spot, offset, side, size, none, number_or_none, one, two, three, five, six, eight}
 use Rattle.spec_script.specs.Commands.{Command, an_edit, begins, ends, a_call, saves, forgets, Rule, edit_of, fill_rule, write_rule, filter_rule, copy_rule, fill_byte_rule, byte_rule, number_rule, flag_rule, one_rule, rect_byte_rule, offset_rule, rename_rule, new_layer_rule, new_group_rule, restack_rule, name_rule, are_colours, colours_rule, alone, optional_rule, tile_rule, forget_rule}
+
+-- a call with a line of its own, which a group of edits has not
+abbrev pub IsOwnCall : Call → Type 0
+IsOwnCall (machine.edit guard es) = ⊥
+IsOwnCall (machine.undo named) = Unit {0}
+IsOwnCall machine.redo = Unit {0}
+IsOwnCall (machine.tile stack at) = Unit {0}
+IsOwnCall (machine.peek stack at) = Unit {0}
+IsOwnCall machine.top = Unit {0}
 
 abbrev pub IsCommand : Command → Type 0
 IsCommand (an_edit e) = IsEdit e
 IsCommand (begins guard) = Unit {0}
 IsCommand ends = Unit {0}
-IsCommand (a_call c) = IsCall c
+IsCommand (a_call c) = IsOwnCall c
 IsCommand saves = Unit {0}
 IsCommand (forgets slot) = Unit {0}
 
@@ -182,13 +191,13 @@ optional-keeps make (Some n) is = is n
 pub keeps-optional : (make : Option ℕ → Command) → ((o : Option ℕ) → IsCommand (make o)) → Keeps (optional_rule make)
 keeps-optional make is words = optional-keeps make (number_or_none words) is
 
-call-of : (o : Option Call) → IfSome o IsCall → IfSome (option_map a_call o) IsCommand
+call-of : (o : Option Call) → IfSome o IsOwnCall → IfSome (option_map a_call o) IsCommand
 call-of None h = tt
 call-of (Some c) h = h
 
-pub keeps-tile : (make : ℕ → TileAt → Call) → ((stack : ℕ) (at : TileAt) → IsCall (make stack at)) → Keeps (tile_rule make)
+pub keeps-tile : (make : ℕ → TileAt → Call) → ((stack : ℕ) (at : TileAt) → IsOwnCall (make stack at)) → Keeps (tile_rule make)
 keeps-tile make is words = if-any IsCommand (three words) _ (λ t. call-of _
-    (if-any IsCall (number t.0) _ (λ stack. if-any IsCall (number t.1) _ (λ col. if-any IsCall (number t.2) _ (λ row. is stack (record { col = col; row = row }))))))
+    (if-any IsOwnCall (number t.0) _ (λ stack. if-any IsOwnCall (number t.1) _ (λ col. if-any IsOwnCall (number t.2) _ (λ row. is stack (record { col = col; row = row }))))))
 
 forget-keeps : (o : Option ℕ) → IfSome (option_map forgets o) IsCommand
 forget-keeps None = tt

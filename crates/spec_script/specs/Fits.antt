@@ -1,6 +1,6 @@
--- What the lines of a script keep: no call is a peek, each is within its type, each filter that a line names is there,
+-- What the lines of a script keep: each call is within its type, each filter that a line names is there,
 -- and the calls are no more than a script may have.
-use Rattle.std.specs.Prelude.{◌≡◌, ℕ, suc, ◌+◌, ◌≤◌, Bool, true, false, List, [], ◌∷◌, ◌++◌, length, filter, slice_get, unwrap_or}
+use Rattle.std.specs.Prelude.{◌≡◌, ℕ, suc, ◌+◌, ◌≤◌, Bool, true, List, [], ◌∷◌, ◌++◌, length, filter, slice_get, unwrap_or}
 use Rattle.std.specs.List.{list_all}
 use Rattle.spec_history.specs.Machine as machine
 use Rattle.spec_history.specs.Machine.{Call}
@@ -16,17 +16,9 @@ finds_filters filters dropped (machine.tile stack at) = true
 finds_filters filters dropped (machine.peek stack at) = true
 finds_filters filters dropped machine.top = true
 
-abbrev pub is_peek : Call → Bool
-is_peek (machine.edit guard es) = false
-is_peek (machine.undo named) = false
-is_peek machine.redo = false
-is_peek (machine.tile stack at) = false
-is_peek (machine.peek stack at) = true
-is_peek machine.top = false
-
 -- a line of a session that was given so many filters and has dropped some
 abbrev pub IsFit : (filters : ℕ) (dropped : List ℕ) → Line → Type 0
-IsFit filters dropped (call c) = IsCall c × (is_peek c ≡ false) × (finds_filters filters dropped c ≡ true)
+IsFit filters dropped (call c) = IsCall c × (finds_filters filters dropped c ≡ true)
 IsFit filters dropped save = Unit {0}
 IsFit filters dropped (forget slot) = is_there filters dropped slot ≡ true
 

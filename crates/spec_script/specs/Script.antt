@@ -8,9 +8,8 @@ use Rattle.spec_edit.specs.Effect.{changed_at}
 use Rattle.spec_history.specs.Machine as machine
 use Rattle.spec_history.specs.Machine.{Call}
 use Rattle.spec_history.specs.Calls.{most_edits}
-use Rattle.spec_script.specs.Words.{◌>>=◌, if_holds, lines_of, words_of}
+use Rattle.spec_script.specs.Words.{◌>>=◌, lines_of, words_of}
 use Rattle.spec_script.specs.Commands.{Command, Asked, an_edit, begins, ends, a_call, saves, forgets, command_of}
-use Rattle.spec_script.specs.Served.{is_served}
 
 -- calls in a script
 abbrev pub most_calls : ℕ
@@ -106,25 +105,24 @@ take_by number asked p = do
   taken ← take_command number session session.open_group asked.command
   put_session p asked.session taken
 
--- what is not served is refused
-abbrev pub take_asked : (serves : Asked → Bool) (number : ℕ) → List (List ℕ) → Parsed → Option Parsed
-take_asked serves number words p = do
+-- words that ask for nothing are refused
+abbrev pub take_asked : (number : ℕ) → List (List ℕ) → Parsed → Option Parsed
+take_asked number words p = do
   asked ← command_of words
-  served ← if_holds (serves asked) asked
-  take_by number served p
+  take_by number asked p
 
 -- one line
-abbrev pub take_line : (serves : Asked → Bool) (number : ℕ) → List ℕ → Parsed → Option Parsed
-take_line serves number line p = let taken = take_asked serves number (words_of line) p in if is_skipped line then Some p else taken
+abbrev pub take_line : (number : ℕ) → List ℕ → Parsed → Option Parsed
+take_line number line p = let taken = take_asked number (words_of line) p in if is_skipped line then Some p else taken
 
 abbrev pub or_refused : {B : Type 0} → (number : ℕ) → Option Parsed → (Parsed → Result B ℕ) → Result B ℕ
 or_refused number None rest = Err number
 or_refused number (Some p) rest = rest p
 
 -- the lines from a number on; the first that is refused
-abbrev pub take_lines : (serves : Asked → Bool) (number : ℕ) → List (List ℕ) → Parsed → Result Parsed ℕ
-take_lines serves number [] p = Ok p
-take_lines serves number (line ∷ lines) p = or_refused number (take_line serves number line p) (λ q. take_lines serves (suc number) lines q)
+abbrev pub take_lines : (number : ℕ) → List (List ℕ) → Parsed → Result Parsed ℕ
+take_lines number [] p = Ok p
+take_lines number (line ∷ lines) p = or_refused number (take_line number line p) (λ q. take_lines (suc number) lines q)
 
 abbrev pub least : Option ℕ → Option ℕ → Option ℕ
 least None other = other
@@ -156,18 +154,10 @@ abbrev pub start : (chests : List ℕ) → Parsed
 start chests = record { sessions = map (λ s. blank (unwrap_or (slice_get chests s) 0)) (count_from 0 8); calls = 0 }
 
 -- The lines of each of the eight sessions, or the refused line. chests are the numbers of their filters.
-abbrev pub script_of : (serves : Asked → Bool) → (text : List ℕ) → (chests : List ℕ) → Result (List (List Line)) ℕ
-script_of serves text chests =
-    let parsed = closed (take_lines serves 1 (lines_of text) (start chests)) in
-    if nat_le (length text) (2 ^ 24) then parsed else Err (line_of_byte text (2 ^ 24))
-
--- the grammar with all its lines
-abbrev pub whole_script : (text : List ℕ) → (chests : List ℕ) → Result (List (List Line)) ℕ
-whole_script text chests = script_of (λ asked. true) text chests
-
--- the grammar with the lines that are served so far
 abbrev pub script : (text : List ℕ) → (chests : List ℕ) → Result (List (List Line)) ℕ
-script text chests = script_of is_served text chests
+script text chests =
+    let parsed = closed (take_lines 1 (lines_of text) (start chests)) in
+    if nat_le (length text) (2 ^ 24) then parsed else Err (line_of_byte text (2 ^ 24))
 
 abbrev pub is_call : Line → Bool
 is_call (call c) = true

@@ -13,7 +13,6 @@ mod painting;
 mod parsing;
 mod printing;
 mod script;
-mod served;
 mod session;
 mod sessions;
 mod splitting;

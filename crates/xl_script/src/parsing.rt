@@ -1,7 +1,6 @@
 ghost use Rattle.std.specs.Prelude.{◌≡◌, ◌<◌, ◌≤◌, ◌^◌, length, count_by, ◌==◌, IfOk};
 ghost use Rattle.spec_script.specs.Script as grammar;
 ghost use Rattle.spec_script.specs.Fits.{FitsFilters};
-ghost use Rattle.spec_script.specs.Served.{is_served};
 ghost use Rattle.spec_script.specs.Words.{lines_of};
 ghost use Rattle.xl_script.specs.Gives.{ScriptOf};
 ghost use Rattle.xl_script.specs.Lines.{lists_of};
@@ -10,7 +9,6 @@ ghost use Rattle.xl_script.specs.Sessions.{TakenAs, ParsedAs};
 use crate::bad_line::{BadLine, BadLineOrMemory};
 use crate::commands::command_of;
 use crate::script::Script;
-use crate::served::is_served;
 use crate::sessions::Sessions;
 use crate::splitting::first_line;
 use std::alloc::Global;
@@ -44,7 +42,7 @@ fn take_line(
     number: u32,
     line: &[u8],
 ) -> Result<(), BadLineOrMemory>
-    ensures { TakenAs number result sessions.new (grammar.take_line is_served number line.now sessions.old) }
+    ensures { TakenAs number result sessions.new (grammar.take_line number line.now sessions.old) }
 {
     if is_skipped(line) {
         return Ok(());
@@ -52,9 +50,6 @@ fn take_line(
     let Some(asked) = command_of(alloc, line)? else {
         return Err(BadLineOrMemory::Refused(BadLine { line: number }));
     };
-    if !is_served(&asked) {
-        return Err(BadLineOrMemory::Refused(BadLine { line: number }));
-    }
     if sessions.take(alloc, number, asked)? {
         Ok(())
     } else {
@@ -64,7 +59,7 @@ fn take_line(
 
 fn all_lines(alloc: Global, text: &[u8], chests: &[u32]) -> Result<Sessions, BadLineOrMemory>
     requires { length text.now ≤ 2 ^ 24 }
-    ensures { ParsedAs result (grammar.take_lines is_served 1 (lines_of text.now) (grammar.start chests.now)) }
+    ensures { ParsedAs result (grammar.take_lines 1 (lines_of text.now) (grammar.start chests.now)) }
 {
     let mut sessions = Sessions::new(alloc, chests)?;
     let mut rest = text;
