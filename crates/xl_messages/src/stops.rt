@@ -5,7 +5,7 @@ use xl_command::{Command, command_of};
 use xl_program::Stopped;
 
 const USAGE: &str =
-    "these words are no command; the commands are\n  xcfedit render FILE              writes the picture of FILE as a PAM\n  xcfedit info FILE                writes the layers of FILE as a line of JSON\n  xcfedit edit FILE [--workers N]  runs a script from standard input on FILE, N from 0 to 8";
+    "these words are no command; the commands are\n  xcfedit render FILE              writes the picture of FILE as a PAM\n  xcfedit info FILE                writes the layers of FILE as a line of JSON\n  xcfedit edit FILE [--workers N]  runs a script from standard input on FILE, N from 0 to 8\n  xcfedit make FILE --seed N       saves the document of the seed N, runs the seed's script on FILE and sums the run up in a line";
 
 /// The status where memory ran out.
 const MEMORY: u8 = 8;
@@ -24,7 +24,7 @@ pub fn message<'a>(
     let (Some(command), Some(stopped)) = (command_of(alloc, words)?, cause) else {
         return String::from_str(alloc, USAGE);
     };
-    stop_text(alloc, file_of(command), stopped)
+    stop_text(alloc, command, stopped)
 }
 
 // The name of a command's file.
@@ -35,16 +35,27 @@ fn file_of(command: Command<'_>) -> &str {
     }
 }
 
-fn stop_text(alloc: Global, name: &str, stopped: Stopped) -> Result<String, AllocError> {
+fn stop_text(alloc: Global, command: Command<'_>, stopped: Stopped) -> Result<String, AllocError> {
+    let name = file_of(command);
     match stopped {
         Stopped::SourceFault => String::from_str(alloc, "the script cannot be read"),
         Stopped::BadLine(number) => format!(in alloc; "script line {number} is not in the grammar"),
-        Stopped::ShelfFault => format!(in alloc; "{name}: the file cannot be read"),
+        Stopped::ShelfFault => shelf_text(alloc, command),
         Stopped::Refused(refused) => refusal_text(alloc, name, refused),
         Stopped::SaveFault => format!(in alloc; "{name}: a save failed"),
         Stopped::SinkFault => String::from_str(alloc, "the output cannot be written"),
         Stopped::Memory => String::from_str(alloc, "out of memory"),
     }
+}
+
+// A fault of the shelf before the output: what is made is not read, but saved.
+fn shelf_text(alloc: Global, command: Command<'_>) -> Result<String, AllocError> {
+    let name = file_of(command);
+    let done = match command {
+        Command::Make(_, _) => "saved",
+        Command::Edit(_, _) | Command::Render(_) | Command::Info(_) => "read",
+    };
+    format!(in alloc; "{name}: the file cannot be {done}")
 }
 
 fn refusal_text(alloc: Global, name: &str, refused: ReadRefused) -> Result<String, AllocError> {

@@ -49,6 +49,14 @@ fn the_file_is_named(rt: HostRuntime) -> Result<(), Fail> {
 }
 
 #[test]
+fn what_is_made_is_saved(rt: HostRuntime) -> Result<(), Fail> {
+    let words = ["make", "photo.xcf", "--seed", "7"];
+    let text = message(rt.alloc(), words.as_slice(), 6, Some(Stopped::ShelfFault))?;
+    assert_eq!(rt; text.as_str(), "photo.xcf: the file cannot be saved");
+    Ok(())
+}
+
+#[test]
 fn the_output_and_memory(rt: HostRuntime) -> Result<(), Fail> {
     let alloc = rt.alloc();
     assert_eq!(rt;
@@ -73,7 +81,7 @@ fn the_commands_are_listed(rt: HostRuntime) -> Result<(), Fail> {
     let words = ["edit"];
     let text = message(alloc, words.as_slice(), 2, None)?;
     assert!(rt; text.as_str().starts_with("these words are no command"));
-    assert_eq!(rt; text.as_str().lines().count(), 4);
+    assert_eq!(rt; text.as_str().lines().count(), 5);
     Ok(())
 }
 

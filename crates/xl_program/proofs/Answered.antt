@@ -1,15 +1,23 @@
--- What the machine answers to calls.
-use Rattle.std.proofs.Common.{◌≡◌, ℕ, cond, List, [], ◌∷◌, refl}
-use Rattle.std.specs.Prelude.{not, Option, Result, Ok, Err}
+-- What is answered to calls.
+use Rattle.std.proofs.Common.{◌≡◌, ℕ, ◌≤◌, Bool, true, false, cond, nat_lt, List, [], ◌∷◌, refl, sym, subst, arith}
+use Rattle.std.specs.Prelude.{not, Option, Some, None, Result, Ok, Err}
+use Rattle.std.proofs.lemmas.Bool.{ltb-false}
 use Rattle.spec_document.specs.Document.{Document}
 use Rattle.spec_edit.specs.Edit.{Edit}
 use Rattle.spec_edit.specs.Apply.{At, Refused, apply_group}
 use Rattle.spec_grid.specs.declared.TileAt.{TileAt}
 use Rattle.spec_grid.specs.Grid.{is_on_grid}
+use Rattle.spec_cache.specs.Slots.{Shown}
+use Rattle.spec_cache.specs.Cache.{kept}
 use Rattle.spec_history.specs.Machine.{Call, edit, undo, redo, tile, peek, top, Reply, moved, tile_of, stale, no_stack, outside_tile, save_memory, history_full, State, Done, Answer, latest, document_at, names, stays, made, answer, undo_answer, redo_answer, has_stack, tile_reply}
-use Rattle.spec_history.specs.History.{Answers}
+use Rattle.spec_history.specs.History.{Answers, MayPeek, PeekAnswers}
+use Rattle.spec_history.specs.Kept.{IsFreshReply}
 use Rattle.spec_history.proofs.Growing.{cond_both}
-use Rattle.xl_edit.specs.Built.{IsBuilt}
+use Rattle.spec_text.specs.Text.{is_save_memory}
+use Rattle.spec_world.specs.World.{World}
+use Rattle.spec_world.specs.Events.{peek_reply, where_tile, reply_to}
+
+-- ---- by the machine
 
 -- a tile is that of the last version, and there is neither a stale reply, nor a save without memory, nor a full history
 abbrev pub IsOf : (now : ℕ) → Reply → Type 0
@@ -37,7 +45,7 @@ tile_either P d stack at reply none outside given =
     cond_both P (not (has_stack d stack)) (no_stack stack) (cond (not (is_on_grid d.width d.height at)) outside_tile reply) none
     (cond_both P (not (is_on_grid d.width d.height at)) outside_tile reply outside given)
 
-pub answer_of : (base : Document) (s : State) (c : Call) (tables : List (List ℕ)) → IsOf (latest s) (answer base s c tables).reply
+answer_of : (base : Document) (s : State) (c : Call) (tables : List (List ℕ)) → IsOf (latest s) (answer base s c tables).reply
 answer_of base s (edit guard es) tables =
     let old : At = record { document = document_at base s (latest s); next = s.next_id } in
     cond_both (λ (a : Answer). IsOf (latest s) a.reply) (names guard (latest s)) (made s old es tables (apply_group old es tables)) (stays s (moved (latest s)))
@@ -48,11 +56,73 @@ answer_of base s (tile stack at) tables = tile_either (IsOf (latest s)) (documen
 answer_of base s (peek stack at) tables = tile_either (IsOf (latest s)) (document_at base s (latest s)) stack at (tile_of (latest s)) tt tt refl
 answer_of base s top tables = tt
 
--- a call that is built is no peek, and so has one answer
-pub built_answer : (base : Document) (s : State) (c : Call) (tables : List (List ℕ)) (reply : Reply) → IsBuilt c → Answers base s c tables reply → reply ≡ (answer base s c tables).reply
-built_answer base s (edit guard es) tables reply built answers = answers
-built_answer base s (undo named) tables reply built answers = answers
-built_answer base s redo tables reply built answers = answers
-built_answer base s (tile stack at) tables reply built answers = answers
-built_answer base s (peek stack at) tables reply built answers = absurd built
-built_answer base s top tables reply built answers = answers
+-- ---- to a session that has seen a version
+
+-- a tile is no older than that, a stale reply names just that, and the reply may be printed
+abbrev pub IsSaid : (seen : ℕ) → Reply → Type 0
+IsSaid seen (tile_of version) = seen ≤ version
+IsSaid seen (stale have said) = said ≡ seen
+IsSaid seen (save_memory version) = ⊥
+IsSaid seen history_full = ⊥
+IsSaid seen reply = Unit {0}
+
+said_of : (seen now : ℕ) (r : Reply) → seen ≤ now → IsOf now r → IsSaid seen r
+said_of seen now (tile_of version) le h = omega arith
+said_of seen now (stale have said) le h = absurd h
+said_of seen now (save_memory version) le h = absurd h
+said_of seen now history_full le h = absurd h
+said_of seen now r le h = tt
+
+said_peek : (shown : Option Shown) (seen : ℕ) → IsSaid seen (peek_reply shown seen)
+said_peek None seen = refl
+said_peek (Some k) seen = go (nat_lt k.version seen) refl where
+  go : (b : Bool) → nat_lt k.version seen ≡ b → IsSaid seen (cond b (stale (Some k.version) seen) (tile_of k.version))
+  go true q = refl
+  go false q = ltb-false k.version seen q
+
+pub reply_said : (base : Document) (w : World) (c : Call) (seen : ℕ) (tables : List (List ℕ)) → seen ≤ latest w.state → IsSaid seen (reply_to base w c seen tables)
+reply_said base w (edit guard es) seen tables le = said_of seen (latest w.state) _ le (answer_of base w.state (edit guard es) tables)
+reply_said base w (undo named) seen tables le = said_of seen (latest w.state) _ le (answer_of base w.state (undo named) tables)
+reply_said base w redo seen tables le = said_of seen (latest w.state) _ le (answer_of base w.state redo tables)
+reply_said base w (tile stack at) seen tables le = said_of seen (latest w.state) _ le (answer_of base w.state (tile stack at) tables)
+reply_said base w (peek stack at) seen tables le =
+    let shown = peek_reply (kept w.cache stack at (latest w.state)) seen in
+    tile_either (λ (plain : Reply). IsSaid seen (where_tile plain shown)) (document_at base w.state (latest w.state)) stack at (tile_of (latest w.state)) tt tt
+    (said_peek (kept w.cache stack at (latest w.state)) seen)
+reply_said base w top seen tables le = tt
+
+pub said_fresh : (seen : ℕ) (r : Reply) → IsSaid seen r → IsFreshReply seen r
+said_fresh seen (tile_of version) h = h
+said_fresh seen (stale have said) h = h
+said_fresh seen r h = tt
+
+pub said_printable : (seen : ℕ) (r : Reply) → IsSaid seen r → is_save_memory r ≡ false
+said_printable seen (save_memory version) h = absurd h
+said_printable seen r h = refl
+
+-- ---- what is shown is there
+
+abbrev pub IsUpTo : (last : ℕ) → Reply → Type 0
+IsUpTo last (tile_of version) = version ≤ last
+IsUpTo last reply = Unit {0}
+
+up_to_of : (now : ℕ) (r : Reply) → IsOf now r → IsUpTo now r
+up_to_of now (tile_of version) h = omega arith
+up_to_of now r h = tt
+
+up_to_peek : (base : Document) (s : State) (stack : ℕ) (r : Reply) → MayPeek base s stack r → IsUpTo (latest s) r
+up_to_peek base s stack (tile_of version) h = h.0
+up_to_peek base s stack r h = tt
+
+up_to_same : (now : ℕ) (r plain : Reply) → r ≡ plain → IsOf now plain → IsUpTo now r
+up_to_same now r plain same h = subst (IsUpTo now) (sym same) (up_to_of now plain h)
+
+pub answers_up_to : (base : Document) (s : State) (c : Call) (tables : List (List ℕ)) (r : Reply) → Answers base s c tables r → IsUpTo (latest s) r
+answers_up_to base s (edit guard es) tables r answers = up_to_same (latest s) r _ answers (answer_of base s (edit guard es) tables)
+answers_up_to base s (undo named) tables r answers = up_to_same (latest s) r _ answers (answer_of base s (undo named) tables)
+answers_up_to base s redo tables r answers = up_to_same (latest s) r _ answers (answer_of base s redo tables)
+answers_up_to base s (tile stack at) tables r answers = up_to_same (latest s) r _ answers (answer_of base s (tile stack at) tables)
+answers_up_to base s (peek stack at) tables r answers =
+    tile_either (λ (plain : Reply). PeekAnswers base s stack plain r → IsUpTo (latest s) r) (document_at base s (latest s)) stack at (tile_of (latest s))
+    (λ same. up_to_same (latest s) r (no_stack stack) same tt) (λ same. up_to_same (latest s) r outside_tile same tt) (up_to_peek base s stack r) answers
+answers_up_to base s top tables r answers = up_to_same (latest s) r _ answers tt

@@ -9,15 +9,13 @@ use Rattle.spec_edit.specs.Edit as edits
 use Rattle.spec_edit.specs.Edit.{Edit}
 use Rattle.spec_history.specs.Machine as machine
 use Rattle.spec_history.specs.Machine.{Call, Reply, changed}
-use Rattle.spec_history.specs.Calls.{IsCall}
 use Rattle.spec_history.specs.Limited.{edits_of}
 use Rattle.spec_filters.specs.declared.FilterState.{FilterState}
 use Rattle.spec_filters.specs.Slots.{has_slot}
 use Rattle.spec_script.specs.Script as script
 use Rattle.spec_script.specs.Script.{is_there, finds_filter}
-use Rattle.spec_script.specs.Fits.{AreFit, is_peek, finds_filters, IsFit}
+use Rattle.spec_script.specs.Fits.{AreFit, finds_filters, IsFit}
 use Rattle.spec_tables.specs.Agrees.{Agrees, AreThere, SameSlots}
-use Rattle.xl_edit.specs.Built.{IsBuilt}
 use Rattle.xl_program.specs.Playing.{FitsChest}
 
 -- each filter that was given and not dropped is in its slot
@@ -64,16 +62,8 @@ call_there given dropped chest (machine.tile stack at) stocked finds = tt
 call_there given dropped chest (machine.peek stack at) stocked finds = tt
 call_there given dropped chest machine.top stocked finds = tt
 
-call_built : (c : Call) → IsCall c → is_peek c ≡ false → IsBuilt c
-call_built (machine.edit guard es) is peek = is
-call_built (machine.undo named) is peek = tt
-call_built machine.redo is peek = tt
-call_built (machine.tile stack at) is peek = tt
-call_built (machine.peek stack at) is peek = absurd (true≢false peek)
-call_built machine.top is peek = tt
-
 pub line_fits : (given : ℕ) (dropped : List ℕ) (chest : List (Option FilterState)) (line : script.Line) → IsStocked given dropped chest → IsFit given dropped line → FitsChest chest line
-line_fits given dropped chest (script.call c) stocked fit = (call_built c fit.0 fit.1, call_there given dropped chest c stocked fit.2)
+line_fits given dropped chest (script.call c) stocked fit = (fit.0, call_there given dropped chest c stocked fit.1)
 line_fits given dropped chest script.save stocked fit = tt
 line_fits given dropped chest (script.forget slot) stocked fit = stocked slot fit
 

@@ -86,7 +86,7 @@ settled_earlier before after now name (the_old ∷ []) quiet is = is ∙ (quiet.
 settled_earlier before after now name (version v ∷ []) quiet is = is
 settled_earlier before after now name (one ∷ two ∷ more) quiet is = tt
 
-quiet_left : (before after : Disk) (name : List ℕ) (since : ℕ) (c : Content) → IsQuiet before after → since ≤ before.moment → MightHaveLeft after name since c → MightHaveLeft before name since c
+pub quiet_left : (before after : Disk) (name : List ℕ) (since : ℕ) (c : Content) → IsQuiet before after → since ≤ before.moment → MightHaveLeft after name since c → MightHaveLeft before name since c
 quiet_left before after name since c quiet le was = elim (quiet.time.nothing_else name since c le was) [
   | inl left ↦ left
   | inr may ↦ inl (now_and_then may)

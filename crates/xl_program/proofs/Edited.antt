@@ -23,11 +23,11 @@ pub record IsOpened (given : Given) (before mid : Shelved) (name : List ℕ) (d 
   pub named : mid.known.selected ≡ Some name
   pub reading : mid.known.reading ≡ before.known.reading
 
-none_failed : (b : Bool) → b ≡ false → (n : ℕ) → WhetherFailed b n → NoneFailed n
+pub none_failed : (b : Bool) → b ≡ false → (n : ℕ) → WhetherFailed b n → NoneFailed n
 none_failed false is n h = h
 none_failed true is n h = let bad : true ≡ false = is in cc
 
-some_failed : (b : Bool) → b ≡ true → (n : ℕ) → WhetherFailed b n → SomeFailed n
+pub some_failed : (b : Bool) → b ≡ true → (n : ℕ) → WhetherFailed b n → SomeFailed n
 some_failed true is n h = h
 some_failed false is n h = let bad : false ≡ true = is in cc
 
@@ -48,6 +48,7 @@ module _ {given : Given} {before mid : Shelved} {name : List ℕ} {d : Document}
     history = history_of (Ok replies) played;
     read = known_then.read;
     text = played.told.text;
+    alone = played.told.alone;
     failed = fails (save_faults played.entries) played.told.failed;
   }
 

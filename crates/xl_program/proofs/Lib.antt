@@ -1,16 +1,25 @@
 pub mod Limits
 pub mod Scripts
 pub mod Told
+mod Alone
 mod Answered
+mod Causes
 mod Chests
 mod ComesBack
 mod Edited
 mod Ends
+mod Keeping
+mod FirstSaves
+mod MadeFiles
+mod MadeOutcomes
+mod MadeRuns
+mod MadeScripts
 mod Plain
 mod Played
 mod Quiet
 mod Returning
 mod Saved
+mod Seen
 mod ScriptPlayed
 mod Sessions
 mod Stays

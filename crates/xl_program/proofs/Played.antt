@@ -1,54 +1,53 @@
 -- The text of a history of calls and saves, and how it grows by one.
-use Rattle.std.proofs.Common.{◌≡◌, ℕ, false, List, [], ◌∷◌, ◌++◌, refl, ap, sym, ◌∙◌, eq-eqb, append-nil, flat_map}
+use Rattle.std.proofs.Common.{◌≡◌, ℕ, false, List, [], ◌∷◌, ◌++◌, refl, ap, sym, ◌∙◌, eq-eqb, append-nil, append_assoc, subst, flat_map}
 use Rattle.std.specs.List.{AllByRecursion}
 use Rattle.std.proofs.lemmas.List.Concat.{flat_map-append}
 use Rattle.std.proofs.lemmas.List.Elements.{filter_map-append}
 use Rattle.spec_document.specs.Document.{Document}
-use Rattle.spec_history.specs.Machine.{Call, Reply, save_memory, State, answer}
-use Rattle.spec_history.specs.History.{Entry, asked, starts, ends, next_index, replay}
-use Rattle.spec_history.specs.Kept.{IsLegal}
+use Rattle.spec_history.specs.Machine.{Call, Reply, tile_of, stale, saved, State, initial, latest}
+use Rattle.spec_history.specs.History.{Entry, asked, starts, ends, next_index, after_entry, replay_from, replay, EndsWith, RunFrom}
+use Rattle.spec_history.specs.Kept.{IsFreshReply, IsFresh, IsLegal}
 use Rattle.spec_text.specs.Printed.{line_text}
-use Rattle.spec_text.specs.Text.{entry_line, end_reply, is_save_memory, shown_digest, made_by}
-use Rattle.xl_edit.specs.Built.{IsBuilt}
-use Rattle.xl_program.specs.Playing.{IsPlain, ArePlayed, lines_in, calls_made}
+use Rattle.spec_text.specs.Text.{entry_line, end_reply, is_save_memory, shown_digest, made_by, IsAlone}
+use Rattle.xl_program.specs.Playing.{AreOf, IsPrintable, ArePlayed, lines_in, calls_made, seen_by}
 use Rattle.spec_history.proofs.Growing.{replay-snoc, replay-append, IsLegal-empty, out-answer}
-use Rattle.xl_program.proofs.Answered.{IsOf, answer_of}
+use Rattle.xl_program.proofs.Alone.{alone_call, alone_save}
+use Rattle.xl_program.proofs.Answered.{IsSaid, said_fresh, said_printable}
 use Rattle.xl_program.proofs.Ends.{no_end_at_next, end_behind}
+use Rattle.xl_program.proofs.Seen.{fresh_more}
 use Rattle.xl_program.proofs.Stays.{lines_stay}
 
 -- ---- one more
 
 pub played_none : (base : Document) → ArePlayed base [] []
-played_none base = record { legal = IsLegal-empty base; ended = refl; plain = tt; text = refl }
+played_none base = record { legal = IsLegal-empty base; ended = refl; printable = tt; fresh = λ session. tt; alone = λ own none. tt; text = refl }
 
-plain_more : (es more : List Entry) → AllByRecursion IsPlain es → AllByRecursion IsPlain more → AllByRecursion IsPlain (es ++ more)
-plain_more [] more plain also = also
-plain_more (x ∷ es) more plain also = (plain.0, plain_more es more plain.1 also)
+printable_more : (es more : List Entry) → AllByRecursion IsPrintable es → AllByRecursion IsPrintable more → AllByRecursion IsPrintable (es ++ more)
+printable_more [] more first also = also
+printable_more (x ∷ es) more first also = (first.0, printable_more es more first.1 also)
 
 lines_more : (base : Document) (es more : List Entry) (out : List ℕ) → ArePlayed base es out
     → lines_in base (es ++ more) ≡ out ++ flat_map (entry_line base (es ++ more)) more
 lines_more base es more out played =
     flat_map-append (entry_line base (es ++ more)) es more
-    ∙ ap (λ (front : List ℕ). front ++ flat_map (entry_line base (es ++ more)) more) (lines_stay base es more played.legal played.ended played.plain ∙ sym played.text)
+    ∙ ap (λ (front : List ℕ). front ++ flat_map (entry_line base (es ++ more)) more) (lines_stay base es more played.legal played.ended ∙ sym played.text)
 
 -- the text with the line of a call behind it
-pub played_call : (base : Document) (es : List Entry) (out : List ℕ) (session : ℕ) (c : Call) (tables : List (List ℕ)) (reply : Reply) → ArePlayed base es out → IsBuilt c
-    → reply ≡ (answer base (replay base es) c tables).reply
+pub played_call : (base : Document) (es : List Entry) (out : List ℕ) (session : ℕ) (c : Call) (seen : ℕ) (tables : List (List ℕ)) (reply : Reply) → ArePlayed base es out
+    → seen_by es session ≡ seen → IsSaid seen reply → (AreOf 0 es → session ≡ 0 → IsAlone base es (asked c tables) reply [])
     → IsLegal base (es ++ record { session = session; index = next_index es session; kind = asked c tables; reply = reply } ∷ [])
     → ArePlayed base (es ++ record { session = session; index = next_index es session; kind = asked c tables; reply = reply } ∷ [])
     (out ++ line_text session (next_index es session) (shown_digest base (es ++ record { session = session; index = next_index es session; kind = asked c tables; reply = reply } ∷ []) (asked c tables) reply) reply)
-played_call base es out session c tables reply played built replied legal =
+played_call base es out session c seen tables reply played has_seen said alone legal =
     let e : Entry = record { session = session; index = next_index es session; kind = asked c tables; reply = reply } in
-    let printed : is_save_memory reply ≡ false = rw replied (printable_of _ (answer base (replay base es) c tables).reply (answer_of base (replay base es) c tables)) in
     record {
       legal = legal;
       ended = ap (λ (s : State). s.out) (replay-snoc base es e) ∙ out-answer base (replay base es) c tables ∙ played.ended;
-      plain = plain_more es (e ∷ []) played.plain (record { kind = built; printable = printed }, tt);
+      printable = printable_more es (e ∷ []) played.printable (said_printable seen reply said, tt);
+      fresh = fresh_more es e seen played.fresh has_seen (said_fresh seen reply said);
+      alone = alone_call base es e played.alone alone;
       text = sym (lines_more base es (e ∷ []) out played ∙ ap (λ (line : List ℕ). out ++ line) (append-nil (entry_line base (es ++ e ∷ []) e)));
-    } where
-      printable_of : (n : ℕ) (r : Reply) → IsOf n r → is_save_memory r ≡ false
-      printable_of n (save_memory version) h = absurd h
-      printable_of n r h = refl
+    }
 
 -- the line of a save is that of its end
 saved_line : (base : Document) (es : List Entry) (session : ℕ) (started ended : Reply) → IsLegal base es
@@ -58,6 +57,18 @@ saved_line base es session started ended legal =
     let index = next_index es session in
     end_behind es (record { session = session; index = index; kind = starts; reply = started } ∷ record { session = session; index = index; kind = ends; reply = ended } ∷ []) session index started (no_end_at_next base es session legal.run)
     ∙ rw (eq-eqb session session refl, eq-eqb index index refl) refl
+
+-- the entries behind others are a run from where these end
+pub run_behind : (base : Document) (s : State) (earlier es more : List Entry) → RunFrom base s earlier (es ++ more) → RunFrom base (replay_from base s es) (earlier ++ es) more
+run_behind base s earlier [] more run = subst (λ (l : List Entry). RunFrom base s l more) (sym (append-nil earlier)) run
+run_behind base s earlier (e ∷ es) more run =
+    subst (λ (l : List Entry). RunFrom base (replay_from base s (e ∷ es)) l more) (append_assoc earlier (e ∷ []) es)
+    (run_behind base (after_entry base s e) (earlier ++ e ∷ []) es more run.1)
+
+fresh_end : (seen now : ℕ) (r : Reply) → EndsWith now r → IsFreshReply seen r
+fresh_end seen now (tile_of version) is = absurd is
+fresh_end seen now (stale have said) is = absurd is
+fresh_end seen now r is = tt
 
 -- the text with the line of a save behind it
 pub played_save : (base : Document) (es : List Entry) (out : List ℕ) (session : ℕ) (started ended : Reply) → ArePlayed base es out
@@ -70,10 +81,19 @@ played_save base es out session started ended played start_printed end_printed l
     let s : Entry = record { session = session; index = index; kind = starts; reply = started } in
     let e : Entry = record { session = session; index = index; kind = ends; reply = ended } in
     let more : List Entry = s ∷ e ∷ [] in
+    let run = run_behind base (initial base) [] es more legal.run in
+    let started_at : started ≡ saved (latest (replay base es)) = run.0.2 in
+    let ended_as : EndsWith (latest (replay base es)) ended = run.1.0.2 in
+    let last = seen_by (es ++ s ∷ []) session in
     record {
       legal = legal;
       ended = ap (λ (t : State). t.out) (replay-append base es more);
-      plain = plain_more es more played.plain (record { kind = tt; printable = start_printed }, (record { kind = tt; printable = end_printed }, tt));
+      printable = printable_more es more played.printable (start_printed, (end_printed, tt));
+      fresh = λ (k : ℕ). subst (λ (l : List Entry). IsFresh l k) (append_assoc es (s ∷ []) (e ∷ []))
+          (fresh_more (es ++ s ∷ []) e last
+          (fresh_more es s (seen_by es session) played.fresh refl (subst (IsFreshReply (seen_by es session)) (sym started_at) tt))
+          refl (fresh_end last (latest (replay base es)) ended ended_as) k);
+      alone = alone_save base es s e (latest (replay base es)) played.alone refl refl started_at ended_as end_printed;
       text = sym (
           lines_more base es more out played
           ∙ ap (λ (line : List ℕ). out ++ line) (append-nil (entry_line base (es ++ more) s))

@@ -1,5 +1,5 @@
 -- What becomes of a sink where a report was written.
-use Rattle.std.proofs.Common.{◌≡◌, ℕ, Bool, true, false, List, sym, ◌∙◌}
+use Rattle.std.proofs.Common.{◌≡◌, ℕ, true, false, List}
 use Rattle.std.specs.Prelude.{Option, Result, Ok, Err, is_err}
 use Rattle.xl_ports.specs.Sink.{WritesAll, WritesPart, Writes}
 

@@ -15,7 +15,7 @@ use Rattle.xl_core.specs.declared.saving.Begun.TheVariants.{Snapshot}
 use Rattle.xl_program.specs.Saving.{IsSavedOn}
 use Rattle.xl_program.proofs.ComesBack.{comes_back}
 use Rattle.spec_filters.specs.declared.FilterState.{FilterState}
-use Rattle.xl_program.proofs.Submitted.{HasRoom, AnswersBy, chest_base}
+use Rattle.xl_program.proofs.Submitted.{AnswersBy, chest_base}
 use Rattle.spec_history.specs.Machine.{Call, Reply, history_full, saved, save_memory, State, Saving}
 use Rattle.spec_history.specs.History.{Entry, ends, next_index}
 use Rattle.spec_history.specs.Kept.{IsLegal}
@@ -158,10 +158,10 @@ module _ {D : Type 0} where
   }
 
   -- a call was made
-  pub call_between : (chest : List (Option FilterState)) (old new : Editing D) (session : ℕ) (c : Call) (reply : Reply) → HasRoom old.history → AnswersBy chest old.history session c reply new.history → KeepsShelf old new → IsSome old.shelf
+  pub call_between : (chest : List (Option FilterState)) (old new : Editing D) (session : ℕ) (c : Call) (seen : ℕ) (reply : Reply) → AnswersBy chest old session c seen reply new → KeepsShelf old new → IsSome old.shelf
       → IsLegal new.history.base new.history.entries → IsBetweenLines old.history.base old.opening new
-  call_between chest old new session c reply room answers keeps inside legal = record {
-    base_is = chest_base chest old.history session c reply new.history room answers;
+  call_between chest old new session c seen reply answers keeps inside legal = record {
+    base_is = chest_base chest old session c seen reply new answers;
     opening_is = keeps.opening;
     inside = subst (λ (o : Option D). IsSome o) (sym keeps.shelf) inside;
     legal = legal;

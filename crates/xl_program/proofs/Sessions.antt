@@ -1,21 +1,21 @@
 -- Sessions that make their calls one after another, and the text of all of them.
-use Rattle.std.proofs.Common.{◌≡◌, inl, inr, ℕ, zero, suc, ◌+◌, ◌<◌, ◌≤◌, List, [], ◌∷◌, ◌++◌, refl, ap, sym, ◌∙◌, arith, append-nil, append_assoc, subst, flat_map, filter_map}
+use Rattle.std.proofs.Common.{◌≡◌, inl, inr, Bool, true, false, cond, ℕ, zero, suc, ◌+◌, ◌<◌, ◌≤◌, List, [], ◌∷◌, ◌++◌, refl, ap, sym, ◌∙◌, arith, append-nil, append_assoc, subst, flat_map, filter_map, length, length-append}
 use Rattle.std.specs.Prelude.{◌==◌, slice_get, unwrap_or}
-use Rattle.std.proofs.lemmas.Bool.{cases_lt}
+use Rattle.std.specs.List.{AllByRecursion}
+use Rattle.std.proofs.lemmas.Bool.{cases_lt, eqb-true}
 use Rattle.std.proofs.lemmas.List.Concat.{flat_map-append, flat_map-cons}
 use Rattle.std.proofs.lemmas.List.Elements.{filter-append}
 use Rattle.spec_document.specs.Document.{Document}
 use Rattle.spec_grid.specs.Rect.{count_from}
-use Rattle.spec_history.specs.Machine.{initial}
 use Rattle.spec_history.specs.History.{Entry, mine}
-use Rattle.spec_history.proofs.Versions.{sound-initial}
 use Rattle.spec_filters.specs.declared.FilterState.{FilterState}
 use Rattle.spec_script.specs.Script.{Line}
 use Rattle.spec_text.specs.Printed.{order_text}
 use Rattle.spec_tables.specs.Tables.{HaveTables}
-use Rattle.spec_text.specs.Text.{IsTextOf, entry_line, made_by, calls_of, calls_in, printed}
-use Rattle.xl_program.specs.Playing.{ArePlayed, AreInOrder, AreSessions, IsAdded, lines_in}
-use Rattle.xl_program.proofs.Plain.{AreOf, AreBefore, run_fresh, all_printable, mine_own, mine_other, mine_later, before_more}
+use Rattle.spec_saves.specs.Names.{save_faults}
+use Rattle.spec_text.specs.Text.{AreAlone, Alone, IsTextOf, entry_line, made_by, calls_of, calls_in, printed}
+use Rattle.xl_program.specs.Playing.{AreOf, AreBefore, ArePlayed, AreInOrder, AreOfFirst, AreSessions, IsAdded, lines_in}
+use Rattle.xl_program.proofs.Plain.{mine_own, mine_other, mine_later, before_more}
 
 -- ---- whose entries they are, behind others
 
@@ -80,8 +80,18 @@ order_more es more session order before own lt =
 
 -- ---- one session more
 
+no_more : (es : List Entry) → length es ≡ 0 → es ≡ []
+no_more [] none = refl
+no_more (e ∷ es) none = absurd (omega (arith, none))
+
 pub sessions_none : (lists : List (List Line)) (chests : List (List FilterState)) → AreSessions 0 lists chests []
-sessions_none lists chests = record { before = tt; order = refl; calls = λ n below. absurd (omega arith); tables = λ n below. absurd (omega arith) }
+sessions_none lists chests = record {
+  before = tt;
+  order = refl;
+  silent = λ n below blank. refl;
+  calls = λ n below. absurd (omega arith);
+  tables = λ n below. absurd (omega arith);
+}
 
 pub sessions_more : (session : ℕ) (lists : List (List Line)) (chests : List (List FilterState)) (old new : List Entry) → session < 8 → AreSessions session lists chests old
     → IsAdded session (unwrap_or (slice_get chests session) []) (unwrap_or (slice_get lists session) []) old new → AreSessions (session + 1) lists chests new
@@ -90,6 +100,15 @@ sessions_more session lists chests old new lt so added =
     subst (λ (es : List Entry). AreSessions (session + 1) lists chests es) (sym added.entries) (record {
       before = before_more old more session (session + 1) (omega arith) so.before added.own;
       order = order_more old more session so.order so.before added.own lt;
+      silent = λ n below blank. elim (cases_lt n session) [
+        | inl earlier ↦ mine_stays old more session n added.own earlier ∙ so.silent n earlier blank
+        | inr not ↦
+            let same : n ≡ session = omega arith in
+            let few = added.few in
+            let longer = ap length added.entries ∙ length-append old more in
+            let calls : length (calls_of (unwrap_or (slice_get lists session) [])) ≡ 0 = ap (λ (k : ℕ). length (calls_of (unwrap_or (slice_get lists k) []))) (sym same) ∙ ap (λ (ls : List Line). length (calls_of ls)) blank in
+            subst (λ (k : ℕ). mine (old ++ more) k ≡ []) (sym same) (mine_last old more session so.before added.own ∙ no_more more (omega (arith, few, longer, calls)))
+      ];
       calls = λ n below. elim (cases_lt n session) [
         | inl earlier ↦ ap (λ (es : List Entry). filter_map (λ (e : Entry). made_by e.kind) es) (mine_stays old more session n added.own earlier) ∙ so.calls n earlier
         | inr not ↦
@@ -126,10 +145,10 @@ pub sessions_text : (base : Document) (lists : List (List Line)) (chests : List 
 sessions_text base lists chests es out played all = record {
   legal = played.legal;
   ended = played.ended;
-  printable = all_printable es played.plain;
+  printable = played.printable;
   calls = λ session below. all.calls session below;
   others = λ session above. mine_later es 8 session all.before above;
-  fresh = λ session below. run_fresh base (initial base) [] es session 0 (sound-initial base) (omega arith) played.plain played.legal.run;
+  fresh = λ session below. played.fresh session;
   tables = λ session below. all.tables session below;
   text = ap (λ (o : List ℕ). o ++ order_text es) played.text ∙ text_of_all base es all.order;
 }
@@ -140,3 +159,43 @@ pub sessions_told : (base opened : Document) (lists : List (List Line)) (chests 
 sessions_told base opened lists chests es front out printed same played sessions =
     subst (λ (o : List ℕ). IsTextOf o opened lists chests es) (sym printed)
     (subst (λ (d : Document). IsTextOf (front ++ order_text es) d lists chests es) same (sessions_text base lists chests es front played sessions))
+
+-- ---- session 0 alone
+
+blank_at : (lists : List (List Line)) (n : ℕ) → AllByRecursion (λ lines. lines ≡ []) lists → unwrap_or (slice_get lists n) [] ≡ []
+blank_at [] n all = refl
+blank_at (lines ∷ lists) zero all = all.0
+blank_at (lines ∷ lists) (suc n) all = blank_at lists n all.1
+
+blank_later : (lists : List (List Line)) (n : ℕ) → AreOfFirst lists → unwrap_or (slice_get lists (suc n)) [] ≡ []
+blank_later [] n first = refl
+blank_later (lines ∷ lists) n first = blank_at lists n first
+
+mine_of : (es : List Entry) (session : ℕ) → AreOf session (mine es session)
+mine_of [] session = tt
+mine_of (e ∷ es) session = go (e.session == session) refl (mine_of es session) where
+  go : (b : Bool) → (e.session == session) ≡ b → AreOf session (mine es session) → AreOf session (cond b (e ∷ mine es session) (mine es session))
+  go true q rest = (eqb-true e.session session q, rest)
+  go false q rest = rest
+
+all_silent : (lists : List (List Line)) (chests : List (List FilterState)) (es : List Entry) (first n : ℕ) → AreOfFirst lists → AreSessions 8 lists chests es → 1 ≤ first → first + n ≤ 8
+    → flat_map (mine es) (count_from first n) ≡ []
+all_silent lists chests es first zero only so some within = refl
+all_silent lists chests es zero (suc n) only so some within = absurd (omega (arith, some))
+all_silent lists chests es (suc k) (suc n) only so some within =
+    flat_map-cons (mine es) (suc k) (count_from (suc (suc k)) n)
+    ∙ rw (so.silent (suc k) (omega arith) (blank_later lists k only)) (all_silent lists chests es (suc (suc k)) n only so (omega arith) (omega arith))
+
+-- where all lines are of session 0, so are all entries
+pub only_first : (lists : List (List Line)) (chests : List (List FilterState)) (es : List Entry) → AreOfFirst lists → AreSessions 8 lists chests es → AreOf 0 es
+only_first lists chests es only so =
+    let first : flat_map (mine es) (count_from 0 8) ≡ mine es 0 =
+    flat_map-cons (mine es) 0 (count_from 1 7) ∙ ap (λ (rest : List Entry). mine es 0 ++ rest) (all_silent lists chests es 1 7 only so (omega arith) (omega arith)) ∙ append-nil (mine es 0) in
+    subst (AreOf 0) (sym first ∙ so.order) (mine_of es 0)
+
+-- the text of session 0 alone is the one that follows from the document, its calls and its filters, where no save failed
+pub sessions_alone : (base opened : Document) (lists : List (List Line)) (chests : List (List FilterState)) (es : List Entry) (front out : List ℕ) → base ≡ opened → ArePlayed base es front → AreSessions 8 lists chests es
+    → IsTextOf out opened lists chests es → AreOfFirst lists → save_faults es ≡ 0 → Alone out opened lists chests
+sessions_alone base opened lists chests es front out same played sessions text only none =
+    let own = only_first lists chests es only sessions in
+    (es, text, own, subst (λ (d : Document). AreAlone d [] es) same (played.alone own none))

@@ -1,33 +1,43 @@
 -- The lines of a legal history with no save out stay as they are, whatever comes behind it.
-use Rattle.std.proofs.Common.{◌≡◌, ℕ, ◌≤◌, true, cond, List, [], ◌∷◌, ◌++◌, None, refl, ap, sym, ◌∙◌, arith, subst, append_assoc, flat_map}
+use Rattle.std.proofs.Common.{◌≡◌, ℕ, ◌≤◌, true, cond, List, [], ◌∷◌, ◌++◌, Some, None, refl, ap, sym, ◌∙◌, arith, subst, append_assoc, flat_map}
+use Rattle.std.specs.Prelude.{Option}
 use Rattle.std.specs.List.{AllByRecursion}
 use Rattle.std.proofs.lemmas.List.Concat.{flat_map-cons}
 use Rattle.spec_document.specs.Document.{Document}
 use Rattle.spec_picture.specs.Picture.{project}
-use Rattle.spec_history.specs.Machine.{tile, peek, Reply, tile_of, State, initial, latest}
-use Rattle.spec_history.specs.History.{Entry, Kind, asked, starts, ends, is_end_kind, after_entry, replay_from, replay, RunFrom}
+use Rattle.spec_history.specs.Machine.{tile, peek, Reply, tile_of, State, Saving, initial, latest}
+use Rattle.spec_history.specs.History.{Entry, Kind, asked, starts, ends, is_end_kind, after_entry, replay_from, replay, EndsWith, MayEnd, MayBe, RunFrom}
 use Rattle.spec_history.specs.Kept.{IsLegal}
 use Rattle.spec_history.proofs.Growing.{document_of-append}
 use Rattle.spec_history.proofs.Versions.{IsSound, sound-initial, goes-step, ends-run}
 use Rattle.spec_text.specs.Printed.{line_text}
 use Rattle.spec_text.specs.Text.{digest_of, entry_line, shown_digest, printed_reply}
-use Rattle.xl_program.specs.Playing.{IsPlain, lines_in}
+use Rattle.xl_program.specs.Playing.{lines_in}
 use Rattle.xl_program.proofs.Ends.{HasEnd, has_end, has_end_behind, first_ends, end_stays}
-use Rattle.xl_program.proofs.Plain.{IsNow, step_now}
-
--- a tile that is shown is there
-abbrev IsUpTo : (last : ℕ) → Reply → Type 0
-IsUpTo last (tile_of version) = version ≤ last
-IsUpTo last reply = Unit {0}
+use Rattle.xl_program.proofs.Answered.{IsUpTo, answers_up_to}
 
 -- all that the line of an entry tells is there
 record IsTold (base : Document) (all : List Entry) (e : Entry) : Type 0 where
   pub shown : IsUpTo (latest (replay base all)) e.reply
   pub ended : HasEnd all e.session e.index e.kind
 
-up_to : (now last : ℕ) (r : Reply) → IsNow now r → now ≤ last → IsUpTo last r
+up_to : (now last : ℕ) (r : Reply) → IsUpTo now r → now ≤ last → IsUpTo last r
 up_to now last (tile_of version) is le = omega arith
 up_to now last r is le = tt
+
+up_to_end : (now version : ℕ) (r : Reply) → EndsWith version r → IsUpTo now r
+up_to_end now version (tile_of shown) h = absurd h
+up_to_end now version r h = tt
+
+up_to_ends : (now : ℕ) (out : Option Saving) (session index : ℕ) (r : Reply) → MayEnd out session index r → IsUpTo now r
+up_to_ends now None session index r may = absurd may
+up_to_ends now (Some o) session index r may = up_to_end now o.version r may.2
+
+-- what an entry that may come now shows is there
+step_up_to : (base : Document) (s : State) (earlier : List Entry) (e : Entry) (k : Kind) → MayBe base s earlier e k → IsUpTo (latest s) e.reply
+step_up_to base s earlier e (asked c tables) may = answers_up_to base s c tables e.reply may.1
+step_up_to base s earlier e starts may = subst (IsUpTo (latest s)) (sym may.2) tt
+step_up_to base s earlier e ends may = up_to_ends (latest s) s.out e.session e.index e.reply may
 
 end_in_all : (earlier es : List Entry) (e : Entry) (k : Kind) → HasEnd es e.session e.index k → HasEnd (earlier ++ e ∷ es) e.session e.index k
 end_in_all earlier es e (asked c tables) h = tt
@@ -35,10 +45,10 @@ end_in_all earlier es e starts h =
     subst (λ (all : List Entry). has_end all e.session e.index ≡ true) (append_assoc earlier (e ∷ []) es) (has_end_behind (earlier ++ e ∷ []) es e.session e.index h)
 end_in_all earlier es e ends h = tt
 
-all_told : (base : Document) (s : State) (earlier es : List Entry) → replay_from base s es ≡ replay base (earlier ++ es) → IsSound s → AllByRecursion IsPlain es → RunFrom base s earlier es
+all_told : (base : Document) (s : State) (earlier es : List Entry) → replay_from base s es ≡ replay base (earlier ++ es) → IsSound s → RunFrom base s earlier es
     → (replay_from base s es).out ≡ None → AllByRecursion (IsTold base (earlier ++ es)) es
-all_told base s earlier [] here h plain run none = tt
-all_told base s earlier (e ∷ es) here h plain run none =
+all_told base s earlier [] here h run none = tt
+all_told base s earlier (e ∷ es) here h run none =
     let new = after_entry base s e in
     let goes = goes-step base s earlier e h run.0 in
     let more = (ends-run base s earlier (e ∷ es) h run).more in
@@ -46,11 +56,11 @@ all_told base s earlier (e ∷ es) here h plain run none =
     let low : latest s ≤ latest (replay base (earlier ++ e ∷ es)) = omega arith in
     let whole : (earlier ++ e ∷ []) ++ es ≡ earlier ++ e ∷ es = append_assoc earlier (e ∷ []) es in (
       record {
-        shown = up_to (latest s) (latest (replay base (earlier ++ e ∷ es))) e.reply (step_now base s earlier e e.kind plain.0.kind run.0) low;
+        shown = up_to (latest s) (latest (replay base (earlier ++ e ∷ es))) e.reply (step_up_to base s earlier e e.kind run.0) low;
         ended = end_in_all earlier es e e.kind (first_ends base s earlier e es run none);
       },
       subst (λ (all : List Entry). AllByRecursion (IsTold base all) es) whole
-          (all_told base new (earlier ++ e ∷ []) es (here ∙ ap (replay base) (sym whole)) goes.sound plain.1 run.1 none),
+          (all_told base new (earlier ++ e ∷ []) es (here ∙ ap (replay base) (sym whole)) goes.sound run.1 none),
     )
 
 digest_stays : (base : Document) (all more : List Entry) (k : Kind) (r : Reply) → IsUpTo (latest (replay base all)) r
@@ -81,7 +91,7 @@ each_stays base all more (e ∷ es) told =
     ∙ ap (λ (rest : List ℕ). entry_line base all e ++ rest) (each_stays base all more es told.1)
     ∙ sym (flat_map-cons (entry_line base all) e es)
 
-pub lines_stay : (base : Document) (es more : List Entry) → IsLegal base es → (replay base es).out ≡ None → AllByRecursion IsPlain es
+pub lines_stay : (base : Document) (es more : List Entry) → IsLegal base es → (replay base es).out ≡ None
     → flat_map (entry_line base (es ++ more)) es ≡ lines_in base es
-lines_stay base es more legal none plain =
-    each_stays base es more es (all_told base (initial base) [] es refl (sound-initial base) plain legal.run none)
+lines_stay base es more legal none =
+    each_stays base es more es (all_told base (initial base) [] es refl (sound-initial base) legal.run none)

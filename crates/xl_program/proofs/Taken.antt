@@ -3,7 +3,6 @@ use Rattle.std.proofs.Common.{◌≡◌, ℕ, List, [], Option, Some, None, inl,
 use Rattle.spec_command.specs.Arguments.{Asked, edit, render, info, make}
 use Rattle.xl_ports.specs.Source.{led_by}
 use Rattle.xl_ports.proofs.Moments.{still}
-use Rattle.xl_program.specs.Command.{if_served}
 use Rattle.xl_program.specs.Outcome.{Takes, Shelved, IsUntouched, MaySave}
 
 led_by_nothing : (left : Option (List ℕ)) → left ≡ led_by [] left
@@ -22,9 +21,9 @@ pub untouched : (s : Shelved) → IsUntouched s s
 untouched s = record { contents = refl; quiet = still s.known.disk; saving = refl }
 
 -- nothing was saved
-pub nothing_saved : (s : Shelved) (given : Option Asked) → MaySave s s (if_served given)
+pub nothing_saved : (s : Shelved) (given : Option Asked) → MaySave s s given
 nothing_saved s None = untouched s
 nothing_saved s (Some (render name)) = untouched s
 nothing_saved s (Some (info name)) = untouched s
-nothing_saved s (Some (make name seed)) = untouched s
+nothing_saved s (Some (make name seed)) = inl (untouched s)
 nothing_saved s (Some (edit name workers)) = inl (untouched s)

@@ -1,5 +1,5 @@
 -- A line that is told after a command stopped.
-use Rattle.std.proofs.Common.{◌≡◌, inl, inr, ℕ, List, Option, Some, Result, Ok, Err, ◌∙◌, ap, sym, subst, take, arith}
+use Rattle.std.proofs.Common.{◌≡◌, ◌⊎◌, inl, inr, ℕ, List, Option, Some, Result, Ok, Err, ◌∙◌, ap, sym, subst, take, arith}
 use Rattle.std.specs.Prelude.{IfSome, IfOk, MatchResult, String, string_bytes}
 use Rattle.std.specs.declared.alloc.AllocError.{AllocError}
 use Rattle.std.specs.declared.alloc.Global.{Global}
@@ -11,7 +11,7 @@ use Rattle.xl_ports.specs.Shelf.{Content}
 use Rattle.xl_ports.specs.Sink.{appended}
 use Rattle.xl_program.specs.Command.{IsEdit}
 use Rattle.xl_program.specs.Lines.{Tells}
-use Rattle.xl_program.specs.Outcome.{Given, HasFault, IsBadLine, Keeps, Shelved, ComesTo, IsOutput, ShelfCause, ShelfFails, SomeFailed, TellsOr, TellsStop, WritesSome}
+use Rattle.xl_program.specs.Outcome.{Given, HasFault, InGrammar, IsBadLine, Keeps, Shelved, ComesTo, IsOutput, ShelfCauseOf, ShelfFails, SomeFailed, TellsOr, TellsStop, WritesSome}
 use Rattle.xl_program.specs.Parts.{StopsFor}
 use Rattle.xl_program.specs.declared.stopped.Stopped.{Stopped}
 use Rattle.xl_program.specs.declared.stopped.Stopped.TheVariants.{SourceFault, BadLine, ShelfFault, Refused, SaveFault, SinkFault, Memory}
@@ -36,6 +36,27 @@ module _ {K : Type 0} (held : K → Option (List ℕ)) (faults : K → ℕ) wher
     holds = part.holds ∙ ap (λ (h : Option (List ℕ)). appended h (take part.count text)) kept.0;
     fault = subst (λ (n : ℕ). Rose n (faults new)) kept.1 part.fault;
   })
+
+module _ {K : Type 0} (held : K → Option (List ℕ)) (faults : K → ℕ) (given : Given) (content : List ℕ → Option Content) where
+  -- where a file is refused or the shelf failed, the script is in the grammar
+  pub script_first_told : (command : Asked) (stopped : Stopped) (status last : ℕ) (mid new : K) → status ≡ last → (last ≡ 4) ⊎ (last ≡ 6) → StopsFor given content command (Err stopped)
+      → TellsStop held faults mid new stopped status → InGrammar given (Some command)
+  script_first_told (render name) stopped status last mid new same which stops told = tt
+  script_first_told (info name) stopped status last mid new same which stops told = tt
+  script_first_told (make name seed) stopped status last mid new same which stops told = tt
+  script_first_told (edit name workers) ShelfFault status last mid new same which stops told = stops
+  script_first_told (edit name workers) SaveFault status last mid new same which stops told = stops
+  script_first_told (edit name workers) (Refused why) status last mid new same which stops told = stops.0
+  script_first_told (edit name workers) SourceFault status last mid new same (inl four) stops told = absurd (omega (arith, same, four, told.0))
+  script_first_told (edit name workers) SourceFault status last mid new same (inr six) stops told = absurd (omega (arith, same, six, told.0))
+  script_first_told (edit name workers) (BadLine number) status last mid new same (inl four) stops (inl told) = absurd (omega (arith, same, four, told.0))
+  script_first_told (edit name workers) (BadLine number) status last mid new same (inl four) stops (inr told) = absurd (omega (arith, same, four, told.0))
+  script_first_told (edit name workers) (BadLine number) status last mid new same (inr six) stops (inl told) = absurd (omega (arith, same, six, told.0))
+  script_first_told (edit name workers) (BadLine number) status last mid new same (inr six) stops (inr told) = absurd (omega (arith, same, six, told.0))
+  script_first_told (edit name workers) SinkFault status last mid new same (inl four) stops told = absurd (omega (arith, same, four, told.0))
+  script_first_told (edit name workers) SinkFault status last mid new same (inr six) stops told = absurd (omega (arith, same, six, told.0))
+  script_first_told (edit name workers) Memory status last mid new same (inl four) stops told = absurd (omega (arith, same, four, told.0))
+  script_first_told (edit name workers) Memory status last mid new same (inr six) stops told = absurd (omega (arith, same, six, told.0))
 
 module _ {K : Type 0} (held : K → Option (List ℕ)) (faults : K → ℕ) (given : Given) (content : List ℕ → Option Content) (before after : Shelved) where
   -- status 3 tells the line of the script that is refused
@@ -78,9 +99,9 @@ module _ {K : Type 0} (held : K → Option (List ℕ)) (faults : K → ℕ) (giv
   refusal_told command SinkFault status old mid new four kept stops told = absurd (omega (arith, four, told.0))
   refusal_told command Memory status old mid new four kept stops told = absurd (omega (arith, four, told.0))
 
-  -- status 6 tells that the file could not be read, or a save failed and all is written
+  -- status 6 tells that the file could not be read or was not saved first, or a save failed and all is written
   pub shelf_fault_told : (command : Asked) (stopped : Stopped) (status : ℕ) (old mid new : K) → status ≡ 6 → ComesTo held faults given before after command old mid (Err stopped)
-      → ShelfCause {A = Unit {0}} before.known.reading after.known.reading (Err stopped) → TellsStop held faults mid new stopped status
+      → ShelfCauseOf before.known after.known command (Err stopped) → TellsStop held faults mid new stopped status
       → ShelfFails held faults given before after (Some command) old new
   shelf_fault_told command ShelfFault status old mid new six kept cause told =
       inl (cause, kept.1, kept_then_told held faults old mid new (stop_line shelf_fault) kept.0 told.1)
@@ -96,7 +117,7 @@ module _ {K : Type 0} (held : K → Option (List ℕ)) (faults : K → ℕ) (giv
 
   -- so it does of the words' command, whatever the sink is called afterwards
   pub shelf_fault_asked : (command : Asked) (stopped : Stopped) (status : ℕ) (old mid new : K) → status ≡ 6 → ComesTo held faults given before after command old mid (Err stopped)
-      → ShelfCause {A = Unit {0}} before.known.reading after.known.reading (Err stopped) → TellsStop held faults mid new stopped status
+      → ShelfCauseOf before.known after.known command (Err stopped) → TellsStop held faults mid new stopped status
       → {asked : Option Asked} → Some command ≡ asked → {last : K} → new ≡ last → ShelfFails held faults given before after asked old last
   shelf_fault_asked command stopped status old mid new six comes cause told is {last} same =
       subst (λ (o : Option Asked). ShelfFails held faults given before after o old last) is

@@ -1,8 +1,7 @@
 -- The lines of a session, of which some were played and some are left.
 use Rattle.spec_history.specs.Calls.{most_entries}
-use Rattle.std.proofs.Common.{◌≡◌, ℕ, ◌+◌, ◌*◌, ◌≤◌, List, [], ◌∷◌, ◌++◌, length, refl, ap, sym, ◌∙◌, subst, arith, append_assoc, append-nil, length-append, eq-eqb, ne_eqb, cond, map}
+use Rattle.std.proofs.Common.{◌≡◌, ℕ, ◌+◌, ◌*◌, ◌≤◌, List, [], ◌∷◌, ◌++◌, length, refl, ap, sym, ◌∙◌, subst, arith, append_assoc, append-nil, length-append, eq-eqb, cond, map}
 use Rattle.std.specs.Prelude.{IsSome, Bool, true, false, ◌==◌, ◌&&◌, not, Option, Some}
-use Rattle.std.proofs.lemmas.List.Sums.{sum_by-cons}
 use Rattle.spec_document.specs.Document.{Document}
 use Rattle.spec_history.specs.Machine.{Call, Reply}
 use Rattle.spec_history.specs.History.{Entry, asked, ends, is_end_kind, next_index}
@@ -19,8 +18,9 @@ use Rattle.xl_core.specs.Editing.{Editing, start_of}
 use Rattle.xl_core.specs.History.{History, with_call}
 use Rattle.xl_script.specs.Lines.{line_of, lines_of}
 use Rattle.xl_script.specs.declared.script.Line.{Line}
-use Rattle.xl_program.specs.Playing.{ArePlayed, FitsChest, IsCalled, IsBetweenLines, IsMade, IsAdded, calls_made}
-use Rattle.xl_program.proofs.Plain.{AreOf, AreBefore, filters_now, filters_more, tables_more}
+use Rattle.xl_program.specs.Playing.{AreOf, AreBefore, HasTurn, ArePlayed, FitsChest, IsCalled, IsBetweenLines, IsMade, IsAdded, KeepsExactly, calls_made}
+use Rattle.xl_program.proofs.Plain.{filters_now, filters_more, tables_more}
+use Rattle.xl_program.proofs.Seen.{no_call_yet, turn_none, turn_own}
 use Rattle.xl_program.proofs.Chests.{IsStocked, full_agrees, full_stocked, line_fits, stocked_after, agrees_without, stocked_without}
 use Rattle.xl_program.proofs.Played.{calls_behind}
 
@@ -39,20 +39,6 @@ no_index es e session is =
       never true = refl
       never false = refl
 
-abbrev one_if : Bool → ℕ
-one_if b = cond b 1 0
-
--- a session that comes later has made no call
-pub no_call_yet : (es : List Entry) (session : ℕ) → AreBefore session es → next_index es session ≡ 0
-no_call_yet [] session before = refl
-no_call_yet (e ∷ es) session before =
-    let here = before.0 in
-    let other : (e.session == session) ≡ false = ne_eqb e.session session (λ q. omega arith) in
-    let counts : (e.session == session && not (is_end_kind e.kind)) ≡ false = rw other refl in
-    let first : one_if (e.session == session && not (is_end_kind e.kind)) ≡ 0 = ap one_if counts in
-    let rest = no_call_yet es session before.1 in
-    sum_by-cons (λ (x : Entry). cond (x.session == session && not (is_end_kind x.kind)) 1 0) e es ∙ omega (arith, first, rest)
-
 -- ---- one line more
 
 -- What a line adds where the chest agrees with these filters: entries of the session, two at most, for its call if it is one; and what
@@ -67,6 +53,7 @@ pub record IsOneMore (session : ℕ) (now : List FilterState) (old new : History
   pub agrees : (filters : List FilterState) (earlier : List Entry) → now ≡ filters_now filters earlier → Agrees after (filters_now filters (earlier ++ more))
   pub stocked : (given : ℕ) (dropped : List ℕ) → IsStocked given dropped before → IsStocked given (dropped_by dropped line) after
   pub index : next_index new.entries session ≡ next_index old.entries session + length (calls_of (line ∷ []))
+  pub turn : HasTurn old.entries session → HasTurn new.entries session
   pub few : length new.entries ≤ length old.entries + 2 * length (calls_of (line ∷ []))
 
 -- an entry without tables, which leaves the filters as they are
@@ -100,6 +87,7 @@ made_one session now old new before after (script.call c) agrees made =
           (made.used.states now agrees);
       stocked = λ given dropped stocked. stocked_after given dropped before after made.used.slots stocked;
       index = ap (λ (l : List Entry). next_index l session) es ∙ one_index old.entries e refl;
+      turn = λ had. subst (λ (l : List Entry). HasTurn l session) (sym es) (turn_own old.entries e (next_index old.entries session) (one_index old.entries e refl));
       few = omega (arith, longer);
     }
 made_one session now old new before after script.save agrees (made, same) =
@@ -123,6 +111,8 @@ made_one session now old new before after script.save agrees (made, same) =
           ap (λ (l : List Entry). next_index l session) (es ∙ sym (append_assoc old.entries (s ∷ []) (e ∷ [])))
           ∙ no_index (old.entries ++ s ∷ []) e session refl
           ∙ one_index old.entries s refl;
+      turn = λ had. subst (λ (l : List Entry). HasTurn l session) (append_assoc old.entries (s ∷ []) (e ∷ []) ∙ sym es)
+          (turn_own (old.entries ++ s ∷ []) e (next_index old.entries session) (no_index (old.entries ++ s ∷ []) e session refl ∙ one_index old.entries s refl));
       few = omega (arith, longer);
     }
 made_one session now old new before after (script.forget slot) agrees (same, without) =
@@ -141,6 +131,7 @@ made_one session now old new before after (script.forget slot) agrees (same, wit
           (subst (λ chest. Agrees chest now) (sym without) (agrees_without before now slot agrees));
       stocked = λ given dropped stocked. subst (IsStocked given (dropped ++ slot ∷ [])) (sym without) (stocked_without given dropped before slot stocked);
       index = omega (arith, index);
+      turn = λ had. subst (λ (l : List Entry). HasTurn l session) (sym es) had;
       few = omega (arith, longer);
     }
 
@@ -172,15 +163,17 @@ pub record IsUnderWay {D : Type 0} (session : ℕ) (filters : List FilterState) 
   pub dropped : List ℕ
   pub stocked : IsStocked (length filters) dropped chest
   pub fit : AreFit (length filters) dropped (lines_of left)
+  pub turn : HasTurn core.history.entries session
+  pub kept : KeepsExactly core
   pub played : ArePlayed core.history.base core.history.entries out
 
 module _ {D : Type 0} where
-  pub under_way_none : (session : ℕ) (filters : List FilterState) (core : Editing D) (all left : List Line) (index : ℕ) (chest : List (Option FilterState)) (out : List ℕ) → chest ≡ map (λ s. Some s) filters → next_index core.history.entries session ≡ 0 → index ≡ 0 → IsSome core.shelf
+  pub under_way_none : (session : ℕ) (filters : List FilterState) (core : Editing D) (all left : List Line) (index : ℕ) (chest : List (Option FilterState)) (out : List ℕ) → chest ≡ map (λ s. Some s) filters → AreBefore session core.history.entries → index ≡ 0 → IsSome core.shelf → KeepsExactly core
       → ArePlayed core.history.base core.history.entries out → AreFit (length filters) [] (lines_of all) → left ≡ all → IsUnderWay session filters core all left index chest core out
-  under_way_none session filters core all left index chest out full unmade zero inside played fit whole =
+  under_way_none session filters core all left index chest out full before zero inside kept played fit whole =
       subst (λ (ls : List Line). IsUnderWay session filters core all ls index chest core out) (sym whole)
       (record {
-        index_is = zero ∙ sym unmade;
+        index_is = zero ∙ sym (no_call_yet core.history.entries session before);
         between = record { base_is = refl; opening_is = refl; inside = inside; legal = played.legal };
         more = [];
         entries = sym (append-nil core.history.entries);
@@ -192,6 +185,8 @@ module _ {D : Type 0} where
         dropped = [];
         stocked = subst (IsStocked (length filters) []) (sym full) (full_stocked filters);
         fit = fit;
+        turn = turn_none core.history.entries session before;
+        kept = kept;
         played = played;
       })
 
@@ -219,8 +214,8 @@ module _ {D : Type 0} where
         omega arith
 
     pub under_way_more : (after_chest : List (Option FilterState)) (new : Editing D) (next : ℕ) (more : List ℕ) → IsBetweenLines old.history.base old.opening new → IsMade old.history session (line_of line) chest after_chest new.history
-        → next ≡ next_index new.history.entries session → ArePlayed new.history.base new.history.entries more → IsUnderWay session filters start all rest next after_chest new more
-    under_way_more after_chest new next more after made next_is played =
+        → next ≡ next_index new.history.entries session → KeepsExactly new → ArePlayed new.history.base new.history.entries more → IsUnderWay session filters start all rest next after_chest new more
+    under_way_more after_chest new next more after made next_is kept played =
         let one = made_one session (filters_now filters way.more) old.history new.history chest after_chest (line_of line) way.agrees made in
         let split = calls_split (line_of line) (lines_of rest) in
         let counts = ap (λ (ls : List Line). length (calls_of (lines_of ls))) turn ∙ ap length split ∙ length-append (calls_of (line_of line ∷ [])) (calls_of (lines_of rest)) in
@@ -244,6 +239,8 @@ module _ {D : Type 0} where
           dropped = dropped_by way.dropped (line_of line);
           stocked = one.stocked (length filters) way.dropped way.stocked;
           fit = (subst (λ (ls : List Line). AreFit (length filters) way.dropped (lines_of ls)) turn way.fit).1;
+          turn = one.turn way.turn;
+          kept = kept;
           played = played;
         } where
           both_own : (xs ys : List Entry) → AreOf session xs → AreOf session ys → AreOf session (xs ++ ys)

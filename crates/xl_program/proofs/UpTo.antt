@@ -6,7 +6,7 @@ use Rattle.std.specs.declared.alloc.Global.{Global}
 use Rattle.std.proofs.lemmas.List.{length-map}
 use Rattle.spec_document.specs.Document.{Document}
 use Rattle.spec_history.specs.Calls.{most_entries}
-use Rattle.spec_history.specs.History.{Entry, next_index}
+use Rattle.spec_history.specs.History.{Entry}
 use Rattle.spec_history.specs.Kept.{IsLegal}
 use Rattle.spec_history.proofs.Growing.{IsLegal-empty}
 use Rattle.spec_script.specs.Script as script
@@ -18,10 +18,10 @@ use Rattle.xl_script.specs.Lines.{lines_of, lists_of}
 use Rattle.xl_script.specs.declared.script.Line.{Line}
 use Rattle.spec_filters.specs.declared.FilterState.{FilterState}
 use Rattle.xl_program.specs.Outcome.{states_of}
-use Rattle.xl_program.specs.Playing.{ArePlayed, AreSessions, IsAdded, IsBetweenLines, boxes_at}
+use Rattle.xl_program.specs.Playing.{AreBefore, ArePlayed, AreSessions, IsAdded, IsBetweenLines, KeepsExactly, boxes_at}
 use Rattle.xl_program.proofs.Played.{played_none}
 use Rattle.xl_program.proofs.Sessions.{sessions_none, sessions_more}
-use Rattle.xl_program.proofs.UnderWay.{no_call_yet, still_between}
+use Rattle.xl_program.proofs.UnderWay.{still_between}
 
 -- ---- lists
 
@@ -76,13 +76,14 @@ pub record IsUpTo {B D : Type 0} (state : B → FilterState) (base : Document) (
   pub few : length core.history.entries + 2 * count_calls (lists_of left) ≤ most_entries
   pub between : IsBetweenLines base opening core
   pub made : AreSessions session lists (states_of state boxes) core.history.entries
+  pub kept : KeepsExactly core
   pub played : ArePlayed core.history.base core.history.entries out
 
 module _ {B D : Type 0} (state : B → FilterState) where
-  pub up_to_none : (core : Editing D) (all left : List (List Line)) (boxes : List (Vec B Global)) (out : List ℕ) → left ≡ all → length left ≡ 8 → core.history.entries ≡ [] → IsSome core.shelf → out ≡ []
+  pub up_to_none : (core : Editing D) (all left : List (List Line)) (boxes : List (Vec B Global)) (out : List ℕ) → left ≡ all → length left ≡ 8 → core.history.entries ≡ [] → IsSome core.shelf → KeepsExactly core → out ≡ []
       → AllByRecursion (λ (b : Vec B Global). length b.items < 2 ^ 32) boxes → FitsFilters (map length (states_of state boxes)) (lists_of all)
       → IsUpTo state core.history.base core.opening (lists_of all) boxes left boxes 0 core out
-  up_to_none core all left boxes out whole eight fresh inside blank short fits =
+  up_to_none core all left boxes out whole eight fresh inside kept blank short fits =
       let few = fits.few in
       let none : length core.history.entries ≡ 0 = ap length fresh in
       let count : count_calls (lists_of left) ≡ count_calls (lists_of all) = ap (λ (ls : List (List Line)). count_calls (lists_of ls)) whole in
@@ -100,6 +101,7 @@ module _ {B D : Type 0} (state : B → FilterState) where
           legal = subst (λ (es : List Entry). IsLegal core.history.base es) (sym fresh) (IsLegal-empty core.history.base);
         };
         made = subst (λ (es : List Entry). AreSessions 0 (lists_of all) (states_of state boxes) es) (sym fresh) (sessions_none (lists_of all) (states_of state boxes));
+        kept = kept;
         played = subst (λ (es : List Entry). ArePlayed core.history.base es out) (sym fresh) (subst (ArePlayed core.history.base []) (sym blank) (played_none core.history.base));
       }
 
@@ -108,8 +110,8 @@ module _ {B D : Type 0} (state : B → FilterState) where
     pub up_to_below : session < 8
     up_to_below = let count = ap length turn in let places = up.places in omega arith
 
-    pub up_to_unmade : next_index old.history.entries session ≡ 0
-    up_to_unmade = no_call_yet old.history.entries session up.made.before
+    pub up_to_before : AreBefore session old.history.entries
+    up_to_before = up.made.before
 
     here : (items : List B) → items ≡ boxes_at left_boxes 0 → items ≡ boxes_at boxes session
     here items first = first ∙ ap (λ (l : List (Vec B Global)). boxes_at l 0) up.boxes_are ∙ first_left boxes session
@@ -131,9 +133,9 @@ module _ {B D : Type 0} (state : B → FilterState) where
 
     pub up_to_more : (items : List B) (rest_boxes : List (Vec B Global)) (new : Editing D) (next : ℕ) (more : List ℕ) → items ≡ boxes_at left_boxes 0 → rest_boxes ≡ drop 1 left_boxes
         → AllByRecursion (λ (b : Vec B Global). length b.items < 2 ^ 32) rest_boxes → next ≡ session + 1 → IsBetweenLines old.history.base old.opening new
-        → IsAdded session (map state items) (lines_of lines) old.history.entries new.history.entries → ArePlayed new.history.base new.history.entries more
+        → IsAdded session (map state items) (lines_of lines) old.history.entries new.history.entries → KeepsExactly new → ArePlayed new.history.base new.history.entries more
         → IsUpTo state base opening lists boxes rest rest_boxes next new more
-    up_to_more items rest_boxes new next more first others short next_is after added played =
+    up_to_more items rest_boxes new next more first others short next_is after added kept played =
         let count = ap length turn in
         let places = up.places in
         let few = up_to_few in
@@ -155,13 +157,13 @@ module _ {B D : Type 0} (state : B → FilterState) where
               (sessions_more session lists (states_of state boxes) old.history.entries new.history.entries up_to_below up.made
               (subst (λ (ls : List script.Line). IsAdded session (unwrap_or (slice_get (states_of state boxes) session) []) ls old.history.entries new.history.entries) own
               (subst (λ (ss : List FilterState). IsAdded session ss (lines_of lines) old.history.entries new.history.entries) own_states added)));
+          kept = kept;
           played = played;
         }
 
   pub up_to_all : {base : Document} {opening : D} {lists : List (List script.Line)} {boxes : List (Vec B Global)} {left : List (List Line)} {left_boxes : List (Vec B Global)} {session : ℕ} {core : Editing D} {out : List ℕ}
-      → IsUpTo state base opening lists boxes left left_boxes session core out → left ≡ [] → AreSessions 8 lists (states_of state boxes) core.history.entries
-  up_to_all {lists = lists} {boxes = boxes} {session = session} {core = core} up done =
-      let none = ap length done in
+      → IsUpTo state base opening lists boxes left left_boxes session core out → length left ≡ 0 → AreSessions 8 lists (states_of state boxes) core.history.entries
+  up_to_all {lists = lists} {boxes = boxes} {session = session} {core = core} up none =
       let places = up.places in
       let eight : session ≡ 8 = omega (arith, none, places) in
       subst (λ (k : ℕ). AreSessions k lists (states_of state boxes) core.history.entries) eight up.made

@@ -11,12 +11,13 @@ use Rattle.spec_file.specs.Reading.{first_fault}
 use Rattle.spec_report.specs.Json as json
 use Rattle.spec_report.specs.Pam.{pam}
 use Rattle.spec_filters.specs.declared.FilterState.{FilterState}
+use Rattle.spec_generated.specs.Generated.{document, script as made_script}
 use Rattle.spec_script.specs.Script.{Line, script}
 use Rattle.spec_history.specs.History.{Entry}
 use Rattle.spec_history.specs.Kept.{IsLegal}
 use Rattle.spec_saves.specs.Names.{save_faults}
 use Rattle.spec_saves.specs.Shelf.{Known, ShelfIsRight}
-use Rattle.spec_text.specs.Text.{IsTextOf}
+use Rattle.spec_text.specs.Text.{IsTextOf, Alone}
 use Rattle.xl_core.specs.Editing.{known}
 use Rattle.xl_ports.specs.Disk.{Disk, Between, IsQuiet}
 use Rattle.xl_ports.specs.Faults.{Rose}
@@ -24,6 +25,8 @@ use Rattle.xl_ports.specs.Shelf.{Content, absent, file}
 use Rattle.xl_ports.specs.Sink.{WritesAll, WritesPart}
 use Rattle.xl_ports.specs.Source.{led_by}
 use Rattle.xl_program.specs.Lines.{Tells}
+use Rattle.xl_program.specs.Playing.{AreOfFirst}
+use Rattle.xl_program.specs.Making.{FailsAtFirst, IsMadeHistory, IsSummary}
 use Rattle.xl_program.specs.declared.stopped.Stopped.{Stopped}
 use Rattle.xl_program.specs.declared.stopped.Stopped.TheVariants.{SourceFault, BadLine, ShelfFault, Refused, SaveFault, SinkFault, Memory}
 
@@ -109,7 +112,8 @@ pub record IsHistory (name : List ℕ) (old new : Shelved) (document : Document)
   pub legal : IsLegal document entries
   pub shelf : ShelfIsRight (opened old name) document entries new.known
 
--- the text of such a history whose calls are those of the script
+-- The text of such a history whose calls are those of the script. Where these are all of session 0 and no save failed, it is that of one
+-- session alone.
 pub record IsReplies (given : Given) (name : List ℕ) (old new : Shelved) (HaveFailed : ℕ → Type 0) (out : List ℕ) : Type 0 where
   pub document : Document
   pub lists : List (List Line)
@@ -117,26 +121,34 @@ pub record IsReplies (given : Given) (name : List ℕ) (old new : Shelved) (Have
   pub history : IsHistory name old new document entries
   pub read : HasLines given lists
   pub text : IsTextOf out document lists given.chests entries
+  pub alone : AreOfFirst lists → save_faults entries ≡ 0 → Alone out document lists given.chests
   pub failed : HaveFailed (save_faults entries)
 
--- what the command writes when it comes to its end, and the shelf then; what is not served comes to none
+-- what the command writes when it comes to its end, and the shelf then
 abbrev pub IsOutput : Given → (old new : Shelved) → Asked → (HaveFailed : ℕ → Type 0) → (out : List ℕ) → Type 0
 IsOutput given old new (render name) HaveFailed out = IsReport pam (old.content name) out × IsUntouched old new × HaveFailed 0
 IsOutput given old new (info name) HaveFailed out = IsReport json.info (old.content name) out × IsUntouched old new × HaveFailed 0
-IsOutput given old new (make name seed) HaveFailed out = ⊥
+IsOutput given old new (make name seed) HaveFailed out = IsSummary (opened old name) new.known (document seed) (made_script seed) HaveFailed out
 IsOutput given old new (edit name workers) HaveFailed out = IsReplies given name old new HaveFailed out
 
 -- the shelf where memory ran out: as before, or after a history
 abbrev pub MayHaveSaved : (old new : Shelved) → Asked → Type 0
 MayHaveSaved old new (render name) = IsUntouched old new
 MayHaveSaved old new (info name) = IsUntouched old new
-MayHaveSaved old new (make name seed) = ⊥
+MayHaveSaved old new (make name seed) = IsUntouched old new ⊎ ((entries : List Entry) × IsMadeHistory (opened old name) new.known (document seed) entries)
 MayHaveSaved old new (edit name workers) = IsUntouched old new ⊎ ((document : Document) × (entries : List Entry) × IsHistory name old new document entries)
 
 -- the same of any words
 abbrev pub MaySave : (old new : Shelved) → Option Asked → Type 0
 MaySave old new None = IsUntouched old new
 MaySave old new (Some command) = MayHaveSaved old new command
+
+-- the shelf where a fault of it stopped the command: as before, or after a part of the first save of what is made
+abbrev pub FailsAtShelf : (old new : Shelved) → Asked → Type 0
+FailsAtShelf old new (render name) = IsUntouched old new
+FailsAtShelf old new (info name) = IsUntouched old new
+FailsAtShelf old new (make name seed) = IsUntouched old new ⊎ FailsAtFirst (opened old name) new.known (document seed)
+FailsAtShelf old new (edit name workers) = IsUntouched old new
 
 module _ {K : Type 0} (held : K → Option (List ℕ)) (faults : K → ℕ) where
   -- the sink was left as it was
@@ -152,19 +164,20 @@ module _ {K : Type 0} (held : K → Option (List ℕ)) (faults : K → ℕ) wher
   WritesFront IsOut old new = (out : List ℕ) × IsOut out × WritesPart held faults old new out
 
   -- what is written and what was saved; where a command stops before its end nothing is
-  abbrev pub Comes : (IsOut : (ℕ → Type 0) → List ℕ → Type 0) → (Untouched Saved : Type 0) → (old new : K) → Result (Unit {0}) Stopped → Type 0
-  Comes IsOut Untouched Saved old new (Ok x) = WritesSome (IsOut NoneFailed) old new
-  Comes IsOut Untouched Saved old new (Err SaveFault) = WritesSome (IsOut SomeFailed) old new
-  Comes IsOut Untouched Saved old new (Err SinkFault) = WritesFront (IsOut AnyFailed) old new
-  Comes IsOut Untouched Saved old new (Err Memory) = Keeps old new × Saved
-  Comes IsOut Untouched Saved old new (Err SourceFault) = Keeps old new × Untouched
-  Comes IsOut Untouched Saved old new (Err (BadLine number)) = Keeps old new × Untouched
-  Comes IsOut Untouched Saved old new (Err ShelfFault) = Keeps old new × Untouched
-  Comes IsOut Untouched Saved old new (Err (Refused why)) = Keeps old new × Untouched
+  abbrev pub Comes : (IsOut : (ℕ → Type 0) → List ℕ → Type 0) → (Untouched Failed Saved : Type 0) → (old new : K) → Result (Unit {0}) Stopped → Type 0
+  Comes IsOut Untouched Failed Saved old new (Ok x) = WritesSome (IsOut NoneFailed) old new
+  Comes IsOut Untouched Failed Saved old new (Err SaveFault) = WritesSome (IsOut SomeFailed) old new
+  Comes IsOut Untouched Failed Saved old new (Err SinkFault) = WritesFront (IsOut AnyFailed) old new
+  Comes IsOut Untouched Failed Saved old new (Err Memory) = Keeps old new × Saved
+  Comes IsOut Untouched Failed Saved old new (Err SourceFault) = Keeps old new × Untouched
+  Comes IsOut Untouched Failed Saved old new (Err (BadLine number)) = Keeps old new × Untouched
+  Comes IsOut Untouched Failed Saved old new (Err ShelfFault) = Keeps old new × Failed
+  Comes IsOut Untouched Failed Saved old new (Err (Refused why)) = Keeps old new × Untouched
 
   -- so does this command
   abbrev pub ComesTo : Given → (before after : Shelved) → Asked → (old new : K) → Result (Unit {0}) Stopped → Type 0
-  ComesTo given before after command old new result = Comes (IsOutput given before after command) (IsUntouched before after) (MayHaveSaved before after command) old new result
+  ComesTo given before after command old new result =
+      Comes (IsOutput given before after command) (IsUntouched before after) (FailsAtShelf before after command) (MayHaveSaved before after command) old new result
 
 -- ---- why a command stopped
 
@@ -177,6 +190,18 @@ SourceCause before after result = after ≡ before
 abbrev pub ShelfCause : {A : Type 0} → (before after : ℕ) → Result A Stopped → Type 0
 ShelfCause before after (Err ShelfFault) = Rose before after
 ShelfCause before after result = after ≡ before
+
+-- the faults rose that may stop the command: those of reading, and of saving for the first save of what is made
+abbrev pub FaultsRose : (before after : Known) → Asked → Type 0
+FaultsRose before after (render name) = Rose before.reading after.reading
+FaultsRose before after (info name) = Rose before.reading after.reading
+FaultsRose before after (make name seed) = Rose before.reading after.reading ⊎ Rose before.saving after.saving
+FaultsRose before after (edit name workers) = Rose before.reading after.reading
+
+-- the same of a command; the reading faults stay where none stops it
+abbrev pub ShelfCauseOf : (before after : Known) → Asked → Result (Unit {0}) Stopped → Type 0
+ShelfCauseOf before after command (Err ShelfFault) = FaultsRose before after command
+ShelfCauseOf before after command result = after.reading ≡ before.reading
 
 -- the script of an edit is in the grammar
 abbrev pub InGrammar : Given → Option Asked → Type 0
@@ -215,11 +240,11 @@ module _ {K : Type 0} (held : K → Option (List ℕ)) (faults : K → ℕ) wher
   ComesWell given before after None old new = ⊥
   ComesWell given before after (Some command) old new = WritesSome held faults (IsOutput given before after command NoneFailed) old new
 
-  -- the file could not be read, which is told; or all is written, and a save failed
+  -- the file could not be read, or the first save of what is made failed, which is told; or all is written, and a save failed
   abbrev pub ShelfFails : Given → (before after : Shelved) → Option Asked → (old new : K) → Type 0
   ShelfFails given before after None old new = ⊥
   ShelfFails given before after (Some command) old new =
-      (Rose before.known.reading after.known.reading × IsUntouched before after × Tells held faults old new (stop_line shelf_fault))
+      (FaultsRose before.known after.known command × FailsAtShelf before after command × Tells held faults old new (stop_line shelf_fault))
       ⊎ ((after.known.reading ≡ before.known.reading) × WritesSome held faults (IsOutput given before after command SomeFailed) old new)
 
   -- a fault of the sink came while all was written

@@ -4,16 +4,18 @@ use Rattle.std.specs.declared.alloc.AllocError.{AllocError}
 use Rattle.spec_command.specs.Arguments.{Asked, edit, render, info, make}
 use Rattle.spec_document.specs.Document.{Document}
 use Rattle.spec_filters.specs.declared.FilterState.{FilterState}
+use Rattle.spec_generated.specs.Summary.{outcome, summary_of}
 use Rattle.spec_script.specs.Script as script
 use Rattle.spec_history.specs.History.{Entry}
 use Rattle.spec_history.specs.Kept.{IsLegal}
 use Rattle.spec_saves.specs.Names.{save_faults}
 use Rattle.spec_saves.specs.Shelf.{Known, ShelfIsRight}
-use Rattle.spec_text.specs.Text.{IsTextOf}
+use Rattle.spec_text.specs.Text.{IsTextOf, Alone}
 use Rattle.xl_ports.specs.Shelf.{Content}
 use Rattle.xl_ports.specs.Sink.{WritesAll, WritesPart}
+use Rattle.xl_program.specs.Making.{IsRunOf}
 use Rattle.xl_program.specs.Outcome.{Given, HoldsDocument, HasFault, HasLines, IsScript, IsBadLine, NoneFailed, SomeFailed}
-use Rattle.xl_program.specs.Playing.{AreInOrder}
+use Rattle.xl_program.specs.Playing.{AreInOrder, AreOfFirst}
 use Rattle.xl_program.specs.declared.playing.Replies.{Replies}
 use Rattle.xl_program.specs.declared.stopped.Stopped.{Stopped}
 use Rattle.xl_program.specs.declared.stopped.Stopped.TheVariants.{SourceFault, BadLine, ShelfFault, Refused, SaveFault, SinkFault, Memory}
@@ -41,10 +43,12 @@ abbrev pub WhetherFailed : Bool → (faults : ℕ) → Type 0
 WhetherFailed true faults = SomeFailed faults
 WhetherFailed false faults = NoneFailed faults
 
--- the text of these entries for these lines, one session's after another's, and whether a save failed
+-- The text of these entries for these lines, one session's after another's, and whether a save failed. Where all lines are of session 0
+-- and no save failed, it is that of one session alone.
 pub record IsToldOf (document : Document) (lists : List (List script.Line)) (chests : List (List FilterState)) (entries : List Entry) (told : Replies) : Type 0 where
   pub text : IsTextOf (string_bytes told.text) document lists chests entries
   pub order : AreInOrder entries
+  pub alone : AreOfFirst lists → save_faults entries ≡ 0 → Alone (string_bytes told.text) document lists chests
   pub failed : WhetherFailed told.save_failed (save_faults entries)
 
 -- a legal history, the shelf after its saves, and its text unless memory ran out
@@ -53,6 +57,20 @@ pub record IsPlayed (opening now : Known) (document : Document) (lists : List (L
   pub legal : IsLegal document entries
   pub shelf : ShelfIsRight opening document entries now
   pub told : IfOk replies (IsToldOf document lists chests entries)
+
+-- the line that sums up a history of the calls of these sessions, one session after another, and whether a save failed
+pub record SumsUp (document : Document) (lists : List (List script.Line)) (entries : List Entry) (told : Replies) : Type 0 where
+  pub run : IsRunOf document lists entries
+  pub order : AreInOrder entries
+  pub text : string_bytes told.text ≡ summary_of (outcome document lists)
+  pub failed : WhetherFailed told.save_failed (save_faults entries)
+
+-- a legal history, the shelf after its saves, and the line that sums it up unless memory ran out
+pub record IsSummedUp (opening now : Known) (document : Document) (lists : List (List script.Line)) (told : Result Replies AllocError) : Type 0 where
+  pub entries : List Entry
+  pub legal : IsLegal document entries
+  pub shelf : ShelfIsRight opening document entries now
+  pub sum : IfOk told (SumsUp document lists entries)
 
 module _ {K : Type 0} (held : K → Option (List ℕ)) (faults : K → ℕ) where
   -- the text was written, after which a save that failed stops the command; or a fault of the sink came
@@ -83,9 +101,16 @@ StopsEdit given content (Err (Refused refused)) = IsScript given × IfSome conte
 StopsEdit given content (Err SaveFault) = IsScript given
 StopsEdit given content result = Unit {0}
 
--- what is not served comes to no stop
+-- why a making stops: it reads neither a script nor a file
+abbrev pub StopsMaking : Result (Unit {0}) Stopped → Type 0
+StopsMaking (Err SourceFault) = ⊥
+StopsMaking (Err (BadLine number)) = ⊥
+StopsMaking (Err (Refused refused)) = ⊥
+StopsMaking result = Unit {0}
+
+-- why a command stops
 abbrev pub StopsFor : Given → (content : List ℕ → Option Content) → Asked → Result (Unit {0}) Stopped → Type 0
 StopsFor given content (render name) result = StopsReport (content name) result
 StopsFor given content (info name) result = StopsReport (content name) result
 StopsFor given content (edit name workers) result = StopsEdit given (content name) result
-StopsFor given content (make name seed) result = ⊥
+StopsFor given content (make name seed) result = StopsMaking result

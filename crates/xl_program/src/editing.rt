@@ -2,6 +2,7 @@ ghost use Rattle.std.specs.Prelude.{◌≡◌, ◌<◌, ◌^◌, ◌⊎◌, ℕ,
 ghost use Rattle.std.specs.List.{AllByRecursion};
 ghost use Rattle.spec_script.specs.Fits.{FitsFilters};
 ghost use Rattle.spec_command.specs.Arguments.{edit as edit_of};
+ghost use Rattle.spec_document.specs.Limits.{IsDocument};
 ghost use Rattle.xl_core.specs.Editing.{known};
 ghost use Rattle.xl_doc.specs.Numbered.{AreNumbered};
 ghost use Rattle.xl_ports.specs.Source.{led_by, IsEnded};
@@ -110,11 +111,11 @@ fn read_script<S: Source>(
     }
 }
 
-// The replies of a run, and the shelf on which its saves were made.
+/// The replies of a run, and the shelf on which its saves were made.
 #[derive(Drop)]
-struct Played<D> {
-    replies: Result<Replies, AllocError>,
-    shelf: D,
+pub struct Played<D> {
+    pub replies: Result<Replies, AllocError>,
+    pub shelf: D,
 }
 
 // Makes the calls and saves of a script.
@@ -125,6 +126,7 @@ fn run_script<D: Shelf>(
     chest: Vec<Vec<Box<dyn PointFilter + Send>>>,
     shelf: D,
 ) -> Played<D>
+    requires limits { IsDocument document }
     requires numbered { AreNumbered document.nodes }
     requires selected { IsSome (D.selected shelf) }
     requires boxes { AllByRecursion (λ boxes. length boxes.items < 2 ^ 32) chest.items }
@@ -149,8 +151,11 @@ fn run_script<D: Shelf>(
     }
 }
 
-// Writes the text of a run.
-fn write_replies<K: Sink>(sink: &mut K, replies: Result<Replies, AllocError>) -> Result<(), Stopped>
+/// Writes the text of a run.
+pub fn write_replies<K: Sink>(
+    sink: &mut K,
+    replies: Result<Replies, AllocError>,
+) -> Result<(), Stopped>
     ensures { WritesReplies K.held K.faults sink.old sink.new replies result }
 {
     let Ok(replies) = replies else {

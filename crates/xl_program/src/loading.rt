@@ -1,4 +1,5 @@
 ghost use Rattle.std.specs.Prelude.{◌≡◌, ◌⊎◌, Some, IfOk, OnOk};
+ghost use Rattle.spec_document.specs.Limits.{IsDocument};
 ghost use Rattle.xl_doc.specs.Numbered.{AreNumbered};
 ghost use Rattle.xl_program.specs.Outcome.{ShelfCause, IsUntouched, shelved};
 ghost use Rattle.xl_program.specs.Parts.{Loads};
@@ -21,6 +22,7 @@ pub fn read_document<D: Shelf>(
     shelf: &mut D,
 ) -> Result<Document, Stopped>
     ensures loads { Loads (D.content shelf.old name.now) result }
+    ensures limits { IfOk result (λ document. IsDocument document) }
     ensures numbered { IfOk result (λ document. AreNumbered document.nodes) }
     ensures cause { ShelfCause (D.reading_faults shelf.old) (D.reading_faults shelf.new) result }
     ensures untouched { IsUntouched (shelved D.content D.selected D.disk D.reading_faults D.saving_faults shelf.old)

@@ -1,15 +1,17 @@
-ghost use Rattle.std.specs.Prelude.{◌≡◌, ◌<◌, ◌^◌, ◌⊎◌, true, Some, length, OnOk};
+ghost use Rattle.std.specs.Prelude.{◌≡◌, ◌<◌, ◌^◌, ◌⊎◌, Some, length, OnOk};
 ghost use Rattle.std.specs.List.{AllByRecursion};
 ghost use Rattle.spec_command.specs.Arguments.{name_of};
 ghost use Rattle.xl_command.specs.Asking.{asked_of};
+ghost use Rattle.xl_core.specs.Editing.{known};
 ghost use Rattle.xl_ports.specs.Source.{IsEnded};
-ghost use Rattle.xl_program.specs.Command.{is_served, IsEdit};
-ghost use Rattle.xl_program.specs.Outcome.{given_of, ComesTo, SourceCause, ShelfCause, Takes, shelved};
+ghost use Rattle.xl_program.specs.Command.{IsEdit};
+ghost use Rattle.xl_program.specs.Outcome.{given_of, ComesTo, SourceCause, ShelfCauseOf, Takes, shelved};
 ghost use Rattle.xl_program.specs.Parts.{StopsFor};
 
 use crate::describing::describe;
 use crate::editing::edit;
 use crate::ended::Done;
+use crate::making::make;
 use crate::rendering::render;
 use std::alloc::Global;
 use xl_command::Command;
@@ -25,7 +27,6 @@ pub fn obey<S: Source, K: Sink, D: Shelf>(
     mut shelf: D,
     chest: Vec<Vec<Box<dyn PointFilter + Send>>>,
 ) -> Done<D>
-    requires served { is_served (asked_of command) ≡ true }
     requires boxes { AllByRecursion (λ boxes. length boxes.items < 2 ^ 32) chest.items }
     ensures comes { ComesTo K.held K.faults (given_of (S.left source.old) (λ b. state b) chest.items)
         (shelved D.content D.selected D.disk D.reading_faults D.saving_faults shelf)
@@ -35,7 +36,8 @@ pub fn obey<S: Source, K: Sink, D: Shelf>(
     ensures takes { Takes S.left S.faults source.old source.new (Some (asked_of command.entry)) }
     ensures ended { OnOk result.result (IsEdit (Some (asked_of command.entry)) → IsEnded (S.left source.new)) }
     ensures source_cause { SourceCause (S.faults source.old) (S.faults source.new) result.result }
-    ensures shelf_cause { ShelfCause (D.reading_faults shelf) (D.reading_faults result.shelf) result.result }
+    ensures shelf_cause { ShelfCauseOf (known D.selected D.disk D.reading_faults D.saving_faults shelf)
+        (known D.selected D.disk D.reading_faults D.saving_faults result.shelf) (asked_of command.entry) result.result }
     ensures selected { (D.selected result.shelf ≡ D.selected shelf)
         ⊎ (D.selected result.shelf ≡ Some (name_of (asked_of command.entry))) }
 {
@@ -49,6 +51,6 @@ pub fn obey<S: Source, K: Sink, D: Shelf>(
             Done { result, shelf }
         }
         Command::Edit(name, _) => edit(alloc, name, source, sink, shelf, chest),
-        Command::Make(_, _) => unreachable!(),
+        Command::Make(name, seed) => make(alloc, name, seed, sink, shelf),
     }
 }

@@ -1,4 +1,4 @@
-ghost use Rattle.spec_history.specs.Calls.{most_entries};
+ghost use Rattle.spec_history.specs.Calls.{IsCall, most_entries};
 ghost use Rattle.spec_history.specs.History.{next_index};
 ghost use Rattle.spec_history.specs.Machine.{Reply as Plain};
 ghost use Rattle.spec_history.specs.Limited.{edits_of};
@@ -8,14 +8,14 @@ ghost use Rattle.spec_tables.specs.Agrees.{AreThere};
 ghost use Rattle.spec_text.specs.Printed.{word_of_entry};
 ghost use Rattle.spec_text.specs.Text.{calls_of};
 ghost use Rattle.std.specs.List.{AllByRecursion};
-ghost use Rattle.std.specs.Prelude.{◌≡◌, ◌+◌, ◌*◌, ◌<◌, ◌≤◌, ◌^◌, [], ◌∷◌, length, map, drop, Some, IfOk, OnOk, IsSome, string_bytes};
-ghost use Rattle.xl_edit.specs.Built.{IsBuilt};
+ghost use Rattle.std.specs.Prelude.{◌≡◌, ◌+◌, ◌*◌, ◌<◌, ◌≤◌, ◌^◌, ◌==◌, if◌then◌else◌, [], ◌∷◌, length, map, drop, Some, IfOk, OnOk, IsSome, string_bytes};
+ghost use Rattle.xl_core.specs.History.{version};
 ghost use Rattle.xl_edit.specs.Calls.{call_of};
 ghost use Rattle.xl_edit.specs.Replies.{reply_of};
 ghost use Rattle.xl_filters.specs.Chests.{states, states_in};
 ghost use Rattle.xl_program.specs.Outcome.{states_of};
 ghost use Rattle.xl_program.specs.Parts.{WhetherFailed, IsToldOf};
-ghost use Rattle.xl_program.specs.Playing.{ArePlayed, AreSessions, boxes_at, FitsChest, IsAdded, IsBetweenLines, IsCalled, IsMade, shown_of, with_save};
+ghost use Rattle.xl_program.specs.Playing.{AreBefore, ArePlayed, AreSessions, boxes_at, FitsChest, HasTurn, IsAdded, IsBetweenLines, IsCalled, IsMade, KeepsExactly, shown_of, with_save};
 ghost use Rattle.xl_script.specs.Lines.{line_of, lines_of, lists_of};
 
 use crate::saving::save_latest;
@@ -47,6 +47,14 @@ fn shown_digest(alloc: Global, reply: &Reply, desk: &Desk) -> Result<String, All
     }
 }
 
+// The version that a session has seen whose turn it is, where its next call has this index.
+fn seen_so_far<D: Shelf>(core: &Core<D>, index: u32) -> u32
+    ensures seen { result ≡ (if index == 0 then 0 else version core.now.history) }
+    ensures there { result ≤ version core.now.history }
+{
+    if index == 0 { 0 } else { core.version() }
+}
+
 // Makes a call of a session, and prints its line.
 fn play_call<L: Ledger, D: Shelf>(
     alloc: Global,
@@ -63,13 +71,16 @@ fn play_call<L: Ledger, D: Shelf>(
     requires inside { IsSome core.old.shelf }
     requires index { index ≡ next_index core.old.history.entries session }
     requires few { length core.old.history.entries + 2 ≤ most_entries }
-    requires built { IsBuilt (call_of call) }
+    requires turn { HasTurn core.old.history.entries session }
+    requires kept { KeepsExactly core.old }
+    requires call { IsCall (call_of call) }
     requires there { AreThere (states_in state desk.old.chest) (edits_of (call_of call)) }
     ensures between { IsBetweenLines core.old.history.base core.old.opening core.new }
     ensures called { OnOk result (IsCalled core.old.history session (call_of call) (states_in state desk.old.chest) (states_in state desk.new.chest) core.new.history) }
+    ensures kept { OnOk result (KeepsExactly core.new) }
     ensures played { OnOk result (ArePlayed core.new.history.base core.new.history.entries (string_bytes text.new)) }
 {
-    let seen = core.version();
+    let seen = seen_so_far(core, index);
     let reply = core.submit(alloc, session, call, seen, desk, steps)?;
     let digest = shown_digest(alloc, &reply, desk)?;
     print_reply(alloc, text, session, index, &reply, digest.as_str())
@@ -89,8 +100,10 @@ fn play_save<D: Shelf>(
     requires selected { IsSome (D.selected core.old.opening) }
     requires index { index ≡ next_index core.old.history.entries session }
     requires few { length core.old.history.entries + 2 ≤ most_entries }
+    requires kept { KeepsExactly core.old }
     ensures between { IsBetweenLines core.old.history.base core.old.opening core.new }
     ensures saved { OnOk result ((reply : Plain) × (core.new.history ≡ with_save core.old.history session reply)) }
+    ensures kept { OnOk result (KeepsExactly core.new) }
     ensures played { OnOk result (ArePlayed core.new.history.base core.new.history.entries (string_bytes text.new)) }
 {
     let reply = save_latest(alloc, core, session)?;
@@ -114,10 +127,13 @@ fn play_line<L: Ledger, D: Shelf>(
     requires selected { IsSome (D.selected core.old.opening) }
     requires index { index ≡ next_index core.old.history.entries session }
     requires few { length core.old.history.entries + 2 * length (calls_of (line_of line ∷ [])) ≤ most_entries }
+    requires turn { HasTurn core.old.history.entries session }
+    requires kept { KeepsExactly core.old }
     requires fit { FitsChest (states_in state desk.old.chest) (line_of line) }
     ensures between { IsBetweenLines core.old.history.base core.old.opening core.new }
     ensures made { OnOk result (IsMade core.old.history session (line_of line) (states_in state desk.old.chest) (states_in state desk.new.chest) core.new.history) }
     ensures next { IfOk result (λ next. next ≡ next_index core.new.history.entries session) }
+    ensures kept { OnOk result (KeepsExactly core.new) }
     ensures played { OnOk result (ArePlayed core.new.history.base core.new.history.entries (string_bytes text.new)) }
 {
     match line {
@@ -164,12 +180,14 @@ fn play_lines<L: Ledger, D: Shelf>(
     requires played { ArePlayed core.old.history.base core.old.history.entries (string_bytes text.old) }
     requires inside { IsSome core.old.shelf }
     requires selected { IsSome (D.selected core.old.opening) }
-    requires unmade { next_index core.old.history.entries session ≡ 0 }
+    requires before { AreBefore session core.old.history.entries }
+    requires kept { KeepsExactly core.old }
     requires boxes { length boxes.items < 2 ^ 32 }
     requires fit { AreFit (length boxes.items) [] (lines_of lines.items) }
     requires few { length core.old.history.entries + 2 * length (calls_of (lines_of lines.items)) ≤ most_entries }
     ensures between { IsBetweenLines core.old.history.base core.old.opening core.new }
     ensures added { OnOk result (IsAdded session (map (λ b. state b) boxes.items) (lines_of lines.items) core.old.history.entries core.new.history.entries) }
+    ensures kept { OnOk result (KeepsExactly core.new) }
     ensures played { OnOk result (ArePlayed core.new.history.base core.new.history.entries (string_bytes text.new)) }
 {
     let mut desk = desk_of(alloc, boxes)?;
@@ -209,6 +227,7 @@ fn play_sessions<L: Ledger, D: Shelf>(
     requires parts { blank.parts ≡ L.parts }
     requires some { 0 < blank.parts }
     requires fresh { core.old.history.entries ≡ [] }
+    requires kept { KeepsExactly core.old }
     requires inside { IsSome core.old.shelf }
     requires selected { IsSome (D.selected core.old.opening) }
     requires boxes { AllByRecursion (λ boxes. length boxes.items < 2 ^ 32) chest.items }
@@ -288,6 +307,7 @@ pub fn play<D: Shelf>(
     chest: Vec<Vec<Box<dyn PointFilter + Send>>>,
 ) -> Result<Replies, AllocError>
     requires fresh { core.old.history.entries ≡ [] }
+    requires kept { KeepsExactly core.old }
     requires inside { IsSome core.old.shelf }
     requires selected { IsSome (D.selected core.old.opening) }
     requires boxes { AllByRecursion (λ boxes. length boxes.items < 2 ^ 32) chest.items }

@@ -2,21 +2,22 @@ ghost use Rattle.std.specs.Prelude.{◌≡◌, ◌≢◌, ◌<◌, ◌≤◌, �
 ghost use Rattle.std.specs.List.{AllByRecursion};
 ghost use Rattle.spec_command.specs.Arguments.{name_of};
 ghost use Rattle.spec_command.specs.Ends as stop;
+ghost use Rattle.spec_command.specs.Grammar.{asked_in};
 ghost use Rattle.spec_fields.specs.declared.ReadRefused.{ReadRefused};
 ghost use Rattle.xl_command.specs.Asking.{arguments_of};
 ghost use Rattle.xl_ports.specs.Faults.{Rose};
 ghost use Rattle.xl_ports.specs.Shelf.{selected_content};
 ghost use Rattle.xl_ports.specs.Source.{IsEnded};
-ghost use Rattle.xl_program.specs.Command.{asked, IsEdit};
+ghost use Rattle.xl_program.specs.Command.{IsEdit};
 ghost use Rattle.xl_program.specs.Lines.{Tells};
 ghost use Rattle.xl_program.specs.Outcome.{given_of, shelved, ComesWell, ShelfFails, WritesInPart, MaySave, IsUntouched, StopsBefore, IsBadLine, InGrammar, HasFault, Keeps, Takes, IsStatus};
 
-use crate::command::served_command;
 use crate::line::tell;
 use crate::obeying::obey;
 use crate::stopped::Stopped;
 use crate::telling::{MEMORY, tell_stop};
 use std::alloc::Global;
+use xl_command::command_of;
 use xl_filters::PointFilter;
 use xl_ports::{Shelf, Sink, Source};
 
@@ -40,8 +41,8 @@ pub struct Ended<D> {
 /// has none. A box is dropped where its session forgets it, and at the end of the session.
 ///
 /// The statuses: 0 done, 2 the words are no command, 3 a line of the script is refused, 4 the file holds no document,
-/// 5 the source failed, 6 the file could not be read, or a save failed after which all was written, 7 the sink failed while the
-/// output was written, 8 memory ran out.
+/// 5 the source failed, 6 the file could not be read, or the first save of what is made failed, or a later save after which all was
+/// written, 7 the sink failed while the output was written, 8 memory ran out.
 pub fn run<S: Source, K: Sink, D: Shelf>(
     alloc: Global,
     words: &[&str],
@@ -59,33 +60,33 @@ pub fn run<S: Source, K: Sink, D: Shelf>(
     ensures done { result.status ≡ 0 → ComesWell K.held K.faults (given_of (S.left source.old) (λ b. state b) chest.items)
         (shelved D.content D.selected D.disk D.reading_faults D.saving_faults shelf)
         (shelved D.content D.selected D.disk D.reading_faults D.saving_faults result.shelf)
-        (asked (arguments_of words.now)) sink.old sink.new }
+        (asked_in (arguments_of words.now)) sink.old sink.new }
     ensures shelf_fault { result.status ≡ 6 → ShelfFails K.held K.faults (given_of (S.left source.old) (λ b. state b) chest.items)
         (shelved D.content D.selected D.disk D.reading_faults D.saving_faults shelf)
         (shelved D.content D.selected D.disk D.reading_faults D.saving_faults result.shelf)
-        (asked (arguments_of words.now)) sink.old sink.new }
+        (asked_in (arguments_of words.now)) sink.old sink.new }
     ensures sink_fault { result.status ≡ 7 → WritesInPart K.held K.faults (given_of (S.left source.old) (λ b. state b) chest.items)
         (shelved D.content D.selected D.disk D.reading_faults D.saving_faults shelf)
         (shelved D.content D.selected D.disk D.reading_faults D.saving_faults result.shelf)
-        (asked (arguments_of words.now)) sink.old sink.new }
+        (asked_in (arguments_of words.now)) sink.old sink.new }
     ensures memory { result.status ≡ 8 → Keeps K.held K.faults sink.old sink.new
         × MaySave (shelved D.content D.selected D.disk D.reading_faults D.saving_faults shelf)
-        (shelved D.content D.selected D.disk D.reading_faults D.saving_faults result.shelf) (asked (arguments_of words.now)) }
+        (shelved D.content D.selected D.disk D.reading_faults D.saving_faults result.shelf) (asked_in (arguments_of words.now)) }
 
     // Where it stops before.
-    ensures usage { (result.status ≡ 2) ↔ ((asked (arguments_of words.now) ≡ None) × (result.status ≢ 8)) }
+    ensures usage { (result.status ≡ 2) ↔ ((asked_in (arguments_of words.now) ≡ None) × (result.status ≢ 8)) }
     ensures usage_told { result.status ≡ 2 → Tells K.held K.faults sink.old sink.new (stop.stop_line stop.usage) }
     ensures bad_line { result.status ≡ 3 → (number : ℕ)
-        × IsEdit (asked (arguments_of words.now))
+        × IsEdit (asked_in (arguments_of words.now))
         × IsBadLine (given_of (S.left source.old) (λ b. state b) chest.items) number
         × Tells K.held K.faults sink.old sink.new (stop.stop_line (stop.bad_line number)) }
     ensures refused { result.status ≡ 4 → (why : ReadRefused)
-        × IfSome (selected_content (option_map name_of (asked (arguments_of words.now))) (D.content shelf)) (λ c. HasFault c why)
+        × IfSome (selected_content (option_map name_of (asked_in (arguments_of words.now))) (D.content shelf)) (λ c. HasFault c why)
         × Tells K.held K.faults sink.old sink.new (stop.stop_line (stop.refused why)) }
-    ensures script_first { (result.status ≡ 4) ⊎ (result.status ≡ 6) → InGrammar (given_of (S.left source.old) (λ b. state b) chest.items) (asked (arguments_of words.now)) }
+    ensures script_first { (result.status ≡ 4) ⊎ (result.status ≡ 6) → InGrammar (given_of (S.left source.old) (λ b. state b) chest.items) (asked_in (arguments_of words.now)) }
     ensures source_fault { result.status ≡ 5 → Rose (S.faults source.old) (S.faults source.new) }
     ensures no_source_fault { result.status ≢ 5 → S.faults source.new ≡ S.faults source.old }
-    ensures source_fault_told { result.status ≡ 5 → IsEdit (asked (arguments_of words.now))
+    ensures source_fault_told { result.status ≡ 5 → IsEdit (asked_in (arguments_of words.now))
         × Tells K.held K.faults sink.old sink.new (stop.stop_line stop.source_fault) }
     ensures untouched { StopsBefore result.status → IsUntouched
         (shelved D.content D.selected D.disk D.reading_faults D.saving_faults shelf)
@@ -93,19 +94,19 @@ pub fn run<S: Source, K: Sink, D: Shelf>(
 
     // What becomes of the source and the shelf.
     ensures no_reading_fault { result.status ≢ 6 → D.reading_faults result.shelf ≡ D.reading_faults shelf }
-    ensures source_taken { Takes S.left S.faults source.old source.new (asked (arguments_of words.now)) }
-    ensures source_ended { result.status ≡ 0 → IsEdit (asked (arguments_of words.now)) → IsEnded (S.left source.new) }
+    ensures source_taken { Takes S.left S.faults source.old source.new (asked_in (arguments_of words.now)) }
+    ensures source_ended { result.status ≡ 0 → IsEdit (asked_in (arguments_of words.now)) → IsEnded (S.left source.new) }
     ensures selected { (D.selected result.shelf ≡ D.selected shelf)
-        ⊎ (D.selected result.shelf ≡ option_map name_of (asked (arguments_of words.now))) }
+        ⊎ (D.selected result.shelf ≡ option_map name_of (asked_in (arguments_of words.now))) }
 {
-    let Ok(served) = served_command(alloc, words) else {
+    let Ok(asked) = command_of(alloc, words) else {
         return Ended {
             status: MEMORY,
             cause: Some(Stopped::Memory),
             shelf,
         };
     };
-    let Some(command) = served else {
+    let Some(command) = asked else {
         tell(sink, b"usage\n");
         return Ended {
             status: USAGE,

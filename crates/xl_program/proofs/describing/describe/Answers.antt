@@ -1,5 +1,5 @@
 -- The report is that of the document that was read.
-use Rattle.std.proofs.Common.{◌≡◌, refl, sym, ◌∙◌}
+use Rattle.std.proofs.Common.{refl, sym, ◌∙◌}
 use Rattle.xl_program.proofs.Reported.{wrote_part, wrote_all}
 use Rattle.xl_program.proofs.describing.describe.Goals as goal
 

@@ -1,4 +1,7 @@
+use Rattle.spec_command.specs.Arguments.{render, info, edit}
+use Rattle.xl_core.specs.Editing.{known}
 use Rattle.xl_program.specs.Outcome.{Given, given_of}
+use Rattle.xl_program.proofs.Causes.{cause_of}
 use Rattle.xl_program.proofs.obeying.obey.Goals as goal
 
 pub returns-in-Render-clause-comes : goal.returns-in-Render-clause-comes
@@ -13,3 +16,23 @@ returns-in-Info-clause-comes g c =
 
 pub returns-in-Edit-clause-comes : goal.returns-in-Edit-clause-comes
 returns-in-Edit-clause-comes g c = rw c.in-Edit.is (c.edit.ensures.comes c.in-Edit.field-1)
+
+pub returns-in-Make-clause-comes : goal.returns-in-Make-clause-comes
+returns-in-Make-clause-comes g c =
+    let given : Given = given_of (g.S.Source.left c.args.source.now) (λ b. (goal.PointFilter-dyn g (b.vtable, b.value)).state b.value) c.args.chest.items in
+    rw c.in-Make.is (c.make.ensures.comes given)
+
+pub returns-in-Render-clause-shelf_cause : goal.returns-in-Render-clause-shelf_cause
+returns-in-Render-clause-shelf_cause g c =
+    let see = known g.D.Shelf.selected g.D.Shelf.disk g.D.Shelf.reading_faults g.D.Shelf.saving_faults in
+    rw c.in-Render.is (cause_of (see c.args.shelf) (see c.render-result.new.shelf) (render c.in-Render.name.now) c.render-result.result (λ rose. rose) c.render-result.ensures.cause)
+
+pub returns-in-Info-clause-shelf_cause : goal.returns-in-Info-clause-shelf_cause
+returns-in-Info-clause-shelf_cause g c =
+    let see = known g.D.Shelf.selected g.D.Shelf.disk g.D.Shelf.reading_faults g.D.Shelf.saving_faults in
+    rw c.in-Info.is (cause_of (see c.args.shelf) (see c.describe-result.new.shelf) (info c.in-Info.name.now) c.describe-result.result (λ rose. rose) c.describe-result.ensures.cause)
+
+pub returns-in-Edit-clause-shelf_cause : goal.returns-in-Edit-clause-shelf_cause
+returns-in-Edit-clause-shelf_cause g c =
+    let see = known g.D.Shelf.selected g.D.Shelf.disk g.D.Shelf.reading_faults g.D.Shelf.saving_faults in
+    rw c.in-Edit.is (cause_of (see c.args.shelf) (see c.edit.result.shelf) (edit c.in-Edit.name.now c.in-Edit.field-1) c.edit.result.result (λ rose. rose) c.edit.ensures.shelf_cause)

@@ -7,6 +7,9 @@ use Rattle.xl_program.proofs.playing.play_save.Goals as goal
 pub returns-clause-saved : goal.returns-clause-saved
 returns-clause-saved g c = on_ok_weaker c.print_reply.result (λ e. (reply_of c.in_ok-reply.reply, c.in_ok-reply.ensures.saved)) c.print_reply.ensures.ok
 
+pub returns-clause-kept : goal.returns-clause-kept
+returns-clause-kept g c = on_ok_weaker c.print_reply.result (λ e. c.in_ok-reply.ensures.kept) c.print_reply.ensures.ok
+
 pub returns-clause-played : goal.returns-clause-played
 returns-clause-played g c =
     on_ok_weaker c.print_reply.result

@@ -1,4 +1,5 @@
 use Rattle.xl_core.specs.Editing.{known}
+use Rattle.xl_program.proofs.Keeping.{save_kept}
 use Rattle.xl_program.proofs.Saved.{begun_out, begun_back, save_made, save_between, ended_text}
 use Rattle.xl_program.proofs.saving.save_latest.Goals as goal
 
@@ -22,4 +23,6 @@ returns-in-Done g c =
       between = save_between c.args.core.now c.begin_save.new.self c.end_save-reply.new.self c.args.session s.version s.document s.shelf c.save_document-how.new.shelf c.save_document-how.result _ begun ended c.end_save-reply.ensures.legal;
       saved = save_made c.args.core.now c.begin_save.new.self c.end_save-reply.new.self c.args.session s.version s.document s.shelf c.save_document-how.new.shelf c.save_document-how.result _ begun ended;
       text = ended_text c.end_save-reply.result _ c.save_document-how.result c.in-Done.is ended.0;
+      kept = save_kept c.args.core.now c.begin_save.new.self c.end_save-reply.new.self c.args.session s.version s.document s.shelf c.save_document-how.new.shelf c.save_document-how.result _ begun ended
+          c.requires.kept c.requires.legal c.in_ok-document.ensures.legal c.in_ok-document.ensures.pictures c.end_save-reply.ensures.legal c.end_save-reply.ensures.pictures;
     }

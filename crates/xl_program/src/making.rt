@@ -1,0 +1,177 @@
+ghost use Rattle.std.specs.Prelude.{◌≡◌, ◌⊎◌, ℕ, [], length, map, pos, Some, IfOk, OnOk, OnErr, IsSome, string_bytes};
+ghost use Rattle.spec_command.specs.Arguments.{make as make_of};
+ghost use Rattle.spec_document.specs.Limits.{IsDocument};
+ghost use Rattle.spec_generated.specs.Generated.{document, script};
+ghost use Rattle.spec_layout.specs.Layout.{Written};
+ghost use Rattle.spec_picture.specs.Picture.{picture_bytes};
+ghost use Rattle.spec_script.specs.Fits.{FitsFilters};
+ghost use Rattle.spec_text.specs.Text.{digest_of};
+ghost use Rattle.spec_world.specs.declared.SaveEnd.TheVariants as save_end;
+ghost use Rattle.xl_core.specs.Editing.{known};
+ghost use Rattle.xl_doc.specs.Numbered.{AreNumbered};
+ghost use Rattle.xl_program.specs.Outcome.{Given, ComesTo, FailsAtShelf, FaultsRose, ShelfCauseOf, opened, shelved};
+ghost use Rattle.xl_program.specs.Parts.{IsSummedUp, StopsMaking, SumsUp};
+ghost use Rattle.xl_program.specs.Playing.{IsBetweenLines, KeepsExactly};
+ghost use Rattle.xl_program.specs.Saving.{IsSavedOn};
+ghost use Rattle.xl_script.specs.Lines.{lists_of};
+
+use crate::editing::{Played, write_replies};
+use crate::ended::Done;
+use crate::playing::{Replies, play};
+use crate::saving::{file_of, save_file};
+use crate::stopped::Stopped;
+use std::alloc::{AllocError, Global};
+use xl_compose::Recompose;
+use xl_core::Core;
+use xl_doc::{Document, NodeId, Pictures, Rect};
+use xl_ports::{Failed, Shelf, Sink};
+use xl_report::{Made, digest, summary};
+use xl_script::Script;
+
+/// Saves the document of a seed, makes the calls and saves of the seed's script on it, and writes the line that sums them up.
+///
+/// The line is made before its first byte is written. The shelf comes back always.
+pub fn make<K: Sink, D: Shelf>(
+    alloc: Global,
+    name: &str,
+    seed: u32,
+    sink: &mut K,
+    mut shelf: D,
+) -> Done<D>
+    ensures comes { (given : Given) → ComesTo K.held K.faults given
+        (shelved D.content D.selected D.disk D.reading_faults D.saving_faults shelf)
+        (shelved D.content D.selected D.disk D.reading_faults D.saving_faults result.shelf)
+        (make_of name.now seed) sink.old sink.new result.result }
+    ensures stops { StopsMaking result.result }
+    ensures cause { ShelfCauseOf (known D.selected D.disk D.reading_faults D.saving_faults shelf)
+        (known D.selected D.disk D.reading_faults D.saving_faults result.shelf) (make_of name.now seed) result.result }
+    ensures selected { (D.selected result.shelf ≡ D.selected shelf) ⊎ (D.selected result.shelf ≡ Some name.now) }
+{
+    let Ok((made, file)) = made_with_file(alloc, seed) else {
+        return Done {
+            result: Err(Stopped::Memory),
+            shelf,
+        };
+    };
+    if save_first(name, &file, &mut shelf).is_err() {
+        return Done {
+            result: Err(Stopped::ShelfFault),
+            shelf,
+        };
+    }
+    let played = run_made(alloc, made, shelf);
+    Done {
+        result: write_replies(sink, played.replies),
+        shelf: played.shelf,
+    }
+}
+
+// What is made from a seed, and the file of its document.
+fn made_with_file(alloc: Global, seed: u32) -> Result<(Made, Vec<u8>), AllocError>
+    ensures document { IfOk result (λ made. made.0.document ≡ document seed) }
+    ensures script { IfOk result (λ made. lists_of made.0.script ≡ script seed) }
+    ensures file { IfOk result (λ made. Written made.1.items (document seed)) }
+    ensures limits { IfOk result (λ made. IsDocument made.0.document) }
+{
+    let made = xl_report::make(alloc, seed)?;
+    let file = file_of(alloc, &made.document)?;
+    know_limits(&made.document);
+    Ok((made, file))
+}
+
+// Tells contracts that a document is within its limits, as its type keeps it.
+fn know_limits(doc: &Document)
+    ensures { IsDocument doc.now }
+{
+    let _width = doc.width;
+}
+
+// Saves the file of a document that is made, before its script is played.
+fn save_first<D: Shelf>(name: &str, file: &[u8], shelf: &mut D) -> Result<(), Failed>
+    ensures saved { OnOk result ((seed : ℕ) → Written file.now (document seed) → IsSavedOn
+        (opened (shelved D.content D.selected D.disk D.reading_faults D.saving_faults shelf.old) name.now) (document seed) save_end.Done
+        (known D.selected D.disk D.reading_faults D.saving_faults shelf.new)) }
+    ensures failed { OnErr result ((seed : ℕ) → Written file.now (document seed) → FailsAtShelf
+        (shelved D.content D.selected D.disk D.reading_faults D.saving_faults shelf.old)
+        (shelved D.content D.selected D.disk D.reading_faults D.saving_faults shelf.new) (make_of name.now seed)
+        × FaultsRose (known D.selected D.disk D.reading_faults D.saving_faults shelf.old)
+        (known D.selected D.disk D.reading_faults D.saving_faults shelf.new) (make_of name.now seed)) }
+    ensures selected { (D.selected shelf.new ≡ D.selected shelf.old) ⊎ (D.selected shelf.new ≡ Some name.now) }
+    ensures named { OnOk result (D.selected shelf.new ≡ Some name.now) }
+{
+    shelf.select(name)?;
+    save_file(file, shelf)
+}
+
+// Plays a script that names no filter on its document, and sums the run up.
+fn run_made<D: Shelf>(alloc: Global, made: Made, shelf: D) -> Played<D>
+    requires selected { IsSome (D.selected shelf) }
+    requires limits { IsDocument made.document }
+    requires numbered { AreNumbered made.document.nodes }
+    requires fits { FitsFilters [] (lists_of made.script) }
+    requires eight { length (lists_of made.script) ≡ 8 }
+    ensures { IsSummedUp (known D.selected D.disk D.reading_faults D.saving_faults shelf)
+        (known D.selected D.disk D.reading_faults D.saving_faults result.shelf) made.document (lists_of made.script) result.replies }
+{
+    let mut core = match Core::open(alloc, made.document, shelf) {
+        Ok(core) => core,
+        Err(failed) => {
+            let (_document, shelf) = failed.value;
+            return Played {
+                replies: Err(AllocError),
+                shelf,
+            };
+        }
+    };
+    let replies = sum_up(alloc, &mut core, made.script);
+    Played {
+        replies,
+        shelf: core.into_shelf(),
+    }
+}
+
+// Makes the calls and saves of a script that names no filter. Answers the line that sums them up in the place of their own lines.
+fn sum_up<D: Shelf>(
+    alloc: Global,
+    core: &mut Core<D>,
+    script: Script,
+) -> Result<Replies, AllocError>
+    requires fresh { core.old.history.entries ≡ [] }
+    requires inside { IsSome core.old.shelf }
+    requires selected { IsSome (D.selected core.old.opening) }
+    requires kept { KeepsExactly core.old }
+    requires fits { FitsFilters [] (lists_of script) }
+    requires eight { length (lists_of script) ≡ 8 }
+    ensures between { IsBetweenLines core.old.history.base core.old.opening core.new }
+    ensures told { IfOk result (SumsUp core.old.history.base (lists_of script) core.new.history.entries) }
+{
+    let replies = play(alloc, core, script, Vec::new(alloc))?;
+    let digest = picture_digest(alloc, core.document())?;
+    let text = summary(alloc, digest.as_str())?;
+    Ok(Replies {
+        text,
+        save_failed: replies.save_failed,
+    })
+}
+
+// The canvas of a document.
+fn canvas(doc: &Document) -> Rect
+    ensures { result ≡ record { x = pos 0; y = pos 0; w = doc.now.width; h = doc.now.height } }
+{
+    Rect {
+        x: 0,
+        y: 0,
+        w: doc.width,
+        h: doc.height,
+    }
+}
+
+// The digest of a document's picture.
+fn picture_digest(alloc: Global, doc: &Document) -> Result<String, AllocError>
+    ensures { IfOk result (λ text. string_bytes text ≡ digest_of (picture_bytes doc.now 0 0 0 doc.now.width doc.now.height)) }
+{
+    let bytes = 4 * (doc.width as usize * doc.height as usize);
+    let mut picture = vec![in alloc; 0; bytes]?;
+    Recompose::new().fill(alloc, doc, NodeId(0), canvas(doc), &mut picture)?;
+    digest(alloc, &picture)
+}
