@@ -35,6 +35,7 @@ class Author:
         self.draw, self.history = draw, history
         self.keywords = [keyword for keyword in EDITS if with_filters or keyword != "filter"]
         self.chest, self.slots = Chest(), list(range(len(SHIPPED))) if with_filters else []
+        self.asked = []
 
     @property
     def doc(self):
@@ -185,10 +186,18 @@ class Author:
             return "undo"
         return "undo %d" % (self.history.done[-1][0] + (0 if self.often(0.6) else 1))
 
-    def tile(self):
+    def tile_words(self):
         columns, rows = -(-self.doc.width // 64), -(-self.doc.height // 64)
         stack = self.parent()
-        return "tile %d %d %d" % (stack, self.draw.randrange(columns + (not self.often())), self.draw.randrange(rows))
+        return "%d %d %d" % (stack, self.draw.randrange(columns + (not self.often())), self.draw.randrange(rows))
+
+    def tile(self):
+        self.asked.append(self.tile_words())
+        return "tile " + self.asked[-1]
+
+    def peek(self):
+        """Of a tile that was asked for, mostly."""
+        return "peek " + (self.draw.choice(self.asked[-6:]) if self.asked and self.often() else self.tile_words())
 
     def forget(self):
         slot = self.draw.choice(self.slots)
@@ -208,7 +217,9 @@ class Author:
             return ["redo"]
         if what < 0.82 and self.slots:
             return [self.forget()]
-        return [self.tile() if what < 0.97 else self.draw.choice(("top", "save"))]
+        if what < 0.97:
+            return [self.tile() if what < 0.89 else self.peek()]
+        return [self.draw.choice(("top", "save"))]
 
     def play(self, items):
         for what, words in items:

@@ -215,6 +215,25 @@ def over_indexed():
     return found + REFUSED["INDEXED"]
 
 
+# What is kept of a tile: up to the edit that damages it, and no longer than its stack.
+PEEKS = (
+    ["peek 0 0 0"], ["peek 9 0 0", "peek 0 1 0", "peek 1 0 0"],
+    ["tile 0 0 0", "peek 0 0 0", "opacity 4 9", "peek 0 0 0", "undo", "peek 0 0 0", "redo", "tile 0 0 0", "peek 0 0 0"],
+    ["opacity 4 0", "tile 0 0 0", "peek 0 0 0"], ["opacity 4 10", "peek 0 0 0"],
+    ["tile 0 0 0", "rename 2 78", "peek 0 0 0", "select 0 0 1 1 9", "peek 0 0 0", "opacity 4 10", "opacity 4 20", "peek 0 0 0"],
+    ["tile 1 0 0", "opacity 4 9", "peek 1 0 0", "opacity 2 9", "peek 1 0 0", "tile 1 0 0", "delete 1", "peek 1 0 0", "undo", "peek 1 0 0"],
+    ["tile 0 0 0", "opacity 9 1", "peek 0 0 0", "save", "peek 0 0 0", "top", "peek 0 0 0"],
+    ["peek 0 0"], ["begin", "opacity 4 9", "peek 0 0 0", "end"],
+)
+PEEKS_OF_ONE = (
+    ["opacity 1 10", "peek 0 0 0"], ["tile 0 0 0", "opacity 1 10", "opacity 1 20", "peek 0 0 0"],
+    ["opacity 1 0", "tile 0 0 0", "peek 0 0 0"], ["peek 0 0 0"],
+)
+# On a canvas of two tiles.
+PEEKS_APART = (
+    ["tile 0 0 0", "tile 1 0 0", "opacity 1 255", "peek 0 0 0", "peek 1 0 0", "undo", "peek 0 0 0", "peek 1 0 0"],
+)
+
 # Lines that are in no script, and some that are in one.
 LINES = (
     ["blur 1"], ["end"], ["begin", "end"], ["begin", "undo", "end"], ["undo", "begin", "opacity 2 9"], ["opacity 2 256"],
@@ -269,7 +288,9 @@ SESSIONS = (
     ["1 filter 4 0 0 4 3 0", "0 begin 0", "0 filter 4 0 0 4 3 0", "0 end", "1 begin 0", "1 filter 4 0 0 4 3 0", "1 end", "1 undo",
      "1 undo", "1 tile 0 0 0"],
     by_all("fill 4 0 0 1 1 010203%02d", "tile 0 0 0", "undo", "redo", "save"),
-    ["0 peek 0 0 0"],
+    ["1 peek 0 0 0", "0 tile 0 0 0", "0 undo", "0 peek 0 0 0", "0 opacity 2 9", "0 peek 0 0 0", "1 tile 0 0 0", "1 peek 0 0 0", "2 peek 9 0 0",
+     "2 peek 0 9 0"],
+    ["0 peek 0 0"],
 )
 
 
@@ -280,6 +301,7 @@ def sets():
         "over_indexed": ("indexed", over_indexed()), "refused": ("forest", REFUSED["FOREST"]),
         "too_large": ("vast", REFUSED["VAST"]), "histories": ("forest", HISTORIES), "restacked": ("forest", RESTACKED),
         "lines": ("forest", LINES), "refused_file": ("cut", (["undo"], ["blur"])), "grouped": ("grouped", grouped()),
+        "peeks": ("forest", PEEKS), "peeks_of_one": ("one", PEEKS_OF_ONE), "peeks_apart": ("grouped", PEEKS_APART),
     }
     filtered = {"filtered": ("forest", FILTERED), "filtered_grey": ("grey", FILTERED_GREY),
                 "filtered_indexed": ("indexed", FILTERED_INDEXED)}

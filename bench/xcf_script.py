@@ -106,6 +106,7 @@ CALLS = {
     "top": ((),),
     "save": ((),),
     "tile": ((number, number, number),),
+    "peek": ((number, number, number),),
     "forget": ((number,),),
 }
 
@@ -186,7 +187,7 @@ class Reading:
 
 
 def parse(text, chests=(4,) * SESSIONS):
-    """The items of each session, where each has that many filters. A line of a peek is bad."""
+    """The items of each session, where each has that many filters."""
     if len(text) > MAX_BYTES:
         raise BadLine(text[:MAX_BYTES].count(b"\n") + 1)
     reading = Reading(chests)
