@@ -1,0 +1,5 @@
+pub mod Grown
+pub mod StillOut
+pub mod Called
+pub mod Seated
+pub mod Joined

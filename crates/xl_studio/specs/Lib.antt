@@ -1,0 +1,7 @@
+-- what a front lists
+pub mod Moments
+-- what lies under the lock
+pub mod State
+-- what a call makes
+pub mod Calling
+pub mod Seats

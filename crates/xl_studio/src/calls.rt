@@ -1,0 +1,248 @@
+ghost use Rattle.std.specs.Prelude.{◌≡◌, ◌<◌, List, [], IfOk, OnErr};
+ghost use mathlib.Core.List.{IsPrefix};
+ghost use Rattle.spec_filters.specs.declared.FilterState.{FilterState};
+ghost use Rattle.spec_history.specs.Calls.{IsCall, IsGroupOfEdits};
+ghost use Rattle.spec_history.specs.History.{asked, latest_of};
+ghost use Rattle.spec_history.specs.Kept.{IsFreshReply};
+ghost use Rattle.spec_history.specs.Limited.{edits_of};
+ghost use Rattle.spec_history.specs.Machine as machine;
+ghost use Rattle.spec_tables.specs.Agrees.{Agrees, AreThere, IsAfter, IsPartAfter};
+ghost use Rattle.spec_tables.specs.Tables.{expected_tables};
+ghost use Rattle.xl_core.specs.History.{Shows};
+ghost use Rattle.xl_core.specs.Now.{KeepsDesk};
+ghost use Rattle.xl_edit.specs.Calls.{call_of};
+ghost use Rattle.xl_edit.specs.Edits.{edits_of as edits_meant};
+ghost use Rattle.xl_edit.specs.Replies.{reply_of};
+ghost use Rattle.xl_filters.specs.Chests.{states_in};
+ghost use Rattle.xl_studio.specs.Calling.{IsCalled, HasHeard, IsNoTile};
+ghost use Rattle.xl_studio.specs.Moments.{entries_in};
+ghost use Rattle.xl_studio.specs.Seats.{base_of, history_of, front_of, weight_of, known_by, IsSeatOf};
+
+use crate::seat::{Seat, Studio};
+use std::alloc::{AllocError, Global};
+use std::sync::Wait;
+use std::sync::ledger::Ledger;
+use xl_blend::Steps;
+use xl_core::Desk;
+use xl_edit::{Call, Group, NodeId, Reply, TileAt};
+use xl_filters::PointFilter;
+use xl_ports::Shelf;
+
+impl<D: Shelf> Studio<D> {
+    // Makes a call in one hold of the turn.
+    fn call<W: Wait, L: Ledger>(
+        &self,
+        rt: &W,
+        alloc: Global,
+        seat: &mut Seat<D>,
+        session: u8,
+        call: Call,
+        desk: &mut Desk,
+        steps: &mut Steps<L>,
+    ) -> Result<Reply, AllocError>
+        requires seat { IsSeatOf self.now seat.old }
+        requires session { session < 8 }
+        requires built { IsCall (call_of call) }
+        requires there { AreThere (states_in state desk.old.chest) (edits_of (call_of call)) }
+
+        ensures seat { IsSeatOf self.now seat.new }
+        ensures weight { weight_of seat.new ≡ weight_of seat.old }
+        ensures answered { (filters : List FilterState) → Agrees (states_in state desk.old.chest) filters
+            → IfOk result (λ reply. IsCalled (base_of self.now) session (call_of call) (expected_tables filters (asked (call_of call) []) (reply_of reply)) (reply_of reply) (known_by seat.old) (known_by seat.new)) }
+        ensures begins { IsPrefix (front_of seat.old) (front_of seat.new) }
+        ensures failed { OnErr result (HasHeard (known_by seat.old) (known_by seat.new)) }
+        ensures fresh { IfOk result (λ reply. IsFreshReply (latest_of (entries_in (front_of seat.old))) (reply_of reply)) }
+        ensures shown { IfOk result (λ reply. Shows (history_of (base_of self.now) (front_of seat.new)) (call_of call) (reply_of reply) desk.new.out) }
+        ensures steps { IsNoTile (call_of call) → steps.new ≡ steps.old }
+        ensures chest { IfOk result (λ reply. IsAfter (states_in state desk.old.chest) (states_in state desk.new.chest) (call_of call) (reply_of reply)) }
+        ensures desk { IfOk result (λ reply. KeepsDesk (reply_of reply) desk.old.out desk.new.out) }
+        ensures out_as_before { OnErr result (desk.new.out ≡ desk.old.out) }
+        ensures part { OnErr result (IsPartAfter (states_in state desk.old.chest) (states_in state desk.new.chest) (call_of call)) }
+    {
+        let mut held = self.lock.enter(rt, &mut seat.seat);
+        let reply = held
+            .value
+            .submit(alloc, session, call, seat.seen, desk, steps);
+        let seen = held.value.version();
+        self.lock.leave(held, &mut seat.seat);
+        seat.seen = seen;
+        reply
+    }
+
+    /// Makes a group of edits, all or none. The filters that the group names are in the desk's chest; they are asked where it is
+    /// accepted, and their tables are in its entry. It takes no step. After out of memory there is no entry, and the filters of the
+    /// group's first edits may have been asked.
+    pub fn edit<W: Wait, L: Ledger>(
+        &self,
+        rt: &W,
+        alloc: Global,
+        seat: &mut Seat<D>,
+        session: u8,
+        group: Group,
+        desk: &mut Desk,
+        steps: &mut Steps<L>,
+    ) -> Result<Reply, AllocError>
+        requires seat { IsSeatOf self.now seat.old }
+        requires session { session < 8 }
+        requires built { IsGroupOfEdits (edits_meant group.edits) }
+        requires there { AreThere (states_in state desk.old.chest) (edits_meant group.edits) }
+
+        ensures seat { IsSeatOf self.now seat.new }
+        ensures weight { weight_of seat.new ≡ weight_of seat.old }
+        ensures answered { (filters : List FilterState) → Agrees (states_in state desk.old.chest) filters
+            → IfOk result (λ reply. IsCalled (base_of self.now) session (machine.edit group.guard (edits_meant group.edits)) (expected_tables filters (asked (machine.edit group.guard (edits_meant group.edits)) []) (reply_of reply)) (reply_of reply) (known_by seat.old) (known_by seat.new)) }
+        ensures begins { IsPrefix (front_of seat.old) (front_of seat.new) }
+        ensures failed { OnErr result (HasHeard (known_by seat.old) (known_by seat.new)) }
+        ensures steps { steps.new ≡ steps.old }
+        ensures chest { IfOk result (λ reply. IsAfter (states_in state desk.old.chest) (states_in state desk.new.chest) (machine.edit group.guard (edits_meant group.edits)) (reply_of reply)) }
+        ensures desk { IfOk result (λ reply. KeepsDesk (reply_of reply) desk.old.out desk.new.out) }
+        ensures out_as_before { OnErr result (desk.new.out ≡ desk.old.out) }
+        ensures part { OnErr result (IsPartAfter (states_in state desk.old.chest) (states_in state desk.new.chest) (machine.edit group.guard (edits_meant group.edits))) }
+    {
+        self.call(rt, alloc, seat, session, Call::Edit(group), desk, steps)
+    }
+
+    /// Undoes the last group, if it is the one that is named. It takes no step.
+    pub fn undo<W: Wait, L: Ledger>(
+        &self,
+        rt: &W,
+        alloc: Global,
+        seat: &mut Seat<D>,
+        session: u8,
+        which: Option<u32>,
+        desk: &mut Desk,
+        steps: &mut Steps<L>,
+    ) -> Result<Reply, AllocError>
+        requires seat { IsSeatOf self.now seat.old }
+        requires session { session < 8 }
+
+        ensures seat { IsSeatOf self.now seat.new }
+        ensures weight { weight_of seat.new ≡ weight_of seat.old }
+        ensures made { IfOk result (λ reply. IsCalled (base_of self.now) session (machine.undo which) [] (reply_of reply) (known_by seat.old) (known_by seat.new)) }
+        ensures begins { IsPrefix (front_of seat.old) (front_of seat.new) }
+        ensures failed { OnErr result (HasHeard (known_by seat.old) (known_by seat.new)) }
+        ensures steps { steps.new ≡ steps.old }
+        ensures chest { IfOk result (λ reply. IsAfter (states_in state desk.old.chest) (states_in state desk.new.chest) (machine.undo which) (reply_of reply)) }
+        ensures desk { IfOk result (λ reply. KeepsDesk (reply_of reply) desk.old.out desk.new.out) }
+        ensures out_as_before { OnErr result (desk.new.out ≡ desk.old.out) }
+        ensures part { OnErr result (IsPartAfter (states_in state desk.old.chest) (states_in state desk.new.chest) (machine.undo which)) }
+    {
+        self.call(rt, alloc, seat, session, Call::Undo(which), desk, steps)
+    }
+
+    /// Makes the group again that was undone last. It takes no step.
+    pub fn redo<W: Wait, L: Ledger>(
+        &self,
+        rt: &W,
+        alloc: Global,
+        seat: &mut Seat<D>,
+        session: u8,
+        desk: &mut Desk,
+        steps: &mut Steps<L>,
+    ) -> Result<Reply, AllocError>
+        requires seat { IsSeatOf self.now seat.old }
+        requires session { session < 8 }
+
+        ensures seat { IsSeatOf self.now seat.new }
+        ensures weight { weight_of seat.new ≡ weight_of seat.old }
+        ensures made { IfOk result (λ reply. IsCalled (base_of self.now) session (machine.redo) [] (reply_of reply) (known_by seat.old) (known_by seat.new)) }
+        ensures begins { IsPrefix (front_of seat.old) (front_of seat.new) }
+        ensures failed { OnErr result (HasHeard (known_by seat.old) (known_by seat.new)) }
+        ensures steps { steps.new ≡ steps.old }
+        ensures chest { IfOk result (λ reply. IsAfter (states_in state desk.old.chest) (states_in state desk.new.chest) (machine.redo) (reply_of reply)) }
+        ensures desk { IfOk result (λ reply. KeepsDesk (reply_of reply) desk.old.out desk.new.out) }
+        ensures out_as_before { OnErr result (desk.new.out ≡ desk.old.out) }
+        ensures part { OnErr result (IsPartAfter (states_in state desk.old.chest) (states_in state desk.new.chest) (machine.redo)) }
+    {
+        self.call(rt, alloc, seat, session, Call::Redo, desk, steps)
+    }
+
+    /// Which group an undo would undo, and the latest version. It takes no step.
+    pub fn top<W: Wait, L: Ledger>(
+        &self,
+        rt: &W,
+        alloc: Global,
+        seat: &mut Seat<D>,
+        session: u8,
+        desk: &mut Desk,
+        steps: &mut Steps<L>,
+    ) -> Result<Reply, AllocError>
+        requires seat { IsSeatOf self.now seat.old }
+        requires session { session < 8 }
+
+        ensures seat { IsSeatOf self.now seat.new }
+        ensures weight { weight_of seat.new ≡ weight_of seat.old }
+        ensures made { IfOk result (λ reply. IsCalled (base_of self.now) session (machine.top) [] (reply_of reply) (known_by seat.old) (known_by seat.new)) }
+        ensures begins { IsPrefix (front_of seat.old) (front_of seat.new) }
+        ensures failed { OnErr result (HasHeard (known_by seat.old) (known_by seat.new)) }
+        ensures steps { steps.new ≡ steps.old }
+        ensures chest { IfOk result (λ reply. IsAfter (states_in state desk.old.chest) (states_in state desk.new.chest) (machine.top) (reply_of reply)) }
+        ensures desk { IfOk result (λ reply. KeepsDesk (reply_of reply) desk.old.out desk.new.out) }
+        ensures out_as_before { OnErr result (desk.new.out ≡ desk.old.out) }
+        ensures part { OnErr result (IsPartAfter (states_in state desk.old.chest) (states_in state desk.new.chest) (machine.top)) }
+    {
+        self.call(rt, alloc, seat, session, Call::Top, desk, steps)
+    }
+
+    /// The tile of a stack at the latest version, which is in the desk after `Tile`.
+    pub fn tile<W: Wait, L: Ledger>(
+        &self,
+        rt: &W,
+        alloc: Global,
+        seat: &mut Seat<D>,
+        session: u8,
+        node: NodeId,
+        at: TileAt,
+        desk: &mut Desk,
+        steps: &mut Steps<L>,
+    ) -> Result<Reply, AllocError>
+        requires seat { IsSeatOf self.now seat.old }
+        requires session { session < 8 }
+
+        ensures seat { IsSeatOf self.now seat.new }
+        ensures weight { weight_of seat.new ≡ weight_of seat.old }
+        ensures made { IfOk result (λ reply. IsCalled (base_of self.now) session (machine.tile node.0 at) [] (reply_of reply) (known_by seat.old) (known_by seat.new)) }
+        ensures begins { IsPrefix (front_of seat.old) (front_of seat.new) }
+        ensures failed { OnErr result (HasHeard (known_by seat.old) (known_by seat.new)) }
+        ensures fresh { IfOk result (λ reply. IsFreshReply (latest_of (entries_in (front_of seat.old))) (reply_of reply)) }
+        ensures shown { IfOk result (λ reply. Shows (history_of (base_of self.now) (front_of seat.new)) (machine.tile node.0 at) (reply_of reply) desk.new.out) }
+        ensures chest { IfOk result (λ reply. IsAfter (states_in state desk.old.chest) (states_in state desk.new.chest) (machine.tile node.0 at) (reply_of reply)) }
+        ensures desk { IfOk result (λ reply. KeepsDesk (reply_of reply) desk.old.out desk.new.out) }
+        ensures out_as_before { OnErr result (desk.new.out ≡ desk.old.out) }
+        ensures part { OnErr result (IsPartAfter (states_in state desk.old.chest) (states_in state desk.new.chest) (machine.tile node.0 at)) }
+    {
+        self.call(rt, alloc, seat, session, Call::Tile(node, at), desk, steps)
+    }
+
+    /// The tile of a stack as it is kept, at a version that is no older than the last one that the seat knows. It composes nothing,
+    /// and takes no step.
+    pub fn peek<W: Wait, L: Ledger>(
+        &self,
+        rt: &W,
+        alloc: Global,
+        seat: &mut Seat<D>,
+        session: u8,
+        node: NodeId,
+        at: TileAt,
+        desk: &mut Desk,
+        steps: &mut Steps<L>,
+    ) -> Result<Reply, AllocError>
+        requires seat { IsSeatOf self.now seat.old }
+        requires session { session < 8 }
+
+        ensures seat { IsSeatOf self.now seat.new }
+        ensures weight { weight_of seat.new ≡ weight_of seat.old }
+        ensures made { IfOk result (λ reply. IsCalled (base_of self.now) session (machine.peek node.0 at) [] (reply_of reply) (known_by seat.old) (known_by seat.new)) }
+        ensures begins { IsPrefix (front_of seat.old) (front_of seat.new) }
+        ensures failed { OnErr result (HasHeard (known_by seat.old) (known_by seat.new)) }
+        ensures fresh { IfOk result (λ reply. IsFreshReply (latest_of (entries_in (front_of seat.old))) (reply_of reply)) }
+        ensures shown { IfOk result (λ reply. Shows (history_of (base_of self.now) (front_of seat.new)) (machine.peek node.0 at) (reply_of reply) desk.new.out) }
+        ensures steps { steps.new ≡ steps.old }
+        ensures chest { IfOk result (λ reply. IsAfter (states_in state desk.old.chest) (states_in state desk.new.chest) (machine.peek node.0 at) (reply_of reply)) }
+        ensures desk { IfOk result (λ reply. KeepsDesk (reply_of reply) desk.old.out desk.new.out) }
+        ensures out_as_before { OnErr result (desk.new.out ≡ desk.old.out) }
+        ensures part { OnErr result (IsPartAfter (states_in state desk.old.chest) (states_in state desk.new.chest) (machine.peek node.0 at)) }
+    {
+        self.call(rt, alloc, seat, session, Call::Peek(node, at), desk, steps)
+    }
+}

@@ -1,0 +1,17 @@
+//! A document that sessions edit side by side.
+//!
+//! A [`Studio`] keeps a core under a lock that is entered in turns, and each call of a session is one hold of the turn. A [`Seat`]
+//! knows a beginning of the one history, its front, and which entries it made.
+#![tactic(auto)]
+
+mod calls;
+mod moment;
+mod opening;
+mod seat;
+mod shared;
+
+pub use moment::Moment;
+pub use seat::{Seat, Studio};
+pub use shared::Shared;
+pub use xl_core::{Core, Desk};
+pub use xl_edit::{Group, NodeId, Reply, TileAt};

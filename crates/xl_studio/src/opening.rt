@@ -1,0 +1,86 @@
+ghost use Rattle.std.specs.Prelude.{◌≡◌, ◌+◌, ◌≤◌, ◌^◌, [], ◌++◌, length, IfOk, IfErr};
+ghost use mathlib.Core.List.{IsPrefix};
+ghost use Rattle.spec_world.specs.Right.{IsRight};
+ghost use Rattle.xl_core.specs.Editing.{world};
+ghost use Rattle.xl_turn.specs.Seats.{IsApart, IsEachOnce};
+ghost use Rattle.xl_turn.specs.Turns.{longer};
+ghost use Rattle.xl_studio.specs.Seats.{base_of, front_of, made_of, weight_of, known_by, IsSeatOf};
+ghost use Rattle.xl_studio.specs.State.{moments_of};
+
+use crate::seat::{Seat, Studio};
+use crate::shared::Shared;
+use std::alloc::{AllocFailed, Global};
+use xl_core::Core;
+use xl_ports::Shelf;
+use xl_turn::TurnLock;
+
+impl<D: Shelf> Studio<D> {
+    /// A studio over a core without entries, and its first seat, which has all the weight. The core comes back where memory ran out.
+    pub fn open(alloc: Global, core: Core<D>) -> Result<(Studio<D>, Seat<D>), AllocFailed<Core<D>>>
+        requires empty { core.history.entries ≡ [] }
+        requires handed { core.handed ≡ [] }
+        requires right { IsRight core.history.base (world core) }
+        ensures seat { IfOk result (λ r. IsSeatOf r.0 r.1) }
+        ensures base { IfOk result (λ r. base_of r.0 ≡ core.history.base) }
+        ensures front { IfOk result (λ r. front_of r.1 ≡ moments_of core) }
+        ensures made { IfOk result (λ r. made_of r.1 ≡ []) }
+        ensures weight { IfOk result (λ r. weight_of r.1 ≡ 2 ^ 32) }
+        ensures back { IfErr result (λ failed. failed.value ≡ core) }
+    {
+        match TurnLock::open(alloc, Shared::new(core)) {
+            Ok((lock, seat)) => Ok((Studio { lock }, Seat { seat, seen: 0 })),
+            Err(failed) => Err(AllocFailed {
+                value: failed.value.into_core(),
+            }),
+        }
+    }
+
+    /// Splits a seat in two. The new one knows the same front, made nothing, and takes a weight of 1.
+    pub fn split(&self, seat: &mut Seat<D>) -> Seat<D>
+        requires seat { IsSeatOf self.now seat.old }
+        requires weight { 2 ≤ weight_of seat.old }
+        ensures old { IsSeatOf self.now seat.new }
+        ensures stays { known_by seat.new ≡ known_by seat.old }
+        ensures lighter { weight_of seat.new + 1 ≡ weight_of seat.old }
+        ensures new { IsSeatOf self.now result }
+        ensures front { front_of result ≡ front_of seat.old }
+        ensures made { made_of result ≡ [] }
+        ensures weight { weight_of result ≡ 1 }
+    {
+        Seat {
+            seat: self.lock.split(&mut seat.seat),
+            seen: seat.seen,
+        }
+    }
+
+    /// Joins two seats. The joined one knows the longer front, which both old ones begin, and made what both made. No entry is of both.
+    pub fn join(&self, seat: &mut Seat<D>, other: Seat<D>)
+        requires seat { IsSeatOf self.now seat.old }
+        requires other { IsSeatOf self.now other }
+        ensures seat { IsSeatOf self.now seat.new }
+        ensures front { front_of seat.new ≡ longer (front_of seat.old) (front_of other) }
+        ensures begins { IsPrefix (front_of seat.old) (front_of seat.new) }
+        ensures other { IsPrefix (front_of other) (front_of seat.new) }
+        ensures made { made_of seat.new ≡ made_of seat.old ++ made_of other }
+        ensures apart { IsApart (made_of seat.old) (made_of other) }
+        ensures weight { weight_of seat.new ≡ weight_of seat.old + weight_of other }
+    {
+        let Seat { seat: joined, seen } = other;
+        self.lock.join(&mut seat.seat, joined);
+        seat.seen = seat.seen.max(seen);
+    }
+
+    /// Takes the studio apart once all other seats were joined. The seat made each entry of the one history, each once.
+    pub fn close(self, seat: Seat<D>) -> Core<D>
+        requires seat { IsSeatOf self seat }
+        requires weight { weight_of seat ≡ 2 ^ 32 }
+        ensures base { result.history.base ≡ base_of self }
+        ensures front { IsPrefix (front_of seat) (moments_of result) }
+        ensures made { IsEachOnce (length result.history.entries) (made_of seat) }
+        ensures right { IsRight result.history.base (world result) }
+    {
+        let Studio { lock } = self;
+        let Seat { seat, seen: _ } = seat;
+        lock.close(seat).into_core()
+    }
+}

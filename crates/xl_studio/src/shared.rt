@@ -1,0 +1,126 @@
+ghost use Rattle.std.specs.Prelude.{◌≡◌, ◌≤◌, ◌<◌, List, [], IfOk, OnErr};
+ghost use Rattle.spec_filters.specs.declared.FilterState.{FilterState};
+ghost use Rattle.spec_history.specs.Calls.{IsCall};
+ghost use Rattle.spec_history.specs.History.{asked};
+ghost use Rattle.spec_history.specs.Kept.{IsFreshReply};
+ghost use Rattle.spec_history.specs.Limited.{edits_of};
+ghost use Rattle.spec_tables.specs.Agrees.{Agrees, AreThere, IsAfter, IsPartAfter};
+ghost use Rattle.spec_tables.specs.Tables.{expected_tables};
+ghost use Rattle.xl_core.specs.History.{version, Shows};
+ghost use Rattle.xl_core.specs.Now.{KeepsDesk};
+ghost use Rattle.xl_edit.specs.Calls.{call_of};
+ghost use Rattle.xl_edit.specs.Replies.{reply_of};
+ghost use Rattle.xl_filters.specs.Chests.{states_in};
+ghost use Rattle.xl_studio.specs.Calling.{Adds, AddsCalls, IsNoTile};
+ghost use Rattle.xl_studio.specs.State.{IsKept, moments_of};
+
+use crate::moment::Moment;
+use std::alloc::{AllocError, Global};
+use std::marker::Model;
+use std::sync::ledger::Ledger;
+use xl_blend::Steps;
+use xl_core::{Core, Desk};
+use xl_edit::{Call, Reply};
+use xl_filters::PointFilter;
+use xl_ports::Shelf;
+use xl_turn::Chronicle;
+
+/// What lies under the lock.
+#[derive(Drop)]
+pub struct Shared<D: Shelf> {
+    core: Core<D>,
+    // How many moments there are: the opening, and each entry.
+    moments: u64,
+}
+
+impl<D: Shelf> Model for Shared<D> {
+    ghost use Rattle.std.specs.Prelude.{◌≡◌, ◌+◌, length};
+    ghost use Rattle.std.specs.Coded.{codes};
+    ghost use Rattle.spec_document.specs.Code.{coded_document};
+    ghost use Rattle.xl_studio.specs.State.{State, IsKept};
+
+    ghost Value = { State D };
+
+    ghost coded = { Prim.hlevel (codes, coded_document, D.code) };
+
+    ghost view = { λ s. record { core = s.core } };
+
+    ghost invariant = { λ s. IsKept s.core × (s.moments ≡ length s.core.history.entries + 1) };
+}
+
+impl<D: Shelf> Chronicle for Shared<D> {
+    ghost use Rattle.xl_studio.specs.Moments.{closed_by};
+    ghost use Rattle.xl_studio.specs.State.{moments_of};
+
+    type Entry = Moment<D>;
+
+    ghost entries = { λ s. moments_of s.core };
+
+    ghost closes = { closed_by };
+
+    fn len(&self) -> u64 {
+        self.moments
+    }
+}
+
+impl<D: Shelf> Shared<D> {
+    /// A core with the number of its moments.
+    pub fn new(core: Core<D>) -> Shared<D>
+        requires { IsKept core }
+        ensures { result ≡ record { core = core } }
+    {
+        let moments = core.entries().len() as u64 + 1;
+        Shared { core, moments }
+    }
+
+    /// The last version's number.
+    pub fn version(&self) -> u32
+        ensures { result ≡ version self.now.core.history }
+    {
+        self.core.version()
+    }
+
+    /// Makes a call of a session, as the core does.
+    pub(crate) fn submit<L: Ledger>(
+        &mut self,
+        alloc: Global,
+        session: u8,
+        call: Call,
+        seen: u32,
+        desk: &mut Desk,
+        steps: &mut Steps<L>,
+    ) -> Result<Reply, AllocError>
+        requires session { session < 8 }
+        requires seen { seen ≤ version self.old.core.history }
+        requires built { IsCall (call_of call) }
+        requires there { AreThere (states_in state desk.old.chest) (edits_of (call_of call)) }
+
+        ensures answered { (filters : List FilterState) → Agrees (states_in state desk.old.chest) filters
+            → IfOk result (λ reply. Adds self.old.core.history.base (moments_of self.old.core) session (call_of call) (expected_tables filters (asked (call_of call) []) (reply_of reply)) (reply_of reply) (moments_of self.new.core)) }
+        ensures calls { AddsCalls (moments_of self.old.core) (moments_of self.new.core) }
+        ensures failed { OnErr result (moments_of self.new.core ≡ moments_of self.old.core) }
+        ensures base { self.new.core.history.base ≡ self.old.core.history.base }
+        ensures kept { IsKept self.new.core }
+        ensures fresh { IfOk result (λ reply. IsFreshReply seen (reply_of reply)) }
+        ensures shown { IfOk result (λ reply. Shows self.new.core.history (call_of call) (reply_of reply) desk.new.out) }
+        ensures steps { IsNoTile (call_of call) → steps.new ≡ steps.old }
+        ensures chest { IfOk result (λ reply. IsAfter (states_in state desk.old.chest) (states_in state desk.new.chest) (call_of call) (reply_of reply)) }
+        ensures desk { IfOk result (λ reply. KeepsDesk (reply_of reply) desk.old.out desk.new.out) }
+        ensures out_as_before { OnErr result (desk.new.out ≡ desk.old.out) }
+        ensures part { OnErr result (IsPartAfter (states_in state desk.old.chest) (states_in state desk.new.chest) (call_of call)) }
+    {
+        let reply = self.core.submit(alloc, session, call, seen, desk, steps);
+        self.core.know_right();
+        self.moments = self.core.entries().len() as u64 + 1;
+        reply
+    }
+
+    /// The core.
+    pub fn into_core(self) -> Core<D>
+        ensures core { result ≡ self.core }
+        ensures kept { IsKept result }
+    {
+        let Shared { core, .. } = self;
+        core
+    }
+}
