@@ -6,3 +6,4 @@ pub mod Now
 pub mod Group
 pub mod Room
 pub mod Steps
+pub mod Jobs

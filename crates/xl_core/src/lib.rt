@@ -9,6 +9,7 @@ mod answered;
 mod desk;
 mod entry;
 mod group;
+mod jobs;
 mod saving;
 mod standing;
 mod state;
@@ -17,6 +18,7 @@ mod tile;
 
 pub use desk::Desk;
 pub use entry::{Entry, EntryKind};
+pub use jobs::{JobDesk, JobSource, Taken};
 pub use saving::Begun;
 pub use spec_world::{SaveEnd, calls_mark_exactly, worlds_are_right};
 pub use state::Core;

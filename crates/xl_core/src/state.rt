@@ -8,7 +8,7 @@ ghost use Rattle.xl_compose.specs.Job.{StandsFor};
 ghost use Rattle.spec_history.specs.Calls.{IsCall, most_entries};
 ghost use Rattle.xl_core.specs.History.{version, document, Shows};
 ghost use Rattle.xl_core.specs.Editing.{known, world, IsSubmitted, TakesNoStep, taken, place_of_job, place_done, IsPictureOf, handed_in, out_of, IsRight, ComesBack, KeepsShelf, IsAsBefore, Begins, HandsOut, Ends};
-ghost use Rattle.xl_core.specs.Now.{KeepsDesk};
+ghost use Rattle.xl_core.specs.Now.{KeepsDesk, IsTileOf};
 ghost use Rattle.xl_core.specs.Room.{IsUndoOrRedo};
 ghost use Rattle.xl_doc.specs.Numbered.{AreNumbered};
 ghost use Rattle.spec_filters.specs.declared.FilterState.{FilterState};
@@ -22,6 +22,7 @@ ghost use Rattle.xl_edit.specs.Replies.{reply_of};
 
 use crate::desk::Desk;
 use crate::entry::{Entry, EntryKind};
+use crate::jobs::JobSource;
 use crate::saving::{Begun, Place, owed_in, reply_to_end};
 use crate::standing::Standing;
 use spec_world::SaveEnd;
@@ -205,11 +206,12 @@ impl<D: Shelf> Core<D> {
     pub fn take_job(&mut self, alloc: Global) -> Result<Option<Job>, AllocError>
         ensures place { IfOk result (λ job. option_map place_of_job job ≡ next_place self.old.cache) }
         ensures stands { IfOk result (λ job. IfSome job (λ j. StandsFor (document self.old.history) j.stack j.at (version self.old.history) j)) }
+        ensures there { IfSome (next_place self.old.cache) (IsTileOf (document self.old.history)) }
         ensures after { self.new ≡ taken self.old }
         ensures none { next_place self.old.cache ≡ None → IsOk result }
         ensures right { worlds.IsRight self.new.history.base (world self.new) }
     {
-        self.standing.take_job(alloc)
+        self.next_job(alloc)
     }
 
     /// Keeps a picture that was composed, unless its tile was marked at a later version or its stack is gone. It takes no memory.
@@ -219,7 +221,7 @@ impl<D: Shelf> Core<D> {
         ensures kept { self.new ≡ handed_in self.old done }
         ensures right { worlds.IsRight self.new.history.base (world self.new) }
     {
-        self.standing.finish(done)
+        self.install(done)
     }
 
     /// Begins a save of a session: the last version with a share of its document and the shelf, which is out until `end_save`.
@@ -325,11 +327,55 @@ impl<D: Shelf> Core<D> {
     pub fn version(&self) -> u32
         ensures { result ≡ version self.now.history }
     {
-        self.standing.version()
+        self.last_version()
     }
 
     /// The last version's document.
     pub fn document(&self) -> &Document
+        ensures { result.now ≡ document self.now.history }
+    {
+        self.last_document()
+    }
+}
+
+impl<D: Shelf> JobSource for Core<D> {
+    ghost use Rattle.std.specs.Prelude.{◌≡◌, None, option_map, IfOk, IfSome, IsOk};
+    ghost use Rattle.spec_cache.specs.Cache.{next_place, finish};
+    ghost use Rattle.spec_world.specs.Right as worlds;
+    ghost use Rattle.xl_compose.specs.Job.{StandsFor};
+    ghost use Rattle.xl_core.specs.History.{version, document};
+    ghost use Rattle.xl_core.specs.Editing.{world, taken, place_of_job, place_done, IsPictureOf, handed_in};
+    ghost use Rattle.xl_core.specs.Now.{IsTileOf};
+
+    ghost may_install = { λ c done. IsPictureOf c.history done };
+
+    fn next_job(&mut self, alloc: Global) -> Result<Option<Job>, AllocError>
+        ensures place { IfOk result (λ job. option_map place_of_job job ≡ next_place self.old.cache) }
+        ensures stands { IfOk result (λ job. IfSome job (λ j. StandsFor (document self.old.history) j.stack j.at (version self.old.history) j)) }
+        ensures there { IfSome (next_place self.old.cache) (IsTileOf (document self.old.history)) }
+        ensures after { self.new ≡ taken self.old }
+        ensures none { next_place self.old.cache ≡ None → IsOk result }
+        ensures right { worlds.IsRight self.new.history.base (world self.new) }
+    {
+        self.standing.take_job(alloc)
+    }
+
+    fn install(&mut self, done: Done) -> Finished
+        requires done { IsPictureOf self.old.history done }
+        ensures finished { result ≡ finish self.old.cache (place_done done) done.version }
+        ensures kept { self.new ≡ handed_in self.old done }
+        ensures right { worlds.IsRight self.new.history.base (world self.new) }
+    {
+        self.standing.finish(done)
+    }
+
+    fn last_version(&self) -> u32
+        ensures { result ≡ version self.now.history }
+    {
+        self.standing.version()
+    }
+
+    fn last_document(&self) -> &Document
         ensures { result.now ≡ document self.now.history }
     {
         self.standing.document()

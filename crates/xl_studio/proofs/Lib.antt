@@ -3,3 +3,4 @@ pub mod StillOut
 pub mod Called
 pub mod Seated
 pub mod Joined
+pub mod Quiet

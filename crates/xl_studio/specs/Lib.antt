@@ -5,3 +5,6 @@ pub mod State
 -- what a call makes
 pub mod Calling
 pub mod Seats
+-- which jobs are given out, and which seat has one
+pub mod Taking
+pub mod Jobs

@@ -1,5 +1,5 @@
 -- What lies under the lock, as contracts see it.
-use Rattle.std.specs.Prelude.{◌≡◌, ◌≤◌, List, length}
+use Rattle.std.specs.Prelude.{◌≡◌, ◌≤◌, Bool, List, length}
 use Rattle.spec_history.specs.Calls.{most_entries}
 use Rattle.spec_world.specs.Right.{IsRight}
 use Rattle.spec_saves.specs.Names.{saves_started}
@@ -7,8 +7,10 @@ use Rattle.xl_core.specs.Editing.{Editing, world}
 use Rattle.xl_studio.specs.declared.moment.Moment.{Moment}
 use Rattle.xl_studio.specs.Moments.{moments}
 
+-- a core, and whether no more jobs are given out
 pub record State (K : Type 0) : Type 0 where
   pub core : Editing K
+  pub closing : Bool
 
 -- what a core keeps at every moment: its history and its pictures are right, and each start has handed a shelf out
 pub record IsKept {K : Type 0} (c : Editing K) : Type 0 where

@@ -5,13 +5,15 @@
 #![tactic(auto)]
 
 mod calls;
+mod jobs;
 mod moment;
 mod opening;
 mod seat;
 mod shared;
+mod taking;
 
 pub use moment::Moment;
 pub use seat::{Seat, Studio};
 pub use shared::Shared;
-pub use xl_core::{Core, Desk};
+pub use xl_core::{Core, Desk, JobDesk, Taken};
 pub use xl_edit::{Group, NodeId, Reply, TileAt};

@@ -1,10 +1,11 @@
-ghost use Rattle.std.specs.Prelude.{◌≡◌, ◌+◌, ◌≤◌, ◌^◌, [], ◌++◌, length, IfOk, IfErr};
+ghost use Rattle.std.specs.Prelude.{◌≡◌, ◌+◌, ◌≤◌, ◌^◌, [], ◌++◌, length, false, None, IfOk, IfErr};
 ghost use mathlib.Core.List.{IsPrefix};
 ghost use Rattle.spec_world.specs.Right.{IsRight};
 ghost use Rattle.xl_core.specs.Editing.{world};
 ghost use Rattle.xl_turn.specs.Seats.{IsApart, IsEachOnce};
 ghost use Rattle.xl_turn.specs.Turns.{longer};
 ghost use Rattle.xl_studio.specs.Seats.{base_of, front_of, made_of, weight_of, known_by, IsSeatOf};
+ghost use Rattle.xl_studio.specs.Jobs.{job_out};
 ghost use Rattle.xl_studio.specs.State.{moments_of};
 
 use crate::seat::{Seat, Studio};
@@ -25,10 +26,19 @@ impl<D: Shelf> Studio<D> {
         ensures front { IfOk result (λ r. front_of r.1 ≡ moments_of core) }
         ensures made { IfOk result (λ r. made_of r.1 ≡ []) }
         ensures weight { IfOk result (λ r. weight_of r.1 ≡ 2 ^ 32) }
+        ensures free { IfOk result (λ r. job_out r.1 ≡ None) }
         ensures back { IfErr result (λ failed. failed.value ≡ core) }
     {
         match TurnLock::open(alloc, Shared::new(core)) {
-            Ok((lock, seat)) => Ok((Studio { lock }, Seat { seat, seen: 0 })),
+            Ok((lock, seat)) => Ok((
+                Studio { lock },
+                Seat {
+                    seat,
+                    seen: 0,
+                    closed: false,
+                    job: None,
+                },
+            )),
             Err(failed) => Err(AllocFailed {
                 value: failed.value.into_core(),
             }),
@@ -46,10 +56,15 @@ impl<D: Shelf> Studio<D> {
         ensures front { front_of result ≡ front_of seat.old }
         ensures made { made_of result ≡ [] }
         ensures weight { weight_of result ≡ 1 }
+        ensures free { job_out result ≡ None }
+        ensures closed { result.closed ≡ false }
+        ensures job { job_out seat.new ≡ job_out seat.old }
     {
         Seat {
             seat: self.lock.split(&mut seat.seat),
             seen: seat.seen,
+            closed: false,
+            job: None,
         }
     }
 
@@ -65,7 +80,12 @@ impl<D: Shelf> Studio<D> {
         ensures apart { IsApart (made_of seat.old) (made_of other) }
         ensures weight { weight_of seat.new ≡ weight_of seat.old + weight_of other }
     {
-        let Seat { seat: joined, seen } = other;
+        let Seat {
+            seat: joined,
+            seen,
+            closed: _,
+            job: _,
+        } = other;
         self.lock.join(&mut seat.seat, joined);
         seat.seen = seat.seen.max(seen);
     }
@@ -80,7 +100,12 @@ impl<D: Shelf> Studio<D> {
         ensures right { IsRight result.history.base (world result) }
     {
         let Studio { lock } = self;
-        let Seat { seat, seen: _ } = seat;
+        let Seat {
+            seat,
+            seen: _,
+            closed: _,
+            job: _,
+        } = seat;
         lock.close(seat).into_core()
     }
 }

@@ -1,5 +1,7 @@
 use crate::moment::Moment;
 use crate::shared::Shared;
+use std::snapshot::Snapshot;
+use xl_doc::{Document, NodeId, TileAt};
 use xl_ports::Shelf;
 use xl_turn::{Chronicle, TurnLock};
 
@@ -21,4 +23,17 @@ where
     pub(crate) seat: xl_turn::Seat<Shared<D>>,
     // The last version of the front.
     pub(crate) seen: u32,
+    // Whether the last answer to it was that no more jobs are given out.
+    pub(crate) closed: bool,
+    // The job that it has out.
+    pub(crate) job: Option<Away>,
+}
+
+/// A job that is out: its tile and its version, and the document at that version, for contracts alone.
+#[derive(Drop)]
+pub struct Away {
+    pub(crate) node: NodeId,
+    pub(crate) at: TileAt,
+    pub(crate) version: u32,
+    pub(crate) document: Snapshot<Document>,
 }

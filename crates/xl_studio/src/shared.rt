@@ -1,4 +1,4 @@
-ghost use Rattle.std.specs.Prelude.{◌≡◌, ◌≤◌, ◌<◌, List, [], IfOk, OnErr};
+ghost use Rattle.std.specs.Prelude.{◌≡◌, ◌≤◌, ◌<◌, List, [], false, IfOk, OnErr};
 ghost use Rattle.spec_filters.specs.declared.FilterState.{FilterState};
 ghost use Rattle.spec_history.specs.Calls.{IsCall};
 ghost use Rattle.spec_history.specs.History.{asked};
@@ -28,9 +28,11 @@ use xl_turn::Chronicle;
 /// What lies under the lock.
 #[derive(Drop)]
 pub struct Shared<D: Shelf> {
-    core: Core<D>,
+    pub(crate) core: Core<D>,
     // How many moments there are: the opening, and each entry.
     moments: u64,
+    // Whether no more jobs are given out.
+    pub(crate) closing: bool,
 }
 
 impl<D: Shelf> Model for Shared<D> {
@@ -43,7 +45,7 @@ impl<D: Shelf> Model for Shared<D> {
 
     ghost coded = { Prim.hlevel (codes, coded_document, D.code) };
 
-    ghost view = { λ s. record { core = s.core } };
+    ghost view = { λ s. record { core = s.core; closing = s.closing } };
 
     ghost invariant = { λ s. IsKept s.core × (s.moments ≡ length s.core.history.entries + 1) };
 }
@@ -67,10 +69,14 @@ impl<D: Shelf> Shared<D> {
     /// A core with the number of its moments.
     pub fn new(core: Core<D>) -> Shared<D>
         requires { IsKept core }
-        ensures { result ≡ record { core = core } }
+        ensures { result ≡ record { core = core; closing = false } }
     {
         let moments = core.entries().len() as u64 + 1;
-        Shared { core, moments }
+        Shared {
+            core,
+            moments,
+            closing: false,
+        }
     }
 
     /// The last version's number.

@@ -5,8 +5,8 @@ use Rattle.xl_core.specs.Editing.{IsPictureOf}
 use Rattle.xl_core.specs.Now.{Stands}
 use Rattle.xl_core.proofs.Pictures.{is_right}
 use Rattle.xl_core.proofs.Submitted.{stands_handed}
-use Rattle.xl_core.proofs.state.Core.finish.Goals as goal
-use Rattle.xl_core.proofs.state.Core.finish.Given as given
+use Rattle.xl_core.proofs.state.CoreJobSource.install.Goals as goal
+use Rattle.xl_core.proofs.state.CoreJobSource.install.Given as given
 
 stands : (g : given.Over) (c : goal.After-finish g) → Stands c.self.inside.base c.self.inside.entries.items c.finish.new.self.what c.self.inside.made
 stands g c =

@@ -1,7 +1,7 @@
 use Rattle.std.proofs.Common.{◌∙◌, ap}
 use Rattle.xl_core.specs.History.{document}
 use Rattle.xl_core.proofs.Saves.{document_is}
-use Rattle.xl_core.proofs.state.Core.document.Goals as goal
+use Rattle.xl_core.proofs.state.CoreJobSource.last_document.Goals as goal
 
 pub returns : goal.returns
 returns g c =

@@ -1,7 +1,7 @@
 use Rattle.std.proofs.Common.{◌∙◌, ap}
 use Rattle.xl_core.specs.History.{version}
 use Rattle.xl_core.proofs.Saves.{version_is}
-use Rattle.xl_core.proofs.state.Core.version.Goals as goal
+use Rattle.xl_core.proofs.state.CoreJobSource.last_version.Goals as goal
 
 pub returns : goal.returns
 returns g c =

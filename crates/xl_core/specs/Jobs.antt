@@ -1,0 +1,43 @@
+-- Jobs as a desk gives them out, one to a seat.
+use Rattle.std.specs.Prelude.{◌≡◌, ℕ, Bool, true, false, Option, Some, None, Result, Ok, Err}
+use Rattle.spec_grid.specs.declared.TileAt.{TileAt}
+use Rattle.spec_document.specs.Document.{Document}
+use Rattle.spec_picture.specs.Picture.{project}
+use Rattle.xl_compose.specs.Job.{StandsFor}
+use Rattle.xl_compose.specs.declared.clean.Done.{Done}
+use Rattle.xl_core.specs.declared.jobs.Taken.{Taken}
+use Rattle.xl_core.specs.declared.jobs.Taken.TheVariants as takes
+
+-- a job that is out: its tile, its version, and the document at that version
+pub record Out : Type 0 where
+  pub stack : ℕ
+  pub at : TileAt
+  pub version : ℕ
+  pub document : Document
+
+-- after a job was given out that job is out, and it stands for its document; otherwise none is out
+abbrev pub IsTaken : Taken → Option Out → Type 0
+IsTaken (takes.Job job) out = (o : Out) × (out ≡ Some o) × StandsFor o.document o.stack o.at o.version job
+IsTaken takes.Nothing out = out ≡ None
+IsTaken takes.Closing out = out ≡ None
+
+abbrev pub is_closing : Taken → Bool
+is_closing (takes.Job job) = false
+is_closing takes.Nothing = false
+is_closing takes.Closing = true
+
+-- whether the answer was that the desk is closing
+abbrev pub says_closing : {E : Type 0} → Result Taken E → Bool
+says_closing (Ok taken) = is_closing taken
+says_closing (Err e) = false
+
+-- the picture is that of this job
+pub record IsOutcome (out : Out) (done : Done) : Type 0 where
+  pub node_is : done.node.0 ≡ out.stack
+  pub at_is : done.at ≡ out.at
+  pub version_is : done.version ≡ out.version
+  pub picture_is : done.picture ≡ project out.document out.stack out.at
+
+-- it is that of the job that is out
+abbrev pub IsOutcomeOf : Option Out → Done → Type 0
+IsOutcomeOf out done = (o : Out) × (out ≡ Some o) × IsOutcome o done
