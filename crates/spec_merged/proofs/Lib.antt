@@ -1,0 +1,4 @@
+mod Leaves
+mod Painted
+mod Painter
+mod Replayed
