@@ -2,3 +2,4 @@ mod Leaves
 mod Painted
 mod Painter
 mod Replayed
+mod Merged

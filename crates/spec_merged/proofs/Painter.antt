@@ -89,7 +89,7 @@ like_painter_call : (base : Document) (c : Call) → KeepsLike (painter_call bas
 like_painter_call base (edit guard es) i l = like_painter_edits base es i l
 like_painter_call base c i l = like_itself l
 
-like_painter : (base : Document) (line : Line) → KeepsLike (painter base line)
+pub like_painter : (base : Document) (line : Line) → KeepsLike (painter base line)
 like_painter base (call c) i l = like_painter_call base c i l
 like_painter base save i l = like_itself l
 like_painter base (forget slot) i l = like_itself l

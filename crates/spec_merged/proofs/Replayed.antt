@@ -46,7 +46,7 @@ last-fill base s tables id rect pixel = go (refusal (last base s) (fill id rect 
 
 module _ (owner : ℕ → ℕ) (session : ℕ) (base : Document) (change : ℕ → Layer → Layer) (keeps : KeepsLike change) where
   -- a call of its session, behind a change of the leaves
-  last-call : (s : State) (c : Call) (tables : List (List ℕ)) → IsOwnCall owner session c → last base s ≡ changed_leaves base change
+  pub last-call : (s : State) (c : Call) (tables : List (List ℕ)) → IsOwnCall owner session c → last base s ≡ changed_leaves base change
       → last base (answer base s c tables).state ≡ changed_leaves base (λ i l. painter_call base c i (change i l))
   last-call s (edit guard es) tables own at =
       ap (λ (g : Option ℕ). last base (answer base s (edit g es) tables).state) own.unguarded
