@@ -1,5 +1,5 @@
 -- Changes of all leaves of a forest at once, each by its id.
-use Rattle.std.proofs.Common.{◌≡◌, ℕ, Bool, true, false, cond, eqb, refl}
+use Rattle.std.proofs.Common.{◌≡◌, ℕ, cond, eqb, refl}
 use Rattle.spec_forest.specs.Forest.{Forest, none, leaf, group}
 use Rattle.spec_forest.specs.Changes.{with_leaf}
 

@@ -2,4 +2,6 @@ mod Leaves
 mod Painted
 mod Painter
 mod Replayed
-mod Merged
+pub mod Merged
+pub mod Generated
+mod Commuting

@@ -1,24 +1,22 @@
 -- The last document of sessions that fill layers of their own, in whatever order their calls come.
-use Rattle.std.proofs.Common.{◌≡◌, ◌⊎◌, inl, inr, ℕ, zero, suc, ◌+◌, ◌<◌, ◌≤◌, Bool, true, false, cond, eqb, ltb, List, [], ◌∷◌, ◌++◌, length, refl, sym, ◌∙◌, ap, subst, arith, filter_map}
+use Rattle.std.proofs.Common.{◌≡◌, ℕ, zero, suc, ◌+◌, ◌<◌, ◌≤◌, Bool, true, false, cond, eqb, ltb, List, [], ◌∷◌, length, refl, sym, ◌∙◌, ap, subst, arith, filter_map}
 use Rattle.std.specs.Prelude.{fold, slice_index, slice_get, unwrap_or, Option, Some, None}
 use Rattle.std.specs.List.{AllByRecursion, cons_option}
 use Rattle.std.proofs.lemmas.Bool.{eqb-true, eqb-false, eq-eqb, ltb-true, ltb-false}
-use Rattle.std.proofs.lemmas.Bool.Decides.{eqb_tells}
 use Rattle.spec_document.specs.Document.{Document, Layer}
 use Rattle.spec_edit.specs.declared.EditRefused.{EditRefused}
 use Rattle.spec_edit.specs.Edit.{Edit, fill}
 use Rattle.spec_edit.specs.Refusal.{refusal}
 use Rattle.spec_edit.specs.Effect.{paint}
-use Rattle.spec_history.specs.Machine.{Call, edit, undo, redo, tile, peek, top, State, latest, document_at, initial, answer}
-use Rattle.spec_history.specs.History.{Entry, Kind, asked, starts, ends, after_kind, after_entry, replay_from, replay, latest_of, document_of, mine}
-use Rattle.spec_history.specs.Kept.{IsLegal}
+use Rattle.spec_history.specs.Machine.{Call, edit, undo, redo, tile, peek, top, State, document_at, initial, answer}
+use Rattle.spec_history.specs.History.{Entry, Kind, asked, starts, ends, after_kind, replay_from, replay, latest_of, document_of, mine}
 use Rattle.spec_history.proofs.Versions.{latest_of-legal}
 use Rattle.spec_filters.specs.declared.FilterState.{FilterState}
 use Rattle.spec_script.specs.Script.{Line, call, save, forget}
-use Rattle.spec_text.specs.Text.{IsTextOf, made_by, calls_of, calls_in}
+use Rattle.spec_text.specs.Text.{IsTextOf, made_by, calls_of}
 use Rattle.spec_generated.specs.Summary.{after_line, outcome}
-use Rattle.spec_merged.specs.Fills.{IsOwnFill, IsOwnCall, IsOwnLine, AreOwn}
-use Rattle.spec_merged.proofs.Leaves.{all_leaves, all_leaves-alike, all_leaves-none}
+use Rattle.spec_merged.specs.Fills.{IsOwnCall, IsOwnLine, AreOwn}
+use Rattle.spec_merged.proofs.Leaves.{all_leaves-alike, all_leaves-none}
 use Rattle.spec_merged.proofs.Painted.{with_nodes, KeepsLike, like_itself, like_both}
 use Rattle.spec_merged.proofs.Painter.{changed_leaves, painter, painter_call, painter_edits, painted_unless, along, along_all, like_along, like_painter}
 use Rattle.spec_merged.proofs.Replayed.{last, last-line, last-call}

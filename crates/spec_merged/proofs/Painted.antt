@@ -1,12 +1,12 @@
 -- A fill depends on nothing that another fill changes: what is selected, and of what kind and size the layer at an id is.
-use Rattle.std.proofs.Common.{◌≡◌, ℕ, ◌*◌, Bool, true, false, cond, eqb, List, [], ◌∷◌, length, refl, ◌∙◌, ap}
-use Rattle.std.specs.Prelude.{ℤ, pos, ◌+ℤ◌, ◌==◌, if◌then◌else◌, slice_index, Option, Some, None}
-use Rattle.spec_forest.specs.Forest.{Forest, none, leaf, group, Found, nothing, a_leaf, a_group, find, or_else}
+use Rattle.std.proofs.Common.{◌≡◌, ℕ, ◌*◌, Bool, true, false, cond, eqb, List, [], ◌∷◌, length, refl, ◌∙◌}
+use Rattle.std.specs.Prelude.{ℤ, pos, ◌+ℤ◌, ◌==◌, if◌then◌else◌, Option, Some, None}
+use Rattle.spec_forest.specs.Forest.{none, leaf, group, Found, nothing, a_leaf, a_group, find, or_else}
 use Rattle.spec_grid.specs.declared.Rect.{Rect}
 use Rattle.spec_grid.specs.Rect.{lies_on}
 use Rattle.spec_document.specs.Document.{Document, Layer, Group, Channel, Nodes, bytes_of_kind}
 use Rattle.spec_document.specs.Plane.{byte_at}
-use Rattle.spec_document.specs.Selection.{selected, selected_in}
+use Rattle.spec_document.specs.Selection.{selected_in}
 use Rattle.spec_edit.specs.declared.EditRefused.{EditRefused}
 use Rattle.spec_edit.specs.declared.EditRefused.TheVariants.{OutsideLayer, OtherType}
 use Rattle.spec_edit.specs.Edit.{fill}

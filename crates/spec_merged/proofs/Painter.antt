@@ -1,10 +1,9 @@
 -- What lines that fill make of a document, leaf by leaf.
-use Rattle.std.proofs.Common.{◌≡◌, ℕ, Bool, true, false, cond, eqb, List, [], ◌∷◌, refl, sym, ◌∙◌, ap, subst}
-use Rattle.std.specs.Prelude.{slice_index, fold, Option, Some, None}
-use Rattle.std.specs.List.{AllByRecursion}
+use Rattle.std.proofs.Common.{◌≡◌, ℕ, Bool, true, false, cond, eqb, List, [], ◌∷◌, refl, ◌∙◌, ap}
+use Rattle.std.specs.Prelude.{slice_index, Option, Some, None}
 use Rattle.spec_forest.specs.Changes.{with_leaf}
 use Rattle.spec_grid.specs.declared.Rect.{Rect}
-use Rattle.spec_document.specs.Document.{Document, Layer, Nodes}
+use Rattle.spec_document.specs.Document.{Document, Layer}
 use Rattle.spec_edit.specs.declared.EditRefused.{EditRefused}
 use Rattle.spec_edit.specs.Edit.{Edit, fill}
 use Rattle.spec_edit.specs.Refusal.{refusal}
@@ -50,6 +49,7 @@ filled-leaves base change keeps id rect pixel =
     ∙ go (refusal base (fill id rect pixel)) where
       byte : ℕ → ℕ → ℕ → ℕ
       byte x y c = slice_index pixel c
+
       go : (r : Option EditRefused)
           → filled_unless r (changed_leaves base change) id rect pixel ≡ changed_leaves base (λ i l. painted_unless r base id rect pixel i (change i l))
       go (Some r) = refl

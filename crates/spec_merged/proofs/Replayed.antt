@@ -1,7 +1,6 @@
 -- The last document after lines that fill, made by the machine.
-use Rattle.std.proofs.Common.{◌≡◌, ℕ, ◌+◌, ◌-◌, Bool, true, false, cond, eqb, List, [], ◌∷◌, ◌++◌, length, refl, sym, ◌∙◌, ap, subst, arith, length-append, filter_map, get_or}
-use Rattle.std.specs.Prelude.{fold, slice_index, slice_get, unwrap_or, Option, Some, None, Result, Ok, Err}
-use Rattle.std.specs.List.{AllByRecursion, cons_option}
+use Rattle.std.proofs.Common.{◌≡◌, ℕ, ◌-◌, List, [], ◌∷◌, ◌++◌, length, refl, sym, ◌∙◌, ap, arith, length-append}
+use Rattle.std.specs.Prelude.{slice_get, unwrap_or, Option, Some, None, Ok}
 use Rattle.std.proofs.lemmas.Option.{unwrap_or-slice_get}
 use Rattle.std.proofs.Math.Seq.{get_or-append_seam}
 use Rattle.spec_grid.specs.declared.Rect.{Rect}
@@ -9,16 +8,13 @@ use Rattle.spec_document.specs.Document.{Document, Layer}
 use Rattle.spec_edit.specs.declared.EditRefused.{EditRefused}
 use Rattle.spec_edit.specs.Edit.{Edit, fill}
 use Rattle.spec_edit.specs.Refusal.{refusal}
-use Rattle.spec_edit.specs.Effect.{effect}
-use Rattle.spec_edit.specs.Apply.{At, Refused, apply_group, after, unless_refused}
-use Rattle.spec_history.specs.Machine.{Call, edit, undo, redo, tile, peek, top, State, latest, document_at, initial, made, stays, names, answer}
-use Rattle.spec_history.specs.History.{Entry, Kind, asked, starts, ends, after_kind, after_entry, replay_from, replay}
+use Rattle.spec_edit.specs.Apply.{At, after, unless_refused}
+use Rattle.spec_history.specs.Machine.{Call, edit, undo, redo, tile, peek, top, State, latest, document_at, made, answer}
 use Rattle.spec_script.specs.Script.{Line, call, save, forget}
-use Rattle.spec_text.specs.Text.{made_by}
 use Rattle.spec_generated.specs.Summary.{after_line}
-use Rattle.spec_merged.specs.Fills.{IsOwnFill, IsOwnCall, IsOwnLine}
+use Rattle.spec_merged.specs.Fills.{IsOwnCall, IsOwnLine}
 use Rattle.spec_merged.proofs.Painted.{KeepsLike}
-use Rattle.spec_merged.proofs.Painter.{filled, filled_unless, changed_leaves, filled-leaves, painter, painter_call, painter_edits, painted}
+use Rattle.spec_merged.proofs.Painter.{filled, filled_unless, changed_leaves, filled-leaves, painter, painter_call, painter_edits}
 
 -- the document of the last version
 abbrev pub last : Document → State → Document
@@ -38,6 +34,7 @@ last-fill : (base : Document) (s : State) (tables : List (List ℕ)) (id : ℕ) 
 last-fill base s tables id rect pixel = go (refusal (last base s) (fill id rect pixel)) where
   old : At
   old = record { document = document_at base s (latest s); next = s.next_id }
+
   go : (r : Option EditRefused) → last base (made s (record { document = document_at base s (latest s); next = s.next_id }) (fill id rect pixel ∷ []) tables
       (after 0 (unless_refused r (record { document = filled_unless None (last base s) id rect pixel; next = s.next_id })) (λ (mid : At). Ok mid))).state
       ≡ filled_unless r (last base s) id rect pixel
