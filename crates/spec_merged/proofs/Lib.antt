@@ -5,3 +5,4 @@ mod Replayed
 pub mod Merged
 pub mod Generated
 mod Commuting
+pub mod Ends

@@ -1,5 +1,5 @@
 -- Sessions that fill layers of their own: each layer has an owner, and a session fills only the layers that it owns.
-use Rattle.std.specs.Prelude.{◌≡◌, ℕ, suc, List, [], ◌∷◌, Option, None}
+use Rattle.std.specs.Prelude.{◌≡◌, ℕ, suc, List, [], ◌∷◌, ◌++◌, Option, None}
 use Rattle.std.specs.List.{AllByRecursion}
 use Rattle.spec_grid.specs.declared.Rect.{Rect}
 use Rattle.spec_edit.specs.Edit.{Edit, fill}
@@ -33,3 +33,7 @@ IsOwnLine owner session (forget slot) = Unit {0}
 abbrev pub AreOwn : (owner : ℕ → ℕ) → (first : ℕ) → List (List Line) → Type 0
 AreOwn owner first [] = Unit {0}
 AreOwn owner first (lines ∷ lists) = AllByRecursion (IsOwnLine owner first) lines × AreOwn owner (suc first) lists
+
+-- the last line is a save
+abbrev pub EndsWithSave : List Line → Type 0
+EndsWithSave lines = (front : List Line) × (lines ≡ front ++ save ∷ [])
