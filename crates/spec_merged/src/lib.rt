@@ -44,8 +44,8 @@ pub fn order_of_generated_sessions_makes_no_document()
         → document_of (document seed) es (latest_of es) ≡ outcome (document seed) (script seed) }
 {}
 
-/// Where the lines of each session end with a save, so do the calls of all sessions in the order of their history. So the save that
-/// starts last has the last version.
+/// Where the lines of each session end with a save, so do the calls of all sessions in the order of their history. So no call comes
+/// behind the start of the save that starts last.
 pub fn last_call_is_a_save()
     ensures { (out : List ℕ) (base : Document) (lists : List (List Line)) (chests : List (List FilterState)) (es : List Entry)
         → IsTextOf out base lists chests es
