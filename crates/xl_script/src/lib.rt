@@ -26,5 +26,3 @@ pub use script::{Line, Lines, SESSIONS, Script};
 pub use spec_text::OrderWord;
 pub use xl_edit::{Call, Edit, Edits, Group, Reply};
 
-#[cfg(test)]
-mod tests;

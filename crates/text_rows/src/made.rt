@@ -1,16 +1,9 @@
-use crate::drawing::Draws;
-use crate::{Made, make};
+//! What is made of a seed.
 use std::alloc::{AllocError, Global};
 use std::test::Fail;
 use xl_doc::NodeId;
+use xl_report::{Made, make};
 use xl_script::{Call, Line};
-
-#[test]
-fn first_number_of_a_seed(rt: HostRuntime) {
-    let mut draws = Draws::new(7);
-    assert_eq!(rt; draws.draw(512), 288);
-    assert_eq!(rt; draws.state, 1_025_555_898);
-}
 
 // Without a clause, so that a test need not carry one.
 fn made(alloc: Global, seed: u32) -> Result<Made, AllocError> {

@@ -1,6 +1,7 @@
-use crate::{Command, command_of};
+//! Arguments and their commands.
 use std::alloc::{AllocError, Global};
 use std::test::Fail;
+use xl_command::{Command, command_of};
 
 // The command that the arguments are, for tests that need none of its clauses.
 fn command<'a>(alloc: Global, arguments: &'a [&'a str]) -> Result<Option<Command<'a>>, AllocError> {

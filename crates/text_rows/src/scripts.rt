@@ -1,6 +1,9 @@
-use super::*;
+//! Scripts and the lines that answer them.
 use std::test::Fail;
 use xl_edit::{EditRefused, NodeId};
+use xl_script::{
+    BadLineOrMemory, Call, Edit, Line, OrderWord, Reply, parse, print_order, print_reply,
+};
 
 const CHESTS: [u32; 8] = [4; 8];
 
