@@ -1,0 +1,8 @@
+//! The sessions of a script over a studio.
+#![tactic(auto)]
+
+mod desk;
+mod saving;
+mod session;
+
+pub use desk::desk_of;
