@@ -17,8 +17,8 @@ use Rattle.xl_core.specs.History.{Shows}
 use Rattle.xl_studio.specs.Calling.{Known, IsCalled}
 use Rattle.xl_studio.specs.Moments.{entries_in}
 use Rattle.xl_studio.specs.Seats.{history_of}
-use Rattle.xl_sessions.specs.Made.{is_unprinted}
-use Rattle.xl_sessions.specs.Saving.{IsSaved}
+use Rattle.spec_seats.specs.Digests.{asks_tile}
+use Rattle.xl_studio.specs.Saving.{IsSaved}
 
 -- ---- the filters
 
@@ -29,24 +29,33 @@ FitsChest chest save = Unit {0}
 FitsChest chest (forget slot) = IsTrue (has_slot chest slot)
 
 -- no filter was dropped
-abbrev pub IsWhole : List (Option FilterState) → Type 0
-IsWhole chest = (slot : ℕ) → slot < length chest → has_slot chest slot ≡ true
+abbrev pub HasAll : List (Option FilterState) → Type 0
+HasAll chest = (slot : ℕ) → slot < length chest → has_slot chest slot ≡ true
 
 -- ---- the digests
-
--- whether a call asks for a tile
-abbrev pub asks_tile : Call → Bool
-asks_tile (machine.tile stack at) = true
-asks_tile (machine.peek stack at) = true
-asks_tile (machine.edit guard edits) = false
-asks_tile (machine.undo named) = false
-asks_tile machine.redo = false
-asks_tile machine.top = false
 
 -- the digest of the bytes, where a tile was asked for and is the reply
 abbrev pub said : (asks : Bool) → Reply → (bytes : List ℕ) → List (List ℕ)
 said asks (tile_of version) bytes = if asks then digest_of bytes ∷ [] else []
 said asks reply bytes = []
+
+-- a run with such a reply prints nothing
+abbrev pub is_unprinted : Reply → Bool
+is_unprinted (machine.changed version group next) = false
+is_unprinted (machine.refused index cause) = false
+is_unprinted (machine.moved now) = false
+is_unprinted machine.nothing_to_undo = false
+is_unprinted machine.nothing_to_redo = false
+is_unprinted (machine.not_top top) = false
+is_unprinted (tile_of version) = false
+is_unprinted (machine.stale have seen) = false
+is_unprinted (machine.no_stack node) = false
+is_unprinted machine.outside_tile = false
+is_unprinted (machine.top_is group version) = false
+is_unprinted (machine.saved version) = false
+is_unprinted (machine.save_fault version) = false
+is_unprinted (machine.save_memory version) = true
+is_unprinted machine.history_full = true
 
 -- ---- a line
 

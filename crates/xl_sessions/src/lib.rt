@@ -2,7 +2,6 @@
 #![tactic(auto)]
 
 mod desk;
-mod saving;
 mod session;
 
 pub use desk::desk_of;

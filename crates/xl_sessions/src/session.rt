@@ -16,11 +16,12 @@ ghost use Rattle.xl_script.specs.Lines.{line_of, lines_of};
 ghost use Rattle.xl_studio.specs.Calling.{IsCalled};
 ghost use Rattle.xl_studio.specs.Moments.{entries_in};
 ghost use Rattle.xl_studio.specs.Seats.{base_of, history_of, opening_of, front_of, made_of, weight_of, known_by, IsSeatOf};
-ghost use Rattle.xl_sessions.specs.Made.{HasMade, IsOf, digests_in, is_unprinted, picked};
-ghost use Rattle.xl_sessions.specs.Saving.{IsSaved};
-ghost use Rattle.xl_sessions.specs.Playing.{FitsChest, IsWhole, IsCallMade, IsSaveMade, IsLineMade, asks_tile, said};
+ghost use Rattle.spec_seats.specs.Digests.{asks_tile, digests_in};
+ghost use Rattle.spec_seats.specs.Made.{HasMade, IsOf};
+ghost use Rattle.spec_seats.specs.Picked.{picked};
+ghost use Rattle.xl_studio.specs.Saving.{IsSaved};
+ghost use Rattle.xl_sessions.specs.Playing.{FitsChest, HasAll, IsCallMade, IsSaveMade, IsLineMade, is_unprinted, said};
 
-use crate::saving::save;
 use std::alloc::{AllocError, Global};
 use std::sync::Wait;
 use std::sync::ledger::Ledger;
@@ -30,6 +31,7 @@ use xl_edit::{Call, Reply};
 use xl_filters::PointFilter;
 use xl_ports::{Actor, Gate, Place, Shelf};
 use xl_report::digest;
+use xl_rle::Greedy;
 use xl_script::Line;
 use xl_studio::{Seat, Studio};
 
@@ -159,7 +161,8 @@ fn make_save<W: Wait, D: Shelf, G: Gate>(
     ensures saved { IfOk result (λ reply. IsSaved (base_of studio.now) session (reply_of reply) (known_by seat.old) (known_by seat.new)) }
 {
     gate.pass(Actor::Session(session), Place::BeforeCall);
-    let reply = save(rt, alloc, studio, seat, session);
+    let mut coder = Greedy;
+    let reply = studio.save(rt, alloc, seat, session, &mut coder);
     gate.pass(Actor::Session(session), Place::AfterCall);
     reply
 }
