@@ -5,3 +5,5 @@ pub mod State
 -- what a call makes
 pub mod Calling
 pub mod Seats
+-- what a save makes
+pub mod Saving

@@ -1,0 +1,13 @@
+use Rattle.std.proofs.Common.{[]}
+use Rattle.spec_history.specs.History.{asked}
+use Rattle.spec_tables.specs.Tables.{expected_tables}
+use Rattle.xl_edit.specs.Calls.{call_of}
+use Rattle.xl_edit.specs.Replies.{reply_of}
+use Rattle.xl_studio.specs.Seats.{base_of, known_by}
+use Rattle.xl_sessions.proofs.Made.{of_after_call}
+use Rattle.xl_sessions.proofs.session.make_call.Goals as goal
+
+pub returns-clause-of : goal.returns-clause-of
+returns-clause-of g c =
+    of_after_call _ reply_of (λ filters reply. expected_tables filters (asked (call_of c.args.call) []) (reply_of reply)) c.call-reply.result (base_of c.args.studio.now) c.args.session (call_of c.args.call)
+    (known_by c.args.seat.now) (known_by c.call-reply.new.seat) _ (λ filters agrees. c.call-reply.ensures.answered filters agrees) c.call-reply.ensures.failed c.requires.of

@@ -1,0 +1,84 @@
+-- What a line of a session makes.
+use Rattle.std.specs.Prelude.{◌≡◌, ℕ, ◌<◌, Bool, true, false, if◌then◌else◌, List, [], ◌∷◌, length, slice_set, Option, None, IsTrue}
+use Rattle.spec_document.specs.Document.{Document}
+use Rattle.spec_filters.specs.declared.FilterState.{FilterState}
+use Rattle.spec_filters.specs.Slots.{has_slot}
+use Rattle.spec_history.specs.Machine as machine
+use Rattle.spec_history.specs.Machine.{Call, Reply, tile_of}
+use Rattle.spec_history.specs.Calls.{IsCall}
+use Rattle.spec_history.specs.History.{asked, latest_of}
+use Rattle.spec_history.specs.Kept.{IsFreshReply}
+use Rattle.spec_history.specs.Limited.{edits_of}
+use Rattle.spec_script.specs.Script.{Line, call, save, forget}
+use Rattle.spec_tables.specs.Agrees.{Agrees, AreThere, IsAfter}
+use Rattle.spec_tables.specs.Tables.{expected_tables}
+use Rattle.spec_text.specs.Text.{digest_of}
+use Rattle.xl_core.specs.History.{Shows}
+use Rattle.xl_studio.specs.Calling.{Known, IsCalled}
+use Rattle.xl_studio.specs.Moments.{entries_in}
+use Rattle.xl_studio.specs.Seats.{history_of}
+use Rattle.spec_seats.specs.Digests.{asks_tile}
+use Rattle.xl_studio.specs.Saving.{IsSaved}
+
+-- ---- the filters
+
+-- a line whose call is within its type, and whose filters are in the chest
+abbrev pub FitsChest : List (Option FilterState) → Line → Type 0
+FitsChest chest (call c) = IsCall c × AreThere chest (edits_of c)
+FitsChest chest save = Unit {0}
+FitsChest chest (forget slot) = IsTrue (has_slot chest slot)
+
+-- no filter was dropped
+abbrev pub HasAll : List (Option FilterState) → Type 0
+HasAll chest = (slot : ℕ) → slot < length chest → has_slot chest slot ≡ true
+
+-- ---- the digests
+
+-- the digest of the bytes, where a tile was asked for and is the reply
+abbrev pub said : (asks : Bool) → Reply → (bytes : List ℕ) → List (List ℕ)
+said asks (tile_of version) bytes = if asks then digest_of bytes ∷ [] else []
+said asks reply bytes = []
+
+-- a run with such a reply prints nothing
+abbrev pub is_unprinted : Reply → Bool
+is_unprinted (machine.changed version group next) = false
+is_unprinted (machine.refused index cause) = false
+is_unprinted (machine.moved now) = false
+is_unprinted machine.nothing_to_undo = false
+is_unprinted machine.nothing_to_redo = false
+is_unprinted (machine.not_top top) = false
+is_unprinted (tile_of version) = false
+is_unprinted (machine.stale have seen) = false
+is_unprinted (machine.no_stack node) = false
+is_unprinted machine.outside_tile = false
+is_unprinted (machine.top_is group version) = false
+is_unprinted (machine.saved version) = false
+is_unprinted (machine.save_fault version) = false
+is_unprinted (machine.save_memory version) = true
+is_unprinted machine.history_full = true
+
+-- ---- a line
+
+module _ {K : Type 0} where
+  -- A call was answered, and printably. What is said of it is the digest of the tile that it is shown.
+  pub record IsCallMade (base : Document) (session : ℕ) (c : Call) (before after : List (Option FilterState)) (old new : Known K) (digests : List (List ℕ)) : Type 0 where
+    pub reply : Reply
+    pub called : (filters : List FilterState) → Agrees before filters → IsCalled base session c (expected_tables filters (asked c []) reply) reply old new
+    pub printed : is_unprinted reply ≡ false
+    pub fresh : IsFreshReply (latest_of (entries_in old.front)) reply
+    pub used : IsAfter before after c reply
+    pub bytes : List ℕ
+    pub shown : Shows (history_of base new.front) c reply bytes
+    pub digests_are : digests ≡ said (asks_tile c) reply bytes
+
+  -- a save was answered, and printably
+  pub record IsSaveMade (base : Document) (session : ℕ) (old new : Known K) : Type 0 where
+    pub reply : Reply
+    pub saved : IsSaved base session reply old new
+    pub printed : is_unprinted reply ≡ false
+
+  -- what a line of the script makes, and the digests that are said of it
+  abbrev pub IsLineMade : (base : Document) → (session : ℕ) → Line → (before after : List (Option FilterState)) → (old new : Known K) → (digests : List (List ℕ)) → Type 0
+  IsLineMade base session (call c) before after old new digests = IsCallMade base session c before after old new digests
+  IsLineMade base session save before after old new digests = IsSaveMade base session old new × (after ≡ before) × (digests ≡ [])
+  IsLineMade base session (forget slot) before after old new digests = (new ≡ old) × (after ≡ slice_set before slot None) × (digests ≡ [])

@@ -1,0 +1,232 @@
+ghost use Rattle.std.specs.Prelude.{◌≡◌, ℕ, ◌<◌, [], ◌++◌, length, map, IfOk, OnOk, OnErr, List, string_bytes};
+ghost use mathlib.Core.List.{IsPrefix};
+ghost use Rattle.spec_filters.specs.declared.FilterState.{FilterState};
+ghost use Rattle.spec_history.specs.Calls.{IsCall};
+ghost use Rattle.spec_history.specs.History.{asked, latest_of};
+ghost use Rattle.spec_history.specs.Kept.{IsFreshReply};
+ghost use Rattle.spec_history.specs.Limited.{edits_of};
+ghost use Rattle.spec_script.specs.Fits.{AreFit};
+ghost use Rattle.spec_tables.specs.Agrees.{Agrees, AreThere, IsAfter};
+ghost use Rattle.spec_tables.specs.Tables.{expected_tables};
+ghost use Rattle.xl_core.specs.History.{Shows};
+ghost use Rattle.xl_edit.specs.Calls.{call_of};
+ghost use Rattle.xl_edit.specs.Replies.{reply_of};
+ghost use Rattle.xl_filters.specs.Chests.{states_in};
+ghost use Rattle.xl_script.specs.Lines.{line_of, lines_of};
+ghost use Rattle.xl_studio.specs.Calling.{IsCalled};
+ghost use Rattle.xl_studio.specs.Moments.{entries_in};
+ghost use Rattle.xl_studio.specs.Seats.{base_of, history_of, opening_of, front_of, made_of, weight_of, known_by, IsSeatOf};
+ghost use Rattle.spec_seats.specs.Digests.{asks_tile, digests_in};
+ghost use Rattle.spec_seats.specs.Made.{HasMade, IsOf};
+ghost use Rattle.spec_seats.specs.Picked.{picked};
+ghost use Rattle.xl_studio.specs.Saving.{IsSaved};
+ghost use Rattle.xl_sessions.specs.Playing.{FitsChest, HasAll, IsCallMade, IsSaveMade, IsLineMade, is_unprinted, said};
+
+use std::alloc::{AllocError, Global};
+use std::sync::Wait;
+use std::sync::ledger::Ledger;
+use xl_blend::Steps;
+use xl_core::Desk;
+use xl_edit::{Call, Reply};
+use xl_filters::PointFilter;
+use xl_ports::{Actor, Gate, Place, Shelf};
+use xl_report::digest;
+use xl_rle::Greedy;
+use xl_script::Line;
+use xl_studio::{Seat, Studio};
+
+// Whether a call asks for a tile.
+fn asks_tile(call: &Call) -> bool
+    ensures { result ≡ asks_tile (call_of call.now) }
+{
+    match call {
+        Call::Tile(..) | Call::Peek(..) => true,
+        Call::Edit(_) | Call::Undo(_) | Call::Redo | Call::Top => false,
+    }
+}
+
+// Whether a run with this reply prints nothing.
+fn is_unprinted(reply: &Reply) -> bool
+    ensures { result ≡ is_unprinted (reply_of reply.now) }
+{
+    matches!(reply, Reply::SaveMemory { .. } | Reply::HistoryFull)
+}
+
+// Appends the digest of the tile in the desk, where a tile was asked for and is the reply.
+fn say(
+    alloc: Global,
+    asks: bool,
+    reply: &Reply,
+    desk: &Desk,
+    digests: &mut Vec<String>,
+) -> Result<(), AllocError>
+    ensures { OnOk result (map string_bytes digests.new.items ≡ map string_bytes digests.old.items ++ said asks (reply_of reply.now) desk.now.out) }
+{
+    if let Reply::Tile { .. } = reply {
+        if asks {
+            let text = digest(alloc, desk.out.bytes())?;
+            digests.push(text)?;
+        }
+    }
+    Ok(())
+}
+
+// Makes a call of a session, and passes the gate before it and after it.
+fn make_call<W: Wait, L: Ledger, D: Shelf, G: Gate>(
+    rt: &W,
+    alloc: Global,
+    studio: &Studio<D>,
+    gate: &G,
+    session: u8,
+    call: Call,
+    desk: &mut Desk,
+    seat: &mut Seat<D>,
+    steps: &mut Steps<L>,
+) -> Result<Reply, AllocError>
+    requires seat { IsSeatOf studio.now seat.old }
+    requires session { session < 8 }
+    requires call { IsCall (call_of call) }
+    requires there { AreThere (states_in state desk.old.chest) (edits_of (call_of call)) }
+    requires of { IsOf session (made_of seat.old) (entries_in (front_of seat.old)) }
+
+    ensures seat { IsSeatOf studio.now seat.new }
+    ensures weight { weight_of seat.new ≡ weight_of seat.old }
+    ensures begins { IsPrefix (front_of seat.old) (front_of seat.new) }
+    ensures of { IsOf session (made_of seat.new) (entries_in (front_of seat.new)) }
+
+    ensures answered { (filters : List FilterState) → Agrees (states_in state desk.old.chest) filters
+        → IfOk result (λ reply. IsCalled (base_of studio.now) session (call_of call) (expected_tables filters (asked (call_of call) []) (reply_of reply)) (reply_of reply) (known_by seat.old) (known_by seat.new)) }
+    ensures fresh { IfOk result (λ reply. IsFreshReply (latest_of (entries_in (front_of seat.old))) (reply_of reply)) }
+    ensures shown { IfOk result (λ reply. Shows (history_of (base_of studio.now) (front_of seat.new)) (call_of call) (reply_of reply) desk.new.out) }
+    ensures chest { IfOk result (λ reply. IsAfter (states_in state desk.old.chest) (states_in state desk.new.chest) (call_of call) (reply_of reply)) }
+{
+    gate.pass(Actor::Session(session), Place::BeforeCall);
+    let reply = studio.call(rt, alloc, seat, session, call, desk, steps);
+    gate.pass(Actor::Session(session), Place::AfterCall);
+    reply
+}
+
+// Makes a call of a session, and appends the digest of the tile that it is shown.
+fn play_call<W: Wait, L: Ledger, D: Shelf, G: Gate>(
+    rt: &W,
+    alloc: Global,
+    studio: &Studio<D>,
+    gate: &G,
+    session: u8,
+    call: Call,
+    desk: &mut Desk,
+    seat: &mut Seat<D>,
+    steps: &mut Steps<L>,
+    digests: &mut Vec<String>,
+) -> Result<(), AllocError>
+    requires seat { IsSeatOf studio.now seat.old }
+    requires session { session < 8 }
+    requires call { IsCall (call_of call) }
+    requires there { AreThere (states_in state desk.old.chest) (edits_of (call_of call)) }
+    requires of { IsOf session (made_of seat.old) (entries_in (front_of seat.old)) }
+
+    ensures seat { IsSeatOf studio.now seat.new }
+    ensures weight { weight_of seat.new ≡ weight_of seat.old }
+    ensures begins { IsPrefix (front_of seat.old) (front_of seat.new) }
+    ensures of { IsOf session (made_of seat.new) (entries_in (front_of seat.new)) }
+
+    ensures made { OnOk result ((told : List (List ℕ)) × (map string_bytes digests.new.items ≡ map string_bytes digests.old.items ++ told)
+        × IsCallMade (base_of studio.now) session (call_of call) (states_in state desk.old.chest) (states_in state desk.new.chest) (known_by seat.old) (known_by seat.new) told) }
+{
+    let asks = asks_tile(&call);
+    let reply = make_call(rt, alloc, studio, gate, session, call, desk, seat, steps)?;
+    if is_unprinted(&reply) {
+        return Err(AllocError);
+    }
+    say(alloc, asks, &reply, desk, digests)
+}
+
+// Makes a save of a session, and passes the gate before it and after it.
+fn make_save<W: Wait, D: Shelf, G: Gate>(
+    rt: &W,
+    alloc: Global,
+    studio: &Studio<D>,
+    gate: &G,
+    session: u8,
+    seat: &mut Seat<D>,
+) -> Result<Reply, AllocError>
+    requires seat { IsSeatOf studio.now seat.old }
+    requires session { session < 8 }
+    requires of { IsOf session (made_of seat.old) (entries_in (front_of seat.old)) }
+
+    ensures seat { IsSeatOf studio.now seat.new }
+    ensures weight { weight_of seat.new ≡ weight_of seat.old }
+    ensures begins { IsPrefix (front_of seat.old) (front_of seat.new) }
+    ensures of { IsOf session (made_of seat.new) (entries_in (front_of seat.new)) }
+    ensures saved { IfOk result (λ reply. IsSaved (base_of studio.now) session (reply_of reply) (known_by seat.old) (known_by seat.new)) }
+{
+    gate.pass(Actor::Session(session), Place::BeforeCall);
+    let mut coder = Greedy;
+    let reply = studio.save(rt, alloc, seat, session, &mut coder);
+    gate.pass(Actor::Session(session), Place::AfterCall);
+    reply
+}
+
+// Makes a save of a session, which fails as out of memory where its reply has no text.
+fn play_save<W: Wait, D: Shelf, G: Gate>(
+    rt: &W,
+    alloc: Global,
+    studio: &Studio<D>,
+    gate: &G,
+    session: u8,
+    seat: &mut Seat<D>,
+) -> Result<(), AllocError>
+    requires seat { IsSeatOf studio.now seat.old }
+    requires session { session < 8 }
+    requires of { IsOf session (made_of seat.old) (entries_in (front_of seat.old)) }
+
+    ensures seat { IsSeatOf studio.now seat.new }
+    ensures weight { weight_of seat.new ≡ weight_of seat.old }
+    ensures begins { IsPrefix (front_of seat.old) (front_of seat.new) }
+    ensures of { IsOf session (made_of seat.new) (entries_in (front_of seat.new)) }
+    ensures made { OnOk result (IsSaveMade (base_of studio.now) session (known_by seat.old) (known_by seat.new)) }
+{
+    let reply = make_save(rt, alloc, studio, gate, session, seat)?;
+    if is_unprinted(&reply) {
+        return Err(AllocError);
+    }
+    Ok(())
+}
+
+// Makes what a line of a session says.
+fn play_line<W: Wait, L: Ledger, D: Shelf, G: Gate>(
+    rt: &W,
+    alloc: Global,
+    studio: &Studio<D>,
+    gate: &G,
+    session: u8,
+    line: Line,
+    desk: &mut Desk,
+    seat: &mut Seat<D>,
+    steps: &mut Steps<L>,
+    digests: &mut Vec<String>,
+) -> Result<(), AllocError>
+    requires seat { IsSeatOf studio.now seat.old }
+    requires session { session < 8 }
+    requires fit { FitsChest (states_in state desk.old.chest) (line_of line) }
+    requires of { IsOf session (made_of seat.old) (entries_in (front_of seat.old)) }
+
+    ensures seat { IsSeatOf studio.now seat.new }
+    ensures weight { weight_of seat.new ≡ weight_of seat.old }
+    ensures begins { IsPrefix (front_of seat.old) (front_of seat.new) }
+    ensures of { IsOf session (made_of seat.new) (entries_in (front_of seat.new)) }
+
+    ensures made { OnOk result ((told : List (List ℕ)) × (map string_bytes digests.new.items ≡ map string_bytes digests.old.items ++ told)
+        × IsLineMade (base_of studio.now) session (line_of line) (states_in state desk.old.chest) (states_in state desk.new.chest) (known_by seat.old) (known_by seat.new) told) }
+{
+    match line {
+        Line::Call(call) => play_call(
+            rt, alloc, studio, gate, session, call, desk, seat, steps, digests,
+        ),
+        Line::Save => play_save(rt, alloc, studio, gate, session, seat),
+        Line::Forget(slot) => {
+            desk.chest.forget(slot);
+            Ok(())
+        }
+    }
+}
