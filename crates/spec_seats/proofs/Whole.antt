@@ -1,19 +1,19 @@
 -- Where each place of a history is that of one of eight sessions, what is picked for a session is all that it made.
-use Rattle.std.proofs.Common.{◌≡◌, ◌≢◌, inl, inr, ℕ, zero, suc, ◌+◌, ◌<◌, ◌≤◌, Bool, true, false, cond, List, [], ◌∷◌, ◌++◌, length, Some, None, refl, sym, ◌∙◌, ap, subst, arith, lt-ltb, eq-eqb, ne_eqb, true≢false}
-use Rattle.std.specs.Prelude.{◌==◌, Option, MatchBool, slice_get, slice_index_or, unwrap_or, filter_map}
+use Rattle.std.proofs.Common.{◌≡◌, inl, inr, ℕ, zero, suc, ◌+◌, ◌<◌, ◌≤◌, Bool, true, false, cond, List, [], ◌∷◌, length, Some, None, refl, sym, ◌∙◌, ap, subst, arith, lt-ltb, eq-eqb, ne_eqb, true≢false}
+use Rattle.std.specs.Prelude.{◌==◌, Option, slice_get, slice_index_or, unwrap_or, filter_map}
 use Rattle.std.specs.List.{AllByRecursion}
 use Rattle.std.proofs.lemmas.Bool.{cases_lt, eqb-true}
 use Rattle.spec_document.specs.Document.{Document}
 use Rattle.spec_filters.specs.declared.FilterState.{FilterState}
-use Rattle.spec_history.specs.Machine.{State, Saving, initial, answer}
+use Rattle.spec_history.specs.Machine.{State, Saving, initial}
 use Rattle.spec_history.specs.History.{Entry, Kind, asked, starts, ends, is_changed, after_kind, after_entry, replay_from, replay, mine}
-use Rattle.spec_history.specs.Kept.{IsFreshReply, IsFreshFrom, IsFresh, IsLegal}
+use Rattle.spec_history.specs.Kept.{IsFreshReply, IsFreshFrom, IsLegal}
 use Rattle.spec_history.proofs.Growing.{out-answer}
 use Rattle.spec_script.specs.Script.{Line}
 use Rattle.spec_tables.specs.Tables.{HaveTables}
 use Rattle.spec_text.specs.Text.{IsTextOf, printed, is_save_memory, made_by}
 use Rattle.xl_turn.specs.Sums.{total, times, below}
-use Rattle.spec_seats.specs.Picked.{is_at, picked_from, picked, IsFreshAtFrom, IsFreshAt}
+use Rattle.spec_seats.specs.Picked.{is_at, picked_from, picked, IsFreshAtFrom}
 use Rattle.spec_seats.specs.Ended.{MayFollow, opened_by, IsClosed, AreEndedFrom, AreEnded}
 use Rattle.spec_seats.specs.Made.{IsOf, HasMade}
 use Rattle.spec_seats.proofs.Entries.{match_map, picked-none}
