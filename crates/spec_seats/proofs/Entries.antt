@@ -1,5 +1,5 @@
 -- The entries at some places, as the history grows behind them.
-use Rattle.std.proofs.Common.{◌≡◌, ℕ, zero, suc, ◌+◌, ◌<◌, ◌≤◌, Bool, true, false, cond, List, [], ◌∷◌, ◌++◌, length, refl, sym, ◌∙◌, ap, subst, arith, append-nil, append_assoc, length-append}
+use Rattle.std.proofs.Common.{◌≡◌, ℕ, suc, ◌+◌, ◌<◌, ◌≤◌, Bool, true, false, cond, List, [], ◌∷◌, ◌++◌, length, refl, sym, ◌∙◌, ap, subst, arith, append-nil}
 use Rattle.std.specs.Prelude.{MatchBool}
 use Rattle.std.specs.List.{AllByRecursion}
 use Rattle.spec_history.specs.History.{Entry, is_changed, latest_of}
@@ -122,7 +122,7 @@ match_false : (b : Bool) (P Q : Type 0) → b ≡ false → Q → MatchBool b P 
 match_false true P Q is q = cc
 match_false false P Q is q = q
 
-match_map : (b c : Bool) {P Q P' Q' : Type 0} → c ≡ b → (P → P') → (Q → Q') → MatchBool b P Q → MatchBool c P' Q'
+pub match_map : (b c : Bool) {P Q P' Q' : Type 0} → c ≡ b → (P → P') → (Q → Q') → MatchBool b P Q → MatchBool c P' Q'
 match_map true true is f g h = f h
 match_map true false is f g h = cc
 match_map false true is f g h = cc

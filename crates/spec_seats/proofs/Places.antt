@@ -1,8 +1,8 @@
 -- Whether a number is one of some places.
-use Rattle.std.proofs.Common.{◌≡◌, ◌≢◌, ℕ, zero, suc, ◌+◌, ◌<◌, ◌≤◌, Bool, true, false, List, [], ◌∷◌, ◌++◌, length, refl, sym, ◌∙◌, ap, arith, lt-ltb, le-ltb}
+use Rattle.std.proofs.Common.{◌≡◌, ◌≢◌, ℕ, ◌<◌, ◌≤◌, true, false, List, [], ◌∷◌, ◌++◌, refl, ap, arith, lt-ltb}
 use Rattle.std.specs.Prelude.{nat_lt}
 use Rattle.std.specs.List.{AllByRecursion}
-use Rattle.xl_turn.specs.Sums.{total, same, times}
+use Rattle.xl_turn.specs.Sums.{times}
 use Rattle.xl_turn.proofs.Totals.{same_self, same_false, times_last}
 use Rattle.spec_seats.specs.Picked.{is_at, Rise}
 

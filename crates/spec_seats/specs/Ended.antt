@@ -1,5 +1,5 @@
 -- Entries along which each save that starts ends at once.
-use Rattle.std.specs.Prelude.{◌≡◌, ℕ, List, [], ◌∷◌, Option, Some, None}
+use Rattle.std.specs.Prelude.{◌≡◌, List, [], ◌∷◌, Option, Some, None}
 use Rattle.spec_history.specs.History.{Entry, Kind, asked, starts, ends}
 
 -- what may come where a start is open, or none is: its end, or anything but an end

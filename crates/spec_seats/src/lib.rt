@@ -24,7 +24,6 @@ pub fn picked_are_mine()
 pub fn no_save_is_out()
     ensures { (base : Document) (es : List Entry) (places : List (List ℕ)) → length places ≡ 8
         → ((x : ℕ) → total (λ (ps : List ℕ). times x ps) places ≡ below (length es) x)
-        → IsLegal base es
         → ((session : ℕ) → session < 8 → IsOf session (slice_index_or places session []) es)
         → (replay base es).out ≡ None }
 {}
