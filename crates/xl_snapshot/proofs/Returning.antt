@@ -24,7 +24,7 @@ use Rattle.spec_saves.specs.Returns.{DiskReturns}
 -- ---- versions that are named are there
 
 -- the old file, or a version up to the last one
-abbrev IsThere : (last : ℕ) → Named → Type 0
+abbrev pub IsThere : (last : ℕ) → Named → Type 0
 IsThere last the_old = Unit {0}
 IsThere last (version v) = v ≤ last
 
@@ -36,14 +36,14 @@ all_later : (old new : ℕ) (ns : List Named) → old ≤ new → AllByRecursion
 all_later old new [] le h = tt
 all_later old new (n ∷ ns) le h = (there_later old new n le h.0, all_later old new ns le h.1)
 
-one_more : (last v : ℕ) (ns : List Named) → AllByRecursion (IsThere last) ns → v ≤ last → AllByRecursion (IsThere last) (ns ++ version v ∷ [])
+pub one_more : (last v : ℕ) (ns : List Named) → AllByRecursion (IsThere last) ns → v ≤ last → AllByRecursion (IsThere last) (ns ++ version v ∷ [])
 one_more last v [] h le = (le, tt)
 one_more last v (n ∷ ns) h le = (h.0, one_more last v ns h.1 le)
 
 -- what is named, and the version of the save that is out
-record AreThere (s : State) (ns : List Named) : Type 0 where
-  named : AllByRecursion (IsThere (latest s)) ns
-  going : IfSome s.out (λ o. o.version ≤ latest s)
+pub record AreThere (s : State) (ns : List Named) : Type 0 where
+  pub named : AllByRecursion (IsThere (latest s)) ns
+  pub going : IfSome s.out (λ o. o.version ≤ latest s)
 
 out_later : (out : Option Saving) (old new : ℕ) → old ≤ new → IfSome out (λ o. o.version ≤ old) → IfSome out (λ o. o.version ≤ new)
 out_later None old new le h = tt
@@ -80,12 +80,12 @@ there_from base s earlier (e ∷ es) ns sound there run =
     there_from base (after_entry base s e) (earlier ++ e ∷ []) es (after_one ns e) goes.sound
     (kind_there base s earlier e e.kind ns (grown s (after_entry base s e) (is_changed e.reply) goes.more) there run.0) run.1
 
-names_there : (base : Document) (es : List Entry) → IsLegal base es → AreThere (replay base es) (names es)
+pub names_there : (base : Document) (es : List Entry) → IsLegal base es → AreThere (replay base es) (names es)
 names_there base es legal = there_from base (initial base) [] es (the_old ∷ []) (sound-initial base) (record { named = (tt, tt); going = tt }) legal.run
 
 -- ---- contents stay what they are as entries come
 
-version_stays : (base : Document) (es more : List Entry) (v : ℕ) (c : Content) → v ≤ latest (replay base es) → IsVersion base es v c → IsVersion base (es ++ more) v c
+pub version_stays : (base : Document) (es more : List Entry) (v : ℕ) (c : Content) → v ≤ latest (replay base es) → IsVersion base es v c → IsVersion base (es ++ more) v c
 version_stays base es more v absent le is = absurd is
 version_stays base es more v (file bytes) le is = subst (Written bytes) (sym (document_of-append base es more v le)) is
 
@@ -94,7 +94,7 @@ named_stays : (base : Document) (es more : List Entry) (opened : Disk) (name : L
 named_stays base es more opened name c the_old there is = is
 named_stays base es more opened name c (version v) there is = version_stays base es more v c there is
 
-in_stays : (base : Document) (es more : List Entry) (opened : Disk) (name : List ℕ) (c : Content) (ns : List Named) → AllByRecursion (IsThere (latest (replay base es))) ns
+pub in_stays : (base : Document) (es more : List Entry) (opened : Disk) (name : List ℕ) (c : Content) (ns : List Named) → AllByRecursion (IsThere (latest (replay base es))) ns
     → IsIn base es opened name c ns → IsIn base (es ++ more) opened name c ns
 in_stays base es more opened name c [] there is = is
 in_stays base es more opened name c (n ∷ ns) there (inl is) = inl (named_stays base es more opened name c n there.0 is)
@@ -139,7 +139,7 @@ low_from base s earlier (e ∷ es) sound run =
     (both (IsLow last) (versions_of e.kind e.reply) (saved_versions es) (started_low base s earlier e e.kind last le run.0)
     (low_from base (after_entry base s e) (earlier ++ e ∷ []) es goes.sound run.1))
 
-saved_stays : (base : Document) (es more : List Entry) (c : Content) → IsLegal base es → IsSaved base es c → IsSaved base (es ++ more) c
+pub saved_stays : (base : Document) (es more : List Entry) (c : Content) → IsLegal base es → IsSaved base es c → IsSaved base (es ++ more) c
 saved_stays base es more c legal is =
     let low : is.v ≤ latest (replay base es) =
     one_of (IsLow (latest (replay base es))) (saved_versions es) is.v (low_from base (initial base) [] es (sound-initial base) legal.run) is.started.0 is.started.1 is.started.2 in

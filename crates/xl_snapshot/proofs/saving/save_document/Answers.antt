@@ -1,6 +1,6 @@
 use Rattle.std.proofs.Common.{List, ℕ, subst, sym}
 use Rattle.spec_layout.specs.Layout.{Written}
-use Rattle.xl_program.proofs.saving.save_document.Goals as goal
+use Rattle.xl_snapshot.proofs.saving.save_document.Goals as goal
 
 pub returns-in-Ok-save_file : goal.returns-in-Ok-save_file
 returns-in-Ok-save_file g c =
