@@ -5,5 +5,3 @@ pub mod State
 -- what a call makes
 pub mod Calling
 pub mod Seats
--- what a save makes
-pub mod Saving

@@ -29,8 +29,8 @@ use xl_filters::PointFilter;
 use xl_ports::Shelf;
 
 impl<D: Shelf> Studio<D> {
-    /// Makes a call of a session in one hold of the turn.
-    pub fn call<W: Wait, L: Ledger>(
+    // Makes a call in one hold of the turn.
+    fn call<W: Wait, L: Ledger>(
         &self,
         rt: &W,
         alloc: Global,

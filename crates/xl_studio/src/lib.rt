@@ -7,7 +7,6 @@
 mod calls;
 mod moment;
 mod opening;
-mod saving;
 mod seat;
 mod shared;
 
@@ -15,4 +14,4 @@ pub use moment::Moment;
 pub use seat::{Seat, Studio};
 pub use shared::Shared;
 pub use xl_core::{Core, Desk};
-pub use xl_edit::{Call, Group, NodeId, Reply, TileAt};
+pub use xl_edit::{Group, NodeId, Reply, TileAt};
