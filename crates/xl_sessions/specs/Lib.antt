@@ -1,0 +1,2 @@
+-- the printed lines of the sessions
+pub mod Printing
