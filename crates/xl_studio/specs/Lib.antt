@@ -5,3 +5,7 @@ pub mod State
 -- what a call makes
 pub mod Calling
 pub mod Seats
+-- what a save makes
+pub mod Saving
+-- a save between its two holds
+pub mod UnderWay

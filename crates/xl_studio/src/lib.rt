@@ -7,6 +7,7 @@
 mod calls;
 mod moment;
 mod opening;
+mod saving;
 mod seat;
 mod shared;
 
