@@ -69,14 +69,7 @@ impl<D: Shelf> Studio<D> {
     }
 
     // The second hold: the shelf comes back. The save is still out, whatever other seats did.
-    fn end<W: Wait>(
-        &self,
-        rt: &W,
-        seat: &mut Seat<D>,
-        session: u8,
-        shelf: D,
-        how: SaveEnd,
-    ) -> Reply
+    fn end<W: Wait>(&self, rt: &W, seat: &mut Seat<D>, session: u8, shelf: D, how: SaveEnd) -> Reply
         requires seat { IsSeatOf self.now seat.old }
         requires back { MayComeBack (known D.selected D.disk D.reading_faults D.saving_faults) (opening_shelf self.now) (base_of self.now) session how shelf (known_by seat.old) }
         ensures seat { IsSeatOf self.now seat.new }

@@ -16,9 +16,9 @@ kept g c = let e = c.submit-reply.ensures in kept_after _ _ c.self.invariant.0 c
 
 pub invariant_of-self : goal.invariant_of-self
 invariant_of-self g c = (
-    kept g c,
-    ap (λ es. length es + 1) c.entries.ensures,
-    subst (λ (k : _). IsSome (g.D.Shelf.selected k)) (sym c.submit-reply.ensures.shelf.opening) c.self.invariant.2,
+  kept g c,
+  ap (λ es. length es + 1) c.entries.ensures,
+  subst (λ (k : _). IsSome (g.D.Shelf.selected k)) (sym c.submit-reply.ensures.shelf.opening) c.self.invariant.2,
 )
 
 pub returns-clause-kept : goal.returns-clause-kept
