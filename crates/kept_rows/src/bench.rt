@@ -1,5 +1,5 @@
 //! A core with its jobs.
-ghost use Rattle.std.specs.Prelude.{◌≡◌, ◌<◌, [], IfOk, IfSome};
+ghost use Rattle.std.specs.Prelude.{◌≡◌, ◌<◌, ◌≤◌, [], IfOk, IfSome};
 ghost use Rattle.spec_grid.specs.Grid.{is_on_grid};
 ghost use Rattle.spec_history.specs.Machine.{has_stack as document_has_stack};
 ghost use Rattle.kept_rows.specs.Asked.{IsPlain, PicturesStay, IsOfLast};
@@ -23,6 +23,9 @@ use xl_filters::Chest;
 use xl_grid::grid;
 use xl_ports::Shelf;
 use xl_read::decode;
+
+/// For how many more calls room is taken at most.
+const MOST_CALLS: u32 = 100;
 
 /// A core, the jobs that are out, which are composed, and what the last tile or peek has shown.
 #[derive(Drop)]
@@ -105,6 +108,15 @@ fn submit<L: Ledger, D: Shelf>(
     core.know_right();
     let seen = core.version();
     core.submit(alloc, 0, call, seen, desk, &mut steps)
+}
+
+// Takes room for n more calls. For how many there is room then.
+fn reserve<D: Shelf>(core: &mut Core<D>, n: u32) -> Result<u32, AllocError>
+    requires { n ≤ MOST_CALLS }
+    ensures same { core.new.history ≡ core.old.history }
+{
+    core.reserve(n)?;
+    Ok(core.spare())
 }
 
 // Takes a job and composes it.
@@ -190,6 +202,16 @@ impl Bench {
     /// What the last step has shown, which is nothing where it was no tile and no peek.
     pub fn shown(&self) -> &[u8] {
         self.shown.bytes()
+    }
+
+    /// Takes room for n more calls, at most 100. For how many there is room then.
+    pub fn reserve(&mut self, n: u32) -> Result<u32, AllocError> {
+        reserve(&mut self.core, n.min(MOST_CALLS))
+    }
+
+    /// For how many more calls there is room.
+    pub fn spare(&self) -> u32 {
+        self.core.spare()
     }
 
     /// Takes a job, which is out then behind the others. Its stack and its tile.

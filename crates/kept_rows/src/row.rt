@@ -24,6 +24,10 @@ pub enum Row {
     Cleans(u32, u32, u32),
     /// Jobs come of these stacks, one after another, and are handed in; then there is none.
     Marks(&'static [u32]),
+    /// Room is taken for so many calls, and there is as much then.
+    Reserves(u32),
+    /// There is room for so many calls.
+    Spares(u32),
 }
 
 // Takes jobs until it is this tile's. Whether it was.
@@ -125,6 +129,11 @@ fn marks(alloc: Global, bench: &mut Bench, stacks: &[u32]) -> Result<bool, Alloc
     Ok(found.as_slice() == stacks)
 }
 
+// Takes room for so many calls. Whether there is as much.
+fn reserves(bench: &mut Bench, calls: u32) -> Result<bool, AllocError> {
+    Ok(calls <= bench.reserve(calls)?)
+}
+
 // A new version.
 fn changed(version: u32, group: u32, next: u32) -> Reply {
     Reply::Changed {
@@ -146,6 +155,8 @@ fn holds(alloc: Global, bench: &mut Bench, row: Row) -> Result<bool, AllocError>
         Row::Ends(finished) => Ok(ends(bench, finished)),
         Row::Cleans(stacks, side, version) => cleans(alloc, bench, stacks, side, version),
         Row::Marks(stacks) => marks(alloc, bench, stacks),
+        Row::Reserves(calls) => reserves(bench, calls),
+        Row::Spares(calls) => Ok(calls <= bench.spare()),
     }
 }
 

@@ -91,6 +91,19 @@ const REFUSED: [Row; 3] = [
     Row::Marks(&[]),
 ];
 
+// Room for three calls is enough for three undos, and each of them takes the room of one.
+const ROOM: [Row; 9] = [
+    Row::Changes(Step::Fade(1, 1), 1, 1, 2),
+    Row::Changes(Step::Fade(1, 2), 2, 2, 2),
+    Row::Changes(Step::Fade(1, 3), 3, 3, 2),
+    Row::Reserves(3),
+    Row::Changes(Step::Undo, 4, 3, 2),
+    Row::Spares(2),
+    Row::Changes(Step::Undo, 5, 2, 2),
+    Row::Spares(1),
+    Row::Changes(Step::Undo, 6, 1, 2),
+];
+
 #[test]
 fn a_peek_shows_what_a_tile_left(rt: HostRuntime) -> Result<(), Fail> {
     assert_eq!(rt; first_wrong(rt.alloc(), &ONE, &PEEKS)?, None);
@@ -127,5 +140,11 @@ fn outside_the_canvas_and_by_a_refused_group_nothing_is_marked(
 ) -> Result<(), Fail> {
     assert_eq!(rt; first_wrong(rt.alloc(), &ONE, &OUTSIDE)?, None);
     assert_eq!(rt; first_wrong(rt.alloc(), &ONE, &REFUSED)?, None);
+    Ok(())
+}
+
+#[test]
+fn three_undos_in_the_room_of_three_calls(rt: HostRuntime) -> Result<(), Fail> {
+    assert_eq!(rt; first_wrong(rt.alloc(), &ONE, &ROOM)?, None);
     Ok(())
 }

@@ -14,8 +14,6 @@ mod normal_rows;
 mod pixels;
 mod reciprocals;
 mod rows;
-#[cfg(test)]
-mod tests;
 mod words;
 
 pub use bytes::mul;

@@ -8,8 +8,6 @@ mod held;
 mod slot;
 mod slots;
 mod span;
-#[cfg(test)]
-mod tests;
 
 pub use cache::{Cache, MAX_STACKS};
 pub use slots::Slots;

@@ -6,8 +6,6 @@
 mod command;
 mod grammar;
 mod reading;
-#[cfg(test)]
-mod tests;
 
 pub use command::Command;
 pub use reading::command_of;

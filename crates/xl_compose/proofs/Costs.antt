@@ -39,13 +39,6 @@ band_cost old so_far new count w h b n before more is inside =
     let sum : count * (min (64 * (b + 1)) h * w) ≡ count * (min (64 * b) h * w) + count * (n * w) = spread count (min (64 * (b + 1)) h) (min (64 * b) h) n w rows in
     omega (arith, before, more, sum)
 
--- a tile has at most 4096 points
-pub tile_cost : (old new count w h : ℕ) → w ≤ 64 → h ≤ 64 → new ≤ old + count * (w * h) → new ≤ old + count * 4096
-tile_cost old new count w h wide high cost =
-    let points : w * h ≤ 4096 = mul-le w h 64 64 wide high in
-    let all : count * (w * h) ≤ count * 4096 = mul-le count (w * h) count 4096 (omega arith) points in
-    omega (arith, cost, all)
-
 -- a piece more
 pub piece_cost : (old mid new w x n total : ℕ) → total ≡ w + x → mid ≤ old + w * n → new ≤ mid + x * n → new ≤ old + total * n
 piece_cost old mid new w x n total sum before here = let all : total * n ≡ w * n + x * n = ap (λ t. t * n) sum ∙ omega arith in omega (arith, before, here, all)

@@ -1,5 +1,5 @@
 -- The pieces of a job, in their room.
-use Rattle.std.proofs.Common.{◌≡◌, ℕ, ◌+◌, ◌*◌, ◌≤◌, List, [], ◌∷◌, length, take, replicate, length-take-le, inl, inr, sym, ◌∙◌, ap, subst, arith, mul-le-mul_right}
+use Rattle.std.proofs.Common.{◌≡◌, ℕ, ◌+◌, ◌*◌, ◌≤◌, List, [], ◌∷◌, length, take, replicate, length-take-le, inl, inr, sym, ◌∙◌, ap, subst, arith, mul_comm, mul-le-mul_right}
 use Rattle.std.specs.Prelude.{Some}
 use Rattle.std.proofs.lemmas.Bool.{cases_lt}
 use Rattle.std.proofs.lemmas.List.{get_or-take, get_or-replicate, get_or_past, length-replicate}
@@ -12,7 +12,8 @@ use Rattle.spec_picture.specs.Picture.{picture, pixel_of}
 use Rattle.xl_compose.specs.declared.pieces.Piece.{Piece}
 use Rattle.xl_compose.specs.declared.span.Band.{Band}
 use Rattle.xl_compose.specs.Added.{AreAdded}
-use Rattle.xl_compose.specs.Cost.{visible_in, visible_of, visible_below}
+use Rattle.xl_compose.specs.Cost.{tile_points, visible_in, visible_of, visible_below}
+use Rattle.xl_compose.specs.Job.{Job, StandsFor, planned}
 use Rattle.xl_compose.specs.JobRoom.{AreFor, tile_band}
 use Rattle.xl_compose.specs.Laid.{pixel}
 use Rattle.xl_compose.specs.Levels.{AreIn, AreShown, points}
@@ -69,3 +70,27 @@ are_for deep d stack at s old pieces none is added =
           (λ i. shown d.colours b (row i) (column i) pieces 0) ∙ (added.here v k hv hk ∙ sym (ap (pixel_of d.colours (b.x + k) (b.y + v)) is)));
       cost = omega (arith, added.cost, counted, nothing);
     }
+
+-- the points of the band of a tile
+tile_size : (d : Document) (at : TileAt) (b : Band) → b ≡ tile_band d at → points b ≡ tile_points d at
+tile_size d at b is = ap points is ∙ mul_comm (tile_band d at).h (tile_band d at).w
+
+-- the job of these pieces stands for the document
+pub planned_stands : (deep : ℕ) (d : Document) (stack : ℕ) (at : TileAt) (version : ℕ) (colours : List (List ℕ)) (b : Band) (pieces : List Piece) (job : Job)
+    → job ≡ planned stack at version colours b pieces → colours ≡ d.colours → b ≡ tile_band d at → AreFor deep d stack at pieces → StandsFor d stack at version job
+planned_stands deep d stack at version colours b pieces job is colours_are tile for_it =
+    let few : weights pieces * points b ≤ visible_below d stack * points b = mul-le-mul_right (points b) for_it.cost in
+    let size : visible_below d stack * points b ≡ visible_below d stack * tile_points d at = ap (λ n. visible_below d stack * n) (tile_size d at b tile) in
+    let cost : job.cost ≡ weights pieces * points b = ap (λ j. j.cost) is in
+    record {
+      stack_is = ap (λ j. j.stack) is;
+      at_is = ap (λ j. j.at) is;
+      version_is = ap (λ j. j.version) is;
+      picture_is = ap (λ j. j.picture) is ∙ ((λ i. composed (colours_are i) (tile i) pieces) ∙ for_it.shows);
+      cost_is = omega (arith, cost, few, size);
+    }
+
+-- what it costs
+pub planned_costs : (d : Document) (stack : ℕ) (at : TileAt) (version : ℕ) (colours : List (List ℕ)) (b : Band) (pieces : List Piece) (job : Job) (count : ℕ)
+    → job ≡ planned stack at version colours b pieces → b ≡ tile_band d at → weights pieces ≡ count → job.cost ≡ count * tile_points d at
+planned_costs d stack at version colours b pieces job count is tile weighs = ap (λ j. j.cost) is ∙ (λ i. weighs i * tile_size d at b tile i)

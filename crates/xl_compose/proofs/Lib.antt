@@ -3,6 +3,7 @@ pub mod Parts
 pub mod NeatPixels
 pub mod Sources
 pub mod Layers
+pub mod LaidCosts
 pub mod BandRows
 pub mod StackRows
 pub mod Recomposed

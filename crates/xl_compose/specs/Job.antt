@@ -7,7 +7,8 @@ use Rattle.spec_picture.specs.Picture.{project}
 use Rattle.xl_compose.specs.declared.clean.Done.{Done}
 use Rattle.xl_compose.specs.declared.pieces.Piece.{Piece}
 use Rattle.xl_compose.specs.declared.span.Band.{Band}
-use Rattle.xl_compose.specs.Cost.{visible_below}
+use Rattle.xl_compose.specs.Cost.{tile_points, visible_below}
+use Rattle.xl_compose.specs.Levels.{points}
 use Rattle.xl_compose.specs.Pieces.{composed, weights}
 
 -- the tile, the version, the picture that composing gives, and how many steps it takes at most
@@ -21,15 +22,15 @@ pub record Job : Type 0 where
 -- the job of these pieces
 abbrev pub planned : (stack : ℕ) → TileAt → (version : ℕ) → (colours : List (List ℕ)) → Band → List Piece → Job
 planned stack at version colours band pieces =
-    record { stack = stack; at = at; version = version; picture = composed colours band pieces; cost = weights pieces * 4096 }
+    record { stack = stack; at = at; version = version; picture = composed colours band pieces; cost = weights pieces * points band }
 
--- it gives the picture of a document
+-- it gives the picture of a document, in at most one step for each pixel of the tile and each visible node below the stack
 pub record StandsFor (d : Document) (stack : ℕ) (at : TileAt) (version : ℕ) (job : Job) : Type 0 where
   pub stack_is : job.stack ≡ stack
   pub at_is : job.at ≡ at
   pub version_is : job.version ≡ version
   pub picture_is : job.picture ≡ project d stack at
-  pub cost_is : job.cost ≤ visible_below d stack * 4096
+  pub cost_is : job.cost ≤ visible_below d stack * tile_points d at
 
 -- what composing the job gives
 pub record IsDone (job : Job) (done : Done) : Type 0 where

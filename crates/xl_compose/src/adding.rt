@@ -5,7 +5,9 @@ ghost use Rattle.spec_picture.specs.Picture.{any_visible};
 ghost use Rattle.xl_doc.specs.Nodes.{IsLeaf, MarksAgree, nodes_of};
 ghost use Rattle.xl_compose.specs.declared.span.Band.{Band};
 ghost use Rattle.xl_compose.specs.Added.{AreAdded, AreRight};
+ghost use Rattle.xl_compose.specs.Cost.{laid_in};
 ghost use Rattle.xl_compose.specs.NodePieces.{blank_piece, clean_piece, leaf_pieces, stack_piece};
+ghost use Rattle.xl_compose.specs.Pieces.{weights};
 
 use crate::clean::CleanTiles;
 use crate::pieces::{Piece, What};
@@ -97,6 +99,7 @@ pub fn add_stack<K: CleanTiles>(
     requires agree { MarksAgree nodes }
     requires low { level + levels nodes ≤ 8 }
     ensures any { IfOk result (λ some. some ≡ any_visible (nodes_of nodes.entry)) }
+    ensures cost { OnOk result (weights pieces.new.items ≡ weights pieces.old.items + laid_in (λ id. K.clean_tile clean.now id at) (nodes_of nodes.entry)) }
     ensures added { OnOk result ((deep : ℕ) (colours : List (List ℕ)) (band : Band) → level + levels nodes.entry + 2 ≤ deep
         → AreRight (λ id. K.clean_tile clean.now id at) colours band (nodes_of nodes.entry)
         → AreAdded deep colours band level (nodes_of nodes.entry) pieces.old.items pieces.new.items) }

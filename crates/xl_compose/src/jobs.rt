@@ -2,9 +2,10 @@
 ghost use Rattle.std.specs.Prelude.{◌≡◌, ◌+◌, ◌*◌, ◌≤◌, IfOk, IsSome, IsTrue};
 ghost use Rattle.spec_forest.specs.Forest.{stack_at};
 ghost use Rattle.spec_grid.specs.Grid.{is_on_grid};
-ghost use Rattle.xl_compose.specs.Cost.{visible_below};
+ghost use Rattle.xl_compose.specs.Cost.{laid_below, tile_points};
 ghost use Rattle.xl_compose.specs.Job.{AreClean, StandsFor};
 ghost use Rattle.xl_compose.specs.JobRoom.{AreFor, IsTile, tile_band};
+ghost use Rattle.xl_compose.specs.Pieces.{weights};
 
 use crate::adding::add_stack;
 use crate::clean::CleanTiles;
@@ -45,6 +46,7 @@ fn pieces_of<K: CleanTiles>(
     ensures some { IfOk result (λ made. 1 ≤ made.1) }
     ensures few { IfOk result (λ made. made.1 ≤ 10) }
     ensures made { IfOk result (λ made. AreFor made.1 doc.now node.0 at made.0.items) }
+    ensures cost { IfOk result (λ made. weights made.0.items ≡ laid_below (λ id. K.clean_tile clean.now id at) doc.now node.0) }
 {
     let nodes = doc.tree.stack(node).unwrap();
     let deep = nodes.levels() + 2;
@@ -53,7 +55,8 @@ fn pieces_of<K: CleanTiles>(
     Ok((pieces, deep))
 }
 
-/// A job for a tile of a stack of a document. Where `clean` has the picture of a group below the stack, it is taken as it is.
+/// A job for a tile of a stack of a document. Where `clean` has the picture of a group below the stack, it is taken as it is: the
+/// group is one node then, and those in it take no step.
 pub fn job<K: CleanTiles>(
     alloc: Global,
     doc: &Document,
@@ -65,7 +68,8 @@ pub fn job<K: CleanTiles>(
     requires stack { IsSome (stack_at node.0 doc.now.nodes) }
     requires on_grid { IsTrue (is_on_grid doc.now.width doc.now.height at) }
     requires clean { AreClean (K.clean_tile clean.now) doc.now at }
-    ensures { IfOk result (λ job. StandsFor doc.now node.0 at version job) }
+    ensures stands { IfOk result (λ job. StandsFor doc.now node.0 at version job) }
+    ensures cost { IfOk result (λ job. job.cost ≡ laid_below (λ id. K.clean_tile clean.now id at) doc.now node.0 * tile_points doc.now at) }
 {
     let band = band_of(doc, at);
     let (pieces, deep) = pieces_of(alloc, doc, node, at, clean)?;

@@ -3,7 +3,7 @@ ghost use Rattle.std.specs.Prelude.{◌≡◌, ◌+◌, ◌*◌, ◌≤◌, [], 
 ghost use Rattle.spec_forest.specs.Forest.{stack_at};
 ghost use Rattle.spec_grid.specs.Grid.{is_on_grid};
 ghost use Rattle.spec_picture.specs.Picture.{project};
-ghost use Rattle.xl_compose.specs.Cost.{visible_below};
+ghost use Rattle.xl_compose.specs.Cost.{tile_points, visible_below};
 ghost use Rattle.xl_compose.specs.Rows.{row_bytes};
 
 use crate::bytes::write_row;
@@ -79,7 +79,7 @@ impl Picture {
 }
 
 /// The picture of a stack at the points of a tile, recomposed. After out of memory `out` and the steps are as before. It takes at most
-/// one step for each of 4096 points and each visible node below the stack.
+/// one step for each pixel of the tile and each visible node below the stack.
 pub fn recompose_tile<L: Ledger>(
     alloc: Global,
     doc: &Document,
@@ -93,7 +93,7 @@ pub fn recompose_tile<L: Ledger>(
     ensures picture { OnOk result (out.new ≡ project doc.now stack.0 at) }
     ensures as_before { OnErr result (out.new ≡ out.old) }
     ensures no_steps { OnErr result (steps.new ≡ steps.old) }
-    ensures cost { steps.new ≤ steps.old + visible_below doc.now stack.0 * 4096 }
+    ensures cost { steps.new ≤ steps.old + visible_below doc.now stack.0 * tile_points doc.now at }
 {
     prove!(doc.width <= MAX_SIDE);
     prove!(doc.height <= MAX_SIDE);

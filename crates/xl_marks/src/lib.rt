@@ -10,8 +10,6 @@ mod laws;
 mod pool;
 mod stacks;
 mod steps;
-#[cfg(test)]
-mod tests;
 
 pub use change::Change;
 pub use damage::Damage;

@@ -12,7 +12,7 @@ use Rattle.xl_program.specs.declared.playing.Replies.{Replies}
 use Rattle.xl_program.specs.declared.stopped.Stopped.{Stopped}
 use Rattle.xl_program.specs.declared.stopped.Stopped.TheVariants.{SourceFault, BadLine, ShelfFault, Refused, SaveFault, SinkFault, Memory}
 use Rattle.spec_script.specs.Script.{Line}
-use Rattle.xl_program.proofs.ComesBack.{right_earlier}
+use Rattle.xl_program.proofs.Earlier.{right_earlier}
 use Rattle.xl_program.proofs.Taken.{untouched}
 
 -- what was known when the script was played

@@ -9,8 +9,8 @@ use Rattle.xl_ports.specs.Disk.{Disk, Between, IsQuiet}
 use Rattle.xl_ports.proofs.Moments.{stays_then, stays_back, one_then}
 use Rattle.xl_save.specs.Save.{SavesOnly, HasSaved}
 use Rattle.xl_save.proofs.AfterCalls.{saves}
-use Rattle.xl_program.specs.Saving.{IsSavedOn, Puts}
-use Rattle.xl_program.proofs.ComesBack.{quiet_left}
+use Rattle.xl_snapshot.specs.Saving.{IsSavedOn, Puts}
+use Rattle.xl_program.proofs.Earlier.{quiet_left}
 
 -- ---- a save behind a quiet call
 

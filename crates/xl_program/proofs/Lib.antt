@@ -5,7 +5,7 @@ mod Alone
 mod Answered
 mod Causes
 mod Chests
-mod ComesBack
+mod Earlier
 mod Edited
 mod Ends
 mod Keeping
@@ -17,7 +17,6 @@ mod MadeScripts
 mod Plain
 mod Played
 mod Quiet
-mod Returning
 mod Saved
 mod Seen
 mod ScriptPlayed

@@ -27,7 +27,7 @@ use Rattle.xl_program.specs.Outcome.{states_of, Comes, NoneFailed, SomeFailed, A
 use Rattle.xl_core.specs.Editing.{Editing, IsRight}
 use Rattle.xl_program.specs.Parts.{IsSummedUp, IsToldOf, StopsMaking, SumsUp, WhetherFailed, WritesReplies}
 use Rattle.xl_program.specs.Playing.{IsBetweenLines}
-use Rattle.xl_program.specs.Saving.{IsSavedOn}
+use Rattle.xl_snapshot.specs.Saving.{IsSavedOn}
 use Rattle.xl_program.specs.declared.playing.Replies.{Replies}
 use Rattle.xl_program.specs.declared.stopped.Stopped.{Stopped}
 use Rattle.xl_program.specs.declared.stopped.Stopped.TheVariants.{SourceFault, BadLine, ShelfFault, Refused, SaveFault, SinkFault, Memory}

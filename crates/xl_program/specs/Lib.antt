@@ -4,4 +4,3 @@ pub mod Making
 pub mod Outcome
 pub mod Parts
 pub mod Playing
-pub mod Saving

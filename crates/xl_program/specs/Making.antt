@@ -12,7 +12,7 @@ use Rattle.spec_text.specs.Text.{IsTextOf, printed}
 use Rattle.spec_world.specs.declared.SaveEnd.TheVariants.{Done, Fault}
 use Rattle.xl_ports.specs.Shelf.{Content}
 use Rattle.xl_ports.specs.Disk.{Disk, MayLeave}
-use Rattle.xl_program.specs.Saving.{IsSavedOn}
+use Rattle.xl_snapshot.specs.Saving.{IsSavedOn}
 
 -- a fault stopped the first save, that of the document as it is made
 abbrev pub FailsAtFirst : (opening now : Known) → Document → Type 0

@@ -12,13 +12,12 @@ ghost use Rattle.xl_doc.specs.Numbered.{AreNumbered};
 ghost use Rattle.xl_program.specs.Outcome.{Given, ComesTo, FailsAtShelf, FaultsRose, ShelfCauseOf, opened, shelved};
 ghost use Rattle.xl_program.specs.Parts.{IsSummedUp, StopsMaking, SumsUp};
 ghost use Rattle.xl_program.specs.Playing.{IsBetweenLines, KeepsExactly};
-ghost use Rattle.xl_program.specs.Saving.{IsSavedOn};
+ghost use Rattle.xl_snapshot.specs.Saving.{IsSavedOn};
 ghost use Rattle.xl_script.specs.Lines.{lists_of};
 
 use crate::editing::{Played, write_replies};
 use crate::ended::Done;
 use crate::playing::{Replies, play};
-use crate::saving::{file_of, save_file};
 use crate::stopped::Stopped;
 use std::alloc::{AllocError, Global};
 use xl_compose::Recompose;
@@ -26,7 +25,9 @@ use xl_core::Core;
 use xl_doc::{Document, NodeId, Pictures, Rect};
 use xl_ports::{Failed, Shelf, Sink};
 use xl_report::{Made, digest, summary};
+use xl_rle::Greedy;
 use xl_script::Script;
+use xl_snapshot::{file_of, save_file};
 
 /// Saves the document of a seed, makes the calls and saves of the seed's script on it, and writes the line that sums them up.
 ///
@@ -74,7 +75,7 @@ fn made_with_file(alloc: Global, seed: u32) -> Result<(Made, Vec<u8>), AllocErro
     ensures limits { IfOk result (λ made. IsDocument made.0.document) }
 {
     let made = xl_report::make(alloc, seed)?;
-    let file = file_of(alloc, &made.document)?;
+    let file = file_of(alloc, &made.document, &mut Greedy)?;
     know_limits(&made.document);
     Ok((made, file))
 }

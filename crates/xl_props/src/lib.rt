@@ -20,8 +20,6 @@ mod put;
 mod read;
 mod rules;
 mod so_far;
-#[cfg(test)]
-mod tests;
 mod unit;
 mod values;
 mod words;

@@ -25,6 +25,3 @@ pub use printing::{print_order, print_reply};
 pub use script::{Line, Lines, SESSIONS, Script};
 pub use spec_text::OrderWord;
 pub use xl_edit::{Call, Edit, Edits, Group, Reply};
-
-#[cfg(test)]
-mod tests;

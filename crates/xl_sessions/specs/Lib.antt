@@ -1,1 +1,3 @@
+-- the printed lines of the sessions
+pub mod Printing
 pub mod Playing

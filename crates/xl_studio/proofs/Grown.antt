@@ -14,7 +14,7 @@ starts_after n (e ∷ es) = starts_after (starts_with n e.kind) es
 module _ {K : Type 0} where
   -- ---- one entry more
 
-  made-snoc : (handed : List K) (n : ℕ) (es : List Entry) (e : Entry)
+  pub made-snoc : (handed : List K) (n : ℕ) (es : List Entry) (e : Entry)
       → made_from handed n (es ++ e ∷ []) ≡ made_from handed n es ++ Made e (handed_at handed (starts_after n es) e.kind) ∷ []
   made-snoc handed n [] e = refl
   made-snoc handed n (x ∷ es) e = ap (λ ms. Made x (handed_at handed n x.kind) ∷ ms) (made-snoc handed (starts_with n x.kind) es e)

@@ -3,4 +3,8 @@ pub mod StillOut
 pub mod Called
 pub mod Seated
 pub mod Joined
+pub mod Started
+pub mod Handed
+pub mod FirstHold
+pub mod SecondHold
 pub mod Quiet

@@ -40,11 +40,11 @@ no_close out (asked call tables) is = refl
 no_close out starts is = absurd is
 no_close out ends is = absurd is
 
-never : {A : Type 0} (n : ℕ) (o : Option ℕ) → o ≡ None → o ≡ Some n → A
+pub never : {A : Type 0} (n : ℕ) (o : Option ℕ) → o ≡ None → o ≡ Some n → A
 never n o p q = absurd (cc (p, q))
 
 module _ {K : Type 0} where
-  back : (c : Editing K) → entries_in (moments_of c) ≡ c.history.entries
+  pub back : (c : Editing K) → entries_in (moments_of c) ≡ c.history.entries
   back c = entries-moments c.history.base c.opening c.handed c.history.entries
 
   -- ---- the list that was entered
@@ -57,6 +57,14 @@ module _ {K : Type 0} where
       let all = prefix_trans (moments_of opened) front (moments_of held) p q in
       first_same opened.history.base held.history.base opened.opening held.opening _ _ all.0 all.1
 
+  shelf_same : (b d : Document) (k l : K) (ms ns rest : List (Moment K)) → (Opened b k ∷ ms) ++ rest ≡ Opened d l ∷ ns → k ≡ l
+  shelf_same b d k l ms ns rest e = cc
+
+  pub shelf_entered : (opened held : Editing K) (front : List (Moment K)) → IsPrefix (moments_of opened) front → IsPrefix front (moments_of held) → opened.opening ≡ held.opening
+  shelf_entered opened held front p q =
+      let all = prefix_trans (moments_of opened) front (moments_of held) p q in
+      shelf_same opened.history.base held.history.base opened.opening held.opening _ _ all.0 all.1
+
   pub seen_entered : (front : List (Moment K)) (held : Editing K) (seen : ℕ) → IsPrefix front (moments_of held) → seen ≡ latest_of (entries_in front) → seen ≤ latest_of held.history.entries
   seen_entered front held seen begins is =
       let le = latest_prefix (entries_in front) (entries_in (moments_of held)) (entries-prefix front (moments_of held) begins) in
@@ -65,7 +73,7 @@ module _ {K : Type 0} where
 
   -- ---- a call closes no place
 
-  last_closes : (start : ℕ) (xs : List (Moment K)) (m : Moment K) (j : ℕ) → start ≤ length xs → Closes closed_by start (xs ++ m ∷ []) (length xs - start) j → closed_next {K = K} (place_out xs) m ≡ Some (start + j)
+  pub last_closes : (start : ℕ) (xs : List (Moment K)) (m : Moment K) (j : ℕ) → start ≤ length xs → Closes closed_by start (xs ++ m ∷ []) (length xs - start) j → closed_next {K = K} (place_out xs) m ≡ Some (start + j)
   last_closes start xs m j le c =
       let all : start + (length xs - start) + 1 ≡ length (xs ++ m ∷ []) = omega (arith, length-append xs (m ∷ [])) in
       let whole : take (start + (length xs - start) + 1) (xs ++ m ∷ []) ≡ xs ++ m ∷ [] = ap (λ n. take n (xs ++ m ∷ [])) all ∙ take-length (xs ++ m ∷ []) in
@@ -114,7 +122,7 @@ module _ {K : Type 0} where
         seen_is = now ∙ ap latest_of (sym es);
       }
 
-  made_where : (full : Bool) (P : Type 0) (start : ℕ) (made made' : List ℕ) (front' entered left : List (Moment K)) (m : Moment K) → start ≡ 1 → length entered ≡ length (entries_in entered) + 1
+  pub made_where : (full : Bool) (P : Type 0) (start : ℕ) (made made' : List ℕ) (front' entered left : List (Moment K)) (m : Moment K) → start ≡ 1 → length entered ≡ length (entries_in entered) + 1
       → front' ≡ left → made' ≡ made_after start made entered left
       → MatchBool full (P × (left ≡ entered)) (left ≡ entered ++ m ∷ [])
       → MatchBool full (P × (front' ≡ entered) × (made' ≡ made)) ((front' ≡ entered ++ m ∷ []) × (made' ≡ made ++ length (entries_in entered) ∷ []))

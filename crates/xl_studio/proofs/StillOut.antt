@@ -33,7 +33,7 @@ out_stays base s e (asked call tables) is = out-answer base s call tables
 out_stays base s e starts is = absurd is
 out_stays base s e ends is = absurd is
 
-out_with-asked : (n : ℕ) (out : Option ℕ) (k : Kind) → IsAsked k → out_with n out k ≡ out
+pub out_with-asked : (n : ℕ) (out : Option ℕ) (k : Kind) → IsAsked k → out_with n out k ≡ out
 out_with-asked n out (asked call tables) is = refl
 out_with-asked n out starts is = absurd is
 out_with-asked n out ends is = absurd is

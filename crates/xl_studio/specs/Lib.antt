@@ -5,6 +5,10 @@ pub mod State
 -- what a call makes
 pub mod Calling
 pub mod Seats
+-- what a save makes
+pub mod Saving
+-- a save between its two holds
+pub mod UnderWay
 -- which jobs are given out, and which seat has one
 pub mod Taking
 pub mod Jobs

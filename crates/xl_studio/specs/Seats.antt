@@ -23,6 +23,10 @@ opening_of studio = moments_of (opened_with studio.lock).core
 abbrev pub base_of : {K : Type 0} → Studio K → Document
 base_of studio = (opened_with studio.lock).core.history.base
 
+-- the shelf with which it was opened
+abbrev pub opening_shelf : {K : Type 0} → Studio K → K
+opening_shelf studio = (opened_with studio.lock).core.opening
+
 -- the history that a list of moments tells
 abbrev pub history_of : {K : Type 0} → (base : Document) → List (Moment K) → History
 history_of base ms = record { base = base; entries = entries_in ms }

@@ -8,6 +8,7 @@ mod calls;
 mod jobs;
 mod moment;
 mod opening;
+mod saving;
 mod seat;
 mod shared;
 mod taking;

@@ -1,10 +1,10 @@
-ghost use Rattle.std.specs.Prelude.{◌≡◌, ◌+◌, ◌≤◌, ◌^◌, [], ◌++◌, length, false, None, IfOk, IfErr};
+ghost use Rattle.std.specs.Prelude.{◌≡◌, ◌+◌, ◌≤◌, ◌^◌, [], ◌++◌, length, false, None, IfOk, IfErr, IsSome};
 ghost use mathlib.Core.List.{IsPrefix};
 ghost use Rattle.spec_world.specs.Right.{IsRight};
 ghost use Rattle.xl_core.specs.Editing.{world};
 ghost use Rattle.xl_turn.specs.Seats.{IsApart, IsEachOnce};
 ghost use Rattle.xl_turn.specs.Turns.{longer};
-ghost use Rattle.xl_studio.specs.Seats.{base_of, front_of, made_of, weight_of, known_by, IsSeatOf};
+ghost use Rattle.xl_studio.specs.Seats.{base_of, opening_shelf, front_of, made_of, weight_of, known_by, IsSeatOf};
 ghost use Rattle.xl_studio.specs.Jobs.{job_out};
 ghost use Rattle.xl_studio.specs.State.{moments_of};
 
@@ -21,8 +21,10 @@ impl<D: Shelf> Studio<D> {
         requires empty { core.history.entries ≡ [] }
         requires handed { core.handed ≡ [] }
         requires right { IsRight core.history.base (world core) }
+        requires selected { IsSome (D.selected core.opening) }
         ensures seat { IfOk result (λ r. IsSeatOf r.0 r.1) }
         ensures base { IfOk result (λ r. base_of r.0 ≡ core.history.base) }
+        ensures shelf { IfOk result (λ r. opening_shelf r.0 ≡ core.opening) }
         ensures front { IfOk result (λ r. front_of r.1 ≡ moments_of core) }
         ensures made { IfOk result (λ r. made_of r.1 ≡ []) }
         ensures weight { IfOk result (λ r. weight_of r.1 ≡ 2 ^ 32) }

@@ -1,11 +1,13 @@
-ghost use Rattle.std.specs.Prelude.{◌≡◌, ◌≤◌, ◌<◌, List, [], false, IfOk, OnErr};
+ghost use Rattle.std.specs.Prelude.{◌≡◌, ◌≤◌, ◌<◌, List, [], false, IfOk, OnErr, IsSome};
 ghost use Rattle.spec_filters.specs.declared.FilterState.{FilterState};
 ghost use Rattle.spec_history.specs.Calls.{IsCall};
 ghost use Rattle.spec_history.specs.History.{asked};
-ghost use Rattle.spec_history.specs.Kept.{IsFreshReply};
+ghost use Rattle.spec_history.specs.Kept.{IsFreshReply, IsLegal};
 ghost use Rattle.spec_history.specs.Limited.{edits_of};
 ghost use Rattle.spec_tables.specs.Agrees.{Agrees, AreThere, IsAfter, IsPartAfter};
 ghost use Rattle.spec_tables.specs.Tables.{expected_tables};
+ghost use Rattle.spec_world.specs.Events.{IsOutOf};
+ghost use Rattle.xl_core.specs.Editing.{known, out_of, ComesBack};
 ghost use Rattle.xl_core.specs.History.{version, Shows};
 ghost use Rattle.xl_core.specs.Now.{KeepsDesk};
 ghost use Rattle.xl_edit.specs.Calls.{call_of};
@@ -13,13 +15,14 @@ ghost use Rattle.xl_edit.specs.Replies.{reply_of};
 ghost use Rattle.xl_filters.specs.Chests.{states_in};
 ghost use Rattle.xl_studio.specs.Calling.{Adds, AddsCalls, IsNoTile};
 ghost use Rattle.xl_studio.specs.State.{IsKept, moments_of};
+ghost use Rattle.xl_studio.specs.UnderWay.{AddsStart, Hands, AddsEnd};
 
 use crate::moment::Moment;
 use std::alloc::{AllocError, Global};
 use std::marker::Model;
 use std::sync::ledger::Ledger;
 use xl_blend::Steps;
-use xl_core::{Core, Desk};
+use xl_core::{Begun, Core, Desk, SaveEnd};
 use xl_edit::{Call, Reply};
 use xl_filters::PointFilter;
 use xl_ports::Shelf;
@@ -38,6 +41,7 @@ pub struct Shared<D: Shelf> {
 impl<D: Shelf> Model for Shared<D> {
     ghost use Rattle.std.specs.Prelude.{◌≡◌, ◌+◌, length};
     ghost use Rattle.std.specs.Coded.{codes};
+    ghost use Rattle.std.specs.Prelude.{IsSome};
     ghost use Rattle.spec_document.specs.Code.{coded_document};
     ghost use Rattle.xl_studio.specs.State.{State, IsKept};
 
@@ -47,7 +51,7 @@ impl<D: Shelf> Model for Shared<D> {
 
     ghost view = { λ s. record { core = s.core; closing = s.closing } };
 
-    ghost invariant = { λ s. IsKept s.core × (s.moments ≡ length s.core.history.entries + 1) };
+    ghost invariant = { λ s. IsKept s.core × (s.moments ≡ length s.core.history.entries + 1) × IsSome (D.selected s.core.opening) };
 }
 
 impl<D: Shelf> Chronicle for Shared<D> {
@@ -68,7 +72,8 @@ impl<D: Shelf> Chronicle for Shared<D> {
 impl<D: Shelf> Shared<D> {
     /// A core with the number of its moments.
     pub fn new(core: Core<D>) -> Shared<D>
-        requires { IsKept core }
+        requires kept { IsKept core }
+        requires selected { IsSome (D.selected core.opening) }
         ensures { result ≡ record { core = core; closing = false } }
     {
         let moments = core.entries().len() as u64 + 1;
@@ -118,6 +123,44 @@ impl<D: Shelf> Shared<D> {
         let reply = self.core.submit(alloc, session, call, seen, desk, steps);
         self.core.know_right();
         self.moments = self.core.entries().len() as u64 + 1;
+        reply
+    }
+
+    /// Tells contracts what the core keeps.
+    pub(crate) fn know_kept(&self)
+        ensures { IsKept self.now.core }
+    {
+        let _moments = self.moments;
+    }
+
+    /// Begins a save of a session, as the core does.
+    pub(crate) fn begin(&mut self, alloc: Global, session: u8) -> Result<Begun<D>, AllocError>
+        requires session { session < 8 }
+        ensures begun { IfOk result (λ begun. AddsStart self.old.core.history.base (moments_of self.old.core) session begun (moments_of self.new.core)) }
+        ensures hands { IfOk result (λ begun. Hands (known D.selected D.disk D.reading_faults D.saving_faults) self.old.core begun) }
+        ensures failed { OnErr result (moments_of self.new.core ≡ moments_of self.old.core) }
+        ensures base { self.new.core.history.base ≡ self.old.core.history.base }
+        ensures legal { IsLegal self.old.core.history.base self.old.core.history.entries }
+        ensures kept { IsKept self.new.core }
+    {
+        let begun = self.core.begin_save(alloc, session);
+        self.core.know_right();
+        let entries = self.core.entries().len() as u64;
+        self.moments = entries + 1;
+        begun
+    }
+
+    /// Ends the save of a session that is out, as the core does.
+    pub(crate) fn end(&mut self, session: u8, shelf: D, how: SaveEnd) -> Reply
+        requires out { IsOutOf (out_of self.old.core.history) session }
+        requires returns { ComesBack (known D.selected D.disk D.reading_faults D.saving_faults) self.old.core how shelf }
+        ensures ended { AddsEnd self.old.core.history.base (moments_of self.old.core) session how (reply_of result) (moments_of self.new.core) }
+        ensures base { self.new.core.history.base ≡ self.old.core.history.base }
+        ensures kept { IsKept self.new.core }
+    {
+        let reply = self.core.end_save(session, shelf, how);
+        let entries = self.core.entries().len() as u64;
+        self.moments = entries + 1;
         reply
     }
 

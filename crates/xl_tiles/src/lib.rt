@@ -14,8 +14,6 @@ mod rows;
 mod shares;
 mod spelled;
 mod table;
-#[cfg(test)]
-mod tests;
 mod tile;
 mod tile_row;
 mod writing;

@@ -17,8 +17,6 @@ mod reads;
 mod refused;
 mod slots;
 mod stacks;
-#[cfg(test)]
-mod tests;
 mod writes;
 
 pub use above::Ancestors;

@@ -6,8 +6,6 @@
 mod lock;
 mod rule;
 mod seat;
-#[cfg(test)]
-mod tests;
 mod view;
 
 pub use seat::{Held, Seat, TurnLock};

@@ -6,6 +6,8 @@ use Rattle.xl_compose.specs.declared.pieces.Piece.{Piece}
 use Rattle.xl_compose.specs.Added.{AreAdded}
 use Rattle.xl_compose.specs.NodePieces.{leaf_pieces, stack_piece}
 use Rattle.xl_compose.proofs.AddedPieces.{blank_added, clean_added, group_added, hidden_added, leaf_added}
+use Rattle.xl_compose.proofs.LaidCosts.{blank_weighs, given_weighs, group_weighs, leaf_weighs}
+use Rattle.xl_compose.specs.Cost.{laid_in}
 use Rattle.xl_compose.proofs.adding.+add_stack.Goals as goal
 
 pub returns-in_ok-add_blank-in-Empty-clause-added : goal.returns-in_ok-add_blank-in-Empty-clause-added
@@ -81,3 +83,22 @@ returns-in_ok-add_over-in-Group-2-clause-added g t c =
     c.in_ok-add_over-in-Group-2.ensures ∙ ap (λ b. inner ++ stack_piece c.args.level b n ∷ []) c.in_ok-some_under-in-Group.ensures.any in
     let P : List Piece → Type 0 = λ new. AreAdded deep colours band c.args.level (group c.in-Group.id.0 (group_of n) children under) old new in
     subst P (sym new_is) (group_added deep colours band c.args.level c.in-Group.id.0 n children under old mid inner (omega (arith, low)) c.if-not-node.false is in_it))
+
+pub returns-in_ok-add_blank-in-Empty-clause-cost : goal.returns-in_ok-add_blank-in-Empty-clause-cost
+returns-in_ok-add_blank-in-Empty-clause-cost g t c =
+    rw (← c.in-Empty.ensures.parts) (blank_weighs c.args.level c.args.pieces.now.items c.add_blank.new.pieces.items c.in_ok-add_blank-in-Empty.ensures)
+
+pub returns-then-node-clause-cost : goal.returns-then-node-clause-cost
+returns-then-node-clause-cost g t c =
+    rw (← c.in-Leaf.ensures.parts) (leaf_weighs c.args.level _ c.in-Leaf.node.now c.args.pieces.now.items c.add_stack.new.pieces.items c.add_leaf.new.pieces.items _
+    c.in_ok-some_under-in-Leaf.ensures.cost c.in_ok-add_leaf-in-Leaf.ensures)
+
+pub returns-in-Some-clause-cost : goal.returns-in-Some-clause-cost
+returns-in-Some-clause-cost g t c =
+    rw (← c.in-Group.ensures.parts) (given_weighs c.args.level _ c.in-Group.node.now c.args.pieces.now.items c.add_stack-in-Group.new.pieces.items c.add_clean.new.pieces.items c.add_over.new.pieces.items
+    c.in-Some.picture.now _ _ _ c.if-not-node.false (sym c.in-Some.ensures) c.in_ok-some_under-in-Group.ensures.cost c.in_ok-add_clean-in-Group.ensures c.in_ok-add_over-in-Group.ensures)
+
+pub returns-in_ok-add_over-in-Group-2-clause-cost : goal.returns-in_ok-add_over-in-Group-2-clause-cost
+returns-in_ok-add_over-in-Group-2-clause-cost g t c =
+    rw (← c.in-Group.ensures.parts) (group_weighs c.args.level _ c.in-Group.node.now c.args.pieces.now.items c.add_stack-in-Group.new.pieces.items c.add_stack-in-Group-2.new.pieces.items
+    c.add_over-in-Group.new.pieces.items _ _ _ c.if-not-node.false (sym c.in_default.ensures) c.in_ok-some_under-in-Group.ensures.cost c.in_ok-add_stack-in-Group.ensures.cost c.in_ok-add_over-in-Group-2.ensures)

@@ -8,6 +8,7 @@ use Rattle.xl_compose.specs.Added.{AreAdded}
 use Rattle.xl_compose.specs.JobRoom.{tile_band}
 use Rattle.xl_compose.proofs.CleanGroups.{right_below}
 use Rattle.xl_compose.proofs.JobPieces.{are_for}
+use Rattle.xl_compose.proofs.LaidCosts.{stack_weighs}
 use Rattle.xl_compose.proofs.Recomposed.{some_stack}
 use Rattle.xl_compose.proofs.jobs.pieces_of.Goals as goal
 
@@ -34,3 +35,15 @@ returns-clause-made g c =
     let added : AreAdded deep d.colours (tile_band d c.args.at) 0 (nodes_of s) c.new-pieces.result.items pieces =
     c.in_ok-add_stack.ensures.added deep d.colours (tile_band d c.args.at) (omega (arith, c.levels-deep.ensures.levels)) right in
     are_for deep d stack c.args.at (nodes_of s) c.new-pieces.result.items pieces c.new-pieces.ensures.items stack_is added
+
+pub returns-clause-cost : goal.returns-clause-cost
+returns-clause-cost g c =
+    let d = c.args.doc.now in
+    let stack = c.args.node.0 in
+    let tree = c.doc.inside.tree in
+    let s = c.unwrap-nodes.result in
+    let is : stack_at stack tree ≡ Some s = sym c.stack.ensures.value ∙ c.unwrap-nodes.ensures in
+    let nodes_is : d.nodes ≡ nodes_of tree = ap (λ d. d.nodes) (sym c.doc.view_is) in
+    let stack_is : stack_at stack d.nodes ≡ Some (nodes_of s) = ap (stack_at stack) nodes_is ∙ (stack-nodes_of stack tree ∙ ap (option_map nodes_of) is) in
+    stack_weighs (λ id. g.K.CleanTiles.clean_tile c.args.clean.now id c.args.at) d stack (nodes_of s) c.new-pieces.result.items c.add_stack.new.pieces.items c.new-pieces.ensures.items stack_is
+    c.in_ok-add_stack.ensures.cost

@@ -19,8 +19,8 @@ returns-clause-cache g c =
     shows-done c.args.document.now c.args.cache.now c.install.new.self c.args.version c.args.node.0 c.args.at
     (record { stack = c.compose-done.result.node.0; at = c.compose-done.result.at }) c.compose-done.result.version c.compose-done.result.picture
     c.requires.kept c.requires.stack c.requires.on_grid (sym c.copy_clean.ensures.found ∙ c.if-copy_clean.false)
-    (c.compose-done.ensures.done.node_is ∙ c.in_ok-job.ensures.stack_is) (c.compose-done.ensures.done.at_is ∙ c.in_ok-job.ensures.at_is)
-    (c.compose-done.ensures.done.version_is ∙ c.in_ok-job.ensures.version_is) (c.compose-done.ensures.done.picture_is ∙ c.in_ok-job.ensures.picture_is)
+    (c.compose-done.ensures.done.node_is ∙ c.in_ok-job.ensures.stands.stack_is) (c.compose-done.ensures.done.at_is ∙ c.in_ok-job.ensures.stands.at_is)
+    (c.compose-done.ensures.done.version_is ∙ c.in_ok-job.ensures.stands.version_is) (c.compose-done.ensures.done.picture_is ∙ c.in_ok-job.ensures.stands.picture_is)
     c.install.ensures.slots
 
 pub returns-clause-steps : goal.returns-clause-steps

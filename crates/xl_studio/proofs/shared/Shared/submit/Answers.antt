@@ -1,4 +1,5 @@
-use Rattle.std.proofs.Common.{◌+◌, ap, refl, length}
+use Rattle.std.proofs.Common.{◌+◌, ap, refl, sym, subst, length}
+use Rattle.std.specs.Prelude.{IsSome}
 use Rattle.xl_edit.specs.Calls.{call_of}
 use Rattle.xl_edit.specs.Replies.{reply_of}
 use Rattle.xl_studio.specs.State.{State, moments_of, IsKept}
@@ -14,7 +15,11 @@ kept : (g : given.Over) (c : goal.After-self-1 g) → IsKept c.submit-reply.new.
 kept g c = let e = c.submit-reply.ensures in kept_after _ _ c.self.invariant.0 c.know_right.ensures e.few e.shelf (calls g c)
 
 pub invariant_of-self : goal.invariant_of-self
-invariant_of-self g c = (kept g c, ap (λ es. length es + 1) c.entries.ensures)
+invariant_of-self g c = (
+  kept g c,
+  ap (λ es. length es + 1) c.entries.ensures,
+  subst (λ (k : _). IsSome (g.D.Shelf.selected k)) (sym c.submit-reply.ensures.shelf.opening) c.self.invariant.2,
+)
 
 pub returns-clause-kept : goal.returns-clause-kept
 returns-clause-kept g c = kept g c

@@ -1,0 +1,62 @@
+//! Rows of several lengths, so that both the vector loops and what is left over run.
+ghost use Rattle.std.specs.Prelude.{◌≡◌, ◌<◌, length};
+
+use std::marker::Brand;
+use std::sync::ledger::{Blank, Ledger};
+use xl_blend::{
+    Mode, Pixel, Steps, blend, code_of, fade_row, fade_row_by, mode_of, mul, over, over_row,
+};
+
+fn grey(value: u8, alpha: u8) -> Pixel {
+    Pixel {
+        r: value,
+        g: value,
+        b: value,
+        a: alpha,
+    }
+}
+
+fn lay<L: Ledger>(mode: Mode, below: Pixel, above: Pixel, blank: Blank) -> [Pixel; 6]
+    requires name { blank.name ≡ L.name }
+    requires parts { blank.parts ≡ L.parts }
+    requires some { 0 < blank.parts }
+{
+    let mut steps = Steps::<L>::new(blank);
+    let one = over(mode, below, above, &mut steps);
+    let mut row = [below; 6];
+    over_row(mode, &mut row[1..], &[above; 5], &mut steps);
+    row[0] = one;
+    row
+}
+
+fn laid(mode: Mode, below: Pixel, above: Pixel) -> [Pixel; 6] {
+    lay::<Brand>(mode, below, above, Blank::new(1))
+}
+
+#[test]
+fn rows_are_laid(rt: HostRuntime) {
+    let mixed = laid(Mode::Normal, grey(100, 128), grey(200, 128));
+    assert_eq!(rt; mixed, [grey(167, 192); 6]);
+    let multiplied = laid(Mode::Multiply, grey(200, 128), grey(100, 255));
+    assert_eq!(rt; multiplied, [grey(119, 128); 6]);
+    let opaque = laid(Mode::Multiply, grey(200, 255), grey(100, 255));
+    assert_eq!(rt; opaque, [grey(78, 255); 6]);
+    let covered = laid(Mode::Normal, grey(100, 255), grey(200, 255));
+    assert_eq!(rt; covered, [grey(200, 255); 6]);
+}
+
+#[test]
+fn rows_are_faded(rt: HostRuntime) {
+    let mut row = [grey(7, 200); 5];
+    fade_row(&mut row, 128);
+    fade_row_by(&mut row, &[100; 5]);
+    assert_eq!(rt; row, [grey(7, 39); 5]);
+}
+
+#[test]
+fn modes_have_codes(rt: HostRuntime) {
+    assert_eq!(rt; mode_of(19), Some(Mode::SoftLight));
+    assert_eq!(rt; code_of(Mode::Overlay), 5);
+    assert_eq!(rt; blend(Mode::SoftLight, 100, 200), 134);
+    assert_eq!(rt; mul(200, 128), 100);
+}

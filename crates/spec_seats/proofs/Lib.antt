@@ -1,0 +1,5 @@
+pub mod Places
+pub mod Entries
+pub mod More
+pub mod Shown
+pub mod Whole

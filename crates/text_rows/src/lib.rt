@@ -1,0 +1,9 @@
+//! Tests of what is read from text and written as text.
+#![tactic(auto)]
+
+#[cfg(test)]
+mod commands;
+#[cfg(test)]
+mod made;
+#[cfg(test)]
+mod scripts;

@@ -1,0 +1,5 @@
+//! Tests of the turn lock.
+#![tactic(auto)]
+
+#[cfg(test)]
+mod turns;

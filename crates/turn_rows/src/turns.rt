@@ -1,0 +1,204 @@
+//! Threads that take turns.
+ghost use Rattle.std.specs.Prelude.{◌≡◌, ◌+◌, ◌<◌, ◌≤◌, ◌^◌, [], ◌∷◌, ◌++◌, MatchBool};
+ghost use Rattle.std.specs.Thread.{IsSync};
+ghost use Rattle.xl_turn.specs.Seats.{IsOf, IsIdle, weight_of};
+
+use std::alloc::Global;
+use std::process::Abort;
+use std::sync::Wait;
+use std::test::Fail;
+use std::thread::{Threads, join};
+use xl_turn::{Chronicle, Seat, TurnLock};
+
+/// Who took a turn, in order.
+#[derive(Drop)]
+struct Tally {
+    turns: Vec<u64>,
+}
+
+impl Chronicle for Tally {
+    //! Threads that take turns.
+    ghost use Rattle.std.specs.Prelude.{None};
+
+    type Entry = u64;
+
+    ghost entries = { λ t. t.turns.items };
+
+    ghost closes = { λ _. None };
+
+    fn len(&self) -> u64 {
+        self.turns.len() as u64
+    }
+}
+
+impl Tally {
+    fn add(&mut self, who: u64) -> bool
+        ensures { MatchBool result (self.new.turns.items ≡ self.old.turns.items ++ who ∷ []) (self.new.turns.items ≡ self.old.turns.items) }
+    {
+        self.turns.push(who).is_ok()
+    }
+
+    fn new(alloc: Global) -> Tally {
+        Tally {
+            turns: Vec::new(alloc),
+        }
+    }
+
+    fn turns_of(&self, who: u64) -> usize {
+        self.turns.as_slice().iter().filter(|x| **x == who).count()
+    }
+}
+
+fn take_turn<W: Wait>(rt: &W, lock: &TurnLock<Tally>, seat: &mut Seat<Tally>, who: u64)
+    requires { IsOf lock.now seat.old × IsIdle seat.old }
+    ensures { IsOf lock.now seat.new × IsIdle seat.new × (weight_of seat.new ≡ weight_of seat.old) }
+{
+    let mut held = lock.enter(rt, seat);
+    held.value.add(who);
+    lock.leave(held, seat);
+}
+
+fn take_turns<W: Wait>(
+    rt: &W,
+    lock: &TurnLock<Tally>,
+    mut seat: Seat<Tally>,
+    who: u64,
+    rounds: u32,
+) -> Seat<Tally>
+    requires { IsOf lock.now seat × IsIdle seat }
+    ensures { IsOf lock.now result × IsIdle result × (weight_of result ≡ weight_of seat) }
+{
+    for _ in 0..rounds {
+        take_turn(rt, lock, &mut seat, who);
+    }
+    seat
+}
+
+fn by_two<R: Threads + Wait + Sync>(
+    rt: &R,
+    lock: &TurnLock<Tally>,
+    first: Seat<Tally>,
+    second: Seat<Tally>,
+    who: u64,
+    rounds: u32,
+) -> Seat<Tally>
+    requires who { who < 100 }
+    requires first { IsOf lock.now first × IsIdle first }
+    requires second { IsOf lock.now second × IsIdle second }
+    ensures { IsOf lock.now result × IsIdle result × (weight_of result ≡ weight_of first + weight_of second) }
+{
+    let (mut first, second) = join(
+        rt,
+        || take_turns(rt, lock, first, who, rounds),
+        || take_turns(rt, lock, second, who + 1, rounds),
+    );
+    lock.join(&mut first, second);
+    first
+}
+
+type Two = (Seat<Tally>, Seat<Tally>);
+
+fn by_four<R: Threads + Wait + Sync>(
+    rt: &R,
+    lock: &TurnLock<Tally>,
+    left: Two,
+    right: Two,
+    who: u64,
+    rounds: u32,
+) -> Seat<Tally>
+    requires who { who < 90 }
+    requires left { IsOf lock.now left.0 × IsIdle left.0 × IsOf lock.now left.1 × IsIdle left.1 }
+    requires right { IsOf lock.now right.0 × IsIdle right.0 × IsOf lock.now right.1 × IsIdle right.1 }
+    ensures { IsOf lock.now result × IsIdle result × (weight_of result ≡ (weight_of left.0 + weight_of left.1) + (weight_of right.0 + weight_of right.1)) }
+{
+    let (mut seat, other) = join(
+        rt,
+        || -> Seat<Tally>
+            requires { IsSync R.row × (who < 90) × IsOf lock.now left.0 × IsIdle left.0 × IsOf lock.now left.1 × IsIdle left.1 }
+            ensures { IsOf lock.entry.now result × IsIdle result × (weight_of result ≡ weight_of left.0 + weight_of left.1) }
+        { by_two(rt, lock, left.0, left.1, who, rounds) },
+        || -> Seat<Tally>
+            requires { IsSync R.row × (who < 90) × IsOf lock.now right.0 × IsIdle right.0 × IsOf lock.now right.1 × IsIdle right.1 }
+            ensures { IsOf lock.entry.now result × IsIdle result × (weight_of result ≡ weight_of right.0 + weight_of right.1) }
+        { by_two(rt, lock, right.0, right.1, who + 2, rounds) },
+    );
+    lock.join(&mut seat, other);
+    seat
+}
+
+fn two_more(lock: &TurnLock<Tally>, seat: &mut Seat<Tally>) -> Two
+    requires { IsOf lock.now seat.old × IsIdle seat.old × (3 ≤ weight_of seat.old) }
+    ensures first { IsOf lock.now result.0 × IsIdle result.0 × (weight_of result.0 ≡ 1) }
+    ensures second { IsOf lock.now result.1 × IsIdle result.1 × (weight_of result.1 ≡ 1) }
+    ensures seat { IsOf lock.now seat.new × IsIdle seat.new × (weight_of seat.new + 2 ≡ weight_of seat.old) }
+{
+    (lock.split(seat), lock.split(seat))
+}
+
+#[test]
+fn two_threads(rt: HostRuntime) -> Result<(), Fail> {
+    let (lock, mut seat) = TurnLock::open(rt.alloc(), Tally::new(rt.alloc()))?;
+    let other = lock.split(&mut seat);
+    let seat = by_two(&rt, &lock, seat, other, 0, 2000);
+    let tally = lock.close(seat);
+    assert_eq!(rt; tally.len(), 4000);
+    assert_eq!(rt; tally.turns_of(0), 2000);
+    assert_eq!(rt; tally.turns_of(1), 2000);
+    Ok(())
+}
+
+#[test]
+fn eight_threads(rt: HostRuntime) -> Result<(), Fail> {
+    let (lock, mut seat) = TurnLock::open(rt.alloc(), Tally::new(rt.alloc()))?;
+    let (a, b) = two_more(&lock, &mut seat);
+    let c = two_more(&lock, &mut seat);
+    let d = two_more(&lock, &mut seat);
+    let e = lock.split(&mut seat);
+    let shared = &lock;
+    let handle = &rt;
+    let (mut seat, other) = join(
+        &rt,
+        || -> Seat<Tally>
+            requires { IsOf shared.now seat × IsIdle seat × IsOf shared.now e × IsIdle e × IsOf shared.now c.0 × IsIdle c.0 × IsOf shared.now c.1 × IsIdle c.1 }
+            ensures { IsOf shared.entry.now result × IsIdle result × (weight_of result ≡ (weight_of seat + weight_of e) + (weight_of c.0 + weight_of c.1)) }
+        { by_four(handle, shared, (seat, e), c, 0, 500) },
+        || -> Seat<Tally>
+            requires { IsOf shared.now a × IsIdle a × IsOf shared.now b × IsIdle b × IsOf shared.now d.0 × IsIdle d.0 × IsOf shared.now d.1 × IsIdle d.1 }
+            ensures { IsOf shared.entry.now result × IsIdle result × (weight_of result ≡ (weight_of a + weight_of b) + (weight_of d.0 + weight_of d.1)) }
+        { by_four(handle, shared, (a, b), d, 4, 500) },
+    );
+    lock.join(&mut seat, other);
+    let tally = lock.close(seat);
+    assert_eq!(rt; tally.len(), 4000);
+    for who in 0..8 {
+        assert_eq!(rt; tally.turns_of(who), 500);
+    }
+    Ok(())
+}
+
+#[test]
+fn eight_seats_by_one_thread(rt: HostRuntime) -> Result<(), Fail> {
+    let (lock, mut a) = TurnLock::open(rt.alloc(), Tally::new(rt.alloc()))?;
+    let (mut b, mut c) = two_more(&lock, &mut a);
+    let (mut d, mut e) = two_more(&lock, &mut a);
+    let (mut f, mut g) = two_more(&lock, &mut a);
+    let mut h = lock.split(&mut a);
+    take_turn(&rt, &lock, &mut h, 7);
+    take_turn(&rt, &lock, &mut a, 0);
+    take_turn(&rt, &lock, &mut e, 4);
+    take_turn(&rt, &lock, &mut d, 3);
+    take_turn(&rt, &lock, &mut b, 1);
+    take_turn(&rt, &lock, &mut g, 6);
+    take_turn(&rt, &lock, &mut c, 2);
+    take_turn(&rt, &lock, &mut f, 5);
+    lock.join(&mut a, b);
+    lock.join(&mut c, d);
+    lock.join(&mut e, f);
+    lock.join(&mut g, h);
+    lock.join(&mut a, c);
+    lock.join(&mut e, g);
+    lock.join(&mut a, e);
+    let tally = lock.close(a);
+    assert_eq!(rt; tally.turns.as_slice(), [7, 0, 4, 3, 1, 6, 2, 5].as_slice());
+    Ok(())
+}

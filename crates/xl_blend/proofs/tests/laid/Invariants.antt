@@ -1,4 +1,0 @@
-use Rattle.xl_blend.proofs.tests.laid.Given as goal
-
-abbrev pub ghosts-lay : goal.ghosts-lay
-ghosts-lay a = record { name = a.blank.name; parts = a.blank.parts }

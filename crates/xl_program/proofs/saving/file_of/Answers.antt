@@ -1,5 +1,0 @@
-use Rattle.spec_layout.proofs.AnyCoder.{any_coder}
-use Rattle.xl_program.proofs.saving.file_of.Goals as goal
-
-pub returns-in-Ok : goal.returns-in-Ok
-returns-in-Ok c = any_coder _ c.in-Ok.file.items c.args.document.now c.in-Ok.ensures.written

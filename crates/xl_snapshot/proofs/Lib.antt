@@ -1,0 +1,4 @@
+pub mod Returning
+pub mod ComesBack
+pub mod Putting
+pub mod Later

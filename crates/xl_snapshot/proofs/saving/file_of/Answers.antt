@@ -1,0 +1,5 @@
+use Rattle.spec_layout.proofs.AnyCoder.{any_coder}
+use Rattle.xl_snapshot.proofs.saving.file_of.Goals as goal
+
+pub returns-in-Ok : goal.returns-in-Ok
+returns-in-Ok g c = any_coder _ c.in-Ok.file.items c.args.document.now c.in-Ok.ensures.written

@@ -1,0 +1,2 @@
+-- what becomes of a shelf
+pub mod Saving

@@ -1,0 +1,62 @@
+ghost use Rattle.std.specs.Prelude.{◌≡◌, IfOk, OnOk, OnErr, IsSome};
+ghost use Rattle.spec_document.specs.Document.{Document as Plain};
+ghost use Rattle.spec_layout.specs.Layout.{Written};
+ghost use Rattle.spec_world.specs.declared.SaveEnd.TheVariants as save_end;
+ghost use Rattle.xl_core.specs.Editing.{known};
+ghost use Rattle.xl_snapshot.specs.Saving.{IsSavedOn};
+
+use std::alloc::{AllocError, Global};
+use xl_compose::Recompose;
+use xl_core::SaveEnd;
+use xl_doc::Document;
+use xl_ports::{Failed, Shelf};
+use xl_rle::PlaneCoder;
+use xl_save::save;
+use xl_write::encode;
+
+/// The file of a document, whose planes this coder codes.
+pub fn file_of<C: PlaneCoder>(
+    alloc: Global,
+    document: &Document,
+    coder: &mut C,
+) -> Result<Vec<u8>, AllocError>
+    ensures { IfOk result (λ file. Written file.items document.now) }
+{
+    let mut pictures = Recompose::new();
+    match encode(alloc, document, coder, &mut pictures) {
+        Ok(file) => Ok(file),
+        Err(_) => Err(AllocError),
+    }
+}
+
+/// Saves the file of a document on a shelf.
+pub fn save_file<D: Shelf>(file: &[u8], shelf: &mut D) -> Result<(), Failed>
+    requires { IsSome (D.selected shelf.old) }
+    ensures saved { OnOk result ((d : Plain) → Written file.now d → IsSavedOn (known D.selected D.disk D.reading_faults D.saving_faults shelf.old) d save_end.Done
+        (known D.selected D.disk D.reading_faults D.saving_faults shelf.new)) }
+    ensures failed { OnErr result ((d : Plain) → Written file.now d → IsSavedOn (known D.selected D.disk D.reading_faults D.saving_faults shelf.old) d save_end.Fault
+        (known D.selected D.disk D.reading_faults D.saving_faults shelf.new)) }
+    ensures selected { D.selected shelf.new ≡ D.selected shelf.old }
+{
+    save(file, shelf)
+}
+
+/// Saves a document on a shelf, and answers how that ended. Without memory for the file the shelf is not touched.
+pub fn save_document<D: Shelf, C: PlaneCoder>(
+    alloc: Global,
+    document: &Document,
+    coder: &mut C,
+    shelf: &mut D,
+) -> SaveEnd
+    requires { IsSome (D.selected shelf.old) }
+    ensures { IsSavedOn (known D.selected D.disk D.reading_faults D.saving_faults shelf.old) document.now result
+        (known D.selected D.disk D.reading_faults D.saving_faults shelf.new) }
+{
+    let Ok(file) = file_of(alloc, document, coder) else {
+        return SaveEnd::Memory;
+    };
+    match save_file(&file, shelf) {
+        Ok(()) => SaveEnd::Done,
+        Err(Failed) => SaveEnd::Fault,
+    }
+}

@@ -1,0 +1,18 @@
+use Rattle.std.proofs.Common.{◌∙◌}
+use Rattle.xl_core.specs.Editing.{known}
+use Rattle.xl_turn.proofs.Fronts.{prefix_trans}
+use Rattle.xl_studio.specs.Seats.{base_of, opening_shelf, known_by}
+use Rattle.xl_studio.proofs.FirstHold.{after_wait}
+use Rattle.xl_studio.proofs.seat.Studio.begin_when_in.Goals as goal
+
+pub returns-in_default : goal.returns-in_default
+returns-in_default g c =
+    let i = c.loop.invariant in
+    record {
+      seat = c.begin.ensures.seat;
+      weight = c.begin.ensures.weight ∙ i.4;
+      begins = prefix_trans _ _ _ i.3.begins c.begin.ensures.begins;
+      begun = after_wait (known g.D.Shelf.selected g.D.Shelf.disk g.D.Shelf.reading_faults g.D.Shelf.saving_faults) (opening_shelf c.args.self.now) (base_of c.args.self.now) c.args.session
+          c.in_ok-begun.begun (known_by c.args.seat.now) (known_by c.loop.seat) (known_by c.begin.new.seat) i.3 c.in_default.not-Out c.in_ok-begun.ensures.begun;
+      failed = tt;
+    }

@@ -1,0 +1,44 @@
+-- What a save makes, in two holds of the turn, and what its seat knows then.
+use Rattle.std.specs.Prelude.{◌≡◌, ◌⊎◌, ℕ, ◌+◌, ◌<◌, List, [], ◌∷◌, ◌++◌, length, Some, None}
+use mathlib.Core.List.{IsPrefix}
+use Rattle.spec_document.specs.Document.{Document}
+use Rattle.spec_history.specs.Calls.{most_entries}
+use Rattle.spec_history.specs.Machine as machine
+use Rattle.spec_history.specs.Machine.{Reply}
+use Rattle.spec_history.specs.History.{Entry, ends, next_index, latest_of}
+use Rattle.spec_world.specs.declared.SaveEnd.{SaveEnd}
+use Rattle.spec_world.specs.Events.{end_reply}
+use Rattle.xl_core.specs.Editing.{start_of}
+use Rattle.xl_studio.specs.declared.moment.Moment.{Moment}
+use Rattle.xl_studio.specs.declared.moment.Moment.TheVariants.{Made}
+use Rattle.xl_studio.specs.Moments.{AreAsked, entries_in}
+use Rattle.xl_studio.specs.Calling.{Known}
+use Rattle.xl_studio.specs.Seats.{history_of}
+
+-- the end of the save that was started right behind these entries
+abbrev pub end_behind : (earlier : List Entry) → (session : ℕ) → Reply → Entry
+end_behind earlier session reply = record { session = session; index = next_index earlier session; kind = ends; reply = reply }
+
+-- The history had no room for two entries. The seat made none, and knows that history.
+pub record FoundNoRoom {K : Type 0} (reply : Reply) (old new : Known K) : Type 0 where
+  pub reply_is : reply ≡ machine.history_full
+  pub begins : IsPrefix old.front new.front
+  pub made : new.made ≡ old.made
+  pub few : most_entries < length (entries_in new.front) + 2
+
+-- The save started after some history that begins with what the seat knew, and the shelf was handed out. Until its end there were calls
+-- alone. The end names the version of the start, and is the last entry that the seat knows. The seat made just these two.
+pub record IsWhole {K : Type 0} (base : Document) (session : ℕ) (reply : Reply) (old new : Known K) : Type 0 where
+  pub entered : List (Moment K)
+  pub shelf : K
+  pub between : List (Moment K)
+  pub how : SaveEnd
+  pub begins : IsPrefix old.front entered
+  pub calls : AreAsked (entries_in between)
+  pub reply_is : reply ≡ end_reply how (latest_of (entries_in entered))
+  pub front : new.front ≡ entered ++ Made (start_of (history_of base entered) session) (Some shelf) ∷ [] ++ between ++ Made (end_behind (entries_in entered) session reply) None ∷ []
+  pub made : new.made ≡ old.made ++ length (entries_in entered) ∷ [] ++ (length (entries_in entered) + 1 + length (entries_in between)) ∷ []
+
+-- a save of a session, with this reply
+pub record IsSaved {K : Type 0} (base : Document) (session : ℕ) (reply : Reply) (old new : Known K) : Type 0 where
+  pub is : FoundNoRoom reply old new ⊎ IsWhole base session reply old new
