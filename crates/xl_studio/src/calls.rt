@@ -29,8 +29,11 @@ use xl_filters::PointFilter;
 use xl_ports::Shelf;
 
 impl<D: Shelf> Studio<D> {
-    // Makes a call in one hold of the turn.
-    fn call<W: Wait, L: Ledger>(
+    /// Makes a call of a session in one hold of the turn. The calls below are this at one kind.
+    ///
+    /// The filters that a group names are in the desk's chest. After out of memory nothing was made, but that the filters of the group's
+    /// first edits may have been asked.
+    pub fn call<W: Wait, L: Ledger>(
         &self,
         rt: &W,
         alloc: Global,
