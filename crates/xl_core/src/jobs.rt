@@ -40,7 +40,12 @@ pub trait JobDesk {
     ghost places: { Self.Seat → List ℕ };
 
     /// Takes a job, which is then out. After out of memory none is.
-    fn take_job<W: Wait>(&self, rt: &W, alloc: Global, seat: &mut Self::Seat) -> Result<Taken, AllocError>
+    fn take_job<W: Wait>(
+        &self,
+        rt: &W,
+        alloc: Global,
+        seat: &mut Self::Seat,
+    ) -> Result<Taken, AllocError>
         requires seat { is_of self.now seat.old }
         requires none { out seat.old ≡ None }
         ensures seat { is_of self.now seat.new }

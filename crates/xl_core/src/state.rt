@@ -323,6 +323,13 @@ impl<D: Shelf> Core<D> {
         let _entries = self.entries.len();
     }
 
+    /// Tells contracts that the shelf is in where no save is out.
+    pub fn know_shelf(&self)
+        ensures { out_of self.now.history ≡ None → IsSome self.now.shelf }
+    {
+        let _entries = self.entries.len();
+    }
+
     /// The last version's number.
     pub fn version(&self) -> u32
         ensures { result ≡ version self.now.history }

@@ -97,6 +97,7 @@ impl<D: Shelf> Studio<D> {
         requires seat { IsSeatOf self seat }
         requires weight { weight_of seat ≡ 2 ^ 32 }
         ensures base { result.history.base ≡ base_of self }
+        ensures opening { result.opening ≡ opening_shelf self }
         ensures front { IsPrefix (front_of seat) (moments_of result) }
         ensures made { IsEachOnce (length result.history.entries) (made_of seat) }
         ensures right { IsRight result.history.base (world result) }
