@@ -1,8 +1,18 @@
-//! A session and a worker beside each other, over one studio.
+//! Sessions and workers beside each other, over one studio with its devices in memory. A gate holds each of them until another has come
+//! where it has to be first.
 #![tactic(auto)]
 
-mod pair;
+#[cfg(test)]
+mod calls;
+#[cfg(test)]
+mod coder;
+#[cfg(test)]
+mod gates;
+#[cfg(test)]
 mod opened;
-
-pub use pair::beside;
-pub use opened::{core_over, document, plain_desk};
+#[cfg(test)]
+mod saver;
+#[cfg(test)]
+mod tests;
+#[cfg(test)]
+mod worker;

@@ -12,5 +12,6 @@ mod Sides
 mod Making
 mod GoesOn
 mod Pictures
+mod ByHistory
 pub mod Submitted
 pub mod Saves

@@ -1,5 +1,5 @@
 -- A history: the document with which it began, and its entries.
-use Rattle.std.specs.Prelude.{◌≡◌, ℕ, ◌+◌, Bool, nat_le, List, [], ◌∷◌, ◌++◌, length, MatchBool}
+use Rattle.std.specs.Prelude.{◌≡◌, ℕ, ◌+◌, Bool, nat_le, List, [], ◌∷◌, ◌++◌, length, Some, MatchBool}
 use Rattle.spec_document.specs.Document.{Document}
 use Rattle.spec_picture.specs.Picture.{project}
 use Rattle.spec_history.specs.Machine as machine
@@ -7,6 +7,7 @@ use Rattle.spec_history.specs.Machine.{Call, Reply, answer}
 use Rattle.spec_world.specs.World.{entries_owed}
 use Rattle.spec_history.specs.Calls.{most_entries}
 use Rattle.spec_history.specs.History.{Entry, asked, replay, next_index, latest_of, document_of}
+use Rattle.spec_history.specs.Kept.{kept}
 
 pub record History : Type 0 where
   pub base : Document
@@ -46,3 +47,12 @@ abbrev pub Shows : History → Call → Reply → (bytes : List ℕ) → Type 0
 Shows h (machine.tile stack at) (machine.tile_of version) bytes = bytes ≡ project (document_of h.base h.entries version) stack at
 Shows h (machine.peek stack at) (machine.tile_of version) bytes = bytes ≡ project (document_of h.base h.entries version) stack at
 Shows h call reply bytes = Unit {0}
+
+-- after this history the call needs no step: every call but a tile, and a tile of which the last version is kept
+abbrev pub NeedsNoStep : History → Call → Type 0
+NeedsNoStep h (machine.tile stack at) = kept h.base h.entries stack at ≡ Some (version h)
+NeedsNoStep h (machine.edit guard edits) = Unit {0}
+NeedsNoStep h (machine.undo named) = Unit {0}
+NeedsNoStep h machine.redo = Unit {0}
+NeedsNoStep h (machine.peek stack at) = Unit {0}
+NeedsNoStep h machine.top = Unit {0}

@@ -1,8 +1,14 @@
 -- Jobs as a desk gives them out, one to a seat.
-use Rattle.std.specs.Prelude.{◌≡◌, ℕ, Bool, true, false, Option, Some, None, Result, Ok, Err}
+use Rattle.std.specs.Prelude.{◌≡◌, ℕ, Bool, true, false, nat_lt, if◌then◌else◌, List, Option, Some, None, Result, Ok, Err}
 use Rattle.spec_grid.specs.declared.TileAt.{TileAt}
 use Rattle.spec_document.specs.Document.{Document}
 use Rattle.spec_picture.specs.Picture.{project}
+use Rattle.spec_cache.specs.declared.Finished.{Finished}
+use Rattle.spec_cache.specs.declared.Finished.TheVariants.{Installed, Late, Gone}
+use Rattle.spec_cache.specs.Cache.{Place}
+use Rattle.spec_history.specs.Machine.{latest, document_at, has_stack}
+use Rattle.spec_history.specs.History.{Entry, replay}
+use Rattle.spec_history.specs.Marks.{marked_at}
 use Rattle.xl_compose.specs.Job.{StandsFor}
 use Rattle.xl_compose.specs.declared.clean.Done.{Done}
 use Rattle.xl_core.specs.declared.jobs.Taken.{Taken}
@@ -41,3 +47,12 @@ pub record IsOutcome (out : Out) (done : Done) : Type 0 where
 -- it is that of the job that is out
 abbrev pub IsOutcomeOf : Option Out → Done → Type 0
 IsOutcomeOf out done = (o : Out) × (out ≡ Some o) × IsOutcome o done
+
+-- What becomes of a picture of this version after a history, by the history alone: it is gone where its stack is none of the last
+-- version, late where a later version has marked its tile, and else it is kept.
+abbrev pub finished_by : Document → List Entry → Place → (version : ℕ) → Finished
+finished_by base entries place version =
+    let s = replay base entries in
+    let mark = marked_at base s place.stack place.at in
+    let there = if nat_lt version mark then Late mark else Installed in
+    if has_stack (document_at base s (latest s)) place.stack then there else Gone

@@ -1,5 +1,6 @@
 ghost use Rattle.std.specs.Prelude.{◌≡◌, ℕ, List, Bool, Option, None, IfOk, OnErr};
-ghost use Rattle.xl_core.specs.Jobs.{IsTaken, says_closing, IsOutcomeOf};
+ghost use Rattle.xl_core.specs.Editing.{place_done};
+ghost use Rattle.xl_core.specs.Jobs.{IsTaken, says_closing, IsOutcomeOf, finished_by};
 
 use std::alloc::{AllocError, Global};
 use std::sync::Wait;
@@ -20,6 +21,8 @@ pub enum Taken {
 
 /// Where workers take jobs, each with a seat of its own, and hand in what they have composed. A seat has one job out at most.
 pub trait JobDesk {
+    ghost use Rattle.spec_document.specs.Document.{Document};
+    ghost use Rattle.spec_history.specs.History.{Entry};
     ghost use Rattle.xl_core.specs.Jobs.{Out};
 
     type Seat;
@@ -39,6 +42,12 @@ pub trait JobDesk {
     /// The entries that were made with the seat.
     ghost places: { Self.Seat → List ℕ };
 
+    /// The document with which the desk's history began.
+    ghost base: { Self → Document };
+
+    /// The entries of that history that the seat knows.
+    ghost entries: { Self.Seat → List Entry };
+
     /// Takes a job, which is then out. After out of memory none is.
     fn take_job<W: Wait>(
         &self,
@@ -55,10 +64,11 @@ pub trait JobDesk {
         ensures weight { weight seat.new ≡ weight seat.old }
         ensures places { places seat.new ≡ places seat.old };
 
-    /// Hands in the picture of the job that is out. None is out then.
+    /// Hands in the picture of the job that is out. None is out then. The answer follows from the history that the seat knows then.
     fn finish<W: Wait>(&self, rt: &W, seat: &mut Self::Seat, done: Done) -> Finished
         requires seat { is_of self.now seat.old }
         requires done { IsOutcomeOf (out seat.old) done }
+        ensures finished { result ≡ finished_by (base self.now) (entries seat.new) (place_done done) done.version }
         ensures seat { is_of self.now seat.new }
         ensures none { out seat.new ≡ None }
         ensures closed { closed seat.new ≡ closed seat.old }

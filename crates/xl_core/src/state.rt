@@ -1,4 +1,4 @@
-ghost use Rattle.std.specs.Prelude.{◌≡◌, ◌+◌, ◌<◌, ◌≤◌, ◌^◌, List, length, [], Some, None, option_map, IfOk, IfErr, IfSome, IsOk, OnOk, OnErr, IsSome};
+ghost use Rattle.std.specs.Prelude.{◌≡◌, ◌+◌, ◌<◌, ◌≤◌, ◌^◌, true, List, length, [], Some, None, option_map, IfOk, IfErr, IfSome, IsOk, OnOk, OnErr, IsSome};
 ghost use Rattle.spec_history.specs.Kept.{IsLegal};
 ghost use Rattle.spec_cache.specs.Cache.{no_slots, next_place, finish};
 ghost use Rattle.spec_world.specs.World.{stack_ids, add_stacks};
@@ -6,9 +6,10 @@ ghost use Rattle.spec_world.specs.Events.{IsOutOf};
 ghost use Rattle.spec_world.specs.Right as worlds;
 ghost use Rattle.xl_compose.specs.Job.{StandsFor};
 ghost use Rattle.spec_history.specs.Calls.{IsCall, most_entries};
-ghost use Rattle.xl_core.specs.History.{version, document, Shows};
+ghost use Rattle.xl_core.specs.History.{version, document, is_full, Shows, NeedsNoStep};
 ghost use Rattle.xl_core.specs.Editing.{known, world, IsSubmitted, TakesNoStep, taken, place_of_job, place_done, IsPictureOf, handed_in, out_of, IsRight, ComesBack, KeepsShelf, IsAsBefore, Begins, HandsOut, Ends};
 ghost use Rattle.xl_core.specs.Now.{KeepsDesk, IsTileOf};
+ghost use Rattle.xl_core.specs.Jobs.{finished_by};
 ghost use Rattle.xl_core.specs.Room.{IsUndoOrRedo};
 ghost use Rattle.xl_doc.specs.Numbered.{AreNumbered};
 ghost use Rattle.spec_filters.specs.declared.FilterState.{FilterState};
@@ -170,6 +171,8 @@ impl<D: Shelf> Core<D> {
             → IfOk result (λ reply. IsSubmitted self.old session (call_of call) seen (expected_tables filters (asked (call_of call) []) (reply_of reply)) (reply_of reply) self.new) }
         ensures right { IfOk result (λ reply. worlds.IsRight self.new.history.base (world self.new)) }
         ensures steps { TakesNoStep self.old.cache (call_of call) → steps.new ≡ steps.old }
+        ensures no_step { NeedsNoStep self.old.history (call_of call) → steps.new ≡ steps.old }
+        ensures full { is_full self.old.history ≡ true → steps.new ≡ steps.old }
         ensures chest { IfOk result (λ reply. IsAfter (states_in state desk.old.chest) (states_in state desk.new.chest) (call_of call) (reply_of reply)) }
         ensures shown { IfOk result (λ reply. Shows self.new.history (call_of call) (reply_of reply) desk.new.out) }
         ensures shelf { KeepsShelf self.old self.new }
@@ -218,6 +221,7 @@ impl<D: Shelf> Core<D> {
     pub fn finish(&mut self, done: Done) -> Finished
         requires done { IsPictureOf self.old.history done }
         ensures finished { result ≡ finish self.old.cache (place_done done) done.version }
+        ensures by_history { result ≡ finished_by self.old.history.base self.old.history.entries (place_done done) done.version }
         ensures kept { self.new ≡ handed_in self.old done }
         ensures right { worlds.IsRight self.new.history.base (world self.new) }
     {
@@ -352,6 +356,7 @@ impl<D: Shelf> JobSource for Core<D> {
     ghost use Rattle.xl_compose.specs.Job.{StandsFor};
     ghost use Rattle.xl_core.specs.History.{version, document};
     ghost use Rattle.xl_core.specs.Editing.{world, taken, place_of_job, place_done, IsPictureOf, handed_in};
+    ghost use Rattle.xl_core.specs.Jobs.{finished_by};
     ghost use Rattle.xl_core.specs.Now.{IsTileOf};
 
     ghost may_install = { λ c done. IsPictureOf c.history done };
@@ -370,6 +375,7 @@ impl<D: Shelf> JobSource for Core<D> {
     fn install(&mut self, done: Done) -> Finished
         requires done { IsPictureOf self.old.history done }
         ensures finished { result ≡ finish self.old.cache (place_done done) done.version }
+        ensures by_history { result ≡ finished_by self.old.history.base self.old.history.entries (place_done done) done.version }
         ensures kept { self.new ≡ handed_in self.old done }
         ensures right { worlds.IsRight self.new.history.base (world self.new) }
     {

@@ -1,5 +1,5 @@
 -- What a call makes of the list under the lock, and what it tells its seat.
-use Rattle.std.specs.Prelude.{◌≡◌, ◌⊎◌, ℕ, List, [], ◌∷◌, ◌++◌, length, MatchBool, None}
+use Rattle.std.specs.Prelude.{◌≡◌, ◌⊎◌, ℕ, ◌-◌, List, [], ◌∷◌, ◌++◌, length, take, MatchBool, None}
 use mathlib.Core.List.{IsPrefix}
 use Rattle.spec_document.specs.Document.{Document}
 use Rattle.spec_history.specs.Machine as machine
@@ -32,6 +32,10 @@ IsNoTile (machine.edit guard edits) = Unit {0}
 IsNoTile (machine.undo named) = Unit {0}
 IsNoTile machine.redo = Unit {0}
 IsNoTile machine.top = Unit {0}
+
+-- the moments before the last one
+abbrev pub before_last : {K : Type 0} → List (Moment K) → List (Moment K)
+before_last ms = take (length ms - 1) ms
 
 -- ---- what a seat knows
 

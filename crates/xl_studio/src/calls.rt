@@ -8,13 +8,13 @@ ghost use Rattle.spec_history.specs.Limited.{edits_of};
 ghost use Rattle.spec_history.specs.Machine as machine;
 ghost use Rattle.spec_tables.specs.Agrees.{Agrees, AreThere, IsAfter, IsPartAfter};
 ghost use Rattle.spec_tables.specs.Tables.{expected_tables};
-ghost use Rattle.xl_core.specs.History.{Shows};
+ghost use Rattle.xl_core.specs.History.{Shows, NeedsNoStep};
 ghost use Rattle.xl_core.specs.Now.{KeepsDesk};
 ghost use Rattle.xl_edit.specs.Calls.{call_of};
 ghost use Rattle.xl_edit.specs.Edits.{edits_of as edits_meant};
 ghost use Rattle.xl_edit.specs.Replies.{reply_of};
 ghost use Rattle.xl_filters.specs.Chests.{states_in};
-ghost use Rattle.xl_studio.specs.Calling.{IsCalled, HasHeard, IsNoTile};
+ghost use Rattle.xl_studio.specs.Calling.{IsCalled, HasHeard, IsNoTile, before_last};
 ghost use Rattle.xl_studio.specs.Moments.{entries_in};
 ghost use Rattle.xl_studio.specs.Seats.{base_of, history_of, front_of, weight_of, known_by, IsSeatOf};
 
@@ -57,6 +57,7 @@ impl<D: Shelf> Studio<D> {
         ensures fresh { IfOk result (λ reply. IsFreshReply (latest_of (entries_in (front_of seat.old))) (reply_of reply)) }
         ensures shown { IfOk result (λ reply. Shows (history_of (base_of self.now) (front_of seat.new)) (call_of call) (reply_of reply) desk.new.out) }
         ensures steps { IsNoTile (call_of call) → steps.new ≡ steps.old }
+        ensures no_step { IfOk result (λ _. NeedsNoStep (history_of (base_of self.now) (before_last (front_of seat.new))) (call_of call) → steps.new ≡ steps.old) }
         ensures chest { IfOk result (λ reply. IsAfter (states_in state desk.old.chest) (states_in state desk.new.chest) (call_of call) (reply_of reply)) }
         ensures desk { IfOk result (λ reply. KeepsDesk (reply_of reply) desk.old.out desk.new.out) }
         ensures out_as_before { OnErr result (desk.new.out ≡ desk.old.out) }
@@ -187,7 +188,8 @@ impl<D: Shelf> Studio<D> {
         self.call(rt, alloc, seat, session, Call::Top, desk, steps)
     }
 
-    /// The tile of a stack at the latest version, which is in the desk after `Tile`.
+    /// The tile of a stack at the latest version, which is in the desk after `Tile`. Where the tile was kept at the latest version before
+    /// the call's own entry, it takes no step.
     pub fn tile<W: Wait, L: Ledger>(
         &self,
         rt: &W,
@@ -209,6 +211,7 @@ impl<D: Shelf> Studio<D> {
         ensures failed { OnErr result (HasHeard (known_by seat.old) (known_by seat.new)) }
         ensures fresh { IfOk result (λ reply. IsFreshReply (latest_of (entries_in (front_of seat.old))) (reply_of reply)) }
         ensures shown { IfOk result (λ reply. Shows (history_of (base_of self.now) (front_of seat.new)) (machine.tile node.0 at) (reply_of reply) desk.new.out) }
+        ensures no_step { IfOk result (λ _. NeedsNoStep (history_of (base_of self.now) (before_last (front_of seat.new))) (machine.tile node.0 at) → steps.new ≡ steps.old) }
         ensures chest { IfOk result (λ reply. IsAfter (states_in state desk.old.chest) (states_in state desk.new.chest) (machine.tile node.0 at) (reply_of reply)) }
         ensures desk { IfOk result (λ reply. KeepsDesk (reply_of reply) desk.old.out desk.new.out) }
         ensures out_as_before { OnErr result (desk.new.out ≡ desk.old.out) }

@@ -44,10 +44,12 @@ fn away(taken: &Result<Taken, AllocError>, document: Snapshot<Document>) -> Opti
 
 impl<D: Shelf> JobDesk for Studio<D> {
     ghost use Rattle.std.specs.Prelude.{◌≡◌, None, IfOk, IfSome, OnErr};
-    ghost use Rattle.xl_core.specs.Jobs.{IsTaken, says_closing, IsOutcomeOf};
+    ghost use Rattle.xl_core.specs.Editing.{place_done};
+    ghost use Rattle.xl_core.specs.Jobs.{IsTaken, says_closing, IsOutcomeOf, finished_by};
     ghost use Rattle.xl_studio.specs.Calling.{HasHeard};
     ghost use Rattle.xl_studio.specs.Jobs.{job_out, IsWorker};
-    ghost use Rattle.xl_studio.specs.Seats.{weight_of, made_of, known_by};
+    ghost use Rattle.xl_studio.specs.Moments.{entries_in};
+    ghost use Rattle.xl_studio.specs.Seats.{base_of, front_of, weight_of, made_of, known_by};
 
     type Seat = Seat<D>;
 
@@ -60,6 +62,10 @@ impl<D: Shelf> JobDesk for Studio<D> {
     ghost weight = { weight_of };
 
     ghost places = { made_of };
+
+    ghost base = { base_of };
+
+    ghost entries = { λ s. entries_in (front_of s) };
 
     fn take_job<W: Wait>(
         &self,
@@ -90,6 +96,7 @@ impl<D: Shelf> JobDesk for Studio<D> {
     fn finish<W: Wait>(&self, rt: &W, seat: &mut Seat<D>, done: Done) -> Finished
         requires seat { IsWorker self.now seat.old }
         requires done { IsOutcomeOf (job_out seat.old) done }
+        ensures finished { result ≡ finished_by (base_of self.now) (entries_in (front_of seat.new)) (place_done done) done.version }
         ensures seat { IsWorker self.now seat.new }
         ensures none { job_out seat.new ≡ None }
         ensures closed { seat.new.closed ≡ seat.old.closed }

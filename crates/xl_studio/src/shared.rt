@@ -1,4 +1,4 @@
-ghost use Rattle.std.specs.Prelude.{◌≡◌, ◌≤◌, ◌<◌, List, [], false, IfOk, OnErr, IsSome};
+ghost use Rattle.std.specs.Prelude.{◌≡◌, ◌≤◌, ◌<◌, List, [], true, false, IfOk, OnErr, IsSome};
 ghost use Rattle.spec_filters.specs.declared.FilterState.{FilterState};
 ghost use Rattle.spec_history.specs.Calls.{IsCall};
 ghost use Rattle.spec_history.specs.History.{asked};
@@ -8,7 +8,7 @@ ghost use Rattle.spec_tables.specs.Agrees.{Agrees, AreThere, IsAfter, IsPartAfte
 ghost use Rattle.spec_tables.specs.Tables.{expected_tables};
 ghost use Rattle.spec_world.specs.Events.{IsOutOf};
 ghost use Rattle.xl_core.specs.Editing.{known, out_of, ComesBack};
-ghost use Rattle.xl_core.specs.History.{version, Shows};
+ghost use Rattle.xl_core.specs.History.{version, is_full, Shows, NeedsNoStep};
 ghost use Rattle.xl_core.specs.Now.{KeepsDesk};
 ghost use Rattle.xl_edit.specs.Calls.{call_of};
 ghost use Rattle.xl_edit.specs.Replies.{reply_of};
@@ -115,6 +115,8 @@ impl<D: Shelf> Shared<D> {
         ensures fresh { IfOk result (λ reply. IsFreshReply seen (reply_of reply)) }
         ensures shown { IfOk result (λ reply. Shows self.new.core.history (call_of call) (reply_of reply) desk.new.out) }
         ensures steps { IsNoTile (call_of call) → steps.new ≡ steps.old }
+        ensures no_step { NeedsNoStep self.old.core.history (call_of call) → steps.new ≡ steps.old }
+        ensures full { is_full self.old.core.history ≡ true → steps.new ≡ steps.old }
         ensures chest { IfOk result (λ reply. IsAfter (states_in state desk.old.chest) (states_in state desk.new.chest) (call_of call) (reply_of reply)) }
         ensures desk { IfOk result (λ reply. KeepsDesk (reply_of reply) desk.old.out desk.new.out) }
         ensures out_as_before { OnErr result (desk.new.out ≡ desk.old.out) }

@@ -44,6 +44,7 @@ impl<D: Shelf> Taking for Shared<D> {
     ghost use Rattle.spec_cache.specs.Cache.{finish};
     ghost use Rattle.xl_core.specs.History.{version, document};
     ghost use Rattle.xl_core.specs.Editing.{place_done, IsPictureOf};
+    ghost use Rattle.xl_core.specs.Jobs.{finished_by};
     ghost use Rattle.xl_studio.specs.Taking.{GivesOut, HasStayed};
 
     ghost may_finish = { λ s done. IsPictureOf s.core.history done };
@@ -62,6 +63,7 @@ impl<D: Shelf> Taking for Shared<D> {
     fn finish(&mut self, done: Done) -> Finished
         requires done { IsPictureOf self.old.core.history done }
         ensures finished { result ≡ finish self.old.core.cache (place_done done) done.version }
+        ensures by_history { result ≡ finished_by self.old.core.history.base self.old.core.history.entries (place_done done) done.version }
         ensures stays { HasStayed self.old self.new }
         ensures closing { self.new.closing ≡ self.old.closing }
     {

@@ -14,10 +14,11 @@ use Rattle.xl_edit.specs.Replies.{reply_of}
 use Rattle.xl_marks.proofs.Between.{leaves-between}
 use Rattle.xl_marks.proofs.Joined.{group-joined}
 use Rattle.spec_history.specs.Calls.{most_entries}
-use Rattle.xl_core.specs.History.{version}
+use Rattle.xl_core.specs.History.{version, NeedsNoStep}
 use Rattle.xl_core.specs.Editing.{known, world}
 use Rattle.xl_core.specs.Holding.{all_seen, Holds}
 use Rattle.xl_core.specs.Now.{Stands, world_of}
+use Rattle.xl_core.proofs.ByHistory.{needs_none}
 use Rattle.xl_core.proofs.Ids.{has_ids}
 use Rattle.xl_core.proofs.Making.{none_part, on_err}
 use Rattle.xl_core.proofs.GoesOn.{GoesOn, few-versions, goes_on, kept-stands, submitted, refused-full, shows}
@@ -152,3 +153,15 @@ answer-requires-clause-ids g c =
 -- where there is no room for the entry no filter was asked
 pub returns-in_err-reserve-clause-part : goal.returns-in_err-reserve-clause-part
 returns-in_err-reserve-clause-part g c = on_err _ c.from_residual.result (none_part _ _)
+
+-- ---- steps
+
+pub returns-clause-no_step : goal.returns-clause-no_step
+returns-clause-no_step g c = λ needs.
+    c.answer.ensures.steps (needs_none c.self.inside.base c.self.inside.entries.items c.self.inside.standing.what c.self.inside.made (call_of c.args.call) c.self.invariant.0
+    (subst (λ e. NeedsNoStep e.history (call_of c.args.call)) (sym c.self.view_is) needs))
+
+pub returns-in_err-answered-clause-no_step : goal.returns-in_err-answered-clause-no_step
+returns-in_err-answered-clause-no_step g c = λ needs.
+    c.answer.ensures.steps (needs_none c.self.inside.base c.self.inside.entries.items c.self.inside.standing.what c.self.inside.made (call_of c.args.call) c.self.invariant.0
+    (subst (λ e. NeedsNoStep e.history (call_of c.args.call)) (sym c.self.view_is) needs))

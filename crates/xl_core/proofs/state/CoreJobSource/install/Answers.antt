@@ -1,8 +1,10 @@
 -- The pictures stay right by one that is handed in.
-use Rattle.std.proofs.Common.{sym, subst}
+use Rattle.std.proofs.Common.{sym, ◌∙◌, ap, subst}
 use Rattle.xl_core.specs.History.{History}
-use Rattle.xl_core.specs.Editing.{IsPictureOf}
+use Rattle.xl_core.specs.Editing.{Editing, place_done, IsPictureOf}
+use Rattle.xl_core.specs.Jobs.{finished_by}
 use Rattle.xl_core.specs.Now.{Stands}
+use Rattle.xl_core.proofs.ByHistory.{finish-by_history}
 use Rattle.xl_core.proofs.Pictures.{is_right}
 use Rattle.xl_core.proofs.Submitted.{stands_handed}
 use Rattle.xl_core.proofs.state.CoreJobSource.install.Goals as goal
@@ -20,3 +22,12 @@ invariant_of-self g c = (stands g c, c.self.invariant.1)
 
 pub returns-clause-right : goal.returns-clause-right
 returns-clause-right g c = is_right c.self.inside.base _ _ _ (stands g c)
+
+-- what becomes of the picture follows from the history
+pub returns-clause-by_history : goal.returns-clause-by_history
+returns-clause-by_history g c =
+    let h : History = record { base = c.self.inside.base; entries = c.self.inside.entries.items } in
+    let is : IsPictureOf h c.args.done = subst (λ e. IsPictureOf e.history c.args.done) (sym c.self.view_is) c.requires.done in
+    c.finish.ensures.finished
+    ∙ (finish-by_history h.base h.entries c.self.inside.standing.what.cache (place_done c.args.done) c.args.done.version c.self.invariant.0.pictures is.on_grid
+    ∙ ap (λ (e : Editing _). finished_by e.history.base e.history.entries (place_done c.args.done) c.args.done.version) c.self.view_is)

@@ -1,10 +1,13 @@
 use Rattle.std.proofs.Common.{◌≡◌, ap, sym, ◌∙◌, subst}
 use mathlib.Core.List.{IsPrefix}
+use Rattle.xl_core.specs.Editing.{place_done}
+use Rattle.xl_core.specs.Jobs.{finished_by}
 use Rattle.xl_turn.specs.Seats as turns
 use Rattle.xl_turn.specs.Seats.{opened_with}
+use Rattle.xl_studio.specs.Moments.{entries_in}
 use Rattle.xl_studio.specs.Seats.{base_of, front_of}
 use Rattle.xl_studio.specs.Jobs.{job_out}
-use Rattle.xl_studio.proofs.Seated.{base_entered, front_after}
+use Rattle.xl_studio.proofs.Seated.{back, base_entered, front_after}
 use Rattle.xl_studio.proofs.Quiet.{begins_stayed, picture_of}
 use Rattle.xl_studio.proofs.jobs.StudioJobDesk.finish.Goals as goal
 
@@ -33,3 +36,11 @@ returns-clause-seat g c =
       };
       job = tt;
     }
+
+pub returns-clause-finished : goal.returns-clause-finished
+returns-clause-finished g c =
+    let held = c.enter-held.result.value.core in
+    let stays = c.finish-finished.ensures.stays in
+    let base = base_entered (opened_with c.args.self.now.lock).core held (front_of c.args.seat.now) c.requires.seat.seat.front.begins c.enter-held.ensures.front in
+    let es : entries_in (turns.front_of c.leave.new.seat) ≡ held.history.entries = ap entries_in (c.leave.ensures.front ∙ stays.moments) ∙ back held in
+    c.finish-finished.ensures.by_history ∙ (λ i. finished_by (sym base i) (sym es i) (place_done c.args.done) c.args.done.version)
