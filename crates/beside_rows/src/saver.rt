@@ -1,5 +1,5 @@
 //! A save, and an edit beside it.
-ghost use Rattle.std.specs.Prelude.{◌≡◌, ◌+◌, ◌≤◌};
+ghost use Rattle.std.specs.Prelude.{◌≤◌};
 ghost use Rattle.std.specs.Thread.{IsSync};
 ghost use Rattle.xl_studio.specs.Seats.{weight_of, IsSeatOf};
 

@@ -1,5 +1,6 @@
-use Rattle.std.proofs.Common.{◌+◌, ap, refl, sym, subst, length}
+use Rattle.std.proofs.Common.{◌≡◌, ◌+◌, true, ap, refl, sym, subst, length}
 use Rattle.std.specs.Prelude.{IsSome}
+use Rattle.xl_core.specs.History.{is_full, NeedsNoStep}
 use Rattle.xl_edit.specs.Calls.{call_of}
 use Rattle.xl_edit.specs.Replies.{reply_of}
 use Rattle.xl_studio.specs.State.{State, moments_of, IsKept}
@@ -43,3 +44,10 @@ pub returns-clause-fresh : goal.returns-clause-fresh
 returns-clause-fresh g c =
     let e = c.submit-reply.ensures in
     fresh_after _ reply_of c.submit-reply.result c.self.inside.core c.args.self.now.core c.submit-reply.new.self c.args.session (call_of c.args.call) c.args.seen _ (ap (λ (s : State _). s.core) c.self.view_is) e.answered c.self.invariant.0.right.legal c.requires.seen
+
+pub returns-clause-no_step : goal.returns-clause-no_step
+returns-clause-no_step g c = λ needs.
+    c.submit-reply.ensures.no_step (subst (λ (s : State _). NeedsNoStep s.core.history (call_of c.args.call)) (sym c.self.view_is) needs)
+
+pub returns-clause-full : goal.returns-clause-full
+returns-clause-full g c = λ full. c.submit-reply.ensures.full (subst (λ (s : State _). is_full s.core.history ≡ true) (sym c.self.view_is) full)
