@@ -1,7 +1,7 @@
 use Rattle.std.proofs.Common.{refl, ap, ◌∙◌, map, string_bytes}
 use Rattle.xl_script.specs.Lines.{line_of, lines_of}
 use Rattle.xl_studio.specs.Seats.{base_of, known_by}
-use Rattle.xl_sessions.proofs.UnderWay.{under_way_none, under_way_of, under_way_fit, under_way_more, under_way_all, under_way_told}
+use Rattle.xl_sessions.proofs.UnderWay.{under_way_none, under_way_of, under_way_fit, under_way_more}
 use Rattle.xl_sessions.proofs.played.play_lines.Goals as goal
 
 pub loop-line-init : goal.loop-line-init
@@ -26,3 +26,6 @@ loop-line-preserved g c = (
   under_way_more c.loop-line.invariant.2 (line_of c.in-Some.line) (lines_of c.next.new.self.rest.items) (ap lines_of c.in-Some.ensures.steps.0)
       _ (known_by c.play_line.new.seat) _ c.loop-line.invariant.0.front.legal c.play_line.ensures.begins c.in_ok-play_line.ensures.made,
 )
+
+pub returns-clause-of : goal.returns-clause-of
+returns-clause-of g c = under_way_of c.loop-line.invariant.2
