@@ -6,4 +6,15 @@ pub mod Ends
 pub mod Printed
 -- each entry has a line
 pub mod Lined
+-- what a call or a save leaves
 pub mod Made
+-- the filters that are still there
+pub mod Chests
+-- one call more
+pub mod CallMore
+-- one save more
+pub mod SaveMore
+-- one line more
+pub mod SoFar
+-- some lines were played, and some are left
+pub mod UnderWay

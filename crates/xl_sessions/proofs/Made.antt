@@ -27,7 +27,7 @@ use Rattle.xl_studio.proofs.Grown.{entries-append, entries-prefix}
 of_moved : (session : ℕ) (made made' : List ℕ) (es es' : List Entry) → made ≡ made' → es ≡ es' → IsOf session made es → IsOf session made' es'
 of_moved session made made' es es' p q of = subst (λ ms. IsOf session ms es') p (subst (IsOf session made) q of)
 
-saved_places : (places : List ℕ) (entered between : List Entry) (s : Entry)
+pub saved_places : (places : List ℕ) (entered between : List Entry) (s : Entry)
     → places ++ length entered ∷ [] ++ (length entered + 1 + length between) ∷ [] ≡ with_save places entered s between
 saved_places places entered between s =
     let size : length entered + 1 + length between ≡ length (before_end entered s between) =
@@ -64,7 +64,7 @@ module _ {K : Type 0} where
 
   -- ---- a save
 
-  saved_entries : (entered between : List (Moment K)) (s t : Entry) (shelf : K)
+  pub saved_entries : (entered between : List (Moment K)) (s t : Entry) (shelf : K)
       → entries_in (entered ++ Made s (Some shelf) ∷ [] ++ between ++ Made t None ∷ []) ≡ before_end (entries_in entered) s (entries_in between) ++ t ∷ []
   saved_entries entered between s t shelf =
       entries-append (entered ++ Made s (Some shelf) ∷ [] ++ between) (Made t None ∷ [])

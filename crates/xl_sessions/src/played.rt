@@ -2,6 +2,7 @@
 ghost use Rattle.std.specs.Prelude.{◌≡◌, ◌<◌, List, [], length, map, OnOk, string_bytes};
 ghost use mathlib.Core.List.{IsPrefix};
 ghost use Rattle.spec_filters.specs.declared.FilterState.{FilterState};
+ghost use Rattle.spec_history.specs.History.{latest_of};
 ghost use Rattle.spec_script.specs.Fits.{AreFit};
 ghost use Rattle.spec_seats.specs.Digests.{digests_in};
 ghost use Rattle.spec_seats.specs.Made.{HasMade, IsOf};
@@ -13,18 +14,67 @@ ghost use Rattle.xl_studio.specs.Moments.{entries_in};
 ghost use Rattle.xl_studio.specs.Seats.{base_of, front_of, made_of, weight_of, IsSeatOf};
 ghost use Rattle.xl_sessions.specs.Playing.{HasAll};
 
+use crate::session::play_line;
 use std::alloc::{AllocError, Global};
+use std::marker::Brand;
 use std::sync::Wait;
+use std::sync::ledger::{Blank, Ledger};
+use xl_blend::Steps;
 use xl_core::Desk;
 use xl_filters::PointFilter;
 use xl_ports::{Gate, Shelf};
 use xl_script::Line;
 use xl_studio::{Seat, Studio};
 
+// Makes what the lines of a session say, with a counter of steps that it makes from `blank`.
+fn play_lines<W: Wait, L: Ledger, D: Shelf, G: Gate>(
+    rt: &W,
+    alloc: Global,
+    studio: &Studio<D>,
+    gate: &G,
+    session: u8,
+    lines: Vec<Line>,
+    desk: &mut Desk,
+    seat: &mut Seat<D>,
+    digests: &mut Vec<String>,
+    blank: Blank,
+) -> Result<(), AllocError>
+    requires name { blank.name ≡ L.name }
+    requires parts { blank.parts ≡ L.parts }
+    requires some { 0 < blank.parts }
+    requires seat { IsSeatOf studio.now seat.old }
+    requires session { session < 8 }
+    requires none { made_of seat.old ≡ [] }
+    requires unchanged { latest_of (entries_in (front_of seat.old)) ≡ 0 }
+    requires filters { HasAll (states_in state desk.old.chest) }
+    requires fit { AreFit (length (states_in state desk.old.chest)) [] (lines_of lines.items) }
+    requires silent { map string_bytes digests.old.items ≡ [] }
+
+    ensures seat { IsSeatOf studio.now seat.new }
+    ensures weight { weight_of seat.new ≡ weight_of seat.old }
+    ensures begins { IsPrefix (front_of seat.old) (front_of seat.new) }
+    ensures of { IsOf session (made_of seat.new) (entries_in (front_of seat.new)) }
+
+    ensures made { OnOk result ((filters : List FilterState) → Agrees (states_in state desk.old.chest) filters
+        → HasMade session filters (lines_of lines.items) (made_of seat.new) (entries_in (front_of seat.new))) }
+    ensures told { OnOk result (map string_bytes digests.new.items ≡ digests_in (base_of studio.now) (entries_in (front_of seat.new)) (picked (made_of seat.new) (entries_in (front_of seat.new)))) }
+{
+    let mut steps = Steps::<L>::new(blank);
+    for line in lines {
+        play_line(
+            rt, alloc, studio, gate, session, line, desk, seat, &mut steps, digests,
+        )?;
+    }
+    Ok(())
+}
+
 /// Makes what the lines of a session say, one after another, and passes the gate before and after each call.
 ///
-/// `digests` becomes the list of the digests of the tiles that the session was shown, in order. It stops where memory runs out; each save
-/// that it started has ended then too.
+/// `digests` becomes the list of the digests of the tiles that the session was shown, in order. It stops where memory runs out, for a line
+/// or for the file of a save, and where the history is full; each save that it started has ended then too.
+///
+/// What the seat knows may name no change yet: a session is never shown less than what its seat knows, and has seen nothing before its
+/// first call.
 pub fn play_session<W: Wait, D: Shelf, G: Gate>(
     rt: &W,
     alloc: Global,
@@ -39,6 +89,7 @@ pub fn play_session<W: Wait, D: Shelf, G: Gate>(
     requires seat { IsSeatOf studio.now seat.old }
     requires session { session < 8 }
     requires none { made_of seat.old ≡ [] }
+    requires unchanged { latest_of (entries_in (front_of seat.old)) ≡ 0 }
     requires filters { HasAll (states_in state desk.old.chest) }
     requires fit { AreFit (length (states_in state desk.old.chest)) [] (lines_of lines.items) }
     requires blank { map string_bytes digests.old.items ≡ [] }
@@ -52,6 +103,16 @@ pub fn play_session<W: Wait, D: Shelf, G: Gate>(
         → HasMade session filters (lines_of lines.items) (made_of seat.new) (entries_in (front_of seat.new))) }
     ensures told { OnOk result (map string_bytes digests.new.items ≡ digests_in (base_of studio.now) (entries_in (front_of seat.new)) (picked (made_of seat.new) (entries_in (front_of seat.new)))) }
 {
-    for _ in rt.forever() {}
-    unreachable!()
+    play_lines::<W, Brand, D, G>(
+        rt,
+        alloc,
+        studio,
+        gate,
+        session,
+        lines,
+        desk,
+        seat,
+        digests,
+        Blank::new(1),
+    )
 }

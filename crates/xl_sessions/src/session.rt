@@ -194,7 +194,7 @@ fn play_save<W: Wait, D: Shelf, G: Gate>(
 }
 
 // Makes what a line of a session says.
-fn play_line<W: Wait, L: Ledger, D: Shelf, G: Gate>(
+pub(crate) fn play_line<W: Wait, L: Ledger, D: Shelf, G: Gate>(
     rt: &W,
     alloc: Global,
     studio: &Studio<D>,

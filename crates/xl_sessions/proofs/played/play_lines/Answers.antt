@@ -1,0 +1,31 @@
+use Rattle.std.proofs.Common.{refl, ap, ◌∙◌, map, string_bytes}
+use Rattle.xl_script.specs.Lines.{line_of, lines_of}
+use Rattle.xl_studio.specs.Seats.{base_of, known_by}
+use Rattle.xl_sessions.proofs.UnderWay.{under_way_none, under_way_of, under_way_fit, under_way_more}
+use Rattle.xl_sessions.proofs.played.play_lines.Goals as goal
+
+pub loop-line-init : goal.loop-line-init
+loop-line-init g c = (
+  c.requires.seat,
+  refl,
+  under_way_none (base_of c.args.studio.now) c.args.session _ (lines_of c.args.lines.items) (lines_of c.into_iter-line-iterator.result.rest.items) (known_by c.args.seat.now) (map string_bytes c.args.digests.now.items)
+      (ap lines_of c.into_iter-line-iterator.ensures.into_iter_gives.0) c.requires.none c.requires.unchanged c.requires.silent c.requires.filters c.requires.fit,
+)
+
+pub play_line-requires-clause-fit : goal.play_line-requires-clause-fit
+play_line-requires-clause-fit g c κs within =
+    under_way_fit c.loop-line.invariant.2 (line_of c.in-Some.line) (lines_of c.next.new.self.rest.items) (ap lines_of c.in-Some.ensures.steps.0)
+
+pub play_line-requires-clause-of : goal.play_line-requires-clause-of
+play_line-requires-clause-of g c κs within = under_way_of c.loop-line.invariant.2
+
+pub loop-line-preserved : goal.loop-line-preserved
+loop-line-preserved g c = (
+  c.play_line.ensures.seat,
+  c.play_line.ensures.weight ∙ c.loop-line.invariant.1,
+  under_way_more c.loop-line.invariant.2 (line_of c.in-Some.line) (lines_of c.next.new.self.rest.items) (ap lines_of c.in-Some.ensures.steps.0)
+      _ (known_by c.play_line.new.seat) _ c.loop-line.invariant.0.front.legal c.play_line.ensures.begins c.in_ok-play_line.ensures.made,
+)
+
+pub returns-clause-of : goal.returns-clause-of
+returns-clause-of g c = under_way_of c.loop-line.invariant.2
