@@ -1,10 +1,10 @@
 -- The columns of a part of a layer laid over a band, some after others.
-use Rattle.std.proofs.Common.{◌≡◌, ℕ, ◌+◌, ◌-◌, ◌*◌, ◌<◌, ◌≤◌, ◌⊎◌, Bool, cond, ◌&&◌, nat_lt, List, length, refl, sym, ◌∙◌, ap, subst, arith, inl, inr}
+use Rattle.std.proofs.Common.{◌≡◌, ℕ, ◌+◌, ◌-◌, ◌*◌, ◌<◌, ◌≤◌, ◌⊎◌, cond, ◌&&◌, nat_lt, List, sym, ◌∙◌, ap, subst, arith, inl, inr}
 use Rattle.std.specs.Prelude.{Option, Some, None, nat_le}
 use Rattle.std.proofs.lemmas.Bool.Decides.{nat_tests}
 use Rattle.spec_blend.specs.declared.Mode.{Mode}
 use Rattle.spec_blend.specs.declared.Pixel.{Pixel}
-use Rattle.spec_blend.specs.Over.{over, clear}
+use Rattle.spec_blend.specs.Over.{over}
 use Rattle.xl_compose.specs.Laid.{pixel}
 use Rattle.xl_compose.specs.Span.{place_by}
 use Rattle.xl_compose.specs.Source.{at_place}

@@ -1,4 +1,4 @@
-use Rattle.std.proofs.Common.{◌≡◌, ◌+◌, ◌*◌, ◌≤◌, length, refl, ◌∙◌, subst, arith}
+use Rattle.std.proofs.Common.{◌≡◌, ◌+◌, refl, ◌∙◌, subst, arith}
 use Rattle.spec_grid.specs.Rect.{part_above_0}
 use Rattle.xl_compose.specs.Source.{sheet_pixel}
 use Rattle.xl_compose.proofs.BandRows.{AreLaidTo}
