@@ -2,17 +2,17 @@
 ghost use Rattle.std.specs.Prelude.{◌≡◌, length};
 ghost use Rattle.xl_blend.specs.Rows.{faded, faded_row, faded_row_by};
 
-use crate::bytes::mul;
+use crate::words::{mul_bytes, of_bytes, wide_of};
 use spec_blend::Pixel;
 
+/// Colours are taken apart and put together as words, so that the loops below are compiled to vectors.
+#[inline(always)]
 fn fade(pixel: Pixel, part: u8) -> Pixel
     ensures { result ≡ faded part pixel }
 {
-    let a = mul(u32::from(pixel.a), u32::from(part));
-    Pixel {
-        a: a as u8,
-        ..pixel
-    }
+    let wide = wide_of(pixel);
+    let a = mul_bytes(wide.a, u32::from(part));
+    of_bytes(wide.r, wide.g, wide.b, a)
 }
 
 /// The same part, of 255, of each pixel's alpha.

@@ -5,6 +5,7 @@ pub mod Sources
 pub mod Layers
 pub mod LaidCosts
 pub mod BandRows
+pub mod ColumnRuns
 pub mod StackRows
 pub mod Recomposed
 pub mod PictureRows

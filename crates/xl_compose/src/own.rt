@@ -41,17 +41,27 @@ fn rgb_row(bytes: &[u8], row: &mut [Pixel])
     }
 }
 
+// The pixel of four bytes, by way of a word: a loop over such pixels is compiled to a copy.
+#[inline(always)]
+fn pixel_of(r: u8, g: u8, b: u8, a: u8) -> Pixel
+    ensures { result ≡ record { r = r; g = g; b = b; a = a } }
+{
+    let word = u32::from_le_bytes([r, g, b, a]);
+    let [r, g, b, a] = word.to_le_bytes();
+    Pixel { r, g, b, a }
+}
+
 fn rgba_row(bytes: &[u8], row: &mut [Pixel])
     requires { length bytes.now ≡ length row.old * 4 }
     ensures { (colours : _) → ArePixels 1 colours bytes.now row.new }
 {
     for k in 0..row.len() {
-        row[k] = Pixel {
-            r: bytes[4 * k],
-            g: bytes[4 * k + 1],
-            b: bytes[4 * k + 2],
-            a: bytes[4 * k + 3],
-        };
+        row[k] = pixel_of(
+            bytes[4 * k],
+            bytes[4 * k + 1],
+            bytes[4 * k + 2],
+            bytes[4 * k + 3],
+        );
     }
 }
 

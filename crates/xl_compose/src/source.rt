@@ -150,8 +150,108 @@ fn size_of(layer: &Layer, part: Rect, band: Band) -> (usize, usize)
     (pixels, pixels * layer.plane.bpp() as usize)
 }
 
-/// Lays the part of a layer that lies in a band of the canvas over the band's picture, row by row. `source` has room for a row, and
-/// `bytes` for a tile and for the bytes of the part and of its mask. Each tile is unpacked once.
+// Lays a part of a layer over a band, from a column and a row of the band on.
+fn lay_rect<L: Ledger>(
+    mode: Mode,
+    colours: &[[u8; 3]],
+    opacity: u8,
+    layer: &Layer,
+    part: Rect,
+    left: u32,
+    top: u32,
+    band: Band,
+    picture: &mut [Pixel],
+    source: &mut [Pixel],
+    bytes: &mut [u8],
+    steps: &mut Steps<L>,
+)
+    requires within { IsWithin layer.now.plane.width layer.now.plane.height part }
+    requires across { left + part.w ≤ band.w }
+    requires down { top + part.h ≤ band.h }
+    requires wide { band.w ≤ 8192 }
+    requires high { band.h ≤ 64 }
+    requires picture { length picture.old ≡ band.h * band.w }
+    requires source { band.w ≤ length source.old }
+    requires bytes { 32768 + 320 * band.w ≤ length bytes.old }
+    requires neat { (v k : ℕ) → v < band.h → k < band.w → IsNeat (pixel picture.old (v * band.w + k)) }
+    ensures length { length picture.new ≡ length picture.old }
+    ensures each { (v k : ℕ) → v < band.h → k < band.w → pixel picture.new (v * band.w + k)
+        ≡ over mode (pixel picture.old (v * band.w + k)) (at_place (place_by left (part_above_0 part.x) part.w k) (place_by top (part_above_0 part.y) part.h v) (sheet_pixel colours.now opacity layer.now)) }
+    ensures cost { steps.new ≡ steps.old + part.h * part.w }
+{
+    let (tile, rest) = bytes.split_at_mut(ROOM);
+    let (count, size) = size_of(layer, part, band);
+    let (masks, rest) = rest.split_at_mut(count);
+    let pixels = &mut rest[..size];
+    layer.plane.read_rect(part, pixels, tile);
+    read_mask(layer, part, masks, tile);
+    lay_rows(
+        mode, colours, opacity, layer, part, pixels, masks, left, top, band, picture, source, steps,
+    );
+}
+
+// The most columns of a layer that are unpacked at a time. The pixels of so many are still in the processor's cache when their rows
+// are laid; those of a whole row of tiles are not.
+const COLUMNS: u32 = 512;
+
+// How many of the columns that are left are laid at a time, from a column of a layer on: up to the edge of a tile, so that no tile is
+// unpacked twice.
+fn columns_at(from: u32, left: u32) -> u32
+    requires some { 0 < left }
+    ensures some { 0 < result }
+    ensures within { result ≤ left }
+{
+    (COLUMNS - from % 64).min(left)
+}
+
+// Lays the common columns and rows of a layer and a band, some columns at a time.
+fn lay_columns<L: Ledger>(
+    mode: Mode,
+    colours: &[[u8; 3]],
+    opacity: u8,
+    layer: &Layer,
+    across: Span,
+    down: Span,
+    band: Band,
+    picture: &mut [Pixel],
+    source: &mut [Pixel],
+    bytes: &mut [u8],
+    steps: &mut Steps<L>,
+)
+    requires columns { across.from + across.count ≤ layer.now.plane.width }
+    requires rows { down.from + down.count ≤ layer.now.plane.height }
+    requires across { across.skip + across.count ≤ band.w }
+    requires down { down.skip + down.count ≤ band.h }
+    requires wide { band.w ≤ 8192 }
+    requires high { band.h ≤ 64 }
+    requires picture { length picture.old ≡ band.h * band.w }
+    requires source { band.w ≤ length source.old }
+    requires bytes { 32768 + 320 * band.w ≤ length bytes.old }
+    requires neat { (v k : ℕ) → v < band.h → k < band.w → IsNeat (pixel picture.old (v * band.w + k)) }
+    ensures length { length picture.new ≡ length picture.old }
+    ensures each { (v k : ℕ) → v < band.h → k < band.w → pixel picture.new (v * band.w + k)
+        ≡ over mode (pixel picture.old (v * band.w + k)) (at_place (place_by across.skip across.from across.count k) (place_by down.skip down.from down.count v) (sheet_pixel colours.now opacity layer.now)) }
+    ensures cost { steps.new ≡ steps.old + down.count * across.count }
+{
+    prove!(layer.plane.width() <= 8192);
+    let mut done = 0;
+    while done < across.count {
+        let span = Span {
+            skip: across.skip + done,
+            from: across.from + done,
+            count: columns_at(across.from + done, across.count - done),
+        };
+        let part = common(layer, span, down);
+        lay_rect(
+            mode, colours, opacity, layer, part, span.skip, down.skip, band, picture, source,
+            bytes, steps,
+        );
+        done += span.count;
+    }
+}
+
+/// Lays the part of a layer that lies in a band of the canvas over the band's picture, some columns at a time and these row by row.
+/// `source` has room for a row, and `bytes` for a tile and for the bytes of the part and of its mask. Each tile is unpacked once.
 pub fn lay_layer<L: Ledger>(
     mode: Mode,
     colours: &[[u8; 3]],
@@ -179,26 +279,7 @@ pub fn lay_layer<L: Ledger>(
     if down.count == 0 || across.count == 0 {
         return;
     }
-    let part = common(layer, across, down);
-    let (tile, rest) = bytes.split_at_mut(ROOM);
-    let (count, size) = size_of(layer, part, band);
-    let (masks, rest) = rest.split_at_mut(count);
-    let pixels = &mut rest[..size];
-    layer.plane.read_rect(part, pixels, tile);
-    read_mask(layer, part, masks, tile);
-    lay_rows(
-        mode,
-        colours,
-        opacity,
-        layer,
-        part,
-        pixels,
-        masks,
-        across.skip,
-        down.skip,
-        band,
-        picture,
-        source,
-        steps,
+    lay_columns(
+        mode, colours, opacity, layer, across, down, band, picture, source, bytes, steps,
     );
 }

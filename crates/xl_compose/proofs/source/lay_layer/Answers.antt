@@ -1,8 +1,6 @@
-use Rattle.std.proofs.Common.{◌≡◌, ◌+◌, ◌*◌, ◌<◌, ◌≤◌, ℕ, ap, sym, ◌∙◌, arith, inl, inr}
-use Rattle.spec_blend.specs.Over.{over}
+use Rattle.std.proofs.Common.{◌≡◌, ◌+◌, ◌*◌, ap, sym, ◌∙◌, arith, inl, inr}
 use Rattle.xl_doc.specs.Sheet.{Sheet}
 use Rattle.xl_compose.specs.Laid.{pixel}
-use Rattle.xl_compose.specs.Source.{at_place, sheet_pixel}
 use Rattle.xl_compose.specs.Span.{place, place_by}
 use Rattle.std.proofs.lemmas.Int.{to_z-of_z}
 use mir.Val.{SFits}
@@ -31,8 +29,8 @@ returns-then-down-eq0-clause-each g c = λ v k hv hk.
 
 pub returns-clause-cost : goal.returns-clause-cost
 returns-clause-cost g c =
-    part_cost c.args.steps.now c.lay_rows.new.steps c.common-part.result.h c.common-part.result.w c.args.band.h c.args.band.w c.lay_rows.ensures.cost
-    (omega (arith, c.common-part.ensures.h, c.overlap-down.ensures.row)) (omega (arith, c.common-part.ensures.w, c.overlap-across.ensures.row))
+    part_cost c.args.steps.now c.lay_columns.new.steps c.overlap-down.result.count c.overlap-across.result.count c.args.band.h c.args.band.w c.lay_columns.ensures.cost
+    (omega (arith, c.overlap-down.ensures.row)) (omega (arith, c.overlap-across.ensures.row))
 
 pub returns-clause-each : goal.returns-clause-each
 returns-clause-each g c = λ v k hv hk.
@@ -47,6 +45,5 @@ returns-clause-each g c = λ v k hv hk.
     ap (λ n. place i.y n (c.args.band.y + v)) (sym c.height.ensures.value) ∙ (simp to_z-of_z at (c.overlap-down.ensures.place v hv)) in
     let column : place i.x i.plane.width (c.args.band.x + k) ≡ place_by across.skip across.from across.count k =
     ap (λ n. place i.x n (c.args.band.x + k)) (sym c.width.ensures.value) ∙ (simp to_z-of_z at (c.overlap-across.ensures.place k hk)) in
-    c.lay_rows.ensures.each v k hv hk
-    ∙ ((λ j. over c.args.mode p (at_place (place_by across.skip (c.common-part.ensures.x j) (c.common-part.ensures.w j) k) (place_by down.skip (c.common-part.ensures.y j) (c.common-part.ensures.h j) v) (sheet_pixel c.args.colours.now c.args.opacity c.args.layer.now)))
-    ∙ rw (← c.layer.view_is) (by_place c.args.mode c.args.colours.now c.args.opacity s (c.args.band.x + k) (c.args.band.y + v) (place_by across.skip across.from across.count k) (place_by down.skip down.from down.count v) p column row))
+    c.lay_columns.ensures.each v k hv hk
+    ∙ rw (← c.layer.view_is) (by_place c.args.mode c.args.colours.now c.args.opacity s (c.args.band.x + k) (c.args.band.y + v) (place_by across.skip across.from across.count k) (place_by down.skip down.from down.count v) p column row)
