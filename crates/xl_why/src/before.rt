@@ -42,7 +42,7 @@ impl Before {
     }
 
     // A line more, of any session. Those before the refused one are in the grammar or skipped.
-    fn take_line(&mut self, line: &[u8], session: u8, slot: &[u8]) {
+    fn take_line(&mut self, line: &[u8], session: u32, slot: &[u8]) {
         let Ok(asked) = asked_by(line) else {
             return;
         };
@@ -68,7 +68,7 @@ pub fn line_of(text: &[u8], number: u32) -> Option<&[u8]> {
 }
 
 /// What the session does in the lines before this one, from 1. `slot` is the number of a filter.
-pub fn before_line(text: &[u8], number: u32, session: u8, slot: &[u8]) -> Before {
+pub fn before_line(text: &[u8], number: u32, session: u32, slot: &[u8]) -> Before {
     let mut before = Before {
         group: None,
         calls: 0,

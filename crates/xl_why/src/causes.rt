@@ -1,3 +1,5 @@
+ghost use Rattle.xl_why.specs.Causes.{Blames};
+
 use crate::before::{Before, before_line, line_of};
 use crate::cause::Cause;
 use crate::keywords::Task;
@@ -10,17 +12,21 @@ const MAX_EDITS: u32 = 1024;
 
 const MAX_CALLS: u32 = 1 << 19;
 
+const SESSIONS: u32 = 8;
+
 // Whether the calls of all sessions before a line are as many as a script may have.
 fn is_full(text: &[u8], number: u32) -> bool {
     let mut calls: u32 = 0;
-    for session in b'0'..=b'7' {
+    for session in 0..SESSIONS {
         calls = calls.saturating_add(before_line(text, number, session, &[]).calls);
     }
     calls >= MAX_CALLS
 }
 
 // What is wrong with a line inside a group that has so many edits.
-fn cause_inside<'a>(asked: Asked<'a>, edits: u32) -> Cause<'a> {
+fn cause_inside<'a>(asked: Asked<'a>, edits: u32) -> Cause<'a>
+    ensures { Blames result }
+{
     match asked.keyword.task {
         Task::Edit => cause_of_edit(edits, Cause::Unknown),
         Task::Filter => cause_of_edit(edits, Cause::NoFilter(asked.last)),
@@ -32,7 +38,10 @@ fn cause_inside<'a>(asked: Asked<'a>, edits: u32) -> Cause<'a> {
 }
 
 // What is wrong with an edit in a group that has so many, or this.
-fn cause_of_edit<'a>(edits: u32, otherwise: Cause<'a>) -> Cause<'a> {
+fn cause_of_edit<'a>(edits: u32, otherwise: Cause<'a>) -> Cause<'a>
+    requires { Blames otherwise }
+    ensures { Blames result }
+{
     if edits >= MAX_EDITS {
         Cause::FullGroup
     } else {
@@ -41,7 +50,9 @@ fn cause_of_edit<'a>(edits: u32, otherwise: Cause<'a>) -> Cause<'a> {
 }
 
 // What is wrong with a line outside a group.
-fn cause_outside<'a>(text: &[u8], number: u32, asked: Asked<'a>) -> Cause<'a> {
+fn cause_outside<'a>(text: &[u8], number: u32, asked: Asked<'a>) -> Cause<'a>
+    ensures { Blames result }
+{
     match asked.keyword.task {
         Task::End => Cause::EndOutside,
         Task::Forget => Cause::NoFilter(asked.last),
@@ -52,7 +63,10 @@ fn cause_outside<'a>(text: &[u8], number: u32, asked: Asked<'a>) -> Cause<'a> {
 }
 
 // What is wrong with a line that begins a call: there are too many, or this.
-fn cause_of_call<'a>(text: &[u8], number: u32, otherwise: Cause<'a>) -> Cause<'a> {
+fn cause_of_call<'a>(text: &[u8], number: u32, otherwise: Cause<'a>) -> Cause<'a>
+    requires { Blames otherwise }
+    ensures { Blames result }
+{
     if is_full(text, number) {
         Cause::TooManyCalls
     } else {
@@ -69,7 +83,9 @@ fn is_dropped(task: Task, before: Before) -> bool {
 }
 
 // What is wrong with a line that would do at another place.
-fn misplaced<'a>(text: &[u8], number: u32, asked: Asked<'a>) -> Cause<'a> {
+fn misplaced<'a>(text: &[u8], number: u32, asked: Asked<'a>) -> Cause<'a>
+    ensures { Blames result }
+{
     let before = before_line(text, number, asked.session, asked.last);
     if is_dropped(asked.keyword.task, before) {
         return Cause::DroppedFilter(asked.last);
@@ -81,7 +97,9 @@ fn misplaced<'a>(text: &[u8], number: u32, asked: Asked<'a>) -> Cause<'a> {
 }
 
 /// Why the line of this number, from 1, is refused, where it is the first that is.
-pub fn cause_of<'a>(text: &'a [u8], number: u32) -> Cause<'a> {
+pub fn cause_of<'a>(text: &'a [u8], number: u32) -> Cause<'a>
+    ensures { Blames result }
+{
     if text.len() > MAX_LEN {
         return Cause::TooLong;
     }

@@ -1,3 +1,7 @@
+ghost use Rattle.std.specs.Prelude.{◌≡◌, true, is_some, IfSome};
+ghost use Rattle.spec_script.specs.Commands as grammar;
+ghost use Rattle.xl_why.specs.Keywords.{is_keyword};
+
 use crate::kinds::Kind;
 use crate::kinds::Kind::{Byte, Colours, Coordinate, Flag, Hex, LayerType, Number, Offset, Side};
 
@@ -84,10 +88,20 @@ const KEYWORDS: [(&'static [u8], Task, &'static [Kind]); 32] = [
     (b"forget", Task::Forget, ONE),
 ];
 
+// Whether a word is this text.
+fn is_word(word: &[u8], text: &[u8]) -> bool
+    ensures { result ≡ grammar.is_word word.now text.now }
+{
+    word == text
+}
+
 /// The keyword that is this word, if there is one.
-pub fn keyword_of(word: &[u8]) -> Option<Keyword> {
+pub fn keyword_of(word: &[u8]) -> Option<Keyword>
+    ensures all { is_some result ≡ is_keyword word.now }
+    ensures same { IfSome result (λ k. grammar.is_word word.now k.word.now ≡ true) }
+{
     for (text, task, kinds) in &KEYWORDS {
-        if word == *text {
+        if is_word(word, text) {
             return Some(Keyword {
                 word: *text,
                 task: *task,

@@ -1,4 +1,7 @@
-ghost use Rattle.std.specs.Prelude.{◌≤◌, ◌^◌};
+ghost use Rattle.std.specs.Prelude.{◌≡◌, ◌<◌, ◌≤◌, ◌^◌, is_some};
+ghost use Rattle.spec_script.specs.Words as grammar;
+ghost use Rattle.xl_script.specs.Numbers.{below, below_zero};
+ghost use Rattle.xl_why.specs.Kinds as kinds;
 
 /// What a word behind a keyword has to be.
 #[derive(Clone, Copy, Debug)]
@@ -23,50 +26,127 @@ pub enum Kind {
 
 const MAX_COLOURS: usize = 256;
 
-// Whether the word is a decimal number below the limit, without a leading zero.
-fn is_number_below(limit: u64, word: &[u8]) -> bool
-    requires { limit ≤ 2 ^ 32 }
+// The number of these digits, if it is below the limit.
+fn digits_below(limit: u64, word: &[u8]) -> Option<u32>
+    requires some { 0 < limit }
+    requires fits { limit ≤ 2 ^ 32 }
+    ensures { result ≡ below limit (grammar.digits_from 0 word.now) }
 {
-    if word.is_empty() || (word.len() > 1 && word[0] == b'0') {
-        return false;
-    }
     let mut value: u64 = 0;
     for b in word {
         if !b.is_ascii_digit() {
-            return false;
+            return None;
         }
         value = 10 * value + u64::from(*b - b'0');
         if value >= limit {
-            return false;
+            return None;
         }
     }
-    true
+    Some(value as u32)
+}
+
+// A decimal number below the limit, without a leading zero.
+fn number_below(limit: u64, word: &[u8]) -> Option<u32>
+    requires some { 0 < limit }
+    requires fits { limit ≤ 2 ^ 32 }
+    ensures { result ≡ grammar.number_below limit word.now }
+{
+    if word.is_empty() || (word.len() > 1 && word[0] == b'0') {
+        return None;
+    }
+    digits_below(limit, word)
+}
+
+/// The number of a session.
+pub fn session_of(word: &[u8]) -> Option<u32>
+    ensures { result ≡ grammar.number_below 8 word.now }
+{
+    number_below(8, word)
+}
+
+fn is_number_below(limit: u64, word: &[u8]) -> bool
+    requires some { 0 < limit }
+    requires fits { limit ≤ 2 ^ 32 }
+    ensures { result ≡ is_some (grammar.number_below limit word.now) }
+{
+    number_below(limit, word).is_some()
+}
+
+// A number above 0 whose digits stand behind a minus.
+fn is_negative(digits: &[u8]) -> bool
+    ensures { result ≡ is_some (below_zero digits.now) }
+{
+    match number_below((1 << 31) + 1, digits) {
+        None | Some(0) => false,
+        Some(_) => true,
+    }
 }
 
 // A number of 32 bits with its sign. There is no -0.
-fn is_offset(word: &[u8]) -> bool {
+fn is_offset(word: &[u8]) -> bool
+    ensures { result ≡ is_some (grammar.signed_number word.now) }
+{
     match word {
-        [b'-', b'0'] => false,
-        [b'-', digits @ ..] => is_number_below((1 << 31) + 1, digits),
+        [b'-', digits @ ..] => is_negative(digits),
         _ => is_number_below(1 << 31, word),
     }
 }
 
-fn is_side(word: &[u8]) -> bool {
-    !matches!(word, [b'0']) && is_number_below(8193, word)
-}
-
-// Two hexadecimal digits a byte, or a minus for none.
-fn is_hex(word: &[u8]) -> bool {
-    match word {
-        [] => false,
-        [b'-'] => true,
-        _ => word.len() % 2 == 0 && word.iter().all(|b| b.is_ascii_hexdigit()),
+fn is_side(word: &[u8]) -> bool
+    ensures { result ≡ is_some (grammar.side word.now) }
+{
+    match number_below(8193, word) {
+        None | Some(0) => false,
+        Some(_) => true,
     }
 }
 
-fn is_colours(word: &[u8]) -> bool {
-    !matches!(word, [b'-']) && is_hex(word) && word.len() % 6 == 0 && word.len() <= 6 * MAX_COLOURS
+fn is_hex_digit(b: u8) -> bool
+    ensures { result ≡ is_some (grammar.hex_digit b) }
+{
+    matches!(b, b'0'..=b'9' | b'a'..=b'f' | b'A'..=b'F')
+}
+
+// Whether these are two digits for each byte.
+fn are_hex_digits(digits: &[u8]) -> bool
+    ensures { result ≡ is_some (grammar.hex_bytes digits.now) }
+{
+    let mut rest = digits;
+    while let [high, low, after @ ..] = rest {
+        if !is_hex_digit(*high) || !is_hex_digit(*low) {
+            return false;
+        }
+        rest = after;
+    }
+    rest.is_empty()
+}
+
+// Two hexadecimal digits a byte, or a minus for none.
+fn is_hex(word: &[u8]) -> bool
+    ensures { result ≡ is_some (grammar.hex word.now) }
+{
+    match word {
+        [] => false,
+        [b'-'] => true,
+        _ => are_hex_digits(word),
+    }
+}
+
+// Whether there are 1 to 256 colours of three bytes in so many bytes.
+fn is_colours_length(len: usize) -> bool
+    ensures { result ≡ kinds.is_colours_length len }
+{
+    len >= 3 && len <= 3 * MAX_COLOURS && len % 3 == 0
+}
+
+fn are_colours(word: &[u8]) -> bool
+    ensures { result ≡ kinds.are_colour_digits word.now }
+{
+    if is_hex(word) {
+        is_colours_length(word.len() / 2)
+    } else {
+        false
+    }
 }
 
 impl Kind {
@@ -89,7 +169,9 @@ impl Kind {
     }
 
     /// Whether the word is of this kind.
-    pub fn has(self, word: &[u8]) -> bool {
+    pub fn has(self, word: &[u8]) -> bool
+        ensures { result ≡ kinds.has self word.now }
+    {
         match self {
             Kind::Number => is_number_below(1 << 32, word),
             Kind::Coordinate => is_number_below(1 << 20, word),
@@ -99,7 +181,7 @@ impl Kind {
             Kind::Flag => is_number_below(2, word),
             Kind::Offset => is_offset(word),
             Kind::Hex => is_hex(word),
-            Kind::Colours => is_colours(word),
+            Kind::Colours => are_colours(word),
         }
     }
 }

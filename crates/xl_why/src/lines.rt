@@ -1,28 +1,24 @@
+ghost use Rattle.std.specs.Prelude.{IfErr};
+ghost use Rattle.xl_why.specs.Causes.{Blames};
+
 use crate::cause::Cause;
 use crate::keywords::{Keyword, keyword_of};
-use crate::kinds::Kind;
+use crate::kinds::{Kind, session_of};
 use crate::words::first_word;
 
 /// What a session asks for.
 #[derive(Clone, Copy, Debug)]
 pub struct Asked<'a> {
-    /// Its digit.
-    pub session: u8,
+    pub session: u32,
     pub keyword: Keyword,
     /// The last word of the line.
     pub last: &'a [u8],
 }
 
-// The digit of a session.
-fn digit_of(word: &[u8]) -> Option<u8> {
-    match word {
-        [digit @ b'0'..=b'7'] => Some(*digit),
-        _ => None,
-    }
-}
-
 // The first blank that stands where none may, and a tab or a carriage return.
-fn check_blanks<'a>(line: &[u8]) -> Result<(), Cause<'a>> {
+fn check_blanks<'a>(line: &[u8]) -> Result<(), Cause<'a>>
+    ensures { IfErr result Blames }
+{
     let mut before = b' ';
     for b in line {
         match (before, *b) {
@@ -47,7 +43,9 @@ fn count_words(words: Option<&[u8]>) -> usize {
     }
 }
 
-fn check_count<'a>(keyword: Keyword, found: usize) -> Result<(), Cause<'a>> {
+fn check_count<'a>(keyword: Keyword, found: usize) -> Result<(), Cause<'a>>
+    ensures { IfErr result Blames }
+{
     let least = keyword.least();
     let most = keyword.kinds.len();
     if found < least || found > most {
@@ -62,7 +60,9 @@ fn check_count<'a>(keyword: Keyword, found: usize) -> Result<(), Cause<'a>> {
 }
 
 // Whether a word is of its kind.
-fn check_word<'a>(place: usize, word: &'a [u8], kind: Kind) -> Result<(), Cause<'a>> {
+fn check_word<'a>(place: usize, word: &'a [u8], kind: Kind) -> Result<(), Cause<'a>>
+    ensures { IfErr result Blames }
+{
     if kind.has(word) {
         return Ok(());
     }
@@ -73,7 +73,9 @@ fn check_word<'a>(place: usize, word: &'a [u8], kind: Kind) -> Result<(), Cause<
 }
 
 // Whether each word is of its kind. It answers the last one.
-fn check_words<'a>(keyword: Keyword, words: Option<&'a [u8]>) -> Result<&'a [u8], Cause<'a>> {
+fn check_words<'a>(keyword: Keyword, words: Option<&'a [u8]>) -> Result<&'a [u8], Cause<'a>>
+    ensures { IfErr result Blames }
+{
     let mut rest = words;
     let mut last: &'a [u8] = &[];
     for (index, kind) in keyword.kinds.iter().enumerate() {
@@ -89,10 +91,12 @@ fn check_words<'a>(keyword: Keyword, words: Option<&'a [u8]>) -> Result<&'a [u8]
 }
 
 /// What a line asks for, or what is wrong with it wherever it stands.
-pub fn asked_by<'a>(line: &'a [u8]) -> Result<Asked<'a>, Cause<'a>> {
+pub fn asked_by<'a>(line: &'a [u8]) -> Result<Asked<'a>, Cause<'a>>
+    ensures { IfErr result Blames }
+{
     check_blanks(line)?;
     let (session, rest) = first_word(line);
-    let Some(session) = digit_of(session) else {
+    let Some(session) = session_of(session) else {
         return Err(Cause::NoSession(session));
     };
     let Some(rest) = rest else {
