@@ -4,14 +4,20 @@ use xl_why::{Cause, Kind};
 /// How many bytes of a word are shown.
 const MAX_SHOWN: usize = 40;
 
+// The front of a word, of so many bytes at most, and what stands for the rest.
+fn front_of(word: &[u8], most: usize) -> (&[u8], &'static str) {
+    if word.len() > most {
+        (&word[..most], "..")
+    } else {
+        (word, "")
+    }
+}
+
 // A word in quotes, its bytes other than printable ASCII escaped. Of a long one the front is shown.
 fn quoted(alloc: Global, word: &[u8]) -> Result<String, AllocError> {
-    if word.len() > MAX_SHOWN {
-        let front = word[..MAX_SHOWN].escape_ascii();
-        return format!(in alloc; "\"{front}..\"");
-    }
-    let shown = word.escape_ascii();
-    format!(in alloc; "\"{shown}\"")
+    let (front, rest) = front_of(word, MAX_SHOWN);
+    let shown = front.escape_ascii();
+    format!(in alloc; "\"{shown}{rest}\"")
 }
 
 // What a word of this kind is.
