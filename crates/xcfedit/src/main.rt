@@ -10,6 +10,7 @@ use xl_filters::{Fade, Invert, PointFilter, Posterize, Threshold};
 use xl_messages::message;
 use xl_program::{Ended, run};
 use xl_real::{FileShelf, StdSink, StdSource};
+use xl_why::Recorded;
 
 /// The status where all went well.
 const DONE: u8 = 0;
@@ -27,7 +28,11 @@ fn words_given(rt: &HostRuntime) -> io::Result<Vec<String>> {
 }
 
 // Does what the words ask for, over the real devices. Each session has four filters, in its slots 0 to 3.
-fn run_with_filters(rt: &HostRuntime, words: &[&str]) -> Result<Ended<FileShelf>, AllocError> {
+fn run_with_filters(
+    rt: &HostRuntime,
+    words: &[&str],
+    source: &mut Recorded<StdSource>,
+) -> Result<Ended<FileShelf>, AllocError> {
     let alloc = rt.alloc();
     let mut chest: Vec<Vec<Box<dyn PointFilter + Send>>> = Vec::with_capacity(alloc, SESSIONS)?;
     for _ in 0..SESSIONS {
@@ -38,10 +43,9 @@ fn run_with_filters(rt: &HostRuntime, words: &[&str]) -> Result<Ended<FileShelf>
         boxes.push(Box::new(alloc, Fade::new(100))?)?;
         chest.push(boxes)?;
     }
-    let mut source = StdSource::new(rt);
     let mut sink = StdSink::new(rt);
     let shelf = FileShelf::new(rt);
-    Ok(run(alloc, words, &mut source, &mut sink, shelf, chest))
+    Ok(run(alloc, words, source, &mut sink, shelf, chest))
 }
 
 fn started(rt: &HostRuntime) -> Result<u8, AllocError> {
@@ -56,9 +60,10 @@ fn started(rt: &HostRuntime) -> Result<u8, AllocError> {
     for word in &given {
         words.push(word.as_str())?;
     }
-    let ended = run_with_filters(rt, &words)?;
+    let mut source = Recorded::new(alloc, StdSource::new(rt));
+    let ended = run_with_filters(rt, &words, &mut source)?;
     if ended.status != DONE
-        && let Ok(text) = message(alloc, &words, ended.status, ended.cause)
+        && let Ok(text) = message(alloc, &words, ended.status, ended.cause, source.bytes())
     {
         // Where it cannot be written there is nothing else to say.
         let _ = rt.eprintln(text);

@@ -1,8 +1,10 @@
 use crate::faults::fault_text;
+use crate::lines::cause_text;
 use spec_fields::ReadRefused;
 use std::alloc::{AllocError, Global};
 use xl_command::{Command, command_of};
 use xl_program::Stopped;
+use xl_why::cause_of;
 
 const USAGE: &str =
     "these words are no command; the commands are\n  xcfedit render FILE              writes the picture of FILE as a PAM\n  xcfedit info FILE                writes the layers of FILE as a line of JSON\n  xcfedit edit FILE [--workers N]  runs a script from standard input on FILE, N from 0 to 8\n  xcfedit make FILE --seed N       saves the document of the seed N, runs the seed's script on FILE and sums the run up in a line";
@@ -11,12 +13,13 @@ const USAGE: &str =
 const MEMORY: u8 = 8;
 
 /// A sentence on how the words came to this status, other than 0: which file, what is wrong and where. `cause` is that of
-/// [`xl_program::Ended`]. It has no newline at its end.
+/// [`xl_program::Ended`], and `script` what was read of the script, for its bad line to be quoted. It has no newline at its end.
 pub fn message<'a>(
     alloc: Global,
     words: &'a [&'a str],
     status: u8,
     cause: Option<Stopped>,
+    script: &[u8],
 ) -> Result<String, AllocError> {
     if status == MEMORY {
         return String::from_str(alloc, "out of memory");
@@ -24,7 +27,7 @@ pub fn message<'a>(
     let (Some(command), Some(stopped)) = (command_of(alloc, words)?, cause) else {
         return String::from_str(alloc, USAGE);
     };
-    stop_text(alloc, command, stopped)
+    stop_text(alloc, command, stopped, script)
 }
 
 // The name of a command's file.
@@ -35,17 +38,28 @@ fn file_of(command: Command<'_>) -> &str {
     }
 }
 
-fn stop_text(alloc: Global, command: Command<'_>, stopped: Stopped) -> Result<String, AllocError> {
+fn stop_text(
+    alloc: Global,
+    command: Command<'_>,
+    stopped: Stopped,
+    script: &[u8],
+) -> Result<String, AllocError> {
     let name = file_of(command);
     match stopped {
         Stopped::SourceFault => String::from_str(alloc, "the script cannot be read"),
-        Stopped::BadLine(number) => format!(in alloc; "script line {number} is not in the grammar"),
+        Stopped::BadLine(number) => line_text(alloc, script, number),
         Stopped::ShelfFault => shelf_text(alloc, command),
         Stopped::Refused(refused) => refusal_text(alloc, name, refused),
         Stopped::SaveFault => format!(in alloc; "{name}: a save failed"),
         Stopped::SinkFault => String::from_str(alloc, "the output cannot be written"),
         Stopped::Memory => String::from_str(alloc, "out of memory"),
     }
+}
+
+// The bad line of a script.
+fn line_text(alloc: Global, script: &[u8], number: u32) -> Result<String, AllocError> {
+    let fault = cause_text(alloc, cause_of(script, number))?;
+    format!(in alloc; "script line {number}: {fault}")
 }
 
 // A fault of the shelf before the output: what is made is not read, but saved.

@@ -8,18 +8,108 @@ use xl_program::Stopped;
 // The sentence on a file that is edited.
 fn of_edit(alloc: Global, status: u8, cause: Stopped) -> Result<String, AllocError> {
     let words = ["edit", "photo.xcf"];
-    message(alloc, words.as_slice(), status, Some(cause))
+    message(alloc, words.as_slice(), status, Some(cause), &[])
+}
+
+// The refused line of a script, the script, and what is said of it.
+const BAD_LINES: [(u32, &'static [u8], &'static str); 27] = [
+    (2, b"0 top\n0 blur 1\n", "unknown word \"blur\""),
+    (1, b"8 top", "\"8\" is no session from 0 to 7"),
+    (1, b"7\n", "a session that asks for nothing"),
+    (1, b"0  top", "two blanks, or one at an end"),
+    (1, b"0 top ", "two blanks, or one at an end"),
+    (1, b"0\ttop", "a tab, where words stand one blank apart"),
+    (
+        2,
+        b"# a comment\r\n0 top\r\n",
+        "a carriage return, where a line ends in a newline alone",
+    ),
+    (1, b"0 opacity 1 2 3", "\"opacity\" takes 2 words, not 3"),
+    (1, b"0 delete", "\"delete\" takes 1 word, not 0"),
+    (1, b"0 undo 1 2", "\"undo\" takes at most 1 word, not 2"),
+    (1, b"0 redo 1", "\"redo\" takes no words, not 1"),
+    (
+        1,
+        b"0 opacity 1 256",
+        "word 4, \"256\", is not a number from 0 to 255",
+    ),
+    (
+        1,
+        b"0 offset 1 -0 0",
+        "word 4, \"-0\", is not a number from -2147483648 to 2147483647",
+    ),
+    (1, b"0 opacity 01 255", "word 3, \"01\", has a leading zero"),
+    (1, b"0 visible 1 yes", "word 4, \"yes\", is not 0 or 1"),
+    (
+        1,
+        b"0 rename 1 M\xfcller",
+        "word 4, \"M\\xfcller\", is not bytes of two hexadecimal digits each, or - for none",
+    ),
+    (
+        1,
+        b"0 colours ffff",
+        "word 3, \"ffff\", is not 1 to 256 colours of six hexadecimal digits each",
+    ),
+    (
+        1,
+        b"0 0123456789012345678901234567890123456789012",
+        "unknown word \"0123456789012345678901234567890123456789..\"",
+    ),
+    (1, b"0 end", "\"end\" without \"begin\""),
+    (
+        3,
+        b"0 begin\n1 top\n0 begin\n",
+        "\"begin\" inside a group, where edits alone may stand",
+    ),
+    (2, b"3 begin 4\n3 end\n", "a group without edits"),
+    (
+        1,
+        b"0 begin\n0 delete 1\n1 begin\n",
+        "a group that is not ended",
+    ),
+    (
+        1,
+        b"0 filter 1 0 0 8 8 4\n",
+        "the session has no filter \"4\"",
+    ),
+    (
+        3,
+        b"0 forget 1\n1 forget 1\n0 forget 1\n",
+        "the session dropped filter \"1\" before",
+    ),
+    (2, b"0 top\n", "not in the grammar"),
+    (1, b"", "not in the grammar"),
+    (1, b"0 top", "not in the grammar"),
+];
+
+// What is said of each, where it is not what stands beside it.
+fn said_otherwise(alloc: Global) -> Result<Option<String>, AllocError> {
+    let words = ["edit", "photo.xcf"];
+    for (number, script, fault) in &BAD_LINES {
+        let said = message(
+            alloc,
+            words.as_slice(),
+            3,
+            Some(Stopped::BadLine(*number)),
+            *script,
+        )?;
+        if said.as_str() != format!(in alloc; "script line {number}: {fault}")?.as_str() {
+            return Ok(Some(said));
+        }
+    }
+    Ok(None)
 }
 
 #[test]
 fn the_line_of_a_script_is_named(rt: HostRuntime) -> Result<(), Fail> {
-    let alloc = rt.alloc();
+    assert_eq!(rt; said_otherwise(rt.alloc())?, None);
+    Ok(())
+}
+
+#[test]
+fn the_script_cannot_be_read(rt: HostRuntime) -> Result<(), Fail> {
     assert_eq!(rt;
-        of_edit(alloc, 3, Stopped::BadLine(12))?.as_str(),
-        "script line 12 is not in the grammar"
-    );
-    assert_eq!(rt;
-        of_edit(alloc, 5, Stopped::SourceFault)?.as_str(),
+        of_edit(rt.alloc(), 5, Stopped::SourceFault)?.as_str(),
         "the script cannot be read"
     );
     Ok(())
@@ -51,7 +141,13 @@ fn the_file_is_named(rt: HostRuntime) -> Result<(), Fail> {
 #[test]
 fn what_is_made_is_saved(rt: HostRuntime) -> Result<(), Fail> {
     let words = ["make", "photo.xcf", "--seed", "7"];
-    let text = message(rt.alloc(), words.as_slice(), 6, Some(Stopped::ShelfFault))?;
+    let text = message(
+        rt.alloc(),
+        words.as_slice(),
+        6,
+        Some(Stopped::ShelfFault),
+        &[],
+    )?;
     assert_eq!(rt; text.as_str(), "photo.xcf: the file cannot be saved");
     Ok(())
 }
@@ -79,7 +175,7 @@ fn the_output_and_memory(rt: HostRuntime) -> Result<(), Fail> {
 fn the_commands_are_listed(rt: HostRuntime) -> Result<(), Fail> {
     let alloc = rt.alloc();
     let words = ["edit"];
-    let text = message(alloc, words.as_slice(), 2, None)?;
+    let text = message(alloc, words.as_slice(), 2, None, &[])?;
     assert!(rt; text.as_str().starts_with("these words are no command"));
     assert_eq!(rt; text.as_str().lines().count(), 5);
     Ok(())

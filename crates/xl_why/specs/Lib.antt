@@ -1,0 +1,3 @@
+pub mod Kinds
+pub mod Keywords
+pub mod Causes
