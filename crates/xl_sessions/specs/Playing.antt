@@ -1,6 +1,5 @@
 -- What a line of a session makes.
-use Rattle.std.specs.Prelude.{◌≡◌, ℕ, ◌<◌, Bool, true, false, if◌then◌else◌, List, [], ◌∷◌, length, map, slice_set, Option, None, IsTrue, Vec}
-use Rattle.std.specs.declared.alloc.Global.{Global}
+use Rattle.std.specs.Prelude.{◌≡◌, ℕ, ◌<◌, Bool, true, false, if◌then◌else◌, List, [], ◌∷◌, length, slice_set, Option, None, IsTrue}
 use Rattle.spec_document.specs.Document.{Document}
 use Rattle.spec_filters.specs.declared.FilterState.{FilterState}
 use Rattle.spec_filters.specs.Slots.{has_slot}
@@ -22,10 +21,6 @@ use Rattle.spec_seats.specs.Digests.{asks_tile}
 use Rattle.xl_studio.specs.Saving.{IsSaved}
 
 -- ---- the filters
-
--- the states of filters in boxes, session by session; `state` is that of a box
-abbrev pub states_of : {B : Type 0} → (state : B → FilterState) → List (Vec B Global) → List (List FilterState)
-states_of state lists = map (λ boxes. map state boxes.items) lists
 
 -- a line whose call is within its type, and whose filters are in the chest
 abbrev pub FitsChest : List (Option FilterState) → Line → Type 0
