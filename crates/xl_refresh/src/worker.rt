@@ -8,8 +8,8 @@ use std::alloc::Global;
 use std::sync::Wait;
 use std::sync::ledger::Ledger;
 use xl_blend::Steps;
-use xl_core::{Finished, Job, JobDesk, Taken};
 use xl_compose::compose;
+use xl_core::{Finished, Job, JobDesk, Taken};
 use xl_ports::{Actor, Gate, Place};
 
 /// Why a worker has stopped.
