@@ -31,16 +31,16 @@ pub some_failed : (b : Bool) → b ≡ true → (n : ℕ) → WhetherFailed b n 
 some_failed true is n h = h
 some_failed false is n h = let bad : false ≡ true = is in cc
 
-module _ {given : Given} {before mid : Shelved} {name : List ℕ} {d : Document} {lists : List (List Line)} (known_then : IsOpened given before mid name d lists) (after : Shelved) where
-  history_of : (replies : Result Replies AllocError) (played : IsPlayed mid.known after.known d lists given.chests replies) → IsHistory name before after d played.entries
+module _ {given : Given} {before mid : Shelved} {name : List ℕ} {d : Document} {lists : List (List Line)} (known_then : IsOpened given before mid name d lists) (after : Shelved) (workers : ℕ) where
+  history_of : (replies : Result Replies AllocError) (played : IsPlayed mid.known after.known d lists given.chests workers replies) → IsHistory name before after d played.entries
   history_of replies played = record {
     held = known_then.holds;
     legal = played.legal;
     shelf = right_earlier (opened before name) mid.known after.known d played.entries (sym known_then.named) (sym known_then.reading) (sym known_then.untouched.saving) known_then.untouched.quiet played.shelf;
   }
 
-  replies_of : (replies : Replies) (P : ℕ → Type 0) (played : IsPlayed mid.known after.known d lists given.chests (Ok replies)) → ((n : ℕ) → WhetherFailed replies.save_failed n → P n)
-      → IsReplies given name before after P (string_bytes replies.text)
+  replies_of : (replies : Replies) (P : ℕ → Type 0) (played : IsPlayed mid.known after.known d lists given.chests workers (Ok replies)) → ((n : ℕ) → WhetherFailed replies.save_failed n → P n)
+      → IsReplies given name before after workers P (string_bytes replies.text)
   replies_of replies P played fails = record {
     document = d;
     lists = lists;
@@ -54,17 +54,17 @@ module _ {given : Given} {before mid : Shelved} {name : List ℕ} {d : Document}
 
   -- what is written, and the shelf
   pub played_comes : {K : Type 0} (held : K → Option (List ℕ)) (faults : K → ℕ) (old new : K) (replies : Result Replies AllocError) (result : Result (Unit {0}) Stopped)
-      → IsPlayed mid.known after.known d lists given.chests replies → WritesReplies held faults old new replies result
-      → (workers : ℕ) → ComesTo held faults given before after (edit name workers) old new result
-  played_comes held faults old new (Ok replies) (Ok x) played writes workers = (string_bytes replies.text, replies_of replies NoneFailed played (none_failed replies.save_failed writes.1), writes.0)
-  played_comes held faults old new (Ok replies) (Err SaveFault) played writes workers = (string_bytes replies.text, replies_of replies SomeFailed played (some_failed replies.save_failed writes.1), writes.0)
-  played_comes held faults old new (Ok replies) (Err SinkFault) played writes workers = (string_bytes replies.text, replies_of replies AnyFailed played (λ n h. tt), writes)
-  played_comes held faults old new (Ok replies) (Err SourceFault) played writes workers = absurd writes
-  played_comes held faults old new (Ok replies) (Err (BadLine number)) played writes workers = absurd writes
-  played_comes held faults old new (Ok replies) (Err ShelfFault) played writes workers = absurd writes
-  played_comes held faults old new (Ok replies) (Err (Refused refused)) played writes workers = absurd writes
-  played_comes held faults old new (Ok replies) (Err Memory) played writes workers = absurd writes
-  played_comes held faults old new (Err e) result played writes workers =
+      → IsPlayed mid.known after.known d lists given.chests workers replies → WritesReplies held faults old new replies result
+      → ComesTo held faults given before after (edit name workers) old new result
+  played_comes held faults old new (Ok replies) (Ok x) played writes = (string_bytes replies.text, replies_of replies NoneFailed played (none_failed replies.save_failed writes.1), writes.0)
+  played_comes held faults old new (Ok replies) (Err SaveFault) played writes = (string_bytes replies.text, replies_of replies SomeFailed played (some_failed replies.save_failed writes.1), writes.0)
+  played_comes held faults old new (Ok replies) (Err SinkFault) played writes = (string_bytes replies.text, replies_of replies AnyFailed played (λ n h. tt), writes)
+  played_comes held faults old new (Ok replies) (Err SourceFault) played writes = absurd writes
+  played_comes held faults old new (Ok replies) (Err (BadLine number)) played writes = absurd writes
+  played_comes held faults old new (Ok replies) (Err ShelfFault) played writes = absurd writes
+  played_comes held faults old new (Ok replies) (Err (Refused refused)) played writes = absurd writes
+  played_comes held faults old new (Ok replies) (Err Memory) played writes = absurd writes
+  played_comes held faults old new (Err e) result played writes =
       subst (λ (r : Result (Unit {0}) Stopped). ComesTo held faults given before after (edit name workers) old new r) (sym writes.0)
       ((ap held writes.1, ap faults writes.1), inr (d, played.entries, history_of (Err e) played))
 

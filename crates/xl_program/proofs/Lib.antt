@@ -11,7 +11,6 @@ mod Ends
 mod Keeping
 mod FirstSaves
 mod MadeFiles
-mod MadeOutcomes
 mod MadeRuns
 mod MadeScripts
 mod Plain
@@ -26,4 +25,5 @@ mod Submitted
 mod Taken
 mod UnderWay
 mod UpTo
+mod OfFirst
 mod Reported

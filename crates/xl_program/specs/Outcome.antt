@@ -24,6 +24,7 @@ use Rattle.xl_ports.specs.Faults.{Rose}
 use Rattle.xl_ports.specs.Shelf.{Content, absent, file}
 use Rattle.xl_ports.specs.Sink.{WritesAll, WritesPart}
 use Rattle.xl_ports.specs.Source.{led_by}
+use Rattle.xl_sessions.specs.Outcomes.{states_of}
 use Rattle.xl_program.specs.Lines.{Tells}
 use Rattle.xl_program.specs.Playing.{AreOfFirst}
 use Rattle.xl_program.specs.Making.{FailsAtFirst, IsMadeHistory, IsSummary}
@@ -48,10 +49,6 @@ HasFault (file bytes) why = first_fault bytes ≡ Some why
 pub record Given : Type 0 where
   pub left : Option (List ℕ)
   pub chests : List (List FilterState)
-
--- the states of filters in boxes, session by session; `state` is that of a box
-abbrev pub states_of : {B : Type 0} → (state : B → FilterState) → List (Vec B Global) → List (List FilterState)
-states_of state lists = map (λ boxes. map state boxes.items) lists
 
 abbrev pub given_of : {B : Type 0} → (left : Option (List ℕ)) → (state : B → FilterState) → List (Vec B Global) → Given
 given_of left state lists = record { left = left; chests = states_of state lists }
@@ -112,16 +109,16 @@ pub record IsHistory (name : List ℕ) (old new : Shelved) (document : Document)
   pub legal : IsLegal document entries
   pub shelf : ShelfIsRight (opened old name) document entries new.known
 
--- The text of such a history whose calls are those of the script. Where these are all of session 0 and no save failed, it is that of one
--- session alone.
-pub record IsReplies (given : Given) (name : List ℕ) (old new : Shelved) (HaveFailed : ℕ → Type 0) (out : List ℕ) : Type 0 where
+-- The text of such a history whose calls are those of the script. Where no worker was asked for, these are all of session 0 and no save
+-- failed, it is that of one session alone.
+pub record IsReplies (given : Given) (name : List ℕ) (old new : Shelved) (workers : ℕ) (HaveFailed : ℕ → Type 0) (out : List ℕ) : Type 0 where
   pub document : Document
   pub lists : List (List Line)
   pub entries : List Entry
   pub history : IsHistory name old new document entries
   pub read : HasLines given lists
   pub text : IsTextOf out document lists given.chests entries
-  pub alone : AreOfFirst lists → save_faults entries ≡ 0 → Alone out document lists given.chests
+  pub alone : workers ≡ 0 → AreOfFirst lists → save_faults entries ≡ 0 → Alone out document lists given.chests
   pub failed : HaveFailed (save_faults entries)
 
 -- what the command writes when it comes to its end, and the shelf then
@@ -129,7 +126,7 @@ abbrev pub IsOutput : Given → (old new : Shelved) → Asked → (HaveFailed : 
 IsOutput given old new (render name) HaveFailed out = IsReport pam (old.content name) out × IsUntouched old new × HaveFailed 0
 IsOutput given old new (info name) HaveFailed out = IsReport json.info (old.content name) out × IsUntouched old new × HaveFailed 0
 IsOutput given old new (make name seed) HaveFailed out = IsSummary (opened old name) new.known (document seed) (made_script seed) HaveFailed out
-IsOutput given old new (edit name workers) HaveFailed out = IsReplies given name old new HaveFailed out
+IsOutput given old new (edit name workers) HaveFailed out = IsReplies given name old new workers HaveFailed out
 
 -- the shelf where memory ran out: as before, or after a history
 abbrev pub MayHaveSaved : (old new : Shelved) → Asked → Type 0

@@ -17,9 +17,11 @@ use crate::obeying::obey;
 use crate::stopped::Stopped;
 use crate::telling::{MEMORY, tell_stop};
 use std::alloc::Global;
+use std::sync::Wait;
+use std::thread::Threads;
 use xl_command::command_of;
 use xl_filters::PointFilter;
-use xl_ports::{Shelf, Sink, Source};
+use xl_ports::{Gate, Shelf, Sink, Source};
 
 const DONE: u8 = 0;
 
@@ -40,16 +42,22 @@ pub struct Ended<D> {
 /// `chest` holds the filters of each session, those of session 0 first, each in the slot of its place; a session without a list
 /// has none. A box is dropped where its session forgets it, and at the end of the session.
 ///
+/// `edit` and `make` play the sessions of their script beside each other, in threads where these can be made, and beside workers: two,
+/// or as many as the words of an edit name. An edit by session 0 alone with 0 workers takes no thread. `gate` is passed by sessions and
+/// workers on their way.
+///
 /// The statuses: 0 done, 2 the words are no command, 3 a line of the script is refused, 4 the file holds no document,
 /// 5 the source failed, 6 the file could not be read, or the first save of what is made failed, or a later save after which all was
 /// written, 7 the sink failed while the output was written, 8 memory ran out.
-pub fn run<S: Source, K: Sink, D: Shelf>(
+pub fn run<R: Threads + Wait + Sync, S: Source, K: Sink, D: Shelf, G: Gate>(
+    rt: &R,
     alloc: Global,
     words: &[&str],
     source: &mut S,
     sink: &mut K,
     shelf: D,
     chest: Vec<Vec<Box<dyn PointFilter + Send>>>,
+    gate: &G,
 ) -> Ended<D>
     requires lists { length chest.items ≤ 8 }
     requires boxes { AllByRecursion (λ boxes. length boxes.items < 2 ^ 32) chest.items }
@@ -114,7 +122,7 @@ pub fn run<S: Source, K: Sink, D: Shelf>(
             shelf,
         };
     };
-    let done = obey(alloc, command, source, sink, shelf, chest);
+    let done = obey(rt, alloc, command, source, sink, shelf, chest, gate);
     let status = match done.result {
         Ok(()) => DONE,
         Err(stopped) => tell_stop(alloc, sink, stopped),

@@ -16,13 +16,13 @@ returns-clause-comes g c =
       named = loaded.named;
       reading = loaded.cause;
     } in
-    played_comes then after g.K.Sink.held g.K.Sink.faults c.args.sink.now c.write_replies.new.sink c.run_script-played.result.replies c.write_replies.result
+    played_comes then after c.args.workers g.K.Sink.held g.K.Sink.faults c.args.sink.now c.write_replies.new.sink c.run_script-played.result.replies c.write_replies.result
     c.run_script-played.ensures c.write_replies.ensures
 
 pub returns-in-Err-clause-comes : goal.returns-in-Err-clause-comes
 returns-in-Err-clause-comes g c =
     let before : Shelved = shelved g.D.Shelf.content g.D.Shelf.selected g.D.Shelf.disk g.D.Shelf.reading_faults g.D.Shelf.saving_faults c.args.shelf in
-    read_stopped g.K.Sink.held g.K.Sink.faults _ before c.args.name.now c.args.sink.now c.in-Err.stopped c.in-Err.ensures.reads
+    read_stopped g.K.Sink.held g.K.Sink.faults _ before c.args.name.now c.args.sink.now c.in-Err.stopped c.in-Err.ensures.reads c.args.workers
 
 pub returns-in-Err-read_document-clause-stops : goal.returns-in-Err-read_document-clause-stops
 returns-in-Err-read_document-clause-stops g c =

@@ -1,0 +1,9 @@
+use Rattle.xl_script.specs.Lines.{lists_of}
+use Rattle.xl_sessions.specs.Outcomes.{states_of}
+use Rattle.xl_sessions.proofs.beside.play_beside.Goals as goal
+
+pub play_in-requires-clause-script : goal.play_in-requires-clause-script
+play_in-requires-clause-script g c = (_, _, c.in-Ok.ensures.brought)
+
+pub returns-in-Ok-clause-text : goal.returns-in-Ok-clause-text
+returns-in-Ok-clause-text g c = c.play_in.ensures.text _ _ c.in-Ok.ensures.brought
