@@ -1,5 +1,5 @@
 -- What the kept pictures tell, said by the history alone: which tile is clean, and what becomes of a picture.
-use Rattle.std.proofs.Common.{◌≡◌, ℕ, ◌≤◌, Bool, true, false, cond, not, nat_lt, nat_le, List, refl, sym, ◌∙◌, ap, subst, true≢false, arith}
+use Rattle.std.proofs.Common.{◌≡◌, ℕ, ◌≤◌, Bool, true, false, cond, not, nat_lt, List, refl, sym, ◌∙◌, ap, subst, true≢false, arith}
 use Rattle.std.specs.Prelude.{Option, Some, None, is_some, IfSome, IsSomeAnd, option_map, option_and_then, unwrap_or}
 use Rattle.spec_grid.specs.Grid.{is_on_grid}
 use Rattle.spec_grid.specs.declared.TileAt.{TileAt}

@@ -11,12 +11,11 @@ use Rattle.spec_tables.proofs.Chests.{some_list}
 use Rattle.spec_seats.specs.Made.{IsOf}
 use Rattle.spec_seats.proofs.More.{before_end, with_save, of_grows, of_call, of_save}
 use Rattle.xl_core.specs.Editing.{start_of}
-use Rattle.xl_core.specs.History.{is_full}
 use Rattle.xl_studio.specs.declared.moment.Moment.{Moment}
 use Rattle.xl_studio.specs.declared.moment.Moment.TheVariants.{Made}
 use Rattle.xl_studio.specs.Moments.{entries_in}
 use Rattle.xl_studio.specs.Calling.{called_entry, Known, IsCalled, HasHeard}
-use Rattle.xl_studio.specs.Saving.{IsSaved, IsWhole, FoundNoRoom, end_behind}
+use Rattle.xl_studio.specs.Saving.{IsSaved, IsWhole, end_behind}
 use Rattle.xl_studio.specs.Seats.{history_of}
 use Rattle.xl_script.specs.Lines.{line_of}
 use Rattle.xl_script.specs.declared.script.Line.{Line}

@@ -16,7 +16,8 @@ use xl_core::{Entry, EntryKind};
 use xl_edit::{Call, Reply};
 use xl_script::{OrderWord, print_order, print_reply};
 
-fn asks_tile(call: &Call) -> bool
+// Whether a call asks for a tile.
+pub(crate) fn asks_tile(call: &Call) -> bool
     ensures { result ≡ asks_tile (call_of call.now) }
 {
     match call {

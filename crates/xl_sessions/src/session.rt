@@ -1,27 +1,25 @@
-ghost use Rattle.std.specs.Prelude.{◌≡◌, ℕ, ◌<◌, [], ◌++◌, length, map, IfOk, OnOk, OnErr, List, string_bytes};
+ghost use Rattle.std.specs.Prelude.{◌≡◌, ℕ, ◌<◌, [], ◌++◌, map, IfOk, OnOk, List, string_bytes};
 ghost use mathlib.Core.List.{IsPrefix};
 ghost use Rattle.spec_filters.specs.declared.FilterState.{FilterState};
 ghost use Rattle.spec_history.specs.Calls.{IsCall};
 ghost use Rattle.spec_history.specs.History.{asked, latest_of};
 ghost use Rattle.spec_history.specs.Kept.{IsFreshReply};
 ghost use Rattle.spec_history.specs.Limited.{edits_of};
-ghost use Rattle.spec_script.specs.Fits.{AreFit};
 ghost use Rattle.spec_tables.specs.Agrees.{Agrees, AreThere, IsAfter};
 ghost use Rattle.spec_tables.specs.Tables.{expected_tables};
 ghost use Rattle.xl_core.specs.History.{Shows};
 ghost use Rattle.xl_edit.specs.Calls.{call_of};
 ghost use Rattle.xl_edit.specs.Replies.{reply_of};
 ghost use Rattle.xl_filters.specs.Chests.{states_in};
-ghost use Rattle.xl_script.specs.Lines.{line_of, lines_of};
+ghost use Rattle.xl_script.specs.Lines.{line_of};
 ghost use Rattle.xl_studio.specs.Calling.{IsCalled};
 ghost use Rattle.xl_studio.specs.Moments.{entries_in};
-ghost use Rattle.xl_studio.specs.Seats.{base_of, history_of, opening_of, front_of, made_of, weight_of, known_by, IsSeatOf};
-ghost use Rattle.spec_seats.specs.Digests.{asks_tile, digests_in};
-ghost use Rattle.spec_seats.specs.Made.{HasMade, IsOf};
-ghost use Rattle.spec_seats.specs.Picked.{picked};
+ghost use Rattle.xl_studio.specs.Seats.{base_of, history_of, front_of, made_of, weight_of, known_by, IsSeatOf};
+ghost use Rattle.spec_seats.specs.Made.{IsOf};
 ghost use Rattle.xl_studio.specs.Saving.{IsSaved};
-ghost use Rattle.xl_sessions.specs.Playing.{FitsChest, HasAll, IsCallMade, IsSaveMade, IsLineMade, is_unprinted, said};
+ghost use Rattle.xl_sessions.specs.Playing.{FitsChest, IsCallMade, IsSaveMade, IsLineMade, is_unprinted, said};
 
+use crate::printing::asks_tile;
 use std::alloc::{AllocError, Global};
 use std::sync::Wait;
 use std::sync::ledger::Ledger;
@@ -34,16 +32,6 @@ use xl_report::digest;
 use xl_rle::Greedy;
 use xl_script::Line;
 use xl_studio::{Seat, Studio};
-
-// Whether a call asks for a tile.
-fn asks_tile(call: &Call) -> bool
-    ensures { result ≡ asks_tile (call_of call.now) }
-{
-    match call {
-        Call::Tile(..) | Call::Peek(..) => true,
-        Call::Edit(_) | Call::Undo(_) | Call::Redo | Call::Top => false,
-    }
-}
 
 // Whether a run with this reply prints nothing.
 fn is_unprinted(reply: &Reply) -> bool

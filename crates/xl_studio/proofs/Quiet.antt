@@ -1,12 +1,12 @@
 -- A hold of the turn that makes no entry, and the job that a seat has out.
-use Rattle.std.proofs.Common.{◌≡◌, ℕ, ◌+◌, ◌≤◌, true, List, [], ◌∷◌, ◌++◌, length, Option, Some, None, refl, sym, ap, ◌∙◌, subst, arith, inl}
+use Rattle.std.proofs.Common.{◌≡◌, ℕ, ◌+◌, ◌≤◌, true, List, [], ◌∷◌, ◌++◌, Option, refl, sym, ap, ◌∙◌, subst, arith, inl}
 use Rattle.std.specs.Prelude.{Result, Ok, Err, IfOk, IfSome}
 use mathlib.Core.List.{IsPrefix}
 use Rattle.spec_grid.specs.Grid.{is_on_grid}
 use Rattle.spec_document.specs.Document.{Document}
 use Rattle.spec_picture.specs.Picture.{project}
 use Rattle.spec_history.specs.Machine.{has_stack}
-use Rattle.spec_history.specs.History.{Entry, latest_of, replay, document_of}
+use Rattle.spec_history.specs.History.{Entry, latest_of, document_of}
 use Rattle.spec_history.specs.Kept.{IsLegal}
 use Rattle.spec_history.proofs.Canvas.{canvas-document}
 use Rattle.spec_history.proofs.Growing.{document_of-append}
@@ -19,7 +19,6 @@ use Rattle.xl_core.specs.History.{History, version, document}
 use Rattle.xl_core.specs.Editing.{Editing, IsPictureOf}
 use Rattle.xl_core.specs.Jobs.{Out, IsTaken, IsOutcome, IsOutcomeOf}
 use Rattle.xl_turn.specs.Seats.{MayLeave}
-use Rattle.xl_turn.proofs.Fronts.{prefix_trans, prefix_self}
 use Rattle.xl_studio.specs.declared.moment.Moment.{Moment}
 use Rattle.xl_studio.specs.Moments.{entries_in, closed_by}
 use Rattle.xl_studio.specs.State.{State, moments_of}

@@ -1,6 +1,5 @@
 use Rattle.std.proofs.Common.{ap, rules}
 use Rattle.std.proofs.lemmas.Result.{on_ok_weaker}
-use Rattle.xl_edit.specs.Calls.{call_of}
 use Rattle.xl_edit.specs.Replies.{reply_of}
 use Rattle.xl_sessions.specs.Playing.{said}
 use Rattle.xl_sessions.proofs.session.play_call.Goals as goal

@@ -1,10 +1,9 @@
-use Rattle.std.proofs.Common.{◌≡◌, List, ap, sym, ◌∙◌, subst}
+use Rattle.std.proofs.Common.{◌≡◌, ap, sym, ◌∙◌, subst}
 use mathlib.Core.List.{IsPrefix}
 use Rattle.xl_turn.specs.Seats as turns
-use Rattle.xl_turn.specs.Seats.{opened_with, start_of, entered_by, made_after}
-use Rattle.xl_studio.specs.State.{moments_of}
-use Rattle.xl_studio.specs.Seats.{base_of, front_of, known_by}
-use Rattle.xl_studio.proofs.Seated.{base_entered, front_after, has_heard}
+use Rattle.xl_turn.specs.Seats.{opened_with, start_of}
+use Rattle.xl_studio.specs.Seats.{front_of}
+use Rattle.xl_studio.proofs.Seated.{base_entered, front_after}
 use Rattle.xl_studio.proofs.Quiet.{stays_may_leave, begins_stayed}
 use Rattle.xl_studio.proofs.seat.Studio.closing.Given as given
 use Rattle.xl_studio.proofs.seat.Studio.closing.Goals as goal
