@@ -1,198 +1,141 @@
 #!/usr/bin/env python3
 """Runs random scripts of several sessions beside each other, and audits each printed run by a model that keeps nothing.
 
-    audit_runs.py BIN CORPUS [--runs N] [--lines N] [--seed S] [--first K]
-    audit_runs.py --audit FILE SCRIPT TEXT [--left FILE]
+    audit_runs.py --binary BIN [--corpus FOLDER] [--runs N] [--lines N] [--seed S] [--first K] [--jobs J]
+    audit_runs.py --audit FILE SCRIPT TEXT [--left FILE] [--status N]
 
-BIN is the program. CORPUS is a folder with XCF files; those of at most 60,000 bytes are edited, each script with 0 to 4
-workers. The order that a run prints is replayed call by call: each printed reply has to be the model's at that place, a
-tile's digest is that of a whole recomposition at the version that it names, and the file that is left is that of the last
-acknowledged save. A peek has a choice: any version that is there and is as late as what its session had seen and as what
-the last tile call left.
-With --audit one run is audited that was made before: the file, the script and the printed text, and with --left the file
-afterwards. The exit status is 1 where a run is refused; what it was made of is kept, and its path is told.
+BIN is the program. Files of at most 60,000 bytes of the corpus, else those of crates/written_files, are edited, each by a script
+of one to eight sessions of up to N lines (24), with 0 to 4 workers. The printed order is replayed as xcf_audit.py says, and the
+file afterwards has to be that of the last acknowledged save, with no draft beside it. J processes run scripts at a time (1).
+The scripts of runs K to K + N - 1 (from 0, 100 of them) of a seed are always the same; what the sessions make of one is not.
+With --audit one run is audited that was made before: the file, the script and the printed text, with --left the file afterwards
+and with --status the exit status.
+The exit status is 1 where a run is refused. What the first of them was made of is kept, and its path is told.
 """
 
 import argparse
+import functools
+import multiprocessing
 import os
 import random
 import subprocess
 import sys
 import tempfile
+from collections import Counter
 
+import xcf_picture
 from check_edits import Author, merged, put_file, sources_of
-from xcf_edits import History, file_of, group_children
-from xcf_filters import Chest
+from xcf_audit import Refused, audited, refusal_of
+from xcf_edits import History
 from xcf_reading import read
-from xcf_script import SESSIONS, parse
+from xcf_script import SESSIONS
+
+HERE = os.path.dirname(os.path.abspath(__file__))
+CORPUS = os.path.join(HERE, "..", "crates", "written_files", "data")
+SECONDS = 60
+# How often a session makes a call of a kind.
+PARTS = {"edit": 30, "group": 8, "undo": 9, "redo": 6, "forget": 2, "tile": 14, "peek": 22, "top": 3, "save": 6}
+# Random pixels are seldom met again: fewer kept ones save memory in long runs.
+xcf_picture.MOST_KEPT = 50_000
 
 
-class Refused(Exception):
-    pass
+class Fellow(Author):
+    """An author of one of several sessions. All of them write on one history, and peek at tiles that any of them asked for."""
+
+    def __init__(self, draw, history, asked):
+        super().__init__(draw, history, True)
+        self.asked = asked
+
+    def call(self):
+        what = self.draw.choices(list(PARTS), list(PARTS.values()))[0]
+        if what == "forget" and not self.slots:
+            what = "top"
+        lines = what if what in ("redo", "top", "save") else getattr(self, what)()
+        return lines if what == "group" else [lines]
 
 
-def want(held, why, *words):
-    if not held:
-        raise Refused(why % words)
-
-
-class Session:
-    """The calls of a session that are still to come, its filters, and the version that stood after its last entry."""
-
-    def __init__(self, items, lines):
-        self.items, self.lines = items, lines
-        self.chest, self.seen, self.saving = Chest(), 0, None
-
-    def next_call(self):
-        while self.items and self.items[0][0] == "forget":
-            self.chest.forget(*self.items.pop(0)[1])
-        want(self.items, "a call more than the script has")
-        return self.items.pop(0)
-
-
-def shapes(text, sessions):
-    """The replies of each session, and the words of the order."""
-    *lines, order, last = text.split("\n")
-    want(last == "" and order.split(" ")[0] == "order", "no order line")
-    replies = [[] for _ in sessions]
-    for line in lines:
-        place, _, reply = line.partition(" ")
-        number, _, index = place.partition(".")
-        want(number.isdigit() and int(number) < SESSIONS, "no session: %s", line)
-        want(index == str(len(replies[int(number)])), "not the next line: %s", line)
-        replies[int(number)].append(reply)
-    numbers = [int(line.split(".")[0]) for line in lines]
-    want(numbers == sorted(numbers), "the sessions are not in their order")
-    counts = [sum(what != "forget" for what, _ in items) for items in sessions]
-    want(counts == [len(each) for each in replies], "not a line for each call")
-    return replies, order.split(" ")[1:]
-
-
-class Audit:
-    def __init__(self, data, script, text):
-        items = parse(script)
-        replies, self.words = shapes(text, items)
-        self.sessions = [Session(list(each), lines) for each, lines in zip(items, replies)]
-        self.history, self.out, self.left = History(read(data)), None, None
-        self.counts = [0] * SESSIONS
-
-    def check_peek(self, session, words, reply):
-        history, (node, column, row) = self.history, words
-        plain = history.not_there(node, column, row)
-        if plain is not None:
-            return want(reply == plain, "%s, not %s", reply, plain)
-        kept, seen = history.kept(node, column, row), session.seen
-        kind, first, second = (reply.split(" ") + ["", ""])[:3]
-        if kind == "stale":
-            want(second == str(seen), "a peek that had seen %d: %s", seen, reply)
-            want(first == "none" or int(first) < seen, "not stale: %s", reply)
-            return want(kept is None or first != "none" and int(first) >= kept, "older than what is kept, %s: %s", kept, reply)
-        want(kind == "tile" and first.isdigit() and int(first) <= history.version, "no version: %s", reply)
-        version = int(first)
-        want(version >= seen and (kept is None or version >= kept), "seen %d, kept %s: %s", seen, kept, reply)
-        want(group_children(history.docs[version], node) is not None, "no stack then: %s", reply)
-        return want(reply == history.shows(version, node, column, row), "%s, not %s", reply, history.shows(version, node, column, row))
-
-    def check_start(self, session, number, reply):
-        want(self.out is None, "two saves cross")
-        self.out, session.saving = number, self.history.version
-        want(reply in ("saved %d" % session.saving, "save fault %d" % session.saving), "a save at %d: %s", session.saving, reply)
-
-    def check_end(self, number):
-        session = self.sessions[number]
-        want(self.out == number, "an end of no save")
-        if session.lines[self.counts[number] - 1].startswith("saved"):
-            self.left = self.history.docs[session.saving]
-        self.out = None
-        session.seen = self.history.version
-
-    def check_call(self, number):
-        session = self.sessions[number]
-        what, words = session.next_call()
-        reply = session.lines[self.counts[number]]
-        self.counts[number] += 1
-        if what == "save":
-            self.check_start(session, number, reply)
-        elif what == "peek":
-            self.check_peek(session, words, reply)
-        else:
-            more = (session.chest,) if what == "edit" else ()
-            plain = getattr(self.history, what)(*words, *more)
-            want(reply == plain, "%s, not %s", reply, plain)
-        session.seen = self.history.version
-
-    def run(self):
-        for word in self.words:
-            number, _, index = word.partition(".")
-            want(number.isdigit() and int(number) < SESSIONS, "no word: %s", word)
-            is_end, number = index.endswith("e"), int(number)
-            want(index.rstrip("e") == str(self.counts[number] - is_end), "not the next of its session: %s", word)
-            if is_end:
-                self.check_end(number)
-            else:
-                self.check_call(number)
-        want(self.out is None, "a save without an end")
-        want(self.counts == [len(session.lines) for session in self.sessions], "a call without its word")
-
-
-def refusal_of(data, script, text, left):
-    """Why a run is refused, or none."""
-    try:
-        audit = Audit(data, script, text)
-        audit.run()
-        if left is not None:
-            want(left == (data if audit.left is None else file_of(audit.left)), "not the file of the last acknowledged save")
-    except Refused as refused:
-        return str(refused)
-    return None
-
-
-def random_script(draw, doc, count):
-    """Lines of several sessions in any order. Each author plays on a history of its own: the others change the document meanwhile."""
+def random_script(draw, doc, most):
+    """Lines of one to eight sessions, of up to so many calls each, in any order. They were written on one history, call by call
+    in turn, so that most calls of a session fit what others do meanwhile."""
+    history, asked, lists = History(doc), [], {}
     numbers = draw.sample(range(SESSIONS), draw.randint(1, SESSIONS))
-    lists = []
-    for number in numbers:
-        author = Author(draw, History(doc), True)
-        lists.append(author.lines(draw.randint(1, count), number))
-    return ("\n".join(merged(draw, lists)) + "\n").encode()
+    turns = [number for number in numbers for _ in range(draw.randint(1, most))]
+    draw.shuffle(turns)
+    fellows = {number: Fellow(draw, history, asked) for number in numbers}
+    for number in turns:
+        lists.setdefault(number, []).extend(fellows[number].lines(1, number))
+    return ("\n".join(merged(draw, list(lists.values()))) + "\n").encode()
+
+
+@functools.lru_cache(maxsize=None)
+def documents_of(corpus):
+    """The files of a corpus with their documents, which no replay changes."""
+    return [(data, read(data)) for data in sources_of(corpus)]
 
 
 def by_program(program, data, script, workers):
+    """What a run leaves: its status, the text and what it said of errors, the file, and the names beside it."""
     with tempfile.TemporaryDirectory() as folder:
         put_file(folder, "f.xcf", data)
         words = [program, "edit", "f.xcf", "--workers", str(workers)]
-        done = subprocess.run(words, input=script, stdout=subprocess.PIPE, cwd=folder, check=False, timeout=60)
-        with open(os.path.join(folder, "f.xcf"), "rb") as file:
-            return done.returncode, done.stdout.decode(), file.read()
+        try:
+            done = subprocess.run(words, input=script, stdout=subprocess.PIPE, stderr=subprocess.PIPE, cwd=folder, check=False,
+                                  timeout=SECONDS)
+            status, text, errors = done.returncode, done.stdout, done.stderr
+        except subprocess.TimeoutExpired as late:
+            status, text, errors = "none within %d seconds" % SECONDS, late.stdout or b"", late.stderr or b""
+        names = sorted(os.listdir(folder))
+        return status, text, errors, content(os.path.join(folder, "f.xcf")) if "f.xcf" in names else b"", names
 
 
-def keep(data, script, text, why):
-    kept = tempfile.mkdtemp(prefix="audit_")
-    for name, content in (("f.xcf", data), ("script", script), ("text", text.encode())):
-        put_file(kept, name, content)
-    print("REFUSED: %s: %s" % (why, kept))
+def one_run(given, number):
+    """The number of a run, what there was in it, and where it is refused why, and what it was made of."""
+    draw = random.Random("%d %d" % (given.seed, number))
+    data, doc = draw.choice(documents_of(given.corpus))
+    script, workers = random_script(draw, doc, given.lines), draw.randint(0, 4)
+    status, text, errors, left, names = by_program(given.binary, data, script, workers)
+    try:
+        counts = audited(data, doc, script, text.decode("latin-1"), left, status)
+        if names != ["f.xcf"]:
+            raise Refused("in the folder there is left: %s" % " ".join(names))
+        return number, counts, None, None
+    except Refused as refused:
+        why = "%s, with %d workers" % (refused, workers)
+    made_of = {"f.xcf": data, "script": script, "text": text, "left.xcf": left, "errors": errors, "why": why.encode()}
+    return number, Counter(), why, made_of
 
 
-def is_merged(text):
-    """Whether the order has a session's word between two of another's."""
-    numbers = [word.split(".")[0] for word in text.split("\n")[-2].split(" ")[1:]]
-    runs = sum(one != two for one, two in zip(numbers, numbers[1:]))
-    return runs >= len(set(numbers))
+def all_runs(given):
+    """The runs in their order."""
+    numbers, run = range(given.first, given.first + given.runs), functools.partial(one_run, given)
+    if given.jobs == 1:
+        yield from map(run, numbers)
+        return
+    with multiprocessing.Pool(given.jobs) as pool:
+        yield from pool.imap(run, numbers, 8)
+
+
+def keep(made_of):
+    folder = tempfile.mkdtemp(prefix="audit_")
+    for name, data in made_of.items():
+        put_file(folder, name, data)
+    return folder
 
 
 def audit_random(given):
-    sources, refused, interleaved = sources_of(given.corpus), 0, 0
-    for run in range(given.first, given.first + given.runs):
-        draw = random.Random("%d %d" % (given.seed, run))
-        data = draw.choice(sources)
-        script = random_script(draw, read(data), given.lines)
-        status, text, left = by_program(given.program, data, script, draw.randint(0, 4))
-        why = "status %d" % status if status != 0 else refusal_of(data, script, text, left)
-        interleaved += why is None and is_merged(text)
+    total, refused = Counter(), 0
+    for number, counts, why, made_of in all_runs(given):
+        total += counts
         if why is not None:
             refused += 1
-            keep(data, script, text, why)
-    print("%d runs audited, %d refused; in %d the sessions' calls were interleaved" % (given.runs, refused, interleaved))
+            print("REFUSED run %d, %s%s" % (number, why, "" if refused > 1 else "; kept in " + keep(made_of)), flush=True)
+        done = number - given.first + 1
+        if done % 1000 == 0:
+            print("%d runs, %d refused" % (done, refused), file=sys.stderr, flush=True)
+    print("%d runs audited, %d refused; in %d the sessions' calls were interleaved" % (given.runs, refused, total["merged"]))
+    print("%d calls; %d peeks, of which %d showed a later version than had to be kept, and %d were stale; "
+          "%d saves, of which %d had calls of other sessions between start and end"
+          % tuple(total[each] for each in ("calls", "peeks", "later peeks", "stale peeks", "saves", "saves beside calls")))
     return refused
 
 
@@ -201,25 +144,36 @@ def content(path):
         return file.read()
 
 
-def main():
+def audit_one(given):
+    file, script, text = (content(path) for path in given.audit)
+    left = None if given.left is None else content(given.left)
+    why = refusal_of(file, read(file), script, text.decode("latin-1"), left, given.status)
+    print("accepted" if why is None else "refused: " + why)
+    return why is not None
+
+
+def arguments():
     parser = argparse.ArgumentParser(description=__doc__, formatter_class=argparse.RawDescriptionHelpFormatter)
-    parser.add_argument("program", nargs="?", metavar="BIN")
-    parser.add_argument("corpus", nargs="?", metavar="CORPUS")
+    parser.add_argument("--binary", metavar="BIN")
+    parser.add_argument("--corpus", default=CORPUS, metavar="FOLDER")
+    for name, plain, letter in (("runs", 100, "N"), ("lines", 24, "N"), ("seed", 1, "S"), ("first", 0, "K"), ("jobs", 1, "J")):
+        parser.add_argument("--" + name, type=int, default=plain, metavar=letter)
     parser.add_argument("--audit", nargs=3, metavar=("FILE", "SCRIPT", "TEXT"))
     parser.add_argument("--left", metavar="FILE")
-    parser.add_argument("--runs", type=int, default=100, metavar="N")
-    parser.add_argument("--first", type=int, default=0, metavar="K")
-    parser.add_argument("--lines", type=int, default=12, metavar="N")
-    parser.add_argument("--seed", type=int, default=1, metavar="S")
+    parser.add_argument("--status", type=int, metavar="N")
     given = parser.parse_args()
-    if given.audit is None:
-        if given.corpus is None:
-            parser.error("either BIN and CORPUS, or --audit")
-        return 1 if audit_random(given) else 0
-    file, script, text = (content(path) for path in given.audit)
-    why = refusal_of(file, script, text.decode(), None if given.left is None else content(given.left))
-    print("accepted" if why is None else "refused: " + why)
-    return 0 if why is None else 1
+    if (given.binary is None) == (given.audit is None):
+        parser.error("either --binary or --audit")
+    if given.binary is not None:
+        given.binary = os.path.abspath(given.binary)
+        if not os.access(given.binary, os.X_OK):
+            parser.error("no program: " + given.binary)
+    return given
+
+
+def main():
+    given = arguments()
+    return 1 if (audit_one if given.audit else audit_random)(given) else 0
 
 
 if __name__ == "__main__":

@@ -6,7 +6,8 @@
 
 BIN is the program. CORPUS is a folder with XCF files; those of at most 60,000 bytes are edited. For each script the
 text, the status and the file that a save leaves are compared; a script that disagrees is kept, and its path is told.
-With --sessions the scripts have lines of all eight sessions, and filters; without, those of session 0 alone.
+With --sessions the scripts have lines of all eight sessions, and filters; without, those of session 0 alone. The model
+plays one session after another, so a run of several may differ where it is right: audit_runs.py looks at such runs.
 With --write the scripts are not run: FOLDER takes the files, and its folder `cases` the scripts with their texts, and
 the command is printed that runs them in crates/xcfedit without a proof. Saved files are not compared then.
 The exit status is 1 where something disagrees.
@@ -26,6 +27,9 @@ from xcf_reading import MODES, Refused, read
 from xcf_script import EDITS, SESSIONS, parse
 
 SMALL = 60_000
+
+# Without workers a script of session 0 has one text, peeks included.
+ALONE = ("--workers", "0")
 
 
 class Author:
@@ -297,7 +301,7 @@ def by_program(program, data, script):
     """The status, the text, and the file afterwards."""
     with tempfile.TemporaryDirectory() as folder:
         put_file(folder, "f.xcf", data)
-        done = subprocess.run([program, "edit", "f.xcf"], input=script, stdout=subprocess.PIPE, cwd=folder, check=False)
+        done = subprocess.run([program, "edit", "f.xcf", *ALONE], input=script, stdout=subprocess.PIPE, cwd=folder, check=False)
         with open(os.path.join(folder, "f.xcf"), "rb") as file:
             return done.returncode, done.stdout, file.read()
 

@@ -86,6 +86,10 @@ def over_normal(below, above):
     return result
 
 
+# How many results of a mode are kept.
+MOST_KEPT = 2_000_000
+
+
 class Over(dict):
     """The results of `over` for one mode, kept by their pair of pixels so that each is computed once."""
 
@@ -94,7 +98,7 @@ class Over(dict):
         self.mode = mode
 
     def __missing__(self, pair):
-        if len(self) > 2_000_000:
+        if len(self) > MOST_KEPT:
             self.clear()
         self[pair] = result = over(self.mode, *pair)
         return result
@@ -128,6 +132,12 @@ def faded(alpha, part):
     return bytes(alpha).translate(MUL[256 * part:256 * part + 256])
 
 
+@functools.lru_cache(maxsize=64)
+def colour_tables(colours):
+    """For red, green and blue what each index stands for."""
+    return [bytes(colours[i][c] if i < len(colours) else 0 for i in range(256)) for c in range(3)]
+
+
 def colour_planes(doc, layer, row):
     """The red, green and blue bytes of a row of a layer's own pixels."""
     bpp = layer.plane.bpp
@@ -135,8 +145,7 @@ def colour_planes(doc, layer, row):
         return [row[c::bpp] for c in range(3)]
     if layer.kind // 2 == 1:
         return [row[0::bpp]] * 3
-    tables = [bytes(doc.colours[i][c] if i < len(doc.colours) else 0 for i in range(256)) for c in range(3)]
-    return [row[0::bpp].translate(table) for table in tables]
+    return [row[0::bpp].translate(table) for table in colour_tables(tuple(doc.colours))]
 
 
 def layer_row(doc, layer, v):
