@@ -1,6 +1,6 @@
 -- What a call makes of the list under the lock.
 use Rattle.std.proofs.Common.{◌≡◌, ℕ, ◌+◌, ◌-◌, ◌≤◌, Bool, true, false, cond, List, [], ◌∷◌, ◌++◌, length, Option, Some, None, refl, sym, ap, ◌∙◌, subst, arith, inl, inr, add-zero}
-use Rattle.std.specs.Prelude.{nat_le, nat_lt, ◌==◌, MatchBool, Result, Ok, Err, IfOk, OnErr}
+use Rattle.std.specs.Prelude.{nat_le, nat_lt, ◌==◌, MatchBool, Result, Ok, Err, IfOk, OnErr, IsSome}
 use Rattle.std.proofs.lemmas.Bool.{ltb-false}
 use Rattle.std.proofs.lemmas.Bool.Decides.{nat_tests}
 use Rattle.spec_document.specs.Document.{Document}
@@ -11,7 +11,7 @@ use Rattle.spec_history.specs.Machine.{Call, Reply, no_stack, outside_tile, tile
 use Rattle.spec_history.specs.History.{Entry, Kind, asked, starts, ends, replay, latest_of}
 use Rattle.spec_history.specs.Kept.{IsFreshReply, IsLegal}
 use Rattle.spec_history.specs.Calls.{most_entries}
-use Rattle.spec_history.proofs.Growing.{cond_both}
+use Rattle.spec_history.proofs.Growing.{cond_both, replay-snoc}
 use Rattle.spec_history.proofs.Seen.{fresh-answer}
 use Rattle.spec_history.proofs.Versions.{latest_of-legal}
 use Rattle.spec_filters.specs.declared.FilterState.{FilterState}
@@ -24,13 +24,14 @@ use Rattle.spec_world.specs.Events.{Outcome, with_call, peek_reply, where_tile, 
 use Rattle.spec_saves.specs.Names.{saves_started, is_start}
 use Rattle.spec_saves.proofs.Staying.{saves_started-snoc}
 use Rattle.xl_core.specs.History.{is_full}
-use Rattle.xl_core.specs.Editing.{Editing, world, IsSubmitted, KeepsShelf, IsAsBefore}
+use Rattle.xl_core.specs.Editing.{Editing, world, out_of, IsSubmitted, KeepsShelf, IsAsBefore}
 use Rattle.xl_studio.specs.declared.moment.Moment.{Moment}
 use Rattle.xl_studio.specs.declared.moment.Moment.TheVariants.{Made}
 use Rattle.xl_studio.specs.Moments.{IsAsked, moments, entries_in}
 use Rattle.xl_studio.specs.State.{moments_of, IsKept}
 use Rattle.xl_studio.specs.Calling.{called_entry, Adds, AddsCalls}
 use Rattle.xl_studio.proofs.Grown.{moments-call, entries-append, entries-moments}
+use Rattle.xl_studio.proofs.StillOut.{out_stays}
 
 none_free : (most taken : ℕ) → (most - taken == 0) ≡ nat_le most taken
 none_free most taken = grind (arith, nat_tests)
@@ -112,6 +113,9 @@ module _ {K : Type 0} where
 
   -- ---- what is kept
 
+  back : (c : Editing K) → entries_in (moments_of c) ≡ c.history.entries
+  back c = entries-moments c.history.base c.opening c.handed c.history.entries
+
   starts_after : (old new : Editing K) → AddsCalls (moments_of old) (moments_of new) → saves_started new.history.entries ≡ saves_started old.history.entries
   starts_after old new adds = elim adds.is [
     | inl same ↦ ap saves_started (sym (back new) ∙ (ap entries_in same ∙ back old))
@@ -119,16 +123,30 @@ module _ {K : Type 0} where
         let e : Entry = more.0 in
         ap saves_started (sym (back new) ∙ (ap entries_in more.2 ∙ (entries-append (moments_of old) (Made e None ∷ []) ∙ ap (λ es. es ++ e ∷ []) (back old))))
         ∙ (saves_started-snoc old.history.entries e ∙ (ap (λ n. saves_started old.history.entries + n) (no_start e.kind more.1) ∙ add-zero (saves_started old.history.entries)))
-  ] where
-    back : (c : Editing K) → entries_in (moments_of c) ≡ c.history.entries
-    back c = entries-moments c.history.base c.opening c.handed c.history.entries
+  ]
 
-  pub kept_after : (old new : Editing K) → IsKept old → IsRight new.history.base (world new) → length new.history.entries ≤ most_entries → KeepsShelf old new
+  -- calls leave the save out
+  out_after : (old new : Editing K) → new.history.base ≡ old.history.base → AddsCalls (moments_of old) (moments_of new) → out_of new.history ≡ out_of old.history
+  out_after old new base adds = elim adds.is [
+    | inl same ↦ rebased ∙ ap (λ (es : List Entry). (replay old.history.base es).out) (sym (back new) ∙ (ap entries_in same ∙ back old))
+    | inr more ↦
+        let e : Entry = more.0 in
+        let es : List Entry = old.history.entries in
+        let grown : new.history.entries ≡ es ++ e ∷ [] = sym (back new) ∙ (ap entries_in more.2 ∙ (entries-append (moments_of old) (Made e None ∷ []) ∙ ap (λ xs. xs ++ e ∷ []) (back old))) in
+        rebased
+        ∙ (ap (λ (xs : List Entry). (replay old.history.base xs).out) grown
+        ∙ (ap (λ (s : State). s.out) (replay-snoc old.history.base es e) ∙ out_stays old.history.base (replay old.history.base es) e e.kind more.1))
+  ] where
+    rebased : out_of new.history ≡ (replay old.history.base new.history.entries).out
+    rebased = ap (λ (b : Document). (replay b new.history.entries).out) base
+
+  pub kept_after : (old new : Editing K) → IsKept old → IsRight new.history.base (world new) → length new.history.entries ≤ most_entries → new.history.base ≡ old.history.base → KeepsShelf old new
       → AddsCalls (moments_of old) (moments_of new) → IsKept new
-  kept_after old new kept right few keeps adds = record {
+  kept_after old new kept right few base keeps adds = record {
     right = right;
     few = few;
     each_start = ap length keeps.handed ∙ (kept.each_start ∙ sym (starts_after old new adds));
+    shelf_in = λ is. out_after old new base adds ∙ kept.shelf_in (subst (λ (k : Option K). IsSome k) keeps.shelf is);
   }
 
   pub same_after : (old new : Editing K) → IsAsBefore old new → moments_of new ≡ moments_of old

@@ -15,7 +15,7 @@ use Rattle.xl_turn.specs.Seats.{MayLeave, made_after}
 use Rattle.xl_turn.proofs.Fronts.{prefix_trans, prefix_self}
 use Rattle.xl_turn.proofs.Totals.{same_self, same_true, times_last}
 use Rattle.xl_core.specs.History.{document}
-use Rattle.xl_core.specs.Editing.{Editing, start_of}
+use Rattle.xl_core.specs.Editing.{Editing, start_of, out_of}
 use Rattle.xl_core.specs.declared.saving.Begun.{Begun}
 use Rattle.xl_core.specs.declared.saving.Begun.TheVariants.{Snapshot, Out, Full}
 use Rattle.xl_studio.specs.declared.moment.Moment.{Moment}
@@ -114,16 +114,22 @@ module _ {K : Type 0} where
     heard : left ≡ moments_of held → HasHeard old new
     heard same = has_heard old new start (moments_of held) (moments_of held) left refl begins same is grown
 
-    no_room : left ≡ moments_of held → most_entries < length (entries_in (moments_of held)) + 2 → FoundNoRoom history_full old new
-    no_room same few =
+    no_room : left ≡ moments_of held → most_entries < length (entries_in (moments_of held)) + 2 → out_of (history_of held.history.base (moments_of held)) ≡ None → FoundNoRoom held.history.base history_full old new
+    no_room same few none =
         let h : HasHeard old new = heard same in
         let l : length (entries_in new.front) ≡ length (entries_in (moments_of held)) = ap (λ (ms : List (Moment K)). length (entries_in ms)) (is ∙ same) in
-        record { reply_is = refl; begins = h.begins; made = h.made; few = omega arith }
+        record {
+          reply_is = refl;
+          begins = h.begins;
+          made = h.made;
+          few = omega arith;
+          none_out = ap (λ (ms : List (Moment K)). out_of (history_of held.history.base ms)) (is ∙ same) ∙ none;
+        }
 
     after_first : (b : Begun K) → AddsStart held.history.base (moments_of held) session b left → Hands see held b → AfterFirst see held.opening held.history.base session b old new
     after_first (Snapshot v d k) adds hands = started v d k adds hands
     after_first Out adds hands = heard adds
-    after_first Full adds hands = no_room adds.0 adds.1
+    after_first Full adds hands = no_room adds.0 adds.1 adds.2
 
     pub begun_first : {E : Type 0} (r : Result (Begun K) E) (opening : K) (base : Document) → opening ≡ held.opening → base ≡ held.history.base → IfOk r (λ b. AddsStart held.history.base (moments_of held) session b left)
         → IfOk r (λ b. Hands see held b) → IfOk r (λ b. AfterFirst see opening base session b old new)
@@ -150,12 +156,18 @@ module _ {K : Type 0} where
     selected = s.selected;
   }
 
-  no_room_later : (old mid new : Known K) → HasHeard old mid → FoundNoRoom history_full mid new → FoundNoRoom history_full old new
-  no_room_later old mid new heard f = record { reply_is = f.reply_is; begins = prefix_trans old.front mid.front new.front heard.begins f.begins; made = f.made ∙ heard.made; few = f.few }
+  no_room_later : (base : Document) (old mid new : Known K) → HasHeard old mid → FoundNoRoom base history_full mid new → FoundNoRoom base history_full old new
+  no_room_later base old mid new heard f = record {
+    reply_is = f.reply_is;
+    begins = prefix_trans old.front mid.front new.front heard.begins f.begins;
+    made = f.made ∙ heard.made;
+    few = f.few;
+    none_out = f.none_out;
+  }
 
   -- what was not `Out`
   pub after_wait : (see : K → shelves.Known) (opening : K) (base : Document) (session : ℕ) (b : Begun K) (old mid new : Known K) → HasHeard old mid → (b ≡ Out → ⊥) → AfterFirst see opening base session b mid new
       → AfterWait see opening base session b old new
   after_wait see opening base session (Snapshot v d k) old mid new heard found is = started_later see opening base session d k old mid new heard is
   after_wait see opening base session Out old mid new heard found is = found refl
-  after_wait see opening base session Full old mid new heard found is = no_room_later old mid new heard is
+  after_wait see opening base session Full old mid new heard found is = no_room_later base old mid new heard is

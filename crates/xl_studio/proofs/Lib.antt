@@ -9,3 +9,4 @@ pub mod Handed
 pub mod FirstHold
 pub mod SecondHold
 pub mod Quiet
+pub mod Sent

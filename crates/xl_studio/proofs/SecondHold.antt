@@ -171,21 +171,27 @@ module _ {K : Type 0} (base : Document) (session : ℕ) (handed : K) (old : Know
 -- ---- both holds
 
 module _ {K : Type 0} where
-  -- the shelf on which the snapshot was saved may come back
+  -- the shelf on which the snapshot was saved comes back as it has to
+  returns_saved : (see : K → shelves.Known) (opening : K) (base : Document) (session : ℕ) (d : Document) (handed shelf : K) (how : SaveEnd) (old mid : Known K) → (s : HasStarted see opening base session d handed old mid)
+      → IsSavedOn (see handed) d how (see shelf)
+      → Returns (see opening) (see handed) base (entries_in s.out.entered ++ start_of (history_of base s.out.entered) session ∷ []) how (see shelf)
+  returns_saved see opening base session d handed shelf how old mid s saves =
+      let es = entries_in s.out.entered in
+      comes_back (see opening) (see handed) (see shelf) base es session (next_index es session) d how s.out.legal s.right s.snapshot saves
+
+  -- it may come back
   pub saved_comes_back : (see : K → shelves.Known) (opening : K) (base : Document) (session : ℕ) (d : Document) (handed shelf : K) (how : SaveEnd) (old mid : Known K) → HasStarted see opening base session d handed old mid
       → IsSavedOn (see handed) d how (see shelf) → MayComeBack see opening base session how shelf mid
-  saved_comes_back see opening base session d handed shelf how old mid s saves =
-      let es = entries_in s.out.entered in
-      record {
-        handed = handed;
-        out = s.out;
-        returns = subst (λ (xs : List Entry). Returns (see opening) (see handed) base xs how (see shelf)) (sym (front_entries base session handed mid s.out))
-            (comes_back (see opening) (see handed) (see shelf) base es session (next_index es session) d how s.out.legal s.right s.snapshot saves);
-      }
+  saved_comes_back see opening base session d handed shelf how old mid s saves = record {
+    handed = handed;
+    out = s.out;
+    returns = subst (λ (xs : List Entry). Returns (see opening) (see handed) base xs how (see shelf)) (sym (front_entries base session handed mid s.out))
+        (returns_saved see opening base session d handed shelf how old mid s saves);
+  }
 
-  pub is_whole : (see : K → shelves.Known) (opening : K) (base : Document) (session : ℕ) (d : Document) (handed : K) (how : SaveEnd) (reply : Reply) (old mid new : Known K) → HasStarted see opening base session d handed old mid
-      → HasEnded base session how reply mid new → IsWhole base session reply old new
-  is_whole see opening base session d handed how reply old mid new s e =
+  pub is_whole : (see : K → shelves.Known) (opening : K) (base : Document) (session : ℕ) (d : Document) (handed shelf : K) (how : SaveEnd) (reply : Reply) (old mid new : Known K) → HasStarted see opening base session d handed old mid
+      → IsSavedOn (see handed) d how (see shelf) → HasEnded base session how reply mid new → IsWhole see opening base session reply old new
+  is_whole see opening base session d handed shelf how reply old mid new s saves e =
       let xs : List (Moment K) = s.out.entered in
       let es : List Entry = entries_in xs in
       let first : Moment K = Made (start_of (history_of base xs) session) (Some handed) in
@@ -198,8 +204,11 @@ module _ {K : Type 0} where
         shelf = handed;
         between = e.between;
         how = how;
+        back = shelf;
         begins = s.begins;
         calls = e.calls;
+        right = s.right;
+        returns = returns_saved see opening base session d handed shelf how old mid s saves;
         reply_is = e.reply_is ∙ (ap (λ (o : Option Saving). end_reply how (version_out o)) out ∙ ap (end_reply how) v);
         front = e.front
             ∙ (ap (λ (o : Option Saving). mid.front ++ e.between ++ m (index_out o) ∷ []) out

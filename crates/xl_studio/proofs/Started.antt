@@ -1,22 +1,25 @@
 -- What the start of a save and its end make of the list under the lock.
-use Rattle.std.proofs.Common.{◌≡◌, ℕ, ◌+◌, ◌<◌, ◌≤◌, cond, List, [], ◌∷◌, ◌++◌, length, Option, Some, None, refl, sym, ap, ◌∙◌, subst, arith}
-use Rattle.std.specs.Prelude.{slice_get, Result, Ok, Err, IfOk}
+use Rattle.std.proofs.Common.{◌≡◌, ℕ, ◌+◌, ◌<◌, ◌≤◌, cond, List, [], ◌∷◌, ◌++◌, length, Option, Some, None, refl, sym, ap, ◌∙◌, subst, arith, add-zero}
+use Rattle.std.specs.Prelude.{slice_get, Result, Ok, Err, IfOk, IsSome}
 use Rattle.std.proofs.lemmas.List.Sums.{sum_by-cons}
 use Rattle.spec_document.specs.Document.{Document}
-use Rattle.spec_history.specs.Machine.{Reply}
+use Rattle.spec_history.specs.Machine.{Reply, State}
 use Rattle.spec_history.specs.History.{Entry, Kind, asked, starts, ends}
 use Rattle.spec_history.specs.Calls.{most_entries}
 use Rattle.spec_history.proofs.Causes.{slice_get-front, slice_get-last}
+use Rattle.spec_history.proofs.Growing.{replay-snoc}
 use Rattle.spec_world.specs.declared.SaveEnd.{SaveEnd}
 use Rattle.spec_world.specs.Events.{end_reply}
+use Rattle.spec_world.specs.Right.{IsRight}
+use Rattle.spec_saves.proofs.Staying.{saves_started-snoc}
 use Rattle.spec_saves.specs.Names.{saves_started, is_start, version_out}
-use Rattle.xl_core.specs.Editing.{Editing, IsAsBefore, Begins, Ends, start_of, end_of, out_of}
+use Rattle.xl_core.specs.Editing.{Editing, world, IsAsBefore, Begins, Ends, start_of, end_of, out_of}
 use Rattle.xl_core.specs.declared.saving.Begun.{Begun}
 use Rattle.xl_core.specs.declared.saving.Begun.TheVariants.{Snapshot, Out, Full}
 use Rattle.xl_studio.specs.declared.moment.Moment.{Moment}
 use Rattle.xl_studio.specs.declared.moment.Moment.TheVariants.{Opened, Made}
 use Rattle.xl_studio.specs.Moments.{handed_at, starts_with, made_from, moments, entries_in}
-use Rattle.xl_studio.specs.State.{moments_of}
+use Rattle.xl_studio.specs.State.{moments_of, IsKept}
 use Rattle.xl_studio.specs.UnderWay.{AddsStart, AddsEnd}
 use Rattle.xl_studio.proofs.Grown.{starts_after, made-snoc, entries-moments}
 use Rattle.xl_studio.proofs.Called.{same_after}
@@ -70,20 +73,24 @@ module _ {K : Type 0} where
   back : (c : Editing K) → entries_in (moments_of c) ≡ c.history.entries
   back c = entries-moments c.history.base c.opening c.handed c.history.entries
 
-  adds_start : (old new : Editing K) (session : ℕ) (b : Begun K) → length old.handed ≡ saves_started old.history.entries → Begins old session b new
+  adds_start : (old new : Editing K) (session : ℕ) (b : Begun K) → length old.handed ≡ saves_started old.history.entries → (IsSome old.shelf → out_of old.history ≡ None) → Begins old session b new
       → AddsStart old.history.base (moments_of old) session b (moments_of new)
-  adds_start old new session (Snapshot v d k) each begins =
+  adds_start old new session (Snapshot v d k) each none begins =
       ap moments_of begins.4
       ∙ (moments-start old.history.base old.opening old.handed k old.history.entries (start_of old.history session) refl each
       ∙ ap (λ (es : List Entry). moments_of old ++ Made (start_of (record { base = old.history.base; entries = es }) session) (Some k) ∷ []) (sym (back old)))
-  adds_start old new session Out each begins = same_after old new begins.1
-  adds_start old new session Full each begins = (same_after old new begins.2, let l = ap length (back old) in let m = begins.1 in omega arith)
+  adds_start old new session Out each none begins = same_after old new begins.1
+  adds_start old new session Full each none begins = (
+    same_after old new begins.2,
+    let l = ap length (back old) in let m = begins.1 in omega arith,
+    ap (λ (es : List Entry). out_of (record { base = old.history.base; entries = es })) (back old) ∙ none begins.0,
+  )
 
   pub begun_after : {E : Type 0} (r : Result (Begun K) E) (old was new : Editing K) (session : ℕ) → old ≡ was → length old.handed ≡ saves_started old.history.entries
-      → IfOk r (λ b. Begins old session b new) → IfOk r (λ b. AddsStart was.history.base (moments_of was) session b (moments_of new))
-  begun_after (Ok b) old was new session same each begins =
-      subst (λ (c : Editing K). AddsStart c.history.base (moments_of c) session b (moments_of new)) same (adds_start old new session b each begins)
-  begun_after (Err e) old was new session same each begins = tt
+      → (IsSome old.shelf → out_of old.history ≡ None) → IfOk r (λ b. Begins old session b new) → IfOk r (λ b. AddsStart was.history.base (moments_of was) session b (moments_of new))
+  begun_after (Ok b) old was new session same each none begins =
+      subst (λ (c : Editing K). AddsStart c.history.base (moments_of c) session b (moments_of new)) same (adds_start old new session b each none begins)
+  begun_after (Err e) old was new session same each none begins = tt
 
   adds_end : (old new : Editing K) (session : ℕ) (how : SaveEnd) (k : K) (reply : Reply) → Ends old session how k reply new → AddsEnd old.history.base (moments_of old) session how reply (moments_of new)
   adds_end old new session how k reply ended = record {
@@ -97,3 +104,17 @@ module _ {K : Type 0} where
       → AddsEnd was.history.base (moments_of was) session how reply (moments_of new)
   ended_after old was new session how k reply same ended =
       subst (λ (c : Editing K). AddsEnd c.history.base (moments_of c) session how reply (moments_of new)) same (adds_end old new session how k reply ended)
+
+  pub kept_after_end : (old new : Editing K) (session : ℕ) (how : SaveEnd) (k : K) (reply : Reply) → IsKept old → IsRight new.history.base (world new) → length new.history.entries ≤ most_entries
+      → Ends old session how k reply new → IsKept new
+  kept_after_end old new session how k reply kept right few ended = record {
+    right = right;
+    few = few;
+    each_start = ap (λ (c : Editing K). length c.handed) ended.1
+        ∙ (kept.each_start
+        ∙ sym (ap (λ (c : Editing K). saves_started c.history.entries) ended.1
+        ∙ (saves_started-snoc old.history.entries (end_of old.history session reply) ∙ add-zero (saves_started old.history.entries))));
+    shelf_in = λ is.
+        ap (λ (c : Editing K). out_of c.history) ended.1
+        ∙ ap (λ (s : State). s.out) (replay-snoc old.history.base old.history.entries (end_of old.history session reply));
+  }

@@ -1,6 +1,6 @@
 -- A call that needs no step after the history that was entered takes none.
 use Rattle.std.proofs.Common.{◌≡◌, ℕ, ◌+◌, ◌-◌, Bool, true, false, List, [], ◌∷◌, ◌++◌, length, take, Option, None, refl, sym, ap, ◌∙◌, subst, arith, length-append}
-use Rattle.std.specs.Prelude.{MatchBool, Result, Ok, Err, IfOk}
+use Rattle.std.specs.Prelude.{MatchBool, Result, Ok, Err, IfOk, OnErr}
 use Rattle.std.proofs.Math.Seq.{take-append_seam}
 use Rattle.spec_document.specs.Document.{Document}
 use Rattle.spec_history.specs.Machine.{Call, Reply, history_full}
@@ -51,3 +51,11 @@ module _ {K : Type 0} where
       let some = some_list chest in
       needs_entered S base session call (expected_tables some.0 (asked call []) (reply_of reply)) (reply_of reply) held left front same is (answered some.0 some.1) none full
   stepless_after R reply_of (Err e) S base session call chest held left front same is answered none full = tt
+
+  -- out of memory no entry was made, so the front is the history that was entered
+  pub stepless_failed : {R E : Type 0} (r : Result R E) (S : Type 0) (base : Document) (call : Call) (held : Editing K) (left front : List (Moment K)) → base ≡ held.history.base → front ≡ left
+      → OnErr r (left ≡ moments_of held) → (NeedsNoStep held.history call → S) → OnErr r (NeedsNoStep (history_of base front) call → S)
+  stepless_failed (Ok reply) S base call held left front same is as_before none = tt
+  stepless_failed (Err e) S base call held left front same is as_before none = λ needs.
+      let es : entries_in front ≡ held.history.entries = ap entries_in (is ∙ as_before) ∙ back held in
+      none (subst (λ h. NeedsNoStep h call) (λ i. record { base = same i; entries = es i }) needs)

@@ -1,9 +1,9 @@
 -- What lies under the lock, as contracts see it.
-use Rattle.std.specs.Prelude.{◌≡◌, ◌≤◌, Bool, List, length}
+use Rattle.std.specs.Prelude.{◌≡◌, ◌≤◌, Bool, List, length, None, IsSome}
 use Rattle.spec_history.specs.Calls.{most_entries}
 use Rattle.spec_world.specs.Right.{IsRight}
 use Rattle.spec_saves.specs.Names.{saves_started}
-use Rattle.xl_core.specs.Editing.{Editing, world}
+use Rattle.xl_core.specs.Editing.{Editing, world, out_of}
 use Rattle.xl_studio.specs.declared.moment.Moment.{Moment}
 use Rattle.xl_studio.specs.Moments.{moments}
 
@@ -12,11 +12,13 @@ pub record State (K : Type 0) : Type 0 where
   pub core : Editing K
   pub closing : Bool
 
--- what a core keeps at every moment: its history and its pictures are right, and each start has handed a shelf out
+-- what a core keeps at every moment: its history and its pictures are right, each start has handed a shelf out, and where the shelf is in no
+-- save is out
 pub record IsKept {K : Type 0} (c : Editing K) : Type 0 where
   pub right : IsRight c.history.base (world c)
   pub few : length c.history.entries ≤ most_entries
   pub each_start : length c.handed ≡ saves_started c.history.entries
+  pub shelf_in : IsSome c.shelf → out_of c.history ≡ None
 
 -- the opening, and each entry
 abbrev pub moments_of : {K : Type 0} → Editing K → List (Moment K)

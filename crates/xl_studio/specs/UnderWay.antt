@@ -26,11 +26,11 @@ use Rattle.xl_studio.specs.Saving.{FoundNoRoom}
 module _ {K : Type 0} where
   -- ---- what the holds make of the list under the lock
 
-  -- The start is put behind the list, with the shelf. Where the shelf is out, or there is no room, the list stays.
+  -- The start is put behind the list, with the shelf. Where the shelf is out, or it is in and there is no room, the list stays.
   abbrev pub AddsStart : (base : Document) → (entered : List (Moment K)) → (session : ℕ) → Begun K → (left : List (Moment K)) → Type 0
   AddsStart base entered session (Snapshot v d k) left = left ≡ entered ++ Made (start_of (history_of base entered) session) (Some k) ∷ []
   AddsStart base entered session Out left = left ≡ entered
-  AddsStart base entered session Full left = (left ≡ entered) × (most_entries < length (entries_in entered) + 2)
+  AddsStart base entered session Full left = (left ≡ entered) × (most_entries < length (entries_in entered) + 2) × (out_of (history_of base entered) ≡ None)
 
   -- the last version's document is handed out, with a shelf that is right and has a name selected
   abbrev pub Hands : (see : K → shelves.Known) → (old : Editing K) → Begun K → Type 0
@@ -67,13 +67,13 @@ module _ {K : Type 0} where
   abbrev pub AfterFirst : (see : K → shelves.Known) → (opening : K) → (base : Document) → (session : ℕ) → Begun K → (old new : Known K) → Type 0
   AfterFirst see opening base session (Snapshot v d k) old new = HasStarted see opening base session d k old new
   AfterFirst see opening base session Out old new = HasHeard old new
-  AfterFirst see opening base session Full old new = FoundNoRoom history_full old new
+  AfterFirst see opening base session Full old new = FoundNoRoom base history_full old new
 
   -- after the first hold that found the shelf
   abbrev pub AfterWait : (see : K → shelves.Known) → (opening : K) → (base : Document) → (session : ℕ) → Begun K → (old new : Known K) → Type 0
   AfterWait see opening base session (Snapshot v d k) old new = HasStarted see opening base session d k old new
   AfterWait see opening base session Out old new = ⊥
-  AfterWait see opening base session Full old new = FoundNoRoom history_full old new
+  AfterWait see opening base session Full old new = FoundNoRoom base history_full old new
 
   -- the shelf may come back to the save that is under way
   pub record MayComeBack (see : K → shelves.Known) (opening : K) (base : Document) (session : ℕ) (how : SaveEnd) (shelf : K) (known : Known K) : Type 0 where

@@ -58,6 +58,7 @@ impl<D: Shelf> Studio<D> {
         ensures shown { IfOk result (λ reply. Shows (history_of (base_of self.now) (front_of seat.new)) (call_of call) (reply_of reply) desk.new.out) }
         ensures steps { IsNoTile (call_of call) → steps.new ≡ steps.old }
         ensures no_step { IfOk result (λ _. NeedsNoStep (history_of (base_of self.now) (before_last (front_of seat.new))) (call_of call) → steps.new ≡ steps.old) }
+        ensures no_step_failed { OnErr result (NeedsNoStep (history_of (base_of self.now) (front_of seat.new)) (call_of call) → steps.new ≡ steps.old) }
         ensures chest { IfOk result (λ reply. IsAfter (states_in state desk.old.chest) (states_in state desk.new.chest) (call_of call) (reply_of reply)) }
         ensures desk { IfOk result (λ reply. KeepsDesk (reply_of reply) desk.old.out desk.new.out) }
         ensures out_as_before { OnErr result (desk.new.out ≡ desk.old.out) }
@@ -189,7 +190,7 @@ impl<D: Shelf> Studio<D> {
     }
 
     /// The tile of a stack at the latest version, which is in the desk after `Tile`. Where the tile was kept at the latest version before
-    /// the call's own entry, it takes no step.
+    /// the call's own entry, it takes no step; after out of memory, where there is no entry, this holds of the front's latest version.
     pub fn tile<W: Wait, L: Ledger>(
         &self,
         rt: &W,
@@ -212,6 +213,7 @@ impl<D: Shelf> Studio<D> {
         ensures fresh { IfOk result (λ reply. IsFreshReply (latest_of (entries_in (front_of seat.old))) (reply_of reply)) }
         ensures shown { IfOk result (λ reply. Shows (history_of (base_of self.now) (front_of seat.new)) (machine.tile node.0 at) (reply_of reply) desk.new.out) }
         ensures no_step { IfOk result (λ _. NeedsNoStep (history_of (base_of self.now) (before_last (front_of seat.new))) (machine.tile node.0 at) → steps.new ≡ steps.old) }
+        ensures no_step_failed { OnErr result (NeedsNoStep (history_of (base_of self.now) (front_of seat.new)) (machine.tile node.0 at) → steps.new ≡ steps.old) }
         ensures chest { IfOk result (λ reply. IsAfter (states_in state desk.old.chest) (states_in state desk.new.chest) (machine.tile node.0 at) (reply_of reply)) }
         ensures desk { IfOk result (λ reply. KeepsDesk (reply_of reply) desk.old.out desk.new.out) }
         ensures out_as_before { OnErr result (desk.new.out ≡ desk.old.out) }

@@ -109,6 +109,7 @@ impl<D: Shelf> Shared<D> {
         ensures answered { (filters : List FilterState) → Agrees (states_in state desk.old.chest) filters
             → IfOk result (λ reply. Adds self.old.core.history.base (moments_of self.old.core) session (call_of call) (expected_tables filters (asked (call_of call) []) (reply_of reply)) (reply_of reply) (moments_of self.new.core)) }
         ensures calls { AddsCalls (moments_of self.old.core) (moments_of self.new.core) }
+        ensures closing { self.new.closing ≡ self.old.closing }
         ensures failed { OnErr result (moments_of self.new.core ≡ moments_of self.old.core) }
         ensures base { self.new.core.history.base ≡ self.old.core.history.base }
         ensures kept { IsKept self.new.core }
@@ -142,6 +143,7 @@ impl<D: Shelf> Shared<D> {
         ensures hands { IfOk result (λ begun. Hands (known D.selected D.disk D.reading_faults D.saving_faults) self.old.core begun) }
         ensures failed { OnErr result (moments_of self.new.core ≡ moments_of self.old.core) }
         ensures base { self.new.core.history.base ≡ self.old.core.history.base }
+        ensures closing { self.new.closing ≡ self.old.closing }
         ensures legal { IsLegal self.old.core.history.base self.old.core.history.entries }
         ensures kept { IsKept self.new.core }
     {
@@ -157,6 +159,7 @@ impl<D: Shelf> Shared<D> {
         requires out { IsOutOf (out_of self.old.core.history) session }
         requires returns { ComesBack (known D.selected D.disk D.reading_faults D.saving_faults) self.old.core how shelf }
         ensures ended { AddsEnd self.old.core.history.base (moments_of self.old.core) session how (reply_of result) (moments_of self.new.core) }
+        ensures closing { self.new.closing ≡ self.old.closing }
         ensures base { self.new.core.history.base ≡ self.old.core.history.base }
         ensures kept { IsKept self.new.core }
     {

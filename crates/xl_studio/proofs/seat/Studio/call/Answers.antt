@@ -9,7 +9,7 @@ use Rattle.xl_turn.specs.Seats.{opened_with, start_of, entered_by, made_after}
 use Rattle.xl_studio.specs.State.{moments_of}
 use Rattle.xl_studio.specs.Seats.{base_of, front_of}
 use Rattle.xl_studio.proofs.Seated.{seen_entered, start_within, call_may_leave, base_entered, begins_after, front_after, called_after, shown_after}
-use Rattle.xl_studio.proofs.Stepless.{stepless_after}
+use Rattle.xl_studio.proofs.Stepless.{stepless_after, stepless_failed}
 use Rattle.xl_studio.proofs.seat.Studio.call.Given as given
 use Rattle.xl_studio.proofs.seat.Studio.call.Goals as goal
 use Rattle.xl_studio.proofs.seat.Studio.call.Goals.{After-leave}
@@ -69,3 +69,9 @@ returns-clause-no_step g c =
     let at = (goal.at.returns-clause-no_step g c).After-leave in
     stepless_after _ reply_of c.submit-reply.result _ (base_of c.args.self.now) c.args.session (call_of c.args.call) _ c.enter-held.result.value.core (moments_of c.submit-reply.new.self.core) _ (base_is g at)
     c.leave.ensures.front c.submit-reply.ensures.answered c.submit-reply.ensures.no_step c.submit-reply.ensures.full
+
+pub returns-clause-no_step_failed : goal.returns-clause-no_step_failed
+returns-clause-no_step_failed g c =
+    let at = (goal.at.returns-clause-no_step_failed g c).After-leave in
+    stepless_failed c.submit-reply.result _ (base_of c.args.self.now) (call_of c.args.call) c.enter-held.result.value.core (moments_of c.submit-reply.new.self.core) _ (base_is g at) c.leave.ensures.front
+    c.submit-reply.ensures.failed c.submit-reply.ensures.no_step

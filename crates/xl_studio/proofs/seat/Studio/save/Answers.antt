@@ -16,5 +16,5 @@ returns-in-Snapshot-clause-saved g c =
     let s = c.in-Snapshot in
     record {
       is = inr (is_whole (known g.D.Shelf.selected g.D.Shelf.disk g.D.Shelf.reading_faults g.D.Shelf.saving_faults) (opening_shelf c.args.self.now) (base_of c.args.self.now) c.args.session s.document s.shelf
-          c.save_document-how.result (reply_of c.end.result) (known_by c.args.seat.now) (known_by c.begin_when_in.new.seat) (known_by c.end.new.seat) (rw s.is at c.in_ok-document.ensures.begun) c.end.ensures.ended);
+          c.save_document-how.new.shelf c.save_document-how.result (reply_of c.end.result) (known_by c.args.seat.now) (known_by c.begin_when_in.new.seat) (known_by c.end.new.seat) (rw s.is at c.in_ok-document.ensures.begun) c.save_document-how.ensures c.end.ensures.ended);
     }

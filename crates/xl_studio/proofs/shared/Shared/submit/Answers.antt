@@ -13,7 +13,9 @@ calls : (g : given.Over) (c : goal.After-self-1 g) → AddsCalls (moments_of c.s
 calls g c = let e = c.submit-reply.ensures in calls_after _ reply_of c.submit-reply.result _ _ _ c.args.session (call_of c.args.call) c.args.seen _ refl e.shelf e.answered e.as_before
 
 kept : (g : given.Over) (c : goal.After-self-1 g) → IsKept c.submit-reply.new.self
-kept g c = let e = c.submit-reply.ensures in kept_after _ _ c.self.invariant.0 c.know_right.ensures e.few e.shelf (calls g c)
+kept g c =
+    let e = c.submit-reply.ensures in
+    kept_after _ _ c.self.invariant.0 c.know_right.ensures e.few (base_after _ reply_of c.submit-reply.result _ _ _ c.args.session (call_of c.args.call) c.args.seen _ refl e.answered e.as_before) e.shelf (calls g c)
 
 pub invariant_of-self : goal.invariant_of-self
 invariant_of-self g c = (
