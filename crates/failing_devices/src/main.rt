@@ -6,9 +6,12 @@
 
 use std::alloc::{AllocError, Global};
 use std::process::ExitCode;
+use std::sync::Wait;
+use std::thread::Threads;
 use std::{fs, io};
 use xl_fakes::{MemoryShelf, MemorySink, MemorySource};
 use xl_program::{Ended, run};
+use xl_real::OpenGate;
 
 /// The last byte of the length word behind the image's properties, which is ignored where a file is read.
 const END_LENGTH: usize = 42;
@@ -81,7 +84,8 @@ fn list_of(alloc: Global, number: Option<u32>) -> Result<Vec<u32>, AllocError> {
 }
 
 // Runs words with a script over the old file. The script comes in pieces of seven bytes.
-fn run_words(
+fn run_words<R: Threads + Wait + Sync>(
+    threads: &R,
     alloc: Global,
     asked: Asked<'_>,
     old: &[u8],
@@ -94,12 +98,14 @@ fn run_words(
     let script = asked.script.as_bytes().to_vec(alloc)?;
     let mut source = MemorySource::new(script, 7, list_of(alloc, failing.read)?);
     Ok(run(
+        threads,
         alloc,
         &asked.words,
         &mut source,
         sink,
         shelf,
         Vec::new(alloc),
+        &OpenGate,
     ))
 }
 
@@ -164,17 +170,25 @@ const RENDER: Asked<'static> = Asked {
 
 /// What is shown of runs, one after another.
 #[derive(Drop)]
-struct Shown<'a> {
+struct Shown<'a, R: Threads + Wait + Sync> {
     rt: &'a HostRuntime,
+    threads: &'a R,
     known: &'a Contents,
 }
 
-impl<'a> Shown<'a> {
+impl<'a, R: Threads + Wait + Sync> Shown<'a, R> {
     // Shows what a run came to: the status, what a crash may leave, and what was written.
     fn show(&self, asked: Asked<'_>, failing: Failing) -> io::Result<()> {
         let alloc = self.rt.alloc();
         let mut sink = MemorySink::new(alloc, asked.step.max(1), list_of(alloc, failing.write)?);
-        let ended = run_words(alloc, asked, &self.known.old, failing, &mut sink)?;
+        let ended = run_words(
+            self.threads,
+            alloc,
+            asked,
+            &self.known.old,
+            failing,
+            &mut sink,
+        )?;
         let letters = left(alloc, &ended.shelf, self.known)?;
         let fails = told(alloc, failing)?;
         let [verb, name] = asked.words;
@@ -302,9 +316,13 @@ impl<'a> Shown<'a> {
     }
 }
 
-fn show_all(rt: &HostRuntime) -> io::Result<()> {
+fn show_all<R: Threads + Wait + Sync>(rt: &HostRuntime, threads: &R) -> io::Result<()> {
     let known = contents_of(rt.alloc(), &fs::read(rt, "one.xcf")?)?;
-    let shown = Shown { rt, known: &known };
+    let shown = Shown {
+        rt,
+        threads,
+        known: &known,
+    };
     shown.show_saves()?;
     shown.show_reads()?;
     shown.show_writes()?;
@@ -312,7 +330,7 @@ fn show_all(rt: &HostRuntime) -> io::Result<()> {
 }
 
 fn main(rt: HostRuntime) -> ExitCode {
-    match show_all(&rt) {
+    match show_all(&rt, &rt) {
         Ok(()) => ExitCode::SUCCESS,
         Err(_) => ExitCode::FAILURE,
     }

@@ -3,13 +3,15 @@
 //! Where a command stops, a sentence on the standard error says why.
 #![tactic(auto)]
 
-use std::alloc::{AllocError, Global};
+use std::alloc::AllocError;
 use std::process::ExitCode;
+use std::sync::Wait;
+use std::thread::Threads;
 use std::{env, io};
 use xl_filters::{Fade, Invert, PointFilter, Posterize, Threshold};
 use xl_messages::message;
 use xl_program::{Ended, run};
-use xl_real::{FileShelf, StdSink, StdSource};
+use xl_real::{FileShelf, OpenGate, StdSink, StdSource};
 use xl_why::Recorded;
 
 /// The status where all went well.
@@ -28,8 +30,9 @@ fn words_given(rt: &HostRuntime) -> io::Result<Vec<String>> {
 }
 
 // Does what the words ask for, over the real devices. Each session has four filters, in its slots 0 to 3.
-fn run_with_filters(
+fn run_with_filters<R: Threads + Wait + Sync>(
     rt: &HostRuntime,
+    threads: &R,
     words: &[&str],
     source: &mut Recorded<StdSource>,
 ) -> Result<Ended<FileShelf>, AllocError> {
@@ -45,10 +48,12 @@ fn run_with_filters(
     }
     let mut sink = StdSink::new(rt);
     let shelf = FileShelf::new(rt);
-    Ok(run(alloc, words, source, &mut sink, shelf, chest))
+    Ok(run(
+        threads, alloc, words, source, &mut sink, shelf, chest, &OpenGate,
+    ))
 }
 
-fn started(rt: &HostRuntime) -> Result<u8, AllocError> {
+fn started<R: Threads + Wait + Sync>(rt: &HostRuntime, threads: &R) -> Result<u8, AllocError> {
     let alloc = rt.alloc();
     let given = match words_given(rt) {
         Ok(words) => words,
@@ -61,7 +66,7 @@ fn started(rt: &HostRuntime) -> Result<u8, AllocError> {
         words.push(word.as_str())?;
     }
     let mut source = Recorded::new(alloc, StdSource::new(rt));
-    let ended = run_with_filters(rt, &words, &mut source)?;
+    let ended = run_with_filters(rt, threads, &words, &mut source)?;
     if ended.status != DONE
         && let Ok(text) = message(alloc, &words, ended.status, ended.cause, source.bytes())
     {
@@ -72,5 +77,5 @@ fn started(rt: &HostRuntime) -> Result<u8, AllocError> {
 }
 
 fn main(rt: HostRuntime) -> ExitCode {
-    ExitCode::from(started(&rt).unwrap_or(MEMORY))
+    ExitCode::from(started(&rt, &rt).unwrap_or(MEMORY))
 }

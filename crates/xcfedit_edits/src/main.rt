@@ -3,7 +3,7 @@
 
 use std::process::ExitCode;
 use xl_program::run;
-use xl_real::{FileShelf, StdSink, StdSource};
+use xl_real::{FileShelf, OpenGate, StdSink, StdSource};
 
 fn main(rt: HostRuntime) -> ExitCode {
     let alloc = rt.alloc();
@@ -11,12 +11,14 @@ fn main(rt: HostRuntime) -> ExitCode {
     let mut sink = StdSink::new(&rt);
     let shelf = FileShelf::new(&rt);
     let ended = run(
+        &rt,
         alloc,
         &["edit", "one.xcf"],
         &mut source,
         &mut sink,
         shelf,
         Vec::new(alloc),
+        &OpenGate,
     );
     ExitCode::from(ended.status)
 }

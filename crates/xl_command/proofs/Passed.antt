@@ -11,7 +11,7 @@ use Rattle.clap.specs.Built.{IsParsedFrom, IsAuto, SameRules}
 use Rattle.clap.specs.Matches.{matched_of, first_value, found_of}
 use Rattle.clap.specs.Values.{Accepts}
 use Rattle.clap.specs.Simple.{App, app_of, is_simple}
-use Rattle.clap.specs.Walk.{Rule, Text, first_of, rows_of, rule_of}
+use Rattle.clap.specs.Walk.{Row, Rule, Text, first_of, rows_of, rule_of}
 use Rattle.clap.specs.declared.builder.arg.Arg.{Arg}
 use Rattle.clap.specs.declared.builder.command.Command.{Command}
 use Rattle.clap.specs.declared.builder.command.Command.TheViews.{out-Command}
@@ -24,11 +24,12 @@ use Rattle.clap.proofs.SimpleLemmas.{plain_fields, simple_groups}
 use Rattle.clap.proofs.WalkLemmas.{first_value-rows}
 use Rattle.clap.specs.declared.builder.value_parser.ValueParser.TheVariants as vp
 use Rattle.clap.specs.Values.{IsSignedIn}
-use Rattle.std.specs.Prelude.{codes, pos, ◌^◌, ◌-◌}
+use Rattle.std.specs.Prelude.{codes, pos, nat_abs, ◌^◌, ◌-◌}
+use Rattle.std.specs.Str.Parse.{signed_digits_value}
 use Rattle.std.proofs.lemmas.Int.{ints}
 use Rattle.std.specs.List.{list_all}
 use Rattle.clap.specs.Simple.{with_rule}
-use Rattle.spec_command.specs.Grammar.{file_rule, number_rule, plain_app}
+use Rattle.spec_command.specs.Grammar.{edit_app, file_rule, number_rule, number_of, plain_app}
 
 accepts_of : (a y : Arg) (q : ValueParser) (t : List ℕ) → SameRules a y → a.value_parser ≡ Some q → Accepts y.ignore_case (parser_of y) t → Accepts a.ignore_case q t
 accepts_of a y q t s parser read =
@@ -91,12 +92,12 @@ two_rules (a ∷ []) r s e = let bad = ap length e in absurd (omega (arith, bad)
 two_rules (a ∷ b ∷ []) r s e = (a, b, refl, ap (λ l. slice_index_or l 0 r) e, ap (λ l. slice_index_or l 1 s) e)
 two_rules (a ∷ b ∷ c ∷ xs) r s e = let bad = ap length e in absurd (omega (arith, bad))
 
--- a number of a command with this one option is below 2 ^ 32
-pub number_is_small : (old : Command) (m : ArgMatches) → IsParsedFrom old m → (verb name : Text) (most : ℕ) (required : Bool) → most ≤ 2 ^ 32 - 1
+-- a number of a command with this one option is at most the greatest that the option takes
+pub number_is_taken : (old : Command) (m : ArgMatches) → IsParsedFrom old m → (verb name : Text) (most : ℕ) (required : Bool)
     → bytes_eq (codes "file") name ≡ false → (name ≡ [] → ⊥) → ((name ≡ codes "help") ⊎ (name ≡ codes "version") → ⊥)
     → app_of old ≡ with_rule (plain_app verb) (number_rule name most required)
-    → (t : List ℕ) → first_of name (rows_of (found_of m)) ≡ Some t → IsSignedIn (pos 0) (pos (2 ^ 32 - 1)) t
-number_is_small old m p verb name most required few other named own is t has =
+    → (t : List ℕ) → first_of name (rows_of (found_of m)) ≡ Some t → IsSignedIn (pos 0) (pos most) t
+number_is_taken old m p verb name most required other named own is t has =
     let two = two_rules (args_of old) file_rule (number_rule name most required) (ap (λ (a : App). a.top.rules) is) in
     let a = two.0 in
     let b = two.1 in
@@ -106,12 +107,10 @@ number_is_small old m p verb name most required few other named own is t has =
     let at : slice_index_or (args_of old) 1 b ≡ b = ap (λ l. slice_index_or l 1 b) list in
     let id : (slice_index_or (args_of old) 1 b).id.now ≡ name = ap (λ (x : Arg). x.id.now) at ∙ ap (λ (r : Rule). r.id) two.4 in
     let count : length (args_of old) ≡ 2 = ap length list in
-    let low = value_passes old m p 1 b (omega (arith, count)) (unique a b list id (ap (λ (r : Rule). r.id) two.3)) (λ e. named (sym id ∙ e))
+    value_passes old m p 1 b (omega (arith, count)) (unique a b list id (ap (λ (r : Rule). r.id) two.3)) (λ e. named (sym id ∙ e))
     (λ auto. own (elim auto [ inl h ↦ inl (sym id ∙ h) | inr h ↦ inr (sym id ∙ h) ]))
     (vp.Signed (pos 0) (pos most)) (ap (λ (x : Arg). x.value_parser) at ∙ ap (λ (r : Rule). r.parser) two.4)
-    plain.globals ((p.from.same_groups no_names).1 ∙ plain.groups) t (ap (first_value (found_of m)) id ∙ (first_value-rows (found_of m) name ∙ has)) in
-    let high = low.3 in
-    (low.0, low.1, low.2, omega (arith, ints, few, high))
+    plain.globals ((p.from.same_groups no_names).1 ∙ plain.groups) t (ap (first_value (found_of m)) id ∙ (first_value-rows (found_of m) name ∙ has))
   where
     unique : (a b : Arg) → args_of old ≡ a ∷ b ∷ [] → (slice_index_or (args_of old) 1 b).id.now ≡ name → a.id.now ≡ codes "file" → (j : ℕ) (e : Arg) → j < length (args_of old)
         → bytes_eq (slice_index_or (args_of old) j e).id.now (slice_index_or (args_of old) 1 b).id.now ≡ true → j ≡ 1
@@ -121,3 +120,32 @@ number_is_small old m p verb name most required few other named own is t has =
         absurd (true≢false (sym bad ∙ other))
     unique a b list id first (suc zero) e below same = refl
     unique a b list id first (suc (suc j)) e below same = let count = ap length list in absurd (omega (arith, count))
+
+-- so it is below 2 ^ 32
+pub number_is_small : (most : ℕ) (t : List ℕ) → most ≤ 2 ^ 32 - 1 → IsSignedIn (pos 0) (pos most) t → IsSignedIn (pos 0) (pos (2 ^ 32 - 1)) t
+number_is_small most t few low =
+    let high = low.3 in
+    (low.0, low.1, low.2, omega (arith, ints, few, high))
+
+-- the number of an option, or the one that stands for it
+pub number_is_few : (rows : List Row) (name : Text) (default most : ℕ) → default ≤ most → ((t : List ℕ) → first_of name rows ≡ Some t → IsSignedIn (pos 0) (pos most) t) → number_of rows name default ≤ most
+number_is_few rows name default most fits each = go (first_of name rows) refl
+  where
+    go : (o : Option (List ℕ)) → first_of name rows ≡ o → unwrap_or (option_map (λ text. nat_abs (signed_digits_value 10 text)) o) default ≤ most
+    go None is = fits
+    go (Some t) is =
+        let low = each t is in
+        let least = low.2 in
+        let high = low.3 in
+        omega (arith, ints, least, high)
+
+-- so it is for the workers of an edit
+pub workers_are_taken : (old : Command) (m : ArgMatches) → IsParsedFrom old m → app_of old ≡ edit_app → (t : List ℕ) → first_of (codes "workers") (rows_of (found_of m)) ≡ Some t → IsSignedIn (pos 0) (pos 8) t
+workers_are_taken old m p is =
+    number_is_taken old m p (codes "edit") (codes "workers") 8 false refl
+    (λ e. let bad = ap (λ l. slice_index_or l 0 0) e in absurd (omega (arith, bad)))
+    (λ auto. elim auto [
+      | inl e ↦ let bad = ap (λ l. slice_index_or l 0 0) e in absurd (omega (arith, bad))
+      | inr e ↦ let bad = ap (λ l. slice_index_or l 0 0) e in absurd (omega (arith, bad))
+    ])
+    is

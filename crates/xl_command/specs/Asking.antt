@@ -1,5 +1,5 @@
 -- What a command of the code asks for.
-use Rattle.std.specs.Prelude.{ℕ, List, Option, Some, None, map, if◌then◌else◌}
+use Rattle.std.specs.Prelude.{ℕ, ◌≤◌, List, Option, Some, None, map, if◌then◌else◌}
 use denote.Ref.{Bor}
 use Rattle.std.specs.Str.Parse.{starts_with_minus}
 use Rattle.spec_command.specs.Arguments.{Argument, Asked, edit, render, info, make}
@@ -20,3 +20,10 @@ asked_of (code.Edit name workers) = edit name.now workers
 asked_of (code.Render name) = render name.now
 asked_of (code.Info name) = info name.now
 asked_of (code.Make name seed) = make name.now seed
+
+-- an edit asks for eight workers at most
+abbrev pub HasFewWorkers : Asked → Type 0
+HasFewWorkers (edit name workers) = workers ≤ 8
+HasFewWorkers (render name) = Unit {0}
+HasFewWorkers (info name) = Unit {0}
+HasFewWorkers (make name seed) = Unit {0}

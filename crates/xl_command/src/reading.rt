@@ -1,10 +1,10 @@
-ghost use Rattle.std.specs.Prelude.{◌≡◌, nat_abs, ◌^◌, ◌-◌, ℕ, List, true, false, pos, Some, IfOk, MatchOption, option_map, codes};
+ghost use Rattle.std.specs.Prelude.{◌≡◌, nat_abs, ◌^◌, ◌-◌, ℕ, List, true, false, pos, Some, IfOk, IfSome, MatchOption, option_map, codes};
 ghost use Rattle.clap.specs.Words.{app_of, found_of, rows_of, matches_of, first_of, is_simple_and_free, IsParsedFrom, IsSignedIn};
 ghost use Rattle.spec_command.specs.Grammar.{edit_app, edit_of, is_faultless, make_app, make_of, number_of, plain_app, plain_of, asked_in, asked_where};
 ghost use Rattle.spec_command.specs.Arguments.{Argument, Asked};
 ghost use Rattle.spec_command.specs.Arguments as definition;
 ghost use Rattle.std.specs.Str.Parse.{signed_digits_value};
-ghost use Rattle.xl_command.specs.Asking.{asked_of, plain_name, arguments_of};
+ghost use Rattle.xl_command.specs.Asking.{asked_of, plain_name, arguments_of, HasFewWorkers};
 
 use crate::command::Command;
 use crate::grammar::{edit_command, make_command, plain_command};
@@ -100,8 +100,9 @@ fn render<'a>(
     verb: &'a str,
     arguments: &'a [&'a str],
 ) -> Result<Option<Command<'a>>, AllocError>
-    ensures { IfOk result (λ command. option_map asked_of command
+    ensures asked { IfOk result (λ command. option_map asked_of command
         ≡ asked_where (plain_app verb.entry.now) (arguments_of arguments.entry.now) (plain_of definition.render)) }
+    ensures few { IfOk result (λ command. IfSome command (λ command. HasFewWorkers (asked_of command))) }
 {
     match plain_file(alloc, verb, arguments)? {
         Some(name) => Ok(Some(Command::Render(name))),
@@ -114,8 +115,9 @@ fn info<'a>(
     verb: &'a str,
     arguments: &'a [&'a str],
 ) -> Result<Option<Command<'a>>, AllocError>
-    ensures { IfOk result (λ command. option_map asked_of command
+    ensures asked { IfOk result (λ command. option_map asked_of command
         ≡ asked_where (plain_app verb.entry.now) (arguments_of arguments.entry.now) (plain_of definition.info)) }
+    ensures few { IfOk result (λ command. IfSome command (λ command. HasFewWorkers (asked_of command))) }
 {
     match plain_file(alloc, verb, arguments)? {
         Some(name) => Ok(Some(Command::Info(name))),
@@ -124,7 +126,8 @@ fn info<'a>(
 }
 
 fn edit<'a>(alloc: Global, arguments: &'a [&'a str]) -> Result<Option<Command<'a>>, AllocError>
-    ensures { IfOk result (λ command. option_map asked_of command ≡ asked_where edit_app (arguments_of arguments.entry.now) edit_of) }
+    ensures asked { IfOk result (λ command. option_map asked_of command ≡ asked_where edit_app (arguments_of arguments.entry.now) edit_of) }
+    ensures few { IfOk result (λ command. IfSome command (λ command. HasFewWorkers (asked_of command))) }
 {
     let Some(matches) = matches_in(edit_command(alloc)?, arguments)? else {
         return Ok(None);
@@ -136,7 +139,8 @@ fn edit<'a>(alloc: Global, arguments: &'a [&'a str]) -> Result<Option<Command<'a
 }
 
 fn make<'a>(alloc: Global, arguments: &'a [&'a str]) -> Result<Option<Command<'a>>, AllocError>
-    ensures { IfOk result (λ command. option_map asked_of command ≡ asked_where make_app (arguments_of arguments.entry.now) make_of) }
+    ensures asked { IfOk result (λ command. option_map asked_of command ≡ asked_where make_app (arguments_of arguments.entry.now) make_of) }
+    ensures few { IfOk result (λ command. IfSome command (λ command. HasFewWorkers (asked_of command))) }
 {
     let Some(matches) = matches_in(make_command(alloc)?, arguments)? else {
         return Ok(None);
@@ -152,7 +156,8 @@ pub fn command_of<'a>(
     alloc: Global,
     arguments: &'a [&'a str],
 ) -> Result<Option<Command<'a>>, AllocError>
-    ensures { IfOk result (λ command. option_map asked_of command ≡ asked_in (arguments_of arguments.entry.now)) }
+    ensures asked { IfOk result (λ command. option_map asked_of command ≡ asked_in (arguments_of arguments.entry.now)) }
+    ensures few { IfOk result (λ command. IfSome command (λ command. HasFewWorkers (asked_of command))) }
 {
     let Some(verb) = arguments.first() else {
         return Ok(None);

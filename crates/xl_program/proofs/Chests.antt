@@ -16,7 +16,7 @@ use Rattle.spec_script.specs.Script as script
 use Rattle.spec_script.specs.Script.{is_there, finds_filter}
 use Rattle.spec_script.specs.Fits.{AreFit, finds_filters, IsFit}
 use Rattle.spec_tables.specs.Agrees.{Agrees, AreThere, SameSlots}
-use Rattle.xl_program.specs.Playing.{FitsChest}
+use Rattle.xl_sessions.specs.Playing.{FitsChest}
 
 -- each filter that was given and not dropped is in its slot
 abbrev pub IsStocked : (given : ℕ) (dropped : List ℕ) (chest : List (Option FilterState)) → Type 0

@@ -1,5 +1,5 @@
 -- The shelf of a run is right from the run's beginning on.
-use Rattle.std.proofs.Common.{◌≡◌, inl, inr, ℕ, ◌≤◌, List, [], ◌∷◌, ◌++◌, Some, None, ap, sym, ◌∙◌, arith, subst}
+use Rattle.std.proofs.Common.{◌≡◌, inl, inr, ℕ, ◌≤◌, List, [], ◌∷◌, Some, None, ap, sym, ◌∙◌, arith, subst}
 use Rattle.std.specs.Prelude.{Option, unwrap_or, Contains}
 use Rattle.spec_document.specs.Document.{Document}
 use Rattle.spec_history.specs.History.{Entry}

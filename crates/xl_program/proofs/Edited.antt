@@ -1,9 +1,10 @@
 -- What a run of edit comes to whose script was played.
-use Rattle.std.proofs.Common.{◌≡◌, inl, inr, ℕ, List, Some, ap, refl, sym, subst, false, true}
+use Rattle.std.proofs.Common.{◌≡◌, inl, inr, ℕ, List, Some, ap, length, map, refl, sym, subst, false, true}
 use Rattle.std.specs.Prelude.{Option, Bool, IfSome, Result, Ok, Err, string_bytes}
 use Rattle.std.specs.declared.alloc.AllocError.{AllocError}
 use Rattle.spec_command.specs.Arguments.{edit}
 use Rattle.spec_document.specs.Document.{Document}
+use Rattle.spec_document.specs.Limits.{IsDocument}
 use Rattle.spec_saves.specs.Names.{save_faults}
 use Rattle.xl_program.specs.Outcome.{Given, HoldsDocument, HasLines, Shelved, opened, IsUntouched, IsHistory, IsReplies, NoneFailed, SomeFailed, AnyFailed, ComesTo}
 use Rattle.xl_ports.specs.Shelf.{Content}
@@ -11,14 +12,21 @@ use Rattle.xl_program.specs.Parts.{Loads, ReadsScript, StopsEdit, WhetherFailed,
 use Rattle.xl_program.specs.declared.playing.Replies.{Replies}
 use Rattle.xl_program.specs.declared.stopped.Stopped.{Stopped}
 use Rattle.xl_program.specs.declared.stopped.Stopped.TheVariants.{SourceFault, BadLine, ShelfFault, Refused, SaveFault, SinkFault, Memory}
+use Rattle.spec_script.specs.Fits.{FitsFilters}
 use Rattle.spec_script.specs.Script.{Line}
+use Rattle.xl_doc.specs.Numbered.{AreNumbered}
 use Rattle.xl_program.proofs.Earlier.{right_earlier}
+use Rattle.xl_program.proofs.LastFile.{has_last}
 use Rattle.xl_program.proofs.Taken.{untouched}
+use Rattle.xl_program.proofs.Within.{each_within, small_ids}
 
 -- what was known when the script was played
 pub record IsOpened (given : Given) (before mid : Shelved) (name : List ℕ) (d : Document) (lists : List (List Line)) : Type 0 where
   pub holds : IfSome (before.content name) (λ c. HoldsDocument c d)
+  pub within : IsDocument d
+  pub numbered : AreNumbered d.nodes
   pub read : HasLines given lists
+  pub fits : FitsFilters (map length given.chests) lists
   pub untouched : IsUntouched before mid
   pub named : mid.known.selected ≡ Some name
   pub reading : mid.known.reading ≡ before.known.reading
@@ -31,22 +39,28 @@ pub some_failed : (b : Bool) → b ≡ true → (n : ℕ) → WhetherFailed b n 
 some_failed true is n h = h
 some_failed false is n h = let bad : false ≡ true = is in cc
 
-module _ {given : Given} {before mid : Shelved} {name : List ℕ} {d : Document} {lists : List (List Line)} (known_then : IsOpened given before mid name d lists) (after : Shelved) where
-  history_of : (replies : Result Replies AllocError) (played : IsPlayed mid.known after.known d lists given.chests replies) → IsHistory name before after d played.entries
-  history_of replies played = record {
-    held = known_then.holds;
-    legal = played.legal;
-    shelf = right_earlier (opened before name) mid.known after.known d played.entries (sym known_then.named) (sym known_then.reading) (sym known_then.untouched.saving) known_then.untouched.quiet played.shelf;
-  }
+module _ {given : Given} {before mid : Shelved} {name : List ℕ} {d : Document} {lists : List (List Line)} (known_then : IsOpened given before mid name d lists) (after : Shelved) (workers : ℕ) where
+  history_of : (replies : Result Replies AllocError) (played : IsPlayed mid.known after.known d lists given.chests workers replies) → IsHistory name before after d played.entries
+  history_of replies played =
+      let right = right_earlier (opened before name) mid.known after.known d played.entries (sym known_then.named) (sym known_then.reading) (sym known_then.untouched.saving) known_then.untouched.quiet played.shelf in
+      record {
+        held = known_then.holds;
+        within = known_then.within;
+        legal = played.legal;
+        shelf = right;
+        file = λ none. has_last d played.entries name before.known.disk after.known.disk none right.contents;
+      }
 
-  replies_of : (replies : Replies) (P : ℕ → Type 0) (played : IsPlayed mid.known after.known d lists given.chests (Ok replies)) → ((n : ℕ) → WhetherFailed replies.save_failed n → P n)
-      → IsReplies given name before after P (string_bytes replies.text)
+  replies_of : (replies : Replies) (P : ℕ → Type 0) (played : IsPlayed mid.known after.known d lists given.chests workers (Ok replies)) → ((n : ℕ) → WhetherFailed replies.save_failed n → P n)
+      → IsReplies given name before after workers P (string_bytes replies.text)
   replies_of replies P played fails = record {
     document = d;
     lists = lists;
     entries = played.entries;
     history = history_of (Ok replies) played;
     read = known_then.read;
+    versions = each_within d (map length given.chests) lists given.chests (string_bytes replies.text) played.entries known_then.within
+        (small_ids d known_then.numbered) known_then.fits played.told.text;
     text = played.told.text;
     alone = played.told.alone;
     failed = fails (save_faults played.entries) played.told.failed;
@@ -54,17 +68,17 @@ module _ {given : Given} {before mid : Shelved} {name : List ℕ} {d : Document}
 
   -- what is written, and the shelf
   pub played_comes : {K : Type 0} (held : K → Option (List ℕ)) (faults : K → ℕ) (old new : K) (replies : Result Replies AllocError) (result : Result (Unit {0}) Stopped)
-      → IsPlayed mid.known after.known d lists given.chests replies → WritesReplies held faults old new replies result
-      → (workers : ℕ) → ComesTo held faults given before after (edit name workers) old new result
-  played_comes held faults old new (Ok replies) (Ok x) played writes workers = (string_bytes replies.text, replies_of replies NoneFailed played (none_failed replies.save_failed writes.1), writes.0)
-  played_comes held faults old new (Ok replies) (Err SaveFault) played writes workers = (string_bytes replies.text, replies_of replies SomeFailed played (some_failed replies.save_failed writes.1), writes.0)
-  played_comes held faults old new (Ok replies) (Err SinkFault) played writes workers = (string_bytes replies.text, replies_of replies AnyFailed played (λ n h. tt), writes)
-  played_comes held faults old new (Ok replies) (Err SourceFault) played writes workers = absurd writes
-  played_comes held faults old new (Ok replies) (Err (BadLine number)) played writes workers = absurd writes
-  played_comes held faults old new (Ok replies) (Err ShelfFault) played writes workers = absurd writes
-  played_comes held faults old new (Ok replies) (Err (Refused refused)) played writes workers = absurd writes
-  played_comes held faults old new (Ok replies) (Err Memory) played writes workers = absurd writes
-  played_comes held faults old new (Err e) result played writes workers =
+      → IsPlayed mid.known after.known d lists given.chests workers replies → WritesReplies held faults old new replies result
+      → ComesTo held faults given before after (edit name workers) old new result
+  played_comes held faults old new (Ok replies) (Ok x) played writes = (string_bytes replies.text, replies_of replies NoneFailed played (none_failed replies.save_failed writes.1), writes.0)
+  played_comes held faults old new (Ok replies) (Err SaveFault) played writes = (string_bytes replies.text, replies_of replies SomeFailed played (some_failed replies.save_failed writes.1), writes.0)
+  played_comes held faults old new (Ok replies) (Err SinkFault) played writes = (string_bytes replies.text, replies_of replies AnyFailed played (λ n h. tt), writes)
+  played_comes held faults old new (Ok replies) (Err SourceFault) played writes = absurd writes
+  played_comes held faults old new (Ok replies) (Err (BadLine number)) played writes = absurd writes
+  played_comes held faults old new (Ok replies) (Err ShelfFault) played writes = absurd writes
+  played_comes held faults old new (Ok replies) (Err (Refused refused)) played writes = absurd writes
+  played_comes held faults old new (Ok replies) (Err Memory) played writes = absurd writes
+  played_comes held faults old new (Err e) result played writes =
       subst (λ (r : Result (Unit {0}) Stopped). ComesTo held faults given before after (edit name workers) old new r) (sym writes.0)
       ((ap held writes.1, ap faults writes.1), inr (d, played.entries, history_of (Err e) played))
 

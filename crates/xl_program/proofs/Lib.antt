@@ -9,9 +9,9 @@ mod Earlier
 mod Edited
 mod Ends
 mod Keeping
+mod LastFile
 mod FirstSaves
 mod MadeFiles
-mod MadeOutcomes
 mod MadeRuns
 mod MadeScripts
 mod Plain
@@ -24,6 +24,9 @@ mod Sessions
 mod Stays
 mod Submitted
 mod Taken
+mod ToEnd
 mod UnderWay
 mod UpTo
+mod Within
+mod OfFirst
 mod Reported

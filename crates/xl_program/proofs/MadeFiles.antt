@@ -1,19 +1,17 @@
 -- The file after a history whose last call is a save: that of the last document, where no save failed.
-use Rattle.std.proofs.Common.{◌≡◌, ℕ, ◌+◌, Bool, true, false, cond, List, [], ◌∷◌, ◌++◌, Some, None, refl, ap, sym, ◌∙◌, arith, subst, flat_map, filter_map, append-nil, append_assoc}
+use Rattle.std.proofs.Common.{◌≡◌, ℕ, ◌+◌, Bool, true, false, cond, List, [], ◌∷◌, ◌++◌, Some, None, refl, ap, sym, ◌∙◌, arith, subst, filter_map}
 use Rattle.std.specs.Prelude.{fold, drop, is_some, Option}
 use Rattle.std.specs.List.{AllByRecursion, cons_option}
-use Rattle.std.proofs.lemmas.List.Concat.{flat_map-append}
-use Rattle.std.proofs.lemmas.List.Elements.{filter_map-append}
 use Rattle.std.proofs.lemmas.List.Sums.{sum_by-cons}
 use Rattle.spec_document.specs.Document.{Document}
-use Rattle.spec_grid.specs.Rect.{count_from}
 use Rattle.spec_history.specs.Machine.{Reply, saved, save_fault, save_memory, State, Saving, latest, initial}
-use Rattle.spec_history.specs.History.{Entry, Kind, asked, starts, ends, EndsWith, MayEnd, MayBe, after_kind, after_entry, replay_from, replay, RunFrom, latest_of, mine}
+use Rattle.spec_history.specs.History.{Entry, Kind, asked, starts, ends, EndsWith, MayEnd, MayBe, after_kind, after_entry, replay_from, replay, RunFrom, latest_of}
 use Rattle.spec_history.specs.Kept.{IsLegal}
 use Rattle.spec_history.proofs.Versions.{latest_of-legal}
 use Rattle.spec_saves.specs.Names.{Named, version, the_old, after_end, after_kind as named_after, after_one, names, is_fault, ends_by_fault, save_faults}
+use Rattle.spec_merged.specs.Fills.{EndsWithSave}
 use Rattle.spec_script.specs.Script.{Line, call, save, forget}
-use Rattle.spec_text.specs.Text.{calls_of, calls_in, made_by, is_save_memory}
+use Rattle.spec_text.specs.Text.{made_by, is_save_memory}
 
 -- ---- the entries behind the start of the last save
 
@@ -65,10 +63,6 @@ ends_well base s earlier (e ∷ es) ns o out at run last none well = go e.kind r
 
 -- ---- up to it
 
--- the lines end with a save
-abbrev EndsWithSave : List Line → Type 0
-EndsWithSave lines = (front : List Line) × (lines ≡ front ++ save ∷ [])
-
 tail_of : (x y : Line) (xs ys : List Line) → x ∷ xs ≡ y ∷ ys → xs ≡ ys
 tail_of x y xs ys same = ap (λ (ls : List Line). drop 1 ls) same
 
@@ -119,25 +113,9 @@ none_failed (e ∷ es) none printable =
           let here : save_faults (e ∷ es) ≡ 0 + save_faults es = sum_by-cons (λ (x : Entry). cond (ends_by_fault x.kind x.reply) 1 0) e es ∙ ap (λ (b : Bool). cond b 1 0 + save_faults es) is in
           (record { memory = printable.0; fault = is }, rest (omega (arith, here, none)))
 
--- the calls of all sessions end with those of the last
-ends_in_last : (es : List Entry) → flat_map (mine es) (count_from 0 8) ≡ es → EndsWithSave (calls_in es 7) → EndsWithSave (lines_of es)
-ends_in_last es order (front, is) =
-    let before = flat_map (mine es) (count_from 0 7) in
-    let split : es ≡ before ++ mine es 7 = sym order ∙ flat_map-append (mine es) (count_from 0 7) (7 ∷ []) ∙ ap (λ (l : List Entry). before ++ l) (append-nil (mine es 7)) in (
-      lines_of before ++ front,
-      ap lines_of split ∙ filter_map-append (λ (e : Entry). made_by e.kind) before (mine es 7) ∙ ap (λ (ls : List Line). lines_of before ++ ls) is ∙ sym (append_assoc (lines_of before) front (save ∷ [])),
-    )
-
-calls_behind : (xs ys : List Line) → calls_of (xs ++ ys) ≡ calls_of xs ++ calls_of ys
-calls_behind [] ys = refl
-calls_behind (call c ∷ xs) ys = ap (λ (ls : List Line). call c ∷ ls) (calls_behind xs ys)
-calls_behind (save ∷ xs) ys = ap (λ (ls : List Line). save ∷ ls) (calls_behind xs ys)
-calls_behind (forget slot ∷ xs) ys = calls_behind xs ys
-
--- where the last line of the last session is a save and no save failed, the file has the last version
-pub last_is_saved : (base : Document) (es : List Entry) (front : List Line) → IsLegal base es → (replay base es).out ≡ None → AllByRecursion (λ e. is_save_memory e.reply ≡ false) es
-    → flat_map (mine es) (count_from 0 8) ≡ es → calls_in es 7 ≡ calls_of (front ++ save ∷ []) → save_faults es ≡ 0 → names es ≡ version (latest_of es) ∷ []
-last_is_saved base es front legal ended printable order calls none =
-    let last : EndsWithSave (calls_in es 7) = (calls_of front, calls ∙ calls_behind front (save ∷ [])) in
-    saved_last base (initial base) [] es (the_old ∷ []) legal.run ended (ends_in_last es order last) (none_failed es none printable)
+-- where the last of all calls is a save and no save failed, the file has the last version
+pub last_is_saved : (base : Document) (es : List Entry) → IsLegal base es → (replay base es).out ≡ None → AllByRecursion (λ e. is_save_memory e.reply ≡ false) es
+    → EndsWithSave (lines_of es) → save_faults es ≡ 0 → names es ≡ version (latest_of es) ∷ []
+last_is_saved base es legal ended printable last none =
+    saved_last base (initial base) [] es (the_old ∷ []) legal.run ended last (none_failed es none printable)
     ∙ ap (λ (v : ℕ). version v ∷ []) (sym (latest_of-legal base es legal))

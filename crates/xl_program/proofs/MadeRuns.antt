@@ -1,13 +1,13 @@
 -- What a run of make comes to whose script was played.
-use Rattle.std.proofs.Common.{◌≡◌, ◌⊎◌, inl, inr, ℕ, List, [], ◌∷◌, ◌++◌, length, ap, refl, sym, ◌∙◌, subst, arith}
-use Rattle.std.specs.Prelude.{Option, Some, None, IfSome, IfOk, Vec, slice_get, unwrap_or, Result, Ok, Err, string_bytes}
+use Rattle.std.proofs.Common.{◌≡◌, true, false, ◌⊎◌, inl, inr, ℕ, List, [], ◌∷◌, filter_map, ap, refl, sym, ◌∙◌, subst, arith}
+use Rattle.std.specs.Prelude.{Option, Some, None, IfSome, IfOk, Vec, unwrap_or, Result, Ok, Err, OnOk, IsOk, String, string_bytes}
 use Rattle.std.specs.declared.alloc.AllocError.{AllocError}
 use Rattle.std.specs.declared.alloc.Global.{Global}
 use Rattle.std.specs.List.{IsDistinct}
 use Rattle.spec_command.specs.Arguments.{make}
 use Rattle.spec_document.specs.Document.{Document}
 use Rattle.spec_filters.specs.declared.FilterState.{FilterState}
-use Rattle.spec_generated.specs.Generated.{document}
+use Rattle.spec_generated.specs.Generated.{document, script}
 use Rattle.spec_generated.specs.Summary.{outcome, summary_of}
 use Rattle.spec_history.specs.History.{Entry, latest_of, document_of}
 use Rattle.spec_history.specs.Kept.{IsLegal}
@@ -16,24 +16,27 @@ use Rattle.spec_saves.specs.Names.{version, names, save_faults}
 use Rattle.spec_saves.specs.Contents.{IsVersion, IsIn}
 use Rattle.spec_saves.specs.Shelf.{Known, file_name, DiskIsRight, ShelfIsRight}
 use Rattle.spec_saves.proofs.Staying.{opened_right}
-use Rattle.spec_script.specs.Script.{Line, save}
-use Rattle.spec_text.specs.Text.{IsTextOf, calls_of}
+use Rattle.spec_merged.specs.Fills.{EndsWithSave}
+use Rattle.spec_merged.proofs.Ends.{last_is_save_of_seed}
+use Rattle.spec_merged.proofs.Generated.{last_is_outcome_of_seed}
+use Rattle.spec_script.specs.Script.{Line}
+use Rattle.spec_text.specs.Text.{IsTextOf, made_by, printed}
 use Rattle.spec_world.specs.declared.SaveEnd.TheVariants.{Done}
 use Rattle.xl_ports.specs.Shelf.{Content}
 use Rattle.xl_ports.specs.Disk.{Disk, MayLeave, Between}
 use Rattle.xl_doc.specs.Numbered.{AreNumbered}
 use Rattle.xl_program.specs.Making.{IsMadeHistory, IsRunOf, IsSummary}
-use Rattle.xl_program.specs.Outcome.{states_of, Comes, NoneFailed, SomeFailed, AnyFailed, ShelfCauseOf}
+use Rattle.xl_sessions.specs.Outcomes.{states_of}
+use Rattle.xl_program.specs.Outcome.{Comes, NoneFailed, SomeFailed, AnyFailed, ShelfCauseOf}
 use Rattle.xl_core.specs.Editing.{Editing, IsRight}
-use Rattle.xl_program.specs.Parts.{IsSummedUp, IsToldOf, StopsMaking, SumsUp, WhetherFailed, WritesReplies}
-use Rattle.xl_program.specs.Playing.{IsBetweenLines}
+use Rattle.xl_core.specs.History.{document as last_document}
+use Rattle.xl_program.specs.Parts.{IsSummedUp, StopsMaking, SumsUp, WhetherFailed, WritesReplies}
 use Rattle.xl_snapshot.specs.Saving.{IsSavedOn}
 use Rattle.xl_program.specs.declared.playing.Replies.{Replies}
 use Rattle.xl_program.specs.declared.stopped.Stopped.{Stopped}
 use Rattle.xl_program.specs.declared.stopped.Stopped.TheVariants.{SourceFault, BadLine, ShelfFault, Refused, SaveFault, SinkFault, Memory}
 use Rattle.xl_program.proofs.Edited.{none_failed, some_failed}
 use Rattle.xl_program.proofs.MadeFiles.{last_is_saved}
-use Rattle.xl_program.proofs.MadeOutcomes.{last_is_outcome}
 
 -- ---- the document that is made
 
@@ -63,59 +66,75 @@ made_is_numbered seed = record {
 
 -- ---- the run
 
-pub record SumsUpTo (d : Document) (lists : List (List Line)) (es : List Entry) (out : List ℕ) : Type 0 where
-  pub run : IsRunOf d lists es
-  pub text : out ≡ summary_of (outcome d lists)
+-- What is known of the sessions of what is made: their last document follows from them, and the last of all their calls is a save.
+pub record IsMade (d : Document) (lists : List (List Line)) : Type 0 where
+  pub last : (out : List ℕ) (chests : List (List FilterState)) (es : List Entry) → IsTextOf out d lists chests es → document_of d es (latest_of es) ≡ outcome d lists
+  pub ends : (out : List ℕ) (chests : List (List FilterState)) (es : List Entry) → IsTextOf out d lists chests es → EndsWithSave (filter_map (λ (e : Entry). made_by e.kind) es)
+
+pub seed_is_made : (seed : ℕ) → IsMade (document seed) (script seed)
+seed_is_made seed = record { last = last_is_outcome_of_seed seed; ends = last_is_save_of_seed seed }
 
 -- sessions without lists of filters have none
 pub no_states : {B : Type 0} (state : B → FilterState) (lists : List (Vec B Global)) → lists ≡ [] → states_of state lists ≡ []
 no_states state lists none = ap (states_of state) none
 
--- a run whose text is told is one of the calls of its sessions, and the last document is what the calls make one after another
-pub summed : (d last : Document) (lists : List (List Line)) (chests : List (List FilterState)) (es : List Entry) (told : Replies) (out : List ℕ)
-    → IsToldOf d lists chests es told → chests ≡ [] → length lists ≡ 8 → last ≡ document_of d es (latest_of es) → out ≡ summary_of last
-    → SumsUpTo d lists es out
-summed d last lists chests es told out told_is none eight last_is text =
-    let run : IsTextOf (string_bytes told.text) d lists [] es = subst (λ (cs : List (List FilterState)). IsTextOf (string_bytes told.text) d lists cs es) none told_is.text in
-    let same : document_of d es (latest_of es) ≡ outcome d lists = last_is_outcome d lists es eight run.legal told_is.order run.calls run.tables in
-    record {
-      run = record {
-        calls = record {
-          legal = run.legal;
-          ended = run.ended;
-          printable = run.printable;
-          calls = run.calls;
-          others = run.others;
-          fresh = run.fresh;
-          tables = run.tables;
-          text = refl;
-        };
-        last = same;
-      };
-      text = text ∙ ap summary_of (last_is ∙ same);
-    }
+run_of : (d : Document) (lists : List (List Line)) (out : List ℕ) (es : List Entry) → IsMade d lists → IsTextOf out d lists [] es → IsRunOf d lists es
+run_of d lists out es made run = record {
+  calls = record {
+    legal = run.legal;
+    ended = run.ended;
+    printable = run.printable;
+    calls = run.calls;
+    others = run.others;
+    fresh = run.fresh;
+    tables = run.tables;
+    text = refl;
+  };
+  last = made.last out [] es run;
+}
+
+-- a run whose text is told is summed up by its last document
+pub summed : (d : Document) (lists : List (List Line)) (chests : List (List FilterState)) (es : List Entry) (text : Result (String Global) AllocError) (told : Result Replies AllocError)
+    → IsMade d lists → chests ≡ [] → IfOk text (λ t. IsTextOf (string_bytes t) d lists chests es) → OnOk told (IsOk text)
+    → IfOk told (λ t. string_bytes t.text ≡ summary_of (document_of d es (latest_of es))) → IfOk told (λ t. WhetherFailed t.save_failed (save_faults es))
+    → IfOk told (SumsUp d lists es)
+summed d lists chests es (Ok text) (Ok told) made none is played sum failed =
+    let run = run_of d lists (string_bytes text) es made (subst (λ (cs : List (List FilterState)). IsTextOf (string_bytes text) d lists cs es) none is) in
+    record { run = run; text = sum ∙ ap summary_of run.last; failed = failed }
+summed d lists chests es (Err e) (Ok told) made none is played sum failed = let bad : false ≡ true = played in cc
+summed d lists chests es text (Err e) made none is played sum failed = tt
 
 -- without memory for a core nothing was played
 pub nothing_summed : (k now : Known) (d : Document) (lists : List (List Line)) (e : AllocError) → now ≡ k → IsSummedUp k now d lists (Err e)
 nothing_summed k now d lists e same =
     subst (λ (n : Known). IsSummedUp k n d lists (Err e)) (sym same) (record { entries = []; legal = IsLegal-empty d; shelf = opened_right k d; sum = tt })
 
--- the history of a core that was opened with this document and this shelf, and the shelf that comes back
-pub summed_by : {D : Type 0} (see : D → Known) (old new : Editing D) (d : Document) (k back : D) (lists : List (List Line)) (told : Result Replies AllocError)
-    → old.history.base ≡ d → old.opening ≡ k → IsBetweenLines old.history.base old.opening new → IsRight see new back
-    → IfOk told (SumsUp old.history.base lists new.history.entries) → IsSummedUp (see k) (see back) d lists told
-summed_by {D} see old new d k back lists told base opening between right sum = record {
-  entries = new.history.entries;
-  legal = subst (λ (b : Document). IsLegal b new.history.entries) (between.base_is ∙ base) between.legal;
-  shelf =
-      subst (λ (o : D). ShelfIsRight (see o) d new.history.entries (see back)) (between.opening_is ∙ opening)
-      (subst (λ (b : Document). ShelfIsRight (see new.opening) b new.history.entries (see back)) (between.base_is ∙ base) right);
-  sum = subst (λ (b : Document). IfOk told (SumsUp b lists new.history.entries)) base sum;
-}
+-- the history of a core that was played on, and the shelf that comes back
+pub summed_on : {D : Type 0} (see : D → Known) (old new : Editing D) (back : D) (lists : List (List Line)) (chests : List (List FilterState)) (text : Result (String Global) AllocError) (told : Result Replies AllocError)
+    → new.history.base ≡ old.history.base → new.opening ≡ old.opening → IsLegal new.history.base new.history.entries → IsRight see new back
+    → IsMade old.history.base lists → chests ≡ [] → IfOk text (λ t. IsTextOf (string_bytes t) old.history.base lists chests new.history.entries) → OnOk told (IsOk text)
+    → IfOk told (λ t. string_bytes t.text ≡ summary_of (last_document new.history)) → IfOk told (λ t. WhetherFailed t.save_failed (save_faults new.history.entries))
+    → IsSummedUp (see old.opening) (see back) old.history.base lists told
+summed_on {D} see old new back lists chests text told base opening legal right made none is played sum failed =
+    let es = new.history.entries in
+    record {
+      entries = es;
+      legal = subst (λ (b : Document). IsLegal b es) base legal;
+      shelf =
+          subst (λ (o : D). ShelfIsRight (see o) old.history.base es (see back)) opening
+          (subst (λ (b : Document). ShelfIsRight (see new.opening) b es (see back)) base right);
+      sum = summed old.history.base lists chests es text told made none is played
+          (subst (λ (b : Document). IfOk told (λ t. string_bytes t.text ≡ summary_of (document_of b es (latest_of es)))) base sum) failed;
+    }
 
-pub same_sum : (first now : Known) (d e : Document) (lists others : List (List Line)) (told : Result Replies AllocError) → d ≡ e → lists ≡ others → IsSummedUp first now d lists told → IsSummedUp first now e others told
-same_sum first now d e lists others told same_document same_lists sum =
-    subst (λ (x : Document). IsSummedUp first now x others told) same_document (subst (λ (ls : List (List Line)). IsSummedUp first now d ls told) same_lists sum)
+-- the same of the document, the sessions and the shelf with which the core was opened
+pub same_sum : (k first now : Known) (d base : Document) (lists others : List (List Line)) (told : Result Replies AllocError) → first ≡ k → base ≡ d → others ≡ lists
+    → (IsMade base others → IsSummedUp first now base others told) → IsMade d lists → IsSummedUp k now d lists told
+same_sum k first now d base lists others told opening same_document same_lists sum made =
+    subst (λ (x : Document). IsSummedUp k now x lists told) same_document
+    (subst (λ (ls : List (List Line)). IsSummedUp k now base ls told) same_lists
+    (subst (λ (o : Known). IsSummedUp o now base others told) opening
+    (sum (subst (λ (x : Document). IsMade x others) (sym same_document) (subst (λ (ls : List (List Line)). IsMade d ls) (sym same_lists) made)))))
 
 -- ---- the file
 
@@ -131,7 +150,7 @@ last_left base es v name (Some old) (Some now) is right = λ c may. only c (subs
 
 -- ---- what is written
 
-module _ (d : Document) (lists : List (List Line)) (front : List Line) (ends : unwrap_or (slice_get lists 7) [] ≡ front ++ save ∷ []) (opening first now : Known) (saved : IsSavedOn opening d Done first) where
+module _ (d : Document) (lists : List (List Line)) (sessions : IsMade d lists) (opening first now : Known) (saved : IsSavedOn opening d Done first) where
   made_history : (told : Result Replies AllocError) (summed_up : IsSummedUp first now d lists told) → IsMadeHistory opening now d summed_up.entries
   made_history told summed_up = record { first = first; saved = saved; legal = summed_up.legal; shelf = summed_up.shelf }
 
@@ -147,7 +166,7 @@ module _ (d : Document) (lists : List (List Line)) (front : List Line) (ends : u
         run = summed_up.sum.run;
         text = summed_up.sum.text;
         file = λ none.
-            let last = last_is_saved d entries front run.legal run.ended run.printable summed_up.sum.order (run.calls 7 (omega arith) ∙ ap calls_of ends) none in
+            let last = last_is_saved d entries run.legal run.ended run.printable (sessions.ends (printed d entries) [] entries run) none in
             last_left d entries (latest_of entries) (file_name opening) first.disk now.disk last
             (subst (λ (n : List ℕ). Between first.disk now.disk (DiskIsRight n d entries)) same summed_up.shelf.contents);
         failed = fails (save_faults entries) summed_up.sum.failed;

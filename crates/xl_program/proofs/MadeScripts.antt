@@ -1,6 +1,5 @@
 -- The script that is made from a seed fits a run without filters: it names none, and has 800 calls.
 use Rattle.std.proofs.Common.{◌≡◌, ℕ, zero, suc, ◌*◌, ◌<◌, ◌≤◌, Bool, cond, true, false, List, [], ◌∷◌, ◌++◌, length, filter, refl, ap, sym, ◌∙◌, arith, subst, flat_map, length-append}
-use Rattle.std.specs.Prelude.{slice_get, unwrap_or}
 use Rattle.std.specs.List.{AllByRecursion}
 use Rattle.std.proofs.lemmas.List.Concat.{flat_map-cons}
 use Rattle.spec_document.specs.Limits.{AreBytes}
@@ -128,14 +127,3 @@ script_fits seed =
     let many = script_has_eight seed in
     let few = calls_of_all (script seed) each in
     record { each = each_fits (script seed) 0 each; few = omega (arith, few, many) }
-
--- the lines of the session that is drawn last
-last_session : (numbers : List ℕ) (n s : ℕ) → (t : ℕ) × (unwrap_or (slice_get (for_each (numbers ++ n ∷ []) session_lines s).what (length numbers)) [] ≡ (session_lines n t).what)
-last_session [] n s = (s, refl)
-last_session (k ∷ numbers) n s = last_session numbers n (session_lines k s).state
-
--- the last line of the last session is a save
-pub script_ends : (seed : ℕ) → (front : List Line) × (unwrap_or (slice_get (script seed) 7) [] ≡ front ++ save ∷ [])
-script_ends seed =
-    let last = last_session (count_from 0 7) 7 (times 8 look seed).state in
-    (flat_map (λ (p : List Line). p) (times 3 (fills_and_tile (layer_of_session 7)) last.0).what, last.1)

@@ -1,16 +1,12 @@
 -- What a save from its start to its end leaves: two entries more, with the line that is printed for it.
-use Rattle.std.proofs.Common.{◌≡◌, inl, inr, ◌⊎◌, ℕ, false, true, List, [], ◌∷◌, ◌++◌, Some, None, refl, ap, sym, ◌∙◌, subst, append_assoc}
-use Rattle.std.specs.Prelude.{Option, IsSome, IfSome, unwrap_or}
+use Rattle.std.proofs.Common.{◌≡◌, inl, inr, ◌⊎◌, ℕ, false, List, [], ◌∷◌, ◌++◌, Some, refl, ap, sym, ◌∙◌, subst, append_assoc}
+use Rattle.std.specs.Prelude.{Option, IsSome}
 use Rattle.spec_document.specs.Document.{Document}
-use Rattle.spec_layout.specs.Layout.{Written}
 use Rattle.spec_world.specs.declared.SaveEnd.{SaveEnd}
 use Rattle.spec_world.specs.declared.SaveEnd.TheVariants.{Done, Fault}
 use Rattle.spec_world.specs.Events.{end_reply, IsOutOf}
 use Rattle.spec_saves.specs.Shelf.{Known}
 use Rattle.spec_saves.specs.Returns.{Returns}
-use Rattle.xl_ports.specs.Disk.{Disk, Between}
-use Rattle.xl_ports.specs.Faults.{Rose}
-use Rattle.xl_save.specs.Save.{SavesOnly, HasSaved}
 use Rattle.xl_core.specs.declared.saving.Begun.TheVariants.{Snapshot}
 use Rattle.xl_snapshot.specs.Saving.{IsSavedOn}
 use Rattle.xl_snapshot.proofs.ComesBack.{comes_back}

@@ -9,7 +9,7 @@ use Rattle.spec_fields.specs.declared.ReadRefused.{ReadRefused}
 use Rattle.xl_ports.specs.Faults.{Rose}
 use Rattle.xl_ports.specs.Shelf.{Content}
 use Rattle.xl_ports.specs.Sink.{appended}
-use Rattle.xl_program.specs.Command.{IsEdit}
+use Rattle.xl_program.specs.Command.{IsEdit, ReadsFile}
 use Rattle.xl_program.specs.Lines.{Tells}
 use Rattle.xl_program.specs.Outcome.{Given, HasFault, InGrammar, IsBadLine, Keeps, Shelved, ComesTo, IsOutput, ShelfCauseOf, ShelfFails, SomeFailed, TellsOr, TellsStop, WritesSome}
 use Rattle.xl_program.specs.Parts.{StopsFor}
@@ -84,12 +84,19 @@ module _ {K : Type 0} (held : K → Option (List ℕ)) (faults : K → ℕ) (giv
   fault_of (make name seed) why stops = absurd stops
   fault_of (edit name workers) why stops = stops.1
 
-  -- status 4 tells the first fault of the file
+  -- a command whose file is refused reads one
+  reads_file : (command : Asked) (why : ReadRefused) → StopsFor given content command (Err (Refused why)) → ReadsFile (Some command)
+  reads_file (render name) why stops = tt
+  reads_file (info name) why stops = tt
+  reads_file (make name seed) why stops = absurd stops
+  reads_file (edit name workers) why stops = tt
+
+  -- status 4 tells the first fault of the file that a command reads
   pub refusal_told : (command : Asked) (stopped : Stopped) (status : ℕ) (old mid new : K) → status ≡ 4 → ComesTo held faults given before after command old mid (Err stopped)
       → StopsFor given content command (Err stopped) → TellsStop held faults mid new stopped status
-      → (why : ReadRefused) × IfSome (content (name_of command)) (λ c. HasFault c why) × Tells held faults old new (stop_line (refused why))
+      → (why : ReadRefused) × ReadsFile (Some command) × IfSome (content (name_of command)) (λ c. HasFault c why) × Tells held faults old new (stop_line (refused why))
   refusal_told command (Refused why) status old mid new four kept stops (inl told) =
-      (why, fault_of command why stops, kept_then_told held faults old mid new (stop_line (refused why)) kept.0 told.1)
+      (why, reads_file command why stops, fault_of command why stops, kept_then_told held faults old mid new (stop_line (refused why)) kept.0 told.1)
   refusal_told command (Refused why) status old mid new four kept stops (inr told) = absurd (omega (arith, four, told.0))
   refusal_told command (BadLine number) status old mid new four kept stops (inl told) = absurd (omega (arith, four, told.0))
   refusal_told command (BadLine number) status old mid new four kept stops (inr told) = absurd (omega (arith, four, told.0))

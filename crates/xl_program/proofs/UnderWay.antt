@@ -18,7 +18,8 @@ use Rattle.xl_core.specs.Editing.{Editing, start_of}
 use Rattle.xl_core.specs.History.{History, with_call}
 use Rattle.xl_script.specs.Lines.{line_of, lines_of}
 use Rattle.xl_script.specs.declared.script.Line.{Line}
-use Rattle.xl_program.specs.Playing.{AreOf, AreBefore, HasTurn, ArePlayed, FitsChest, IsCalled, IsBetweenLines, IsMade, IsAdded, KeepsExactly, calls_made}
+use Rattle.xl_sessions.specs.Playing.{FitsChest}
+use Rattle.xl_program.specs.Playing.{AreOf, AreBefore, HasTurn, ArePlayed, IsCalled, IsBetweenLines, IsMade, IsAdded, KeepsExactly, calls_made}
 use Rattle.xl_program.proofs.Plain.{filters_now, filters_more, tables_more}
 use Rattle.xl_program.proofs.Seen.{no_call_yet, turn_none, turn_own}
 use Rattle.xl_program.proofs.Chests.{IsStocked, full_agrees, full_stocked, line_fits, stocked_after, agrees_without, stocked_without}

@@ -17,7 +17,7 @@ use Rattle.xl_core.specs.Editing.{Editing}
 use Rattle.xl_script.specs.Lines.{lines_of, lists_of}
 use Rattle.xl_script.specs.declared.script.Line.{Line}
 use Rattle.spec_filters.specs.declared.FilterState.{FilterState}
-use Rattle.xl_program.specs.Outcome.{states_of}
+use Rattle.xl_sessions.specs.Outcomes.{states_of}
 use Rattle.xl_program.specs.Playing.{AreBefore, ArePlayed, AreSessions, IsAdded, IsBetweenLines, KeepsExactly, boxes_at}
 use Rattle.xl_program.proofs.Played.{played_none}
 use Rattle.xl_program.proofs.Sessions.{sessions_none, sessions_more}

@@ -1,4 +1,5 @@
 pub mod Command
+pub mod LastSaved
 pub mod Lines
 pub mod Making
 pub mod Outcome

@@ -35,9 +35,10 @@ pub record IsRunOf (d : Document) (lists : List (List Line)) (entries : List Ent
 abbrev pub HasLast : (name : List ℕ) → (d : Document) → List Entry → Disk → Type 0
 HasLast name d entries disk = (c : Content) → MayLeave disk name c → IsVersion d entries (latest_of entries) c
 
--- The line that sums up such a history of the calls of these sessions, and the shelf after its saves. The save that starts last comes
--- behind all other calls.
-pub record IsSummary (opening now : Known) (d : Document) (lists : List (List Line)) (HaveFailed : ℕ → Type 0) (out : List ℕ) : Type 0 where
+-- The line that sums up such a history of the calls of these sessions, and the shelf after its saves. The save that starts last
+-- comes behind all other calls.
+pub record IsSummary (opening now : Known) (d : Document) (lists : List (List Line)) (HaveFailed : ℕ → Type 0) (out : List ℕ)
+    : Type 0 where
   pub entries : List Entry
   pub history : IsMadeHistory opening now d entries
   pub run : IsRunOf d lists entries

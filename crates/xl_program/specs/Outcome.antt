@@ -5,6 +5,7 @@ use Rattle.std.specs.List.{list_any}
 use Rattle.spec_command.specs.Arguments.{Asked, edit, render, info, make}
 use Rattle.spec_command.specs.Ends.{Stop, source_fault, bad_line, shelf_fault, refused, stop_line, stop_status}
 use Rattle.spec_document.specs.Document.{Document}
+use Rattle.spec_document.specs.Limits.{IsDocument}
 use Rattle.spec_fields.specs.declared.ReadRefused.{ReadRefused}
 use Rattle.spec_file.specs.Holds.{Holds}
 use Rattle.spec_file.specs.Reading.{first_fault}
@@ -13,7 +14,7 @@ use Rattle.spec_report.specs.Pam.{pam}
 use Rattle.spec_filters.specs.declared.FilterState.{FilterState}
 use Rattle.spec_generated.specs.Generated.{document, script as made_script}
 use Rattle.spec_script.specs.Script.{Line, script}
-use Rattle.spec_history.specs.History.{Entry}
+use Rattle.spec_history.specs.History.{Entry, document_of}
 use Rattle.spec_history.specs.Kept.{IsLegal}
 use Rattle.spec_saves.specs.Names.{save_faults}
 use Rattle.spec_saves.specs.Shelf.{Known, ShelfIsRight}
@@ -23,7 +24,9 @@ use Rattle.xl_ports.specs.Disk.{Disk, Between, IsQuiet}
 use Rattle.xl_ports.specs.Faults.{Rose}
 use Rattle.xl_ports.specs.Shelf.{Content, absent, file}
 use Rattle.xl_ports.specs.Sink.{WritesAll, WritesPart}
-use Rattle.xl_ports.specs.Source.{led_by}
+use Rattle.xl_ports.specs.Source.{led_by, IsEnded}
+use Rattle.xl_sessions.specs.Outcomes.{states_of}
+use Rattle.xl_program.specs.LastSaved.{HasLastSaved}
 use Rattle.xl_program.specs.Lines.{Tells}
 use Rattle.xl_program.specs.Playing.{AreOfFirst}
 use Rattle.xl_program.specs.Making.{FailsAtFirst, IsMadeHistory, IsSummary}
@@ -49,10 +52,6 @@ pub record Given : Type 0 where
   pub left : Option (List ℕ)
   pub chests : List (List FilterState)
 
--- the states of filters in boxes, session by session; `state` is that of a box
-abbrev pub states_of : {B : Type 0} → (state : B → FilterState) → List (Vec B Global) → List (List FilterState)
-states_of state lists = map (λ boxes. map state boxes.items) lists
-
 abbrev pub given_of : {B : Type 0} → (left : Option (List ℕ)) → (state : B → FilterState) → List (Vec B Global) → Given
 given_of left state lists = record { left = left; chests = states_of state lists }
 
@@ -75,7 +74,8 @@ pub record Shelved : Type 0 where
   pub content : List ℕ → Option Content
   pub known : Known
 
-abbrev pub shelved : {D : Type 0} → (content : D → List ℕ → Option Content) → (selected : D → Option (List ℕ)) → (disk : D → Option Disk) → (reading saving : D → ℕ) → D → Shelved
+abbrev pub shelved : {D : Type 0} → (content : D → List ℕ → Option Content) → (selected : D → Option (List ℕ))
+    → (disk : D → Option Disk) → (reading saving : D → ℕ) → D → Shelved
 shelved content selected disk reading saving d = record { content = content d; known = known selected disk reading saving d }
 
 -- a shelf as a command finds it, the name of its file being selected
@@ -100,43 +100,52 @@ AnyFailed faults = Unit {0}
 
 -- ---- what is written
 
--- the report of a document that the file holds, where its content is told
+-- the report of a document within the limits, which the file holds, where its content is told
 pub record IsReport (text : Document → List ℕ) (content : Option Content) (out : List ℕ) : Type 0 where
   pub document : Document
   pub held : IfSome content (λ c. HoldsDocument c document)
+  pub within : IsDocument document
   pub same : out ≡ text document
 
--- a legal history of a document that the file held, where that is told, and the shelf after its saves
+-- A legal history of a document within the limits, which the file held, where that is told, and the shelf after its saves.
+-- Where none of these failed, the file is that of the last one.
 pub record IsHistory (name : List ℕ) (old new : Shelved) (document : Document) (entries : List Entry) : Type 0 where
   pub held : IfSome (old.content name) (λ c. HoldsDocument c document)
+  pub within : IsDocument document
   pub legal : IsLegal document entries
   pub shelf : ShelfIsRight (opened old name) document entries new.known
+  pub file : save_faults entries ≡ 0 → Between old.known.disk new.known.disk (HasLastSaved name document entries)
 
--- The text of such a history whose calls are those of the script. Where these are all of session 0 and no save failed, it is that of one
--- session alone.
-pub record IsReplies (given : Given) (name : List ℕ) (old new : Shelved) (HaveFailed : ℕ → Type 0) (out : List ℕ) : Type 0 where
+-- The text of such a history whose calls are those of the script, and each version of which is within the limits. Where no worker
+-- was asked for, these are all of session 0 and no save failed, it is that of one session alone.
+pub record IsReplies (given : Given) (name : List ℕ) (old new : Shelved) (workers : ℕ) (HaveFailed : ℕ → Type 0) (out : List ℕ)
+    : Type 0 where
   pub document : Document
   pub lists : List (List Line)
   pub entries : List Entry
   pub history : IsHistory name old new document entries
   pub read : HasLines given lists
+  pub versions : (version : ℕ) → IsDocument (document_of document entries version)
   pub text : IsTextOf out document lists given.chests entries
-  pub alone : AreOfFirst lists → save_faults entries ≡ 0 → Alone out document lists given.chests
+  pub alone : workers ≡ 0 → AreOfFirst lists → save_faults entries ≡ 0 → Alone out document lists given.chests
   pub failed : HaveFailed (save_faults entries)
 
 -- what the command writes when it comes to its end, and the shelf then
 abbrev pub IsOutput : Given → (old new : Shelved) → Asked → (HaveFailed : ℕ → Type 0) → (out : List ℕ) → Type 0
 IsOutput given old new (render name) HaveFailed out = IsReport pam (old.content name) out × IsUntouched old new × HaveFailed 0
 IsOutput given old new (info name) HaveFailed out = IsReport json.info (old.content name) out × IsUntouched old new × HaveFailed 0
-IsOutput given old new (make name seed) HaveFailed out = IsSummary (opened old name) new.known (document seed) (made_script seed) HaveFailed out
-IsOutput given old new (edit name workers) HaveFailed out = IsReplies given name old new HaveFailed out
+IsOutput given old new (make name seed) HaveFailed out =
+    IsSummary (opened old name) new.known (document seed) (made_script seed) HaveFailed out
+IsOutput given old new (edit name workers) HaveFailed out = IsReplies given name old new workers HaveFailed out
 
 -- the shelf where memory ran out: as before, or after a history
 abbrev pub MayHaveSaved : (old new : Shelved) → Asked → Type 0
 MayHaveSaved old new (render name) = IsUntouched old new
 MayHaveSaved old new (info name) = IsUntouched old new
-MayHaveSaved old new (make name seed) = IsUntouched old new ⊎ ((entries : List Entry) × IsMadeHistory (opened old name) new.known (document seed) entries)
-MayHaveSaved old new (edit name workers) = IsUntouched old new ⊎ ((document : Document) × (entries : List Entry) × IsHistory name old new document entries)
+MayHaveSaved old new (make name seed) =
+    IsUntouched old new ⊎ ((entries : List Entry) × IsMadeHistory (opened old name) new.known (document seed) entries)
+MayHaveSaved old new (edit name workers) =
+    IsUntouched old new ⊎ ((document : Document) × (entries : List Entry) × IsHistory name old new document entries)
 
 -- the same of any words
 abbrev pub MaySave : (old new : Shelved) → Option Asked → Type 0
@@ -164,7 +173,8 @@ module _ {K : Type 0} (held : K → Option (List ℕ)) (faults : K → ℕ) wher
   WritesFront IsOut old new = (out : List ℕ) × IsOut out × WritesPart held faults old new out
 
   -- what is written and what was saved; where a command stops before its end nothing is
-  abbrev pub Comes : (IsOut : (ℕ → Type 0) → List ℕ → Type 0) → (Untouched Failed Saved : Type 0) → (old new : K) → Result (Unit {0}) Stopped → Type 0
+  abbrev pub Comes : (IsOut : (ℕ → Type 0) → List ℕ → Type 0) → (Untouched Failed Saved : Type 0) → (old new : K)
+      → Result (Unit {0}) Stopped → Type 0
   Comes IsOut Untouched Failed Saved old new (Ok x) = WritesSome (IsOut NoneFailed) old new
   Comes IsOut Untouched Failed Saved old new (Err SaveFault) = WritesSome (IsOut SomeFailed) old new
   Comes IsOut Untouched Failed Saved old new (Err SinkFault) = WritesFront (IsOut AnyFailed) old new
@@ -177,7 +187,8 @@ module _ {K : Type 0} (held : K → Option (List ℕ)) (faults : K → ℕ) wher
   -- so does this command
   abbrev pub ComesTo : Given → (before after : Shelved) → Asked → (old new : K) → Result (Unit {0}) Stopped → Type 0
   ComesTo given before after command old new result =
-      Comes (IsOutput given before after command) (IsUntouched before after) (FailsAtShelf before after command) (MayHaveSaved before after command) old new result
+      Comes (IsOutput given before after command) (IsUntouched before after) (FailsAtShelf before after command)
+      (MayHaveSaved before after command) old new result
 
 -- ---- why a command stopped
 
@@ -224,11 +235,26 @@ module _ {S : Type 0} (left : S → Option (List ℕ)) (faults : S → ℕ) wher
   Takes old new (Some (info name)) = Leaves old new
   Takes old new (Some (make name seed)) = Leaves old new
 
+-- nothing is left of the script of an edit, unless the source failed, a line is refused or memory ran out
+abbrev pub ReadsToEnd : (left : Option (List ℕ)) → Result (Unit {0}) Stopped → Type 0
+ReadsToEnd left (Ok x) = IsEnded left
+ReadsToEnd left (Err SourceFault) = Unit {0}
+ReadsToEnd left (Err (BadLine number)) = Unit {0}
+ReadsToEnd left (Err ShelfFault) = IsEnded left
+ReadsToEnd left (Err (Refused why)) = IsEnded left
+ReadsToEnd left (Err SaveFault) = IsEnded left
+ReadsToEnd left (Err SinkFault) = IsEnded left
+ReadsToEnd left (Err Memory) = Unit {0}
+
 -- ---- how it is told
 
 -- usage, bad line, refused or source fault: nothing was played
 abbrev pub StopsBefore : (status : ℕ) → Type 0
 StopsBefore status = IsTrue (list_any (λ n. n == status) (2 ∷ 3 ∷ 4 ∷ 5 ∷ []))
+
+-- done, refused, shelf fault or a save that failed, sink fault: an edit has read its script
+abbrev pub ComesAfterScript : (status : ℕ) → Type 0
+ComesAfterScript status = IsTrue (list_any (λ n. n == status) (0 ∷ 4 ∷ 6 ∷ 7 ∷ []))
 
 -- done, usage, bad line, refused, source fault, shelf fault or a save that failed, sink fault, memory
 abbrev pub IsStatus : (status : ℕ) → Type 0
@@ -238,19 +264,23 @@ module _ {K : Type 0} (held : K → Option (List ℕ)) (faults : K → ℕ) wher
   -- all is written, and no save failed
   abbrev pub ComesWell : Given → (before after : Shelved) → Option Asked → (old new : K) → Type 0
   ComesWell given before after None old new = ⊥
-  ComesWell given before after (Some command) old new = WritesSome held faults (IsOutput given before after command NoneFailed) old new
+  ComesWell given before after (Some command) old new =
+      WritesSome held faults (IsOutput given before after command NoneFailed) old new
 
   -- the file could not be read, or the first save of what is made failed, which is told; or all is written, and a save failed
   abbrev pub ShelfFails : Given → (before after : Shelved) → Option Asked → (old new : K) → Type 0
   ShelfFails given before after None old new = ⊥
   ShelfFails given before after (Some command) old new =
-      (FaultsRose before.known after.known command × FailsAtShelf before after command × Tells held faults old new (stop_line shelf_fault))
-      ⊎ ((after.known.reading ≡ before.known.reading) × WritesSome held faults (IsOutput given before after command SomeFailed) old new)
+      (FaultsRose before.known after.known command × FailsAtShelf before after command
+      × Tells held faults old new (stop_line shelf_fault))
+      ⊎ ((after.known.reading ≡ before.known.reading)
+      × WritesSome held faults (IsOutput given before after command SomeFailed) old new)
 
   -- a fault of the sink came while all was written
   abbrev pub WritesInPart : Given → (before after : Shelved) → Option Asked → (old new : K) → Type 0
   WritesInPart given before after None old new = ⊥
-  WritesInPart given before after (Some command) old new = WritesFront held faults (IsOutput given before after command AnyFailed) old new
+  WritesInPart given before after (Some command) old new =
+      WritesFront held faults (IsOutput given before after command AnyFailed) old new
 
   -- the stop is told, with its status
   abbrev pub TellsOf : (old new : K) → Stop → (status : ℕ) → Type 0

@@ -15,7 +15,7 @@ use Rattle.xl_ports.specs.Shelf.{Content}
 use Rattle.xl_ports.specs.Sink.{WritesAll, WritesPart}
 use Rattle.xl_program.specs.Making.{IsRunOf}
 use Rattle.xl_program.specs.Outcome.{Given, HoldsDocument, HasFault, HasLines, IsScript, IsBadLine, NoneFailed, SomeFailed}
-use Rattle.xl_program.specs.Playing.{AreInOrder, AreOfFirst}
+use Rattle.xl_program.specs.Playing.{AreOfFirst}
 use Rattle.xl_program.specs.declared.playing.Replies.{Replies}
 use Rattle.xl_program.specs.declared.stopped.Stopped.{Stopped}
 use Rattle.xl_program.specs.declared.stopped.Stopped.TheVariants.{SourceFault, BadLine, ShelfFault, Refused, SaveFault, SinkFault, Memory}
@@ -43,30 +43,33 @@ abbrev pub WhetherFailed : Bool → (faults : ℕ) → Type 0
 WhetherFailed true faults = SomeFailed faults
 WhetherFailed false faults = NoneFailed faults
 
--- The text of these entries for these lines, one session's after another's, and whether a save failed. Where all lines are of session 0
+-- The text of these entries for these lines, and whether a save failed. Where no worker was asked for, all lines are of session 0
 -- and no save failed, it is that of one session alone.
-pub record IsToldOf (document : Document) (lists : List (List script.Line)) (chests : List (List FilterState)) (entries : List Entry) (told : Replies) : Type 0 where
+pub record IsToldOf
+    (document : Document) (lists : List (List script.Line)) (chests : List (List FilterState)) (workers : ℕ) (entries : List Entry)
+    (told : Replies) : Type 0 where
   pub text : IsTextOf (string_bytes told.text) document lists chests entries
-  pub order : AreInOrder entries
-  pub alone : AreOfFirst lists → save_faults entries ≡ 0 → Alone (string_bytes told.text) document lists chests
+  pub alone : workers ≡ 0 → AreOfFirst lists → save_faults entries ≡ 0 → Alone (string_bytes told.text) document lists chests
   pub failed : WhetherFailed told.save_failed (save_faults entries)
 
 -- a legal history, the shelf after its saves, and its text unless memory ran out
-pub record IsPlayed (opening now : Known) (document : Document) (lists : List (List script.Line)) (chests : List (List FilterState)) (replies : Result Replies AllocError) : Type 0 where
+pub record IsPlayed
+    (opening now : Known) (document : Document) (lists : List (List script.Line)) (chests : List (List FilterState)) (workers : ℕ)
+    (replies : Result Replies AllocError) : Type 0 where
   pub entries : List Entry
   pub legal : IsLegal document entries
   pub shelf : ShelfIsRight opening document entries now
-  pub told : IfOk replies (IsToldOf document lists chests entries)
+  pub told : IfOk replies (IsToldOf document lists chests workers entries)
 
--- the line that sums up a history of the calls of these sessions, one session after another, and whether a save failed
+-- the line that sums up a history of the calls of these sessions, and whether a save failed
 pub record SumsUp (document : Document) (lists : List (List script.Line)) (entries : List Entry) (told : Replies) : Type 0 where
   pub run : IsRunOf document lists entries
-  pub order : AreInOrder entries
   pub text : string_bytes told.text ≡ summary_of (outcome document lists)
   pub failed : WhetherFailed told.save_failed (save_faults entries)
 
 -- a legal history, the shelf after its saves, and the line that sums it up unless memory ran out
-pub record IsSummedUp (opening now : Known) (document : Document) (lists : List (List script.Line)) (told : Result Replies AllocError) : Type 0 where
+pub record IsSummedUp
+    (opening now : Known) (document : Document) (lists : List (List script.Line)) (told : Result Replies AllocError) : Type 0 where
   pub entries : List Entry
   pub legal : IsLegal document entries
   pub shelf : ShelfIsRight opening document entries now
@@ -76,7 +79,8 @@ module _ {K : Type 0} (held : K → Option (List ℕ)) (faults : K → ℕ) wher
   -- the text was written, after which a save that failed stops the command; or a fault of the sink came
   abbrev pub WritesText : (old new : K) → Replies → Result (Unit {0}) Stopped → Type 0
   WritesText old new replies (Ok x) = WritesAll held faults old new (string_bytes replies.text) × (replies.save_failed ≡ false)
-  WritesText old new replies (Err SaveFault) = WritesAll held faults old new (string_bytes replies.text) × (replies.save_failed ≡ true)
+  WritesText old new replies (Err SaveFault) =
+      WritesAll held faults old new (string_bytes replies.text) × (replies.save_failed ≡ true)
   WritesText old new replies (Err SinkFault) = WritesPart held faults old new (string_bytes replies.text)
   WritesText old new replies (Err stopped) = ⊥
 

@@ -1,23 +1,20 @@
 -- A history of the sessions' calls and saves, and the lines that are printed for it.
-use Rattle.std.specs.Prelude.{◌≡◌, ℕ, ◌+◌, ◌*◌, ◌<◌, ◌≤◌, ◌==◌, false, if◌then◌else◌, drop, List, [], ◌∷◌, ◌++◌, length, option_map, filter_map, flat_map, slice_set, Option, None, slice_get, unwrap_or, IsSome, IsTrue, Vec}
+use Rattle.std.specs.Prelude.{◌≡◌, ℕ, ◌+◌, ◌*◌, ◌<◌, ◌≤◌, ◌==◌, false, if◌then◌else◌, drop, List, [], ◌∷◌, ◌++◌, length, option_map, filter_map, flat_map, slice_set, Option, None, slice_get, unwrap_or, IsSome, Vec}
 use Rattle.std.specs.declared.alloc.Global.{Global}
 use Rattle.std.specs.List.{AllByRecursion}
 use Rattle.spec_grid.specs.Rect.{count_from}
 use Rattle.spec_document.specs.Document.{Document}
 use Rattle.spec_history.specs.Machine.{Call, Reply, tile_of}
 use Rattle.spec_document.specs.Limits.{IsDocument}
-use Rattle.spec_history.specs.Calls.{IsCall}
 use Rattle.spec_history.specs.History.{Entry, asked, ends, replay, next_index, is_changed, latest_of, mine}
 use Rattle.spec_history.specs.Kept.{IsFresh, IsLegal}
-use Rattle.spec_history.specs.Limited.{edits_of}
 use Rattle.spec_saves.specs.Names.{save_faults}
 use Rattle.spec_world.specs.Right as worlds
 use Rattle.spec_world.specs.Exact.{SlotsAreExact}
 use Rattle.spec_filters.specs.declared.FilterState.{FilterState}
-use Rattle.spec_filters.specs.Slots.{has_slot}
 use Rattle.spec_script.specs.Script.{Line, call, save, forget}
 use Rattle.spec_tables.specs.Tables.{HaveTables, expected_tables}
-use Rattle.spec_tables.specs.Agrees.{Agrees, AreThere, IsAfter}
+use Rattle.spec_tables.specs.Agrees.{Agrees, IsAfter}
 use Rattle.spec_text.specs.Text.{AreAlone, calls_in, calls_of, digest_of, entry_line, is_save_memory, made_by}
 use Rattle.xl_core.specs.Editing.{Editing, start_of, world}
 use Rattle.xl_core.specs.History.{History, with_call}
@@ -58,8 +55,9 @@ lines_in base es = flat_map (entry_line base es) es
 abbrev pub calls_made : List Entry → List Line
 calls_made es = filter_map (λ e. made_by e.kind) es
 
--- The entries are a legal history of calls and saves, no save is out, and the text is their lines. What each session is shown is no
--- older than what it has seen; and where session 0 is alone, and no save failed, what its peeks are answered follows from the entries.
+-- The entries are a legal history of calls and saves, no save is out, and the text is their lines. What each session is shown is
+-- no older than what it has seen; and where session 0 is alone, and no save failed, what its peeks are answered follows from the
+-- entries.
 pub record ArePlayed (base : Document) (es : List Entry) (out : List ℕ) : Type 0 where
   pub legal : IsLegal base es
   pub ended : (replay base es).out ≡ None
@@ -76,22 +74,19 @@ shown_of reply bytes = []
 -- ---- what a line makes
 
 -- the call is the last entry, with the tables that the chest's filters answered, which were asked for nothing else
-pub record IsCalled (old : History) (session : ℕ) (c : Call) (before after : List (Option FilterState)) (new : History) : Type 0 where
+pub record IsCalled (old : History) (session : ℕ) (c : Call) (before after : List (Option FilterState)) (new : History)
+    : Type 0 where
   pub reply : Reply
-  pub grown : (filters : List FilterState) → Agrees before filters → new ≡ with_call old session c (expected_tables filters (asked c []) reply) reply
+  pub grown : (filters : List FilterState) → Agrees before filters
+      → new ≡ with_call old session c (expected_tables filters (asked c []) reply) reply
   pub used : IsAfter before after c reply
 
 -- a save, with this reply, is the last two entries
 abbrev pub with_save : History → (session : ℕ) → Reply → History
 with_save h session reply = record h {
-  entries = h.entries ++ start_of h session ∷ record { session = session; index = next_index h.entries session; kind = ends; reply = reply } ∷ [];
+  entries = h.entries
+      ++ start_of h session ∷ record { session = session; index = next_index h.entries session; kind = ends; reply = reply } ∷ [];
 }
-
--- a line whose call is within its type, and whose filters are in the chest
-abbrev pub FitsChest : List (Option FilterState) → Line → Type 0
-FitsChest chest (call c) = IsCall c × AreThere chest (edits_of c)
-FitsChest chest save = Unit {0}
-FitsChest chest (forget slot) = IsTrue (has_slot chest slot)
 
 -- what a line of the script makes of a history and of a chest
 abbrev pub IsMade : (old : History) → (session : ℕ) → Line → (before after : List (Option FilterState)) → (new : History) → Type 0

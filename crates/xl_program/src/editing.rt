@@ -1,48 +1,51 @@
-ghost use Rattle.std.specs.Prelude.{◌≡◌, ◌<◌, ◌^◌, ◌⊎◌, ℕ, List, length, map, Some, IfOk, OnOk, IsSome};
+ghost use Rattle.std.specs.Prelude.{◌≡◌, ◌<◌, ◌≤◌, ◌^◌, ◌⊎◌, ℕ, List, length, map, Some, IfOk, OnOk};
 ghost use Rattle.std.specs.List.{AllByRecursion};
 ghost use Rattle.spec_script.specs.Fits.{FitsFilters};
 ghost use Rattle.spec_command.specs.Arguments.{edit as edit_of};
-ghost use Rattle.spec_document.specs.Limits.{IsDocument};
-ghost use Rattle.xl_core.specs.Editing.{known};
-ghost use Rattle.xl_doc.specs.Numbered.{AreNumbered};
 ghost use Rattle.xl_ports.specs.Source.{led_by, IsEnded};
-ghost use Rattle.xl_program.specs.Outcome.{given_of, states_of, ComesTo, SourceCause, ShelfCause, shelved};
-ghost use Rattle.xl_program.specs.Parts.{ReadsScript, IsPlayed, WritesReplies, StopsEdit};
+ghost use Rattle.xl_program.specs.Outcome.{given_of, ComesTo, ReadsToEnd, SourceCause, ShelfCause, shelved};
+ghost use Rattle.xl_program.specs.Parts.{ReadsScript, WritesReplies, StopsEdit};
 ghost use Rattle.xl_script.specs.Lines.{lists_of};
+ghost use Rattle.xl_sessions.specs.Outcomes.{states_of};
 
 use crate::ended::Done;
 use crate::loading::read_document;
-use crate::playing::{Replies, play};
+use crate::playing::Replies;
+use crate::script_runs::run_script;
 use crate::stopped::Stopped;
 use std::alloc::{AllocError, Global};
-use xl_core::Core;
-use xl_doc::Document;
+use std::sync::Wait;
+use std::thread::Threads;
 use xl_filters::PointFilter;
-use xl_ports::{FailedOrMemory, Shelf, Sink, Source, read_all, write_all};
+use xl_ports::{FailedOrMemory, Gate, Shelf, Sink, Source, read_all, write_all};
 use xl_script::{BadLineOrMemory, Script, parse};
 
 /// How much of a script is read: one byte more than it may have.
 const MOST_BYTES: usize = (1 << 24) + 1;
 
-/// Makes the calls and saves of a script on the document of a file, one session after another, and writes the replies.
+/// Makes the calls and saves of a script on the document of a file, the sessions beside each other, and writes the replies.
 ///
 /// The script is read before the file, and all the text is made before its first byte is written. The shelf comes back always.
-pub fn edit<S: Source, K: Sink, D: Shelf>(
+pub fn edit<R: Threads + Wait + Sync, S: Source, K: Sink, D: Shelf, G: Gate>(
+    rt: &R,
     alloc: Global,
     name: &str,
+    workers: u8,
     source: &mut S,
     sink: &mut K,
     mut shelf: D,
     chest: Vec<Vec<Box<dyn PointFilter + Send>>>,
+    gate: &G,
 ) -> Done<D>
     requires boxes { AllByRecursion (λ boxes. length boxes.items < 2 ^ 32) chest.items }
-    ensures comes { (workers : ℕ) → ComesTo K.held K.faults (given_of (S.left source.old) (λ b. state b) chest.items)
+    requires workers { workers ≤ 8 }
+    ensures comes { ComesTo K.held K.faults (given_of (S.left source.old) (λ b. state b) chest.items)
         (shelved D.content D.selected D.disk D.reading_faults D.saving_faults shelf)
         (shelved D.content D.selected D.disk D.reading_faults D.saving_faults result.shelf)
         (edit_of name.now workers) sink.old sink.new result.result }
     ensures stops { StopsEdit (given_of (S.left source.old) (λ b. state b) chest.items) (D.content shelf name.now) result.result }
     ensures takes { (bytes : List ℕ) × (S.left source.old ≡ led_by bytes (S.left source.new)) }
-    ensures ended { OnOk result.result (IsEnded (S.left source.new)) }
+    ensures ended { ReadsToEnd (S.left source.new) result.result }
     ensures source_cause { SourceCause (S.faults source.old) (S.faults source.new) result.result }
     ensures shelf_cause { ShelfCause (D.reading_faults shelf) (D.reading_faults result.shelf) result.result }
     ensures selected { (D.selected result.shelf ≡ D.selected shelf) ⊎ (D.selected result.shelf ≡ Some name.now) }
@@ -61,7 +64,7 @@ pub fn edit<S: Source, K: Sink, D: Shelf>(
             shelf,
         },
     };
-    let played = run_script(alloc, document, script, chest, shelf);
+    let played = run_script(rt, alloc, document, script, chest, workers, shelf, gate);
     Done {
         result: write_replies(sink, played.replies),
         shelf: played.shelf,
@@ -108,46 +111,6 @@ fn read_script<S: Source>(
         Ok(script) => Ok(script),
         Err(BadLineOrMemory::Refused(bad)) => Err(Stopped::BadLine(bad.line)),
         Err(BadLineOrMemory::Memory) => Err(Stopped::Memory),
-    }
-}
-
-/// The replies of a run, and the shelf on which its saves were made.
-#[derive(Drop)]
-pub struct Played<D> {
-    pub replies: Result<Replies, AllocError>,
-    pub shelf: D,
-}
-
-// Makes the calls and saves of a script.
-fn run_script<D: Shelf>(
-    alloc: Global,
-    document: Document,
-    script: Script,
-    chest: Vec<Vec<Box<dyn PointFilter + Send>>>,
-    shelf: D,
-) -> Played<D>
-    requires limits { IsDocument document }
-    requires numbered { AreNumbered document.nodes }
-    requires selected { IsSome (D.selected shelf) }
-    requires boxes { AllByRecursion (λ boxes. length boxes.items < 2 ^ 32) chest.items }
-    requires fits { FitsFilters (map length (states_of (λ b. state b) chest.items)) (lists_of script) }
-    ensures { IsPlayed (known D.selected D.disk D.reading_faults D.saving_faults shelf)
-        (known D.selected D.disk D.reading_faults D.saving_faults result.shelf) document (lists_of script) (states_of (λ b. state b) chest.items) result.replies }
-{
-    let mut core = match Core::open(alloc, document, shelf) {
-        Ok(core) => core,
-        Err(failed) => {
-            let (_document, shelf) = failed.value;
-            return Played {
-                replies: Err(AllocError),
-                shelf,
-            };
-        }
-    };
-    let replies = play(alloc, &mut core, script, chest);
-    Played {
-        replies,
-        shelf: core.into_shelf(),
     }
 }
 

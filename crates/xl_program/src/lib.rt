@@ -3,8 +3,8 @@
 //! `render FILE` writes the picture of a file to the sink, and `info FILE` its document as a line of JSON. `edit FILE` reads a
 //! script from the source, makes its calls and saves on the document of a file and writes the replies to the sink; the file
 //! changes by its saves alone. `make FILE --seed N` saves the document of a seed, makes the calls and saves of the seed's script
-//! and writes a line that sums them up. What else a command comes to is told by one line there and by the status. Each command
-//! is a module of its own.
+//! and writes a line that sums them up. The sessions of a script are played beside each other, and beside workers. What else a
+//! command comes to is told by one line there and by the status. Each command is a module of its own.
 #![tactic(auto)]
 
 mod describing;
@@ -18,6 +18,7 @@ mod playing;
 mod rendering;
 mod running;
 mod saving;
+mod script_runs;
 mod stopped;
 mod telling;
 

@@ -1,43 +1,53 @@
-ghost use Rattle.std.specs.Prelude.{◌≡◌, ◌⊎◌, ℕ, [], length, map, pos, Some, IfOk, OnOk, OnErr, IsSome, string_bytes};
+ghost use Rattle.std.specs.Prelude.{◌≡◌, ◌⊎◌, ℕ, [], length, map, pos, Some, IfOk, OnOk, OnErr, IsOk, IsSome, string_bytes};
 ghost use Rattle.spec_command.specs.Arguments.{make as make_of};
 ghost use Rattle.spec_document.specs.Limits.{IsDocument};
 ghost use Rattle.spec_generated.specs.Generated.{document, script};
+ghost use Rattle.spec_generated.specs.Summary.{summary_of};
 ghost use Rattle.spec_layout.specs.Layout.{Written};
 ghost use Rattle.spec_picture.specs.Picture.{picture_bytes};
+ghost use Rattle.spec_saves.specs.Names.{save_faults};
 ghost use Rattle.spec_script.specs.Fits.{FitsFilters};
 ghost use Rattle.spec_text.specs.Text.{digest_of};
 ghost use Rattle.spec_world.specs.declared.SaveEnd.TheVariants as save_end;
 ghost use Rattle.xl_core.specs.Editing.{known};
+ghost use Rattle.xl_core.specs.History.{document as last_document};
 ghost use Rattle.xl_doc.specs.Numbered.{AreNumbered};
 ghost use Rattle.xl_program.specs.Outcome.{Given, ComesTo, FailsAtShelf, FaultsRose, ShelfCauseOf, opened, shelved};
-ghost use Rattle.xl_program.specs.Parts.{IsSummedUp, StopsMaking, SumsUp};
-ghost use Rattle.xl_program.specs.Playing.{IsBetweenLines, KeepsExactly};
+ghost use Rattle.xl_program.specs.Parts.{IsSummedUp, StopsMaking, WhetherFailed};
 ghost use Rattle.xl_snapshot.specs.Saving.{IsSavedOn};
 ghost use Rattle.xl_script.specs.Lines.{lists_of};
 
-use crate::editing::{Played, write_replies};
+use crate::editing::write_replies;
 use crate::ended::Done;
-use crate::playing::{Replies, play};
+use crate::playing::{Replies, has_save_fault};
+use crate::script_runs::Played;
 use crate::stopped::Stopped;
 use std::alloc::{AllocError, Global};
+use std::sync::Wait;
+use std::thread::Threads;
 use xl_compose::Recompose;
 use xl_core::Core;
 use xl_doc::{Document, NodeId, Pictures, Rect};
-use xl_ports::{Failed, Shelf, Sink};
+use xl_ports::{Failed, Gate, Shelf, Sink};
 use xl_report::{Made, digest, summary};
 use xl_rle::Greedy;
-use xl_script::Script;
+use xl_sessions::{PlayedBeside, play_beside};
 use xl_snapshot::{file_of, save_file};
+
+/// How many workers are beside the sessions of what is made.
+const WORKERS: u8 = 2;
 
 /// Saves the document of a seed, makes the calls and saves of the seed's script on it, and writes the line that sums them up.
 ///
 /// The line is made before its first byte is written. The shelf comes back always.
-pub fn make<K: Sink, D: Shelf>(
+pub fn make<R: Threads + Wait + Sync, K: Sink, D: Shelf, G: Gate>(
+    rt: &R,
     alloc: Global,
     name: &str,
     seed: u32,
     sink: &mut K,
     mut shelf: D,
+    gate: &G,
 ) -> Done<D>
     ensures comes { (given : Given) → ComesTo K.held K.faults given
         (shelved D.content D.selected D.disk D.reading_faults D.saving_faults shelf)
@@ -60,7 +70,7 @@ pub fn make<K: Sink, D: Shelf>(
             shelf,
         };
     }
-    let played = run_made(alloc, made, shelf);
+    let played = run_made(rt, alloc, made, shelf, gate);
     Done {
         result: write_replies(sink, played.replies),
         shelf: played.shelf,
@@ -90,7 +100,8 @@ fn know_limits(doc: &Document)
 // Saves the file of a document that is made, before its script is played.
 fn save_first<D: Shelf>(name: &str, file: &[u8], shelf: &mut D) -> Result<(), Failed>
     ensures saved { OnOk result ((seed : ℕ) → Written file.now (document seed) → IsSavedOn
-        (opened (shelved D.content D.selected D.disk D.reading_faults D.saving_faults shelf.old) name.now) (document seed) save_end.Done
+        (opened (shelved D.content D.selected D.disk D.reading_faults D.saving_faults shelf.old) name.now)
+        (document seed) save_end.Done
         (known D.selected D.disk D.reading_faults D.saving_faults shelf.new)) }
     ensures failed { OnErr result ((seed : ℕ) → Written file.now (document seed) → FailsAtShelf
         (shelved D.content D.selected D.disk D.reading_faults D.saving_faults shelf.old)
@@ -105,16 +116,23 @@ fn save_first<D: Shelf>(name: &str, file: &[u8], shelf: &mut D) -> Result<(), Fa
 }
 
 // Plays a script that names no filter on its document, and sums the run up.
-fn run_made<D: Shelf>(alloc: Global, made: Made, shelf: D) -> Played<D>
+fn run_made<R: Threads + Wait + Sync, D: Shelf, G: Gate>(
+    rt: &R,
+    alloc: Global,
+    made: Made,
+    shelf: D,
+    gate: &G,
+) -> Played<D>
     requires selected { IsSome (D.selected shelf) }
     requires limits { IsDocument made.document }
     requires numbered { AreNumbered made.document.nodes }
     requires fits { FitsFilters [] (lists_of made.script) }
     requires eight { length (lists_of made.script) ≡ 8 }
-    ensures { IsSummedUp (known D.selected D.disk D.reading_faults D.saving_faults shelf)
-        (known D.selected D.disk D.reading_faults D.saving_faults result.shelf) made.document (lists_of made.script) result.replies }
+    ensures { (seed : ℕ) → made.document ≡ document seed → lists_of made.script ≡ script seed
+        → IsSummedUp (known D.selected D.disk D.reading_faults D.saving_faults shelf)
+        (known D.selected D.disk D.reading_faults D.saving_faults result.shelf) (document seed) (script seed) result.replies }
 {
-    let mut core = match Core::open(alloc, made.document, shelf) {
+    let core = match Core::open(alloc, made.document, shelf) {
         Ok(core) => core,
         Err(failed) => {
             let (_document, shelf) = failed.value;
@@ -124,34 +142,38 @@ fn run_made<D: Shelf>(alloc: Global, made: Made, shelf: D) -> Played<D>
             };
         }
     };
-    let replies = sum_up(alloc, &mut core, made.script);
+    let PlayedBeside { core, text } = play_beside(
+        rt,
+        alloc,
+        core,
+        made.script,
+        Vec::new(alloc),
+        WORKERS,
+        gate,
+    );
+    let replies = sum_up(alloc, &core, text);
     Played {
         replies,
         shelf: core.into_shelf(),
     }
 }
 
-// Makes the calls and saves of a script that names no filter. Answers the line that sums them up in the place of their own lines.
+// The line that sums up what was made of a document, in the place of its sessions' lines, and whether a save failed.
 fn sum_up<D: Shelf>(
     alloc: Global,
-    core: &mut Core<D>,
-    script: Script,
+    core: &Core<D>,
+    text: Result<String, AllocError>,
 ) -> Result<Replies, AllocError>
-    requires fresh { core.old.history.entries ≡ [] }
-    requires inside { IsSome core.old.shelf }
-    requires selected { IsSome (D.selected core.old.opening) }
-    requires kept { KeepsExactly core.old }
-    requires fits { FitsFilters [] (lists_of script) }
-    requires eight { length (lists_of script) ≡ 8 }
-    ensures between { IsBetweenLines core.old.history.base core.old.opening core.new }
-    ensures told { IfOk result (SumsUp core.old.history.base (lists_of script) core.new.history.entries) }
+    ensures played { OnOk result (IsOk text) }
+    ensures text { IfOk result (λ told. string_bytes told.text ≡ summary_of (last_document core.now.history)) }
+    ensures failed { IfOk result (λ told. WhetherFailed told.save_failed (save_faults core.now.history.entries)) }
 {
-    let replies = play(alloc, core, script, Vec::new(alloc))?;
+    let _replaced = text?;
     let digest = picture_digest(alloc, core.document())?;
     let text = summary(alloc, digest.as_str())?;
     Ok(Replies {
         text,
-        save_failed: replies.save_failed,
+        save_failed: has_save_fault(core.entries()),
     })
 }
 

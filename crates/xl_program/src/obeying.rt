@@ -1,11 +1,10 @@
-ghost use Rattle.std.specs.Prelude.{◌≡◌, ◌<◌, ◌^◌, ◌⊎◌, Some, length, OnOk};
+ghost use Rattle.std.specs.Prelude.{◌≡◌, ◌<◌, ◌^◌, ◌⊎◌, Some, length};
 ghost use Rattle.std.specs.List.{AllByRecursion};
 ghost use Rattle.spec_command.specs.Arguments.{name_of};
-ghost use Rattle.xl_command.specs.Asking.{asked_of};
+ghost use Rattle.xl_command.specs.Asking.{asked_of, HasFewWorkers};
 ghost use Rattle.xl_core.specs.Editing.{known};
-ghost use Rattle.xl_ports.specs.Source.{IsEnded};
 ghost use Rattle.xl_program.specs.Command.{IsEdit};
-ghost use Rattle.xl_program.specs.Outcome.{given_of, ComesTo, SourceCause, ShelfCauseOf, Takes, shelved};
+ghost use Rattle.xl_program.specs.Outcome.{given_of, ComesTo, ReadsToEnd, SourceCause, ShelfCauseOf, Takes, shelved};
 ghost use Rattle.xl_program.specs.Parts.{StopsFor};
 
 use crate::describing::describe;
@@ -14,27 +13,33 @@ use crate::ended::Done;
 use crate::making::make;
 use crate::rendering::render;
 use std::alloc::Global;
+use std::sync::Wait;
+use std::thread::Threads;
 use xl_command::Command;
 use xl_filters::PointFilter;
-use xl_ports::{Shelf, Sink, Source};
+use xl_ports::{Gate, Shelf, Sink, Source};
 
 /// Does what a command asks for. The shelf comes back always.
-pub fn obey<S: Source, K: Sink, D: Shelf>(
+pub fn obey<R: Threads + Wait + Sync, S: Source, K: Sink, D: Shelf, G: Gate>(
+    rt: &R,
     alloc: Global,
     command: Command<'_>,
     source: &mut S,
     sink: &mut K,
     mut shelf: D,
     chest: Vec<Vec<Box<dyn PointFilter + Send>>>,
+    gate: &G,
 ) -> Done<D>
     requires boxes { AllByRecursion (λ boxes. length boxes.items < 2 ^ 32) chest.items }
+    requires few { HasFewWorkers (asked_of command) }
     ensures comes { ComesTo K.held K.faults (given_of (S.left source.old) (λ b. state b) chest.items)
         (shelved D.content D.selected D.disk D.reading_faults D.saving_faults shelf)
         (shelved D.content D.selected D.disk D.reading_faults D.saving_faults result.shelf)
         (asked_of command.entry) sink.old sink.new result.result }
-    ensures stops { StopsFor (given_of (S.left source.old) (λ b. state b) chest.items) (D.content shelf) (asked_of command.entry) result.result }
+    ensures stops { StopsFor (given_of (S.left source.old) (λ b. state b) chest.items)
+        (D.content shelf) (asked_of command.entry) result.result }
     ensures takes { Takes S.left S.faults source.old source.new (Some (asked_of command.entry)) }
-    ensures ended { OnOk result.result (IsEdit (Some (asked_of command.entry)) → IsEnded (S.left source.new)) }
+    ensures ended { IsEdit (Some (asked_of command.entry)) → ReadsToEnd (S.left source.new) result.result }
     ensures source_cause { SourceCause (S.faults source.old) (S.faults source.new) result.result }
     ensures shelf_cause { ShelfCauseOf (known D.selected D.disk D.reading_faults D.saving_faults shelf)
         (known D.selected D.disk D.reading_faults D.saving_faults result.shelf) (asked_of command.entry) result.result }
@@ -50,7 +55,17 @@ pub fn obey<S: Source, K: Sink, D: Shelf>(
             let result = describe(alloc, name, sink, &mut shelf);
             Done { result, shelf }
         }
-        Command::Edit(name, _) => edit(alloc, name, source, sink, shelf, chest),
-        Command::Make(name, seed) => make(alloc, name, seed, sink, shelf),
+        Command::Edit(name, workers) => edit(
+            rt,
+            alloc,
+            name,
+            workers as u8,
+            source,
+            sink,
+            shelf,
+            chest,
+            gate,
+        ),
+        Command::Make(name, seed) => make(rt, alloc, name, seed, sink, shelf, gate),
     }
 }

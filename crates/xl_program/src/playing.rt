@@ -12,11 +12,12 @@ ghost use Rattle.std.specs.Prelude.{◌≡◌, ◌+◌, ◌*◌, ◌<◌, ◌≤
 ghost use Rattle.xl_core.specs.History.{version};
 ghost use Rattle.xl_edit.specs.Calls.{call_of};
 ghost use Rattle.xl_edit.specs.Replies.{reply_of};
-ghost use Rattle.xl_filters.specs.Chests.{states, states_in};
-ghost use Rattle.xl_program.specs.Outcome.{states_of};
+ghost use Rattle.xl_filters.specs.Chests.{states_in};
 ghost use Rattle.xl_program.specs.Parts.{WhetherFailed, IsToldOf};
-ghost use Rattle.xl_program.specs.Playing.{AreBefore, ArePlayed, AreSessions, boxes_at, FitsChest, HasTurn, IsAdded, IsBetweenLines, IsCalled, IsMade, KeepsExactly, shown_of, with_save};
+ghost use Rattle.xl_program.specs.Playing.{AreBefore, ArePlayed, AreSessions, boxes_at, HasTurn, IsAdded, IsBetweenLines, IsCalled, IsMade, KeepsExactly, shown_of, with_save};
 ghost use Rattle.xl_script.specs.Lines.{line_of, lines_of, lists_of};
+ghost use Rattle.xl_sessions.specs.Outcomes.{states_of};
+ghost use Rattle.xl_sessions.specs.Playing.{FitsChest};
 
 use crate::saving::save_latest;
 use std::alloc::{AllocError, Global};
@@ -25,10 +26,11 @@ use std::sync::ledger::{Blank, Ledger};
 use xl_blend::Steps;
 use xl_core::{Core, Desk, Entry, EntryKind};
 use xl_edit::{Call, Reply};
-use xl_filters::{Chest, PointFilter};
-use xl_ports::Shelf;
+use xl_filters::PointFilter;
+use xl_ports::{Actor, Gate, Place, Shelf};
 use xl_report::digest;
 use xl_script::{Line, OrderWord, Script, print_order, print_reply};
+use xl_sessions::desk_of;
 
 /// The text of a run, and whether one of its saves failed.
 #[derive(Drop)]
@@ -55,10 +57,11 @@ fn seen_so_far<D: Shelf>(core: &Core<D>, index: u32) -> u32
     if index == 0 { 0 } else { core.version() }
 }
 
-// Makes a call of a session, and prints its line.
-fn play_call<L: Ledger, D: Shelf>(
+// Makes a call of a session, passes the gate before it and after it, and prints its line.
+fn play_call<L: Ledger, D: Shelf, G: Gate>(
     alloc: Global,
     core: &mut Core<D>,
+    gate: &G,
     session: u8,
     index: u32,
     call: Call,
@@ -76,20 +79,24 @@ fn play_call<L: Ledger, D: Shelf>(
     requires call { IsCall (call_of call) }
     requires there { AreThere (states_in state desk.old.chest) (edits_of (call_of call)) }
     ensures between { IsBetweenLines core.old.history.base core.old.opening core.new }
-    ensures called { OnOk result (IsCalled core.old.history session (call_of call) (states_in state desk.old.chest) (states_in state desk.new.chest) core.new.history) }
+    ensures called { OnOk result (IsCalled core.old.history session (call_of call)
+        (states_in state desk.old.chest) (states_in state desk.new.chest) core.new.history) }
     ensures kept { OnOk result (KeepsExactly core.new) }
     ensures played { OnOk result (ArePlayed core.new.history.base core.new.history.entries (string_bytes text.new)) }
 {
     let seen = seen_so_far(core, index);
+    gate.pass(Actor::Session(session), Place::BeforeCall);
     let reply = core.submit(alloc, session, call, seen, desk, steps)?;
+    gate.pass(Actor::Session(session), Place::AfterCall);
     let digest = shown_digest(alloc, &reply, desk)?;
     print_reply(alloc, text, session, index, &reply, digest.as_str())
 }
 
-// Makes a save of a session, and prints its line.
-fn play_save<D: Shelf>(
+// Makes a save of a session, passes the gate before it and after it, and prints its line.
+fn play_save<D: Shelf, G: Gate>(
     alloc: Global,
     core: &mut Core<D>,
+    gate: &G,
     session: u8,
     index: u32,
     text: &mut String,
@@ -106,14 +113,17 @@ fn play_save<D: Shelf>(
     ensures kept { OnOk result (KeepsExactly core.new) }
     ensures played { OnOk result (ArePlayed core.new.history.base core.new.history.entries (string_bytes text.new)) }
 {
+    gate.pass(Actor::Session(session), Place::BeforeCall);
     let reply = save_latest(alloc, core, session)?;
+    gate.pass(Actor::Session(session), Place::AfterCall);
     print_reply(alloc, text, session, index, &reply, "")
 }
 
 // Makes what a line of a session says, and prints its line. It answers the index of the session's next call.
-fn play_line<L: Ledger, D: Shelf>(
+fn play_line<L: Ledger, D: Shelf, G: Gate>(
     alloc: Global,
     core: &mut Core<D>,
+    gate: &G,
     session: u8,
     index: u32,
     line: Line,
@@ -131,18 +141,19 @@ fn play_line<L: Ledger, D: Shelf>(
     requires kept { KeepsExactly core.old }
     requires fit { FitsChest (states_in state desk.old.chest) (line_of line) }
     ensures between { IsBetweenLines core.old.history.base core.old.opening core.new }
-    ensures made { OnOk result (IsMade core.old.history session (line_of line) (states_in state desk.old.chest) (states_in state desk.new.chest) core.new.history) }
+    ensures made { OnOk result (IsMade core.old.history session (line_of line)
+        (states_in state desk.old.chest) (states_in state desk.new.chest) core.new.history) }
     ensures next { IfOk result (λ next. next ≡ next_index core.new.history.entries session) }
     ensures kept { OnOk result (KeepsExactly core.new) }
     ensures played { OnOk result (ArePlayed core.new.history.base core.new.history.entries (string_bytes text.new)) }
 {
     match line {
         Line::Call(call) => {
-            play_call(alloc, core, session, index, call, desk, steps, text)?;
+            play_call(alloc, core, gate, session, index, call, desk, steps, text)?;
             Ok(index + 1)
         }
         Line::Save => {
-            play_save(alloc, core, session, index, text)?;
+            play_save(alloc, core, gate, session, index, text)?;
             Ok(index + 1)
         }
         Line::Forget(slot) => {
@@ -152,24 +163,11 @@ fn play_line<L: Ledger, D: Shelf>(
     }
 }
 
-// A desk with these filters.
-fn desk_of(alloc: Global, boxes: Vec<Box<dyn PointFilter + Send>>) -> Result<Desk, AllocError>
-    requires { length boxes.items < 2 ^ 32 }
-    ensures { IfOk result (λ desk. states (λ s. state s.filter) desk.chest ≡ map (λ b. Some (state b)) boxes.items) }
-{
-    let Ok(chest) = Chest::new(alloc, boxes) else {
-        return Err(AllocError);
-    };
-    match Desk::new(alloc, chest) {
-        Ok(desk) => Ok(desk),
-        Err(_) => Err(AllocError),
-    }
-}
-
 // Makes the calls and saves of a session one after another, and prints their lines. The boxes are dropped in the end.
-fn play_lines<L: Ledger, D: Shelf>(
+fn play_lines<L: Ledger, D: Shelf, G: Gate>(
     alloc: Global,
     core: &mut Core<D>,
+    gate: &G,
     session: u8,
     lines: Vec<Line>,
     boxes: Vec<Box<dyn PointFilter + Send>>,
@@ -186,14 +184,17 @@ fn play_lines<L: Ledger, D: Shelf>(
     requires fit { AreFit (length boxes.items) [] (lines_of lines.items) }
     requires few { length core.old.history.entries + 2 * length (calls_of (lines_of lines.items)) ≤ most_entries }
     ensures between { IsBetweenLines core.old.history.base core.old.opening core.new }
-    ensures added { OnOk result (IsAdded session (map (λ b. state b) boxes.items) (lines_of lines.items) core.old.history.entries core.new.history.entries) }
+    ensures added { OnOk result (IsAdded session (map (λ b. state b) boxes.items) (lines_of lines.items)
+        core.old.history.entries core.new.history.entries) }
     ensures kept { OnOk result (KeepsExactly core.new) }
     ensures played { OnOk result (ArePlayed core.new.history.base core.new.history.entries (string_bytes text.new)) }
 {
     let mut desk = desk_of(alloc, boxes)?;
     let mut index = 0;
     for line in lines {
-        index = play_line(alloc, core, session, index, line, &mut desk, steps, text)?;
+        index = play_line(
+            alloc, core, gate, session, index, line, &mut desk, steps, text,
+        )?;
     }
     Ok(())
 }
@@ -216,9 +217,10 @@ fn first_boxes(
 }
 
 // Makes the calls and saves of the sessions, one session after another, and answers their lines.
-fn play_sessions<L: Ledger, D: Shelf>(
+fn play_sessions<L: Ledger, D: Shelf, G: Gate>(
     alloc: Global,
     core: &mut Core<D>,
+    gate: &G,
     script: Script,
     mut chest: Vec<Vec<Box<dyn PointFilter + Send>>>,
     blank: Blank,
@@ -233,7 +235,8 @@ fn play_sessions<L: Ledger, D: Shelf>(
     requires boxes { AllByRecursion (λ boxes. length boxes.items < 2 ^ 32) chest.items }
     requires fits { FitsFilters (map length (states_of (λ b. state b) chest.items)) (lists_of script) }
     ensures between { IsBetweenLines core.old.history.base core.old.opening core.new }
-    ensures sessions { OnOk result (AreSessions 8 (lists_of script) (states_of (λ b. state b) chest.items) core.new.history.entries) }
+    ensures sessions { OnOk result (AreSessions 8 (lists_of script)
+        (states_of (λ b. state b) chest.items) core.new.history.entries) }
     ensures played { IfOk result (λ text. ArePlayed core.new.history.base core.new.history.entries (string_bytes text)) }
 {
     let mut steps = Steps::<L>::new(blank);
@@ -244,6 +247,7 @@ fn play_sessions<L: Ledger, D: Shelf>(
         play_lines(
             alloc,
             core,
+            gate,
             session,
             lines.into_items(),
             boxes,
@@ -286,8 +290,8 @@ fn ends_by_fault(entry: &Entry) -> bool
     }
 }
 
-// Whether a save failed.
-fn has_save_fault(entries: &[Entry]) -> bool
+/// Whether a save failed.
+pub fn has_save_fault(entries: &[Entry]) -> bool
     ensures { WhetherFailed result (save_faults entries.now) }
 {
     for entry in entries {
@@ -298,11 +302,12 @@ fn has_save_fault(entries: &[Entry]) -> bool
     false
 }
 
-/// Makes the calls and saves of the sessions, one session after another. Answers the text of the run: a line for each reply, and
-/// the order line.
-pub fn play<D: Shelf>(
+/// Makes the calls and saves of the sessions, one session after another, without threads or workers. Answers the text of the run:
+/// a line for each reply, and the order line.
+pub fn play<D: Shelf, G: Gate>(
     alloc: Global,
     core: &mut Core<D>,
+    gate: &G,
     script: Script,
     chest: Vec<Vec<Box<dyn PointFilter + Send>>>,
 ) -> Result<Replies, AllocError>
@@ -313,9 +318,10 @@ pub fn play<D: Shelf>(
     requires boxes { AllByRecursion (λ boxes. length boxes.items < 2 ^ 32) chest.items }
     requires fits { FitsFilters (map length (states_of (λ b. state b) chest.items)) (lists_of script) }
     ensures between { IsBetweenLines core.old.history.base core.old.opening core.new }
-    ensures told { IfOk result (IsToldOf core.old.history.base (lists_of script) (states_of (λ b. state b) chest.items) core.new.history.entries) }
+    ensures told { IfOk result (IsToldOf core.old.history.base (lists_of script)
+        (states_of (λ b. state b) chest.items) 0 core.new.history.entries) }
 {
-    let mut text = play_sessions::<Brand, D>(alloc, core, script, chest, Blank::new(1))?;
+    let mut text = play_sessions::<Brand, D, G>(alloc, core, gate, script, chest, Blank::new(1))?;
     let words = order_words(alloc, core.entries())?;
     print_order(alloc, &mut text, words.as_slice())?;
     let save_failed = has_save_fault(core.entries());

@@ -8,18 +8,20 @@ ghost use Rattle.xl_command.specs.Asking.{arguments_of};
 ghost use Rattle.xl_ports.specs.Faults.{Rose};
 ghost use Rattle.xl_ports.specs.Shelf.{selected_content};
 ghost use Rattle.xl_ports.specs.Source.{IsEnded};
-ghost use Rattle.xl_program.specs.Command.{IsEdit};
+ghost use Rattle.xl_program.specs.Command.{IsEdit, ReadsFile};
 ghost use Rattle.xl_program.specs.Lines.{Tells};
-ghost use Rattle.xl_program.specs.Outcome.{given_of, shelved, ComesWell, ShelfFails, WritesInPart, MaySave, IsUntouched, StopsBefore, IsBadLine, InGrammar, HasFault, Keeps, Takes, IsStatus};
+ghost use Rattle.xl_program.specs.Outcome.{given_of, shelved, ComesWell, ShelfFails, WritesInPart, ComesAfterScript, MaySave, IsUntouched, StopsBefore, IsBadLine, InGrammar, HasFault, Keeps, Takes, IsStatus};
 
 use crate::line::tell;
 use crate::obeying::obey;
 use crate::stopped::Stopped;
 use crate::telling::{MEMORY, tell_stop};
 use std::alloc::Global;
+use std::sync::Wait;
+use std::thread::Threads;
 use xl_command::command_of;
 use xl_filters::PointFilter;
-use xl_ports::{Shelf, Sink, Source};
+use xl_ports::{Gate, Shelf, Sink, Source};
 
 const DONE: u8 = 0;
 
@@ -40,16 +42,25 @@ pub struct Ended<D> {
 /// `chest` holds the filters of each session, those of session 0 first, each in the slot of its place; a session without a list
 /// has none. A box is dropped where its session forgets it, and at the end of the session.
 ///
+/// `edit` and `make` play the sessions of their script beside each other, in threads where these can be made, and beside workers:
+/// two, or as many as the words of an edit name. An edit by session 0 alone with 0 workers takes no thread. `gate` is passed by
+/// sessions and workers on their way.
+///
 /// The statuses: 0 done, 2 the words are no command, 3 a line of the script is refused, 4 the file holds no document,
-/// 5 the source failed, 6 the file could not be read, or the first save of what is made failed, or a later save after which all was
-/// written, 7 the sink failed while the output was written, 8 memory ran out.
-pub fn run<S: Source, K: Sink, D: Shelf>(
+/// 5 the source failed, 6 the file could not be read, or the first save of what is made failed, or a later save after which all
+/// was written, 7 the sink failed while the output was written, 8 memory ran out.
+///
+/// No clause says that memory is there, that a device does not fail, or that a run of sessions, which may wait, returns. Where
+/// memory runs out for the line of a stop, the status is 8 and not that of the stop.
+pub fn run<R: Threads + Wait + Sync, S: Source, K: Sink, D: Shelf, G: Gate>(
+    rt: &R,
     alloc: Global,
     words: &[&str],
     source: &mut S,
     sink: &mut K,
     shelf: D,
     chest: Vec<Vec<Box<dyn PointFilter + Send>>>,
+    gate: &G,
 ) -> Ended<D>
     requires lists { length chest.items ≤ 8 }
     requires boxes { AllByRecursion (λ boxes. length boxes.items < 2 ^ 32) chest.items }
@@ -81,9 +92,12 @@ pub fn run<S: Source, K: Sink, D: Shelf>(
         × IsBadLine (given_of (S.left source.old) (λ b. state b) chest.items) number
         × Tells K.held K.faults sink.old sink.new (stop.stop_line (stop.bad_line number)) }
     ensures refused { result.status ≡ 4 → (why : ReadRefused)
-        × IfSome (selected_content (option_map name_of (asked_in (arguments_of words.now))) (D.content shelf)) (λ c. HasFault c why)
+        × ReadsFile (asked_in (arguments_of words.now))
+        × IfSome (selected_content (option_map name_of (asked_in (arguments_of words.now))) (D.content shelf))
+        (λ c. HasFault c why)
         × Tells K.held K.faults sink.old sink.new (stop.stop_line (stop.refused why)) }
-    ensures script_first { (result.status ≡ 4) ⊎ (result.status ≡ 6) → InGrammar (given_of (S.left source.old) (λ b. state b) chest.items) (asked_in (arguments_of words.now)) }
+    ensures script_first { (result.status ≡ 4) ⊎ (result.status ≡ 6)
+        → InGrammar (given_of (S.left source.old) (λ b. state b) chest.items) (asked_in (arguments_of words.now)) }
     ensures source_fault { result.status ≡ 5 → Rose (S.faults source.old) (S.faults source.new) }
     ensures no_source_fault { result.status ≢ 5 → S.faults source.new ≡ S.faults source.old }
     ensures source_fault_told { result.status ≡ 5 → IsEdit (asked_in (arguments_of words.now))
@@ -95,7 +109,8 @@ pub fn run<S: Source, K: Sink, D: Shelf>(
     // What becomes of the source and the shelf.
     ensures no_reading_fault { result.status ≢ 6 → D.reading_faults result.shelf ≡ D.reading_faults shelf }
     ensures source_taken { Takes S.left S.faults source.old source.new (asked_in (arguments_of words.now)) }
-    ensures source_ended { result.status ≡ 0 → IsEdit (asked_in (arguments_of words.now)) → IsEnded (S.left source.new) }
+    ensures source_ended { ComesAfterScript result.status
+        → IsEdit (asked_in (arguments_of words.now)) → IsEnded (S.left source.new) }
     ensures selected { (D.selected result.shelf ≡ D.selected shelf)
         ⊎ (D.selected result.shelf ≡ option_map name_of (asked_in (arguments_of words.now))) }
 {
@@ -114,7 +129,7 @@ pub fn run<S: Source, K: Sink, D: Shelf>(
             shelf,
         };
     };
-    let done = obey(alloc, command, source, sink, shelf, chest);
+    let done = obey(rt, alloc, command, source, sink, shelf, chest, gate);
     let status = match done.result {
         Ok(()) => DONE,
         Err(stopped) => tell_stop(alloc, sink, stopped),

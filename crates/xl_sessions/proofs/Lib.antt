@@ -18,3 +18,19 @@ pub mod SaveMore
 pub mod SoFar
 -- some lines were played, and some are left
 pub mod UnderWay
+-- lists beside each other
+pub mod Zips
+pub mod Emptied
+-- what the sessions bring
+pub mod Brought
+-- what became of their lines
+pub mod Outcomes
+pub mod PlayedParts
+-- their seats joined
+pub mod JoinedSeats
+pub mod Finished
+pub mod Seated
+-- the threads
+pub mod Plays
+pub mod Each
+pub mod Sent

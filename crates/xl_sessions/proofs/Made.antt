@@ -8,6 +8,7 @@ use Rattle.spec_history.specs.Machine.{Call, Reply}
 use Rattle.spec_history.specs.History.{Entry}
 use Rattle.spec_tables.specs.Agrees.{Agrees}
 use Rattle.spec_tables.proofs.Chests.{some_list}
+use Rattle.spec_saves.specs.Shelf as shelves
 use Rattle.spec_seats.specs.Made.{IsOf}
 use Rattle.spec_seats.proofs.More.{before_end, with_save, of_grows, of_call, of_save}
 use Rattle.xl_core.specs.Editing.{start_of}
@@ -70,9 +71,9 @@ module _ {K : Type 0} where
       ∙ ap (λ es. es ++ t ∷ [])
       (entries-append (entered ++ Made s (Some shelf) ∷ []) between ∙ ap (λ es. es ++ entries_in between) (entries-append entered (Made s (Some shelf) ∷ [])))
 
-  of_whole : (base : Document) (session : ℕ) (reply : Reply) (old new : Known K) → IsWhole base session reply old new
+  of_whole : (see : K → shelves.Known) (opening : K) (base : Document) (session : ℕ) (reply : Reply) (old new : Known K) → IsWhole see opening base session reply old new
       → IsOf session old.made (entries_in old.front) → IsOf session new.made (entries_in new.front)
-  of_whole base session reply old new whole of =
+  of_whole see opening base session reply old new whole of =
       let es = entries_in whole.entered in
       let s : Entry = start_of (history_of base whole.entered) session in
       let t : Entry = end_behind es session reply in
@@ -81,27 +82,27 @@ module _ {K : Type 0} where
       (sym (ap entries_in whole.front ∙ saved_entries whole.entered whole.between s t whole.shelf))
       (of_save session old.made (entries_in old.front) es s (entries_in whole.between) t of (entries-prefix old.front whole.entered whole.begins) refl refl refl refl refl)
 
-  pub of_saved : (base : Document) (session : ℕ) (reply : Reply) (old new : Known K) → IsSaved base session reply old new
+  pub of_saved : (see : K → shelves.Known) (opening : K) (base : Document) (session : ℕ) (reply : Reply) (old new : Known K) → IsSaved see opening base session reply old new
       → IsOf session old.made (entries_in old.front) → IsOf session new.made (entries_in new.front)
-  of_saved base session reply old new saved of = elim saved.is [
+  of_saved see opening base session reply old new saved of = elim saved.is [
     | inl full ↦ of_longer session old new full.begins full.made of
-    | inr whole ↦ of_whole base session reply old new whole of
+    | inr whole ↦ of_whole see opening base session reply old new whole of
   ]
 
-  pub of_after_save : {E : Type 0} (R : Type 0) (reply_of : R → Reply) (r : Result R E) (base : Document) (session : ℕ) (old new : Known K)
-      → IfOk r (λ reply. IsSaved base session (reply_of reply) old new)
+  pub of_after_save : {E : Type 0} (R : Type 0) (reply_of : R → Reply) (r : Result R E) (see : K → shelves.Known) (opening : K) (base : Document) (session : ℕ) (old new : Known K)
+      → IfOk r (λ reply. IsSaved see opening base session (reply_of reply) old new)
       → OnErr r (HasHeard old new) → IsOf session old.made (entries_in old.front) → IsOf session new.made (entries_in new.front)
-  of_after_save R reply_of (Ok reply) base session old new saved heard of = of_saved base session (reply_of reply) old new saved of
-  of_after_save R reply_of (Err e) base session old new saved heard of = of_longer session old new heard.begins heard.made of
+  of_after_save R reply_of (Ok reply) see opening base session old new saved heard of = of_saved see opening base session (reply_of reply) old new saved of
+  of_after_save R reply_of (Err e) see opening base session old new saved heard of = of_longer session old new heard.begins heard.made of
 
   -- ---- a line that is no call
 
-  pub save_line : (base : Document) (session : ℕ) (line : Line) (before : List (Option FilterState)) (old new : Known K) (texts : List (List ℕ)) → line ≡ Save → IsSaveMade base session old new
-      → (told : List (List ℕ)) × (texts ≡ texts ++ told) × IsLineMade base session (line_of line) before before old new told
-  save_line base session line before old new texts is made =
-      ([], sym (append-nil texts), subst (λ (l : Line). IsLineMade base session (line_of l) before before old new []) (sym is) (made, refl, refl))
+  pub save_line : (see : K → shelves.Known) (opening : K) (base : Document) (session : ℕ) (line : Line) (before : List (Option FilterState)) (old new : Known K) (texts : List (List ℕ)) → line ≡ Save → IsSaveMade see opening base session old new
+      → (told : List (List ℕ)) × (texts ≡ texts ++ told) × IsLineMade see opening base session (line_of line) before before old new told
+  save_line see opening base session line before old new texts is made =
+      ([], sym (append-nil texts), subst (λ (l : Line). IsLineMade see opening base session (line_of l) before before old new []) (sym is) (made, refl, refl))
 
-  pub forget_line : (base : Document) (session : ℕ) (line : Line) (slot : ℕ) (before after : List (Option FilterState)) (known : Known K) (texts : List (List ℕ)) → line ≡ Forget slot → after ≡ slice_set before slot None
-      → (told : List (List ℕ)) × (texts ≡ texts ++ told) × IsLineMade base session (line_of line) before after known known told
-  forget_line base session line slot before after known texts is without =
-      ([], sym (append-nil texts), subst (λ (l : Line). IsLineMade base session (line_of l) before after known known []) (sym is) (refl, without, refl))
+  pub forget_line : (see : K → shelves.Known) (opening : K) (base : Document) (session : ℕ) (line : Line) (slot : ℕ) (before after : List (Option FilterState)) (known : Known K) (texts : List (List ℕ)) → line ≡ Forget slot → after ≡ slice_set before slot None
+      → (told : List (List ℕ)) × (texts ≡ texts ++ told) × IsLineMade see opening base session (line_of line) before after known known told
+  forget_line see opening base session line slot before after known texts is without =
+      ([], sym (append-nil texts), subst (λ (l : Line). IsLineMade see opening base session (line_of l) before after known known []) (sym is) (refl, without, refl))

@@ -6,6 +6,7 @@ use Rattle.spec_filters.specs.declared.FilterState.{FilterState}
 use Rattle.spec_history.specs.Machine.{Reply, saved}
 use Rattle.spec_history.specs.History.{Entry, starts, ends, latest_of, next_index}
 use Rattle.spec_history.specs.Kept.{IsFreshReply, IsLegal}
+use Rattle.spec_saves.specs.Shelf as shelves
 use Rattle.spec_script.specs.Script.{Line, save}
 use Rattle.spec_seats.specs.Picked.{picked, IsCaughtUp}
 use Rattle.spec_seats.specs.Digests.{digests_in}
@@ -48,9 +49,9 @@ fresh_end Fault version seen = tt
 fresh_end Memory version seen = tt
 
 module _ {K : Type 0} where
-  whole_more : (base : Document) (session : ℕ) (reply : Reply) (old new : Known K) → IsWhole base session reply old new
+  whole_more : (see : K → shelves.Known) (opening : K) (base : Document) (session : ℕ) (reply : Reply) (old new : Known K) → IsWhole see opening base session reply old new
       → IsSaveMore session reply old.made (entries_in old.front) new.made (entries_in new.front)
-  whole_more base session reply old new whole =
+  whole_more see opening base session reply old new whole =
       let es = entries_in whole.entered in
       let s : Entry = start_of (history_of base whole.entered) session in
       let t : Entry = end_behind es session reply in
@@ -65,11 +66,11 @@ module _ {K : Type 0} where
         entries_are = ap entries_in whole.front ∙ saved_entries whole.entered whole.between s t whole.shelf;
       }
 
-  pub save_more : (base : Document) (session : ℕ) (reply : Reply) (old new : Known K) → IsSaved base session reply old new → is_unprinted reply ≡ false
+  pub save_more : (see : K → shelves.Known) (opening : K) (base : Document) (session : ℕ) (reply : Reply) (old new : Known K) → IsSaved see opening base session reply old new → is_unprinted reply ≡ false
       → IsSaveMore session reply old.made (entries_in old.front) new.made (entries_in new.front)
-  save_more base session reply old new is printed = elim is.is [
+  save_more see opening base session reply old new is printed = elim is.is [
     | inl full ↦ absurd (never_both (is_unprinted reply) (unprinted_full reply full.reply_is) printed)
-    | inr whole ↦ whole_more base session reply old new whole
+    | inr whole ↦ whole_more see opening base session reply old new whole
   ]
 
 module _ {session : ℕ} {reply : Reply} {places : List ℕ} {es : List Entry} {places_then : List ℕ} {es_then : List Entry}

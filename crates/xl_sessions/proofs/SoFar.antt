@@ -5,6 +5,7 @@ use Rattle.spec_filters.specs.declared.FilterState.{FilterState}
 use Rattle.spec_history.specs.Machine.{Call}
 use Rattle.spec_history.specs.History.{asked, latest_of}
 use Rattle.spec_history.specs.Kept.{IsLegal}
+use Rattle.spec_saves.specs.Shelf as shelves
 use Rattle.spec_script.specs.Script.{Line, call, save, forget}
 use Rattle.spec_tables.specs.Agrees.{Agrees}
 use Rattle.spec_tables.specs.Tables.{expected_tables}
@@ -78,12 +79,12 @@ module _ {K : Type 0} where
               ∙ sym (call_told of more base legal);
         }
 
-    so_far_save : (after : List (Option FilterState)) (new : Known K) (said : List (List ℕ)) → IsSaveMade base session old new → after ≡ before → said ≡ []
+    so_far_save : (see : K → shelves.Known) (opening : K) (after : List (Option FilterState)) (new : Known K) (said : List (List ℕ)) → IsSaveMade see opening base session old new → after ≡ before → said ≡ []
         → IsSoFar base session start after (lines ++ save ∷ []) new (texts ++ said)
-    so_far_save after new said made same silent =
+    so_far_save see opening after new said made same silent =
         let es = entries_in old.front in
         let of = so_far_of start old so_far in
-        let more = save_more base session made.reply old new made.saved made.printed in
+        let more = save_more see opening base session made.reply old new made.saved made.printed in
         record {
           up = save_up of more;
           made = λ filters agrees. save_made session filters lines made.reply old.made es new.made (entries_in new.front) (so_far.made filters agrees) more made.printed;
@@ -107,8 +108,8 @@ module _ {K : Type 0} where
         })
 
     -- one line more
-    pub so_far_line : (line : Line) (after : List (Option FilterState)) (new : Known K) (said : List (List ℕ)) → IsLineMade base session line before after old new said
+    pub so_far_line : (see : K → shelves.Known) (opening : K) (line : Line) (after : List (Option FilterState)) (new : Known K) (said : List (List ℕ)) → IsLineMade see opening base session line before after old new said
         → IsSoFar base session start after (lines ++ line ∷ []) new (texts ++ said)
-    so_far_line (call c) after new said made = so_far_call c after new said made
-    so_far_line save after new said made = so_far_save after new said made.0 made.1 made.2
-    so_far_line (forget slot) after new said made = so_far_forget slot after new said made.0 made.1 made.2
+    so_far_line see opening (call c) after new said made = so_far_call c after new said made
+    so_far_line see opening save after new said made = so_far_save see opening after new said made.0 made.1 made.2
+    so_far_line see opening (forget slot) after new said made = so_far_forget slot after new said made.0 made.1 made.2

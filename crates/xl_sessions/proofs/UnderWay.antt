@@ -6,6 +6,7 @@ use Rattle.spec_document.specs.Document.{Document}
 use Rattle.spec_filters.specs.declared.FilterState.{FilterState}
 use Rattle.spec_history.specs.History.{latest_of}
 use Rattle.spec_history.specs.Kept.{IsLegal}
+use Rattle.spec_saves.specs.Shelf as shelves
 use Rattle.spec_script.specs.Script.{Line}
 use Rattle.spec_script.specs.Fits.{AreFit, dropped_by}
 use Rattle.spec_tables.specs.Agrees.{Agrees}
@@ -54,16 +55,16 @@ module _ {K : Type 0} where
     pub under_way_fit : (line : Line) (rest : List Line) → left ≡ line ∷ rest → FitsChest now line
     under_way_fit line rest turn = line_fits (length start) way.dropped now line way.stocked (subst (AreFit (length start) way.dropped) turn way.fit).0
 
-    pub under_way_more : (line : Line) (rest : List Line) → left ≡ line ∷ rest → (after : List (Option FilterState)) (new : Known K) (said : List (List ℕ)) → IsLegal base (entries_in known.front)
-        → IsPrefix known.front new.front → (told : List (List ℕ)) × (said ≡ texts ++ told) × IsLineMade base session line now after known new told
+    pub under_way_more : (see : K → shelves.Known) (opening : K) (line : Line) (rest : List Line) → left ≡ line ∷ rest → (after : List (Option FilterState)) (new : Known K) (said : List (List ℕ)) → IsLegal base (entries_in known.front)
+        → IsPrefix known.front new.front → (told : List (List ℕ)) × (said ≡ texts ++ told) × IsLineMade see opening base session line now after known new told
         → IsUnderWay base session start after all rest old new said
-    under_way_more line rest turn after new said legal begins made = record {
+    under_way_more see opening line rest turn after new said legal begins made = record {
       begins = prefix_of_prefix old.front known.front new.front way.begins begins;
       taken = way.taken ++ line ∷ [];
       lines = way.lines ∙ ap (λ lines. way.taken ++ lines) turn ∙ sym (append_assoc way.taken (line ∷ []) rest);
-      so_far = subst (IsSoFar base session start after (way.taken ++ line ∷ []) new) (sym made.1) (so_far_line legal way.so_far line after new made.0 made.2);
+      so_far = subst (IsSoFar base session start after (way.taken ++ line ∷ []) new) (sym made.1) (so_far_line legal way.so_far see opening line after new made.0 made.2);
       dropped = dropped_by way.dropped line;
-      stocked = line_stocked (length start) way.dropped base session line now after known new made.0 made.2 way.stocked;
+      stocked = line_stocked see opening (length start) way.dropped base session line now after known new made.0 made.2 way.stocked;
       fit = (subst (AreFit (length start) way.dropped) turn way.fit).1;
     }
 

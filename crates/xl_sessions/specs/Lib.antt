@@ -1,3 +1,7 @@
 -- the printed lines of the sessions
 pub mod Printing
 pub mod Playing
+-- what became of the lines of the sessions
+pub mod Outcomes
+-- sessions and workers beside each other
+pub mod Players

@@ -9,6 +9,7 @@ use Rattle.spec_history.specs.Calls.{IsCall}
 use Rattle.spec_history.specs.History.{asked, latest_of}
 use Rattle.spec_history.specs.Kept.{IsFreshReply}
 use Rattle.spec_history.specs.Limited.{edits_of}
+use Rattle.spec_saves.specs.Shelf as shelves
 use Rattle.spec_script.specs.Script.{Line, call, save, forget}
 use Rattle.spec_tables.specs.Agrees.{Agrees, AreThere, IsAfter}
 use Rattle.spec_tables.specs.Tables.{expected_tables}
@@ -72,13 +73,13 @@ module _ {K : Type 0} where
     pub digests_are : digests ≡ said (asks_tile c) reply bytes
 
   -- a save was answered, and printably
-  pub record IsSaveMade (base : Document) (session : ℕ) (old new : Known K) : Type 0 where
+  pub record IsSaveMade (see : K → shelves.Known) (opening : K) (base : Document) (session : ℕ) (old new : Known K) : Type 0 where
     pub reply : Reply
-    pub saved : IsSaved base session reply old new
+    pub saved : IsSaved see opening base session reply old new
     pub printed : is_unprinted reply ≡ false
 
   -- what a line of the script makes, and the digests that are said of it
-  abbrev pub IsLineMade : (base : Document) → (session : ℕ) → Line → (before after : List (Option FilterState)) → (old new : Known K) → (digests : List (List ℕ)) → Type 0
-  IsLineMade base session (call c) before after old new digests = IsCallMade base session c before after old new digests
-  IsLineMade base session save before after old new digests = IsSaveMade base session old new × (after ≡ before) × (digests ≡ [])
-  IsLineMade base session (forget slot) before after old new digests = (new ≡ old) × (after ≡ slice_set before slot None) × (digests ≡ [])
+  abbrev pub IsLineMade : (see : K → shelves.Known) → (opening : K) → (base : Document) → (session : ℕ) → Line → (before after : List (Option FilterState)) → (old new : Known K) → (digests : List (List ℕ)) → Type 0
+  IsLineMade see opening base session (call c) before after old new digests = IsCallMade base session c before after old new digests
+  IsLineMade see opening base session save before after old new digests = IsSaveMade see opening base session old new × (after ≡ before) × (digests ≡ [])
+  IsLineMade see opening base session (forget slot) before after old new digests = (new ≡ old) × (after ≡ slice_set before slot None) × (digests ≡ [])

@@ -1,11 +1,17 @@
 //! A session of a script over a studio, and the text of what sessions did beside each other.
 #![tactic(auto)]
 
+mod beside;
 mod desk;
+mod joining;
 mod played;
+mod players;
 mod printing;
+mod seating;
 mod session;
+mod threads;
 
+pub use beside::{PlayedBeside, play_beside};
 pub use desk::desk_of;
 pub use played::play_session;
 pub use printing::{each_entry_is_printed, print_history};

@@ -7,6 +7,7 @@ ghost use Rattle.spec_history.specs.Kept.{IsFreshReply};
 ghost use Rattle.spec_history.specs.Limited.{edits_of};
 ghost use Rattle.spec_tables.specs.Agrees.{Agrees, AreThere, IsAfter};
 ghost use Rattle.spec_tables.specs.Tables.{expected_tables};
+ghost use Rattle.xl_core.specs.Editing.{known};
 ghost use Rattle.xl_core.specs.History.{Shows};
 ghost use Rattle.xl_edit.specs.Calls.{call_of};
 ghost use Rattle.xl_edit.specs.Replies.{reply_of};
@@ -14,7 +15,7 @@ ghost use Rattle.xl_filters.specs.Chests.{states_in};
 ghost use Rattle.xl_script.specs.Lines.{line_of};
 ghost use Rattle.xl_studio.specs.Calling.{IsCalled};
 ghost use Rattle.xl_studio.specs.Moments.{entries_in};
-ghost use Rattle.xl_studio.specs.Seats.{base_of, history_of, front_of, made_of, weight_of, known_by, IsSeatOf};
+ghost use Rattle.xl_studio.specs.Seats.{base_of, opening_shelf, history_of, front_of, made_of, weight_of, known_by, IsSeatOf};
 ghost use Rattle.spec_seats.specs.Made.{IsOf};
 ghost use Rattle.xl_studio.specs.Saving.{IsSaved};
 ghost use Rattle.xl_sessions.specs.Playing.{FitsChest, IsCallMade, IsSaveMade, IsLineMade, is_unprinted, said};
@@ -146,7 +147,7 @@ fn make_save<W: Wait, D: Shelf, G: Gate>(
     ensures weight { weight_of seat.new ≡ weight_of seat.old }
     ensures begins { IsPrefix (front_of seat.old) (front_of seat.new) }
     ensures of { IsOf session (made_of seat.new) (entries_in (front_of seat.new)) }
-    ensures saved { IfOk result (λ reply. IsSaved (base_of studio.now) session (reply_of reply) (known_by seat.old) (known_by seat.new)) }
+    ensures saved { IfOk result (λ reply. IsSaved (known D.selected D.disk D.reading_faults D.saving_faults) (opening_shelf studio.now) (base_of studio.now) session (reply_of reply) (known_by seat.old) (known_by seat.new)) }
 {
     gate.pass(Actor::Session(session), Place::BeforeCall);
     let mut coder = Greedy;
@@ -172,7 +173,7 @@ fn play_save<W: Wait, D: Shelf, G: Gate>(
     ensures weight { weight_of seat.new ≡ weight_of seat.old }
     ensures begins { IsPrefix (front_of seat.old) (front_of seat.new) }
     ensures of { IsOf session (made_of seat.new) (entries_in (front_of seat.new)) }
-    ensures made { OnOk result (IsSaveMade (base_of studio.now) session (known_by seat.old) (known_by seat.new)) }
+    ensures made { OnOk result (IsSaveMade (known D.selected D.disk D.reading_faults D.saving_faults) (opening_shelf studio.now) (base_of studio.now) session (known_by seat.old) (known_by seat.new)) }
 {
     let reply = make_save(rt, alloc, studio, gate, session, seat)?;
     if is_unprinted(&reply) {
@@ -205,7 +206,7 @@ pub(crate) fn play_line<W: Wait, L: Ledger, D: Shelf, G: Gate>(
     ensures of { IsOf session (made_of seat.new) (entries_in (front_of seat.new)) }
 
     ensures made { OnOk result ((told : List (List ℕ)) × (map string_bytes digests.new.items ≡ map string_bytes digests.old.items ++ told)
-        × IsLineMade (base_of studio.now) session (line_of line) (states_in state desk.old.chest) (states_in state desk.new.chest) (known_by seat.old) (known_by seat.new) told) }
+        × IsLineMade (known D.selected D.disk D.reading_faults D.saving_faults) (opening_shelf studio.now) (base_of studio.now) session (line_of line) (states_in state desk.old.chest) (states_in state desk.new.chest) (known_by seat.old) (known_by seat.new) told) }
 {
     match line {
         Line::Call(call) => play_call(

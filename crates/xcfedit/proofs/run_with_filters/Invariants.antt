@@ -3,4 +3,4 @@ use Rattle.std.specs.List.{AllByRecursion}
 use Rattle.xcfedit.proofs.run_with_filters.Given as goal
 
 abbrev pub invariant-loop : goal.invariant-loop
-invariant-loop l = (length l.chest.items ≡ l.counter) × AllByRecursion (λ boxes. length boxes.items < 2 ^ 32) l.chest.items
+invariant-loop g l = (length l.chest.items ≡ l.counter) × AllByRecursion (λ boxes. length boxes.items < 2 ^ 32) l.chest.items

@@ -1,28 +1,28 @@
-use Rattle.std.proofs.Common.{◌≡◌, ◌∙◌, sym, ap, refl, codes, Some, inl, inr, arith, slice_index, true, false}
-use Rattle.std.specs.Prelude.{MatchOption}
-use Rattle.clap.specs.Words.{IsParsedFrom, app_of, found_of, matches_of, rows_of}
-use Rattle.clap.specs.declared.parser.matches.ArgMatches.{ArgMatches}
+use Rattle.std.proofs.Common.{◌≡◌, ◌≤◌, ◌∙◌, sym, ap, codes, Some, arith, subst}
+use Rattle.clap.specs.Words.{app_of, found_of, rows_of}
 use Rattle.spec_command.specs.Arguments.{edit}
-use Rattle.spec_command.specs.Grammar.{is_faultless, edit_app, edit_of}
+use Rattle.spec_command.specs.Grammar.{edit_app, edit_of}
 use Rattle.xl_command.specs.Asking.{arguments_of}
 use Rattle.xl_command.proofs.Given.{asked_given}
-use Rattle.xl_command.proofs.Passed.{number_is_small}
+use Rattle.xl_command.proofs.Passed.{number_is_few, number_is_small, workers_are_taken}
 use Rattle.xl_command.proofs.reading.edit.Goals as goal
 
 pub number_in-requires : goal.number_in-requires
 number_in-requires c =
     let found = rw c.in-Some.is at c.in_ok-matches.ensures.ok in
-    number_is_small c.in_ok-edit_command.field-0 c.in-Some.matches found.2 (codes "edit") (codes "workers") (8) false (omega arith) refl
-    (λ e. let bad = ap (λ l. slice_index l 0) e in absurd (omega (arith, bad)))
-    (λ auto. elim auto [
-      | inl e ↦ let bad = ap (λ l. slice_index l 0) e in absurd (omega (arith, bad))
-      | inr e ↦ let bad = ap (λ l. slice_index l 0) e in absurd (omega (arith, bad))
-    ])
-    c.in_ok-edit_command.ensures
+    λ text has. number_is_small 8 text (omega arith) (workers_are_taken c.in_ok-edit_command.field-0 c.in-Some.matches found.2 c.in_ok-edit_command.ensures text has)
 
-pub returns : goal.returns
-returns c =
+pub returns-clause-asked : goal.returns-clause-asked
+returns-clause-asked c =
     let found = rw c.in-Some.is at c.in_ok-matches.ensures.ok in
     let name = rw c.in-Some-file_in.is at c.file_in.ensures in
     ap (λ n. Some (edit c.in-Some-file_in.name.now n)) c.number_in.ensures
     ∙ asked_given (app_of c.in_ok-edit_command.field-0) edit_app (arguments_of c.args.arguments.now) edit_of c.in-Some.matches c.in-Some-file_in.name.now c.in_ok-edit_command.ensures found.0 found.1 name
+
+pub returns-clause-few : goal.returns-clause-few
+returns-clause-few c =
+    let found = rw c.in-Some.is at c.in_ok-matches.ensures.ok in
+    let few = number_is_few (rows_of (found_of c.in-Some.matches)) (codes "workers") 2 8 (omega arith)
+    (workers_are_taken c.in_ok-edit_command.field-0 c.in-Some.matches found.2 c.in_ok-edit_command.ensures) in
+    let same = c.number_in.ensures in
+    omega (arith, few, same)

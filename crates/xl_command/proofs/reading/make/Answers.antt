@@ -6,22 +6,22 @@ use Rattle.spec_command.specs.Arguments.{make}
 use Rattle.spec_command.specs.Grammar.{is_faultless, make_app, make_of}
 use Rattle.xl_command.specs.Asking.{arguments_of}
 use Rattle.xl_command.proofs.Given.{asked_given}
-use Rattle.xl_command.proofs.Passed.{number_is_small}
+use Rattle.xl_command.proofs.Passed.{number_is_small, number_is_taken}
 use Rattle.xl_command.proofs.reading.make.Goals as goal
 
 pub number_in-requires : goal.number_in-requires
 number_in-requires c =
     let found = rw c.in-Some.is at c.in_ok-matches.ensures.ok in
-    number_is_small c.in_ok-make_command.field-0 c.in-Some.matches found.2 (codes "make") (codes "seed") (2 ^ 32 - 1) true (omega arith) refl
+    λ text has. number_is_small (2 ^ 32 - 1) text (omega arith) (number_is_taken c.in_ok-make_command.field-0 c.in-Some.matches found.2 (codes "make") (codes "seed") (2 ^ 32 - 1) true refl
     (λ e. let bad = ap (λ l. slice_index l 0) e in absurd (omega (arith, bad)))
     (λ auto. elim auto [
       | inl e ↦ let bad = ap (λ l. slice_index l 0) e in absurd (omega (arith, bad))
       | inr e ↦ let bad = ap (λ l. slice_index l 0) e in absurd (omega (arith, bad))
     ])
-    c.in_ok-make_command.ensures
+    c.in_ok-make_command.ensures text has)
 
-pub returns : goal.returns
-returns c =
+pub returns-clause-asked : goal.returns-clause-asked
+returns-clause-asked c =
     let found = rw c.in-Some.is at c.in_ok-matches.ensures.ok in
     let name = rw c.in-Some-file_in.is at c.file_in.ensures in
     ap (λ n. Some (make c.in-Some-file_in.name.now n)) c.number_in.ensures

@@ -7,7 +7,12 @@ pub returns-then-is_err-clause-comes : goal.returns-then-is_err-clause-comes
 returns-then-is_err-clause-comes g c = λ given. (
   c.as_bytes.result.now,
   (
-    record { document = c.in_ok-document.document; held = c.in_ok-document.ensures.loads; same = c.as_bytes.ensures.value ∙ c.in-Ok.ensures },
+    record {
+      document = c.in_ok-document.document;
+      held = c.in_ok-document.ensures.loads;
+      within = c.in_ok-document.ensures.limits;
+      same = c.as_bytes.ensures.value ∙ c.in-Ok.ensures;
+    },
     c.in_ok-document.ensures.untouched,
     tt,
   ),
@@ -18,7 +23,12 @@ pub returns-clause-comes : goal.returns-clause-comes
 returns-clause-comes g c = λ given. (
   c.as_bytes.result.now,
   (
-    record { document = c.in_ok-document.document; held = c.in_ok-document.ensures.loads; same = c.as_bytes.ensures.value ∙ c.in-Ok.ensures },
+    record {
+      document = c.in_ok-document.document;
+      held = c.in_ok-document.ensures.loads;
+      within = c.in_ok-document.ensures.limits;
+      same = c.as_bytes.ensures.value ∙ c.in-Ok.ensures;
+    },
     c.in_ok-document.ensures.untouched,
     refl,
   ),

@@ -10,8 +10,8 @@ use Rattle.xl_core.specs.Editing.{known}
 use Rattle.xl_doc.specs.Numbered.{AreNumbered}
 use Rattle.xl_program.specs.Outcome.{opened, shelved}
 use Rattle.xl_program.proofs.FirstSaves.{ok_at, err_at}
-use Rattle.xl_program.proofs.MadeRuns.{made_is_numbered, made_comes, made_stops, made_cause, same_sum}
-use Rattle.xl_program.proofs.MadeScripts.{script_fits, script_ends}
+use Rattle.xl_program.proofs.MadeRuns.{made_is_numbered, seed_is_made, made_comes, made_stops, made_cause}
+use Rattle.xl_program.proofs.MadeScripts.{script_fits}
 use Rattle.xl_program.proofs.Taken.{untouched}
 use Rattle.xl_program.proofs.making.make.Goals as goal
 
@@ -48,10 +48,9 @@ returns-clause-comes g c = λ given.
     let first : Known = see c.save_first.new.shelf in
     let now : Known = see c.run_made-played.result.shelf in
     let saved = ok_at c.save_first.result (sym c.is_err.ensures.value ∙ c.if-is_err.false) c.save_first.ensures.saved c.args.seed (written c.deref.result.now _ (document c.args.seed) c.deref.ensures.value c.in-Ok.ensures.file) in
-    let ends = script_ends c.args.seed in
-    made_comes (document c.args.seed) (script c.args.seed) ends.0 ends.1 old first now saved g.K.Sink.held g.K.Sink.faults _ _ c.args.sink.now c.write_replies.new.sink
+    made_comes (document c.args.seed) (script c.args.seed) (seed_is_made c.args.seed) old first now saved g.K.Sink.held g.K.Sink.faults _ _ c.args.sink.now c.write_replies.new.sink
     c.run_made-played.result.replies c.write_replies.result
-    (same_sum first now _ (document c.args.seed) _ (script c.args.seed) c.run_made-played.result.replies c.in-Ok.ensures.document c.in-Ok.ensures.script c.run_made-played.ensures)
+    (c.run_made-played.ensures c.args.seed c.in-Ok.ensures.document c.in-Ok.ensures.script)
     c.write_replies.ensures
 
 pub returns-clause-stops : goal.returns-clause-stops
@@ -63,8 +62,8 @@ returns-clause-cause g c =
     let see = known g.D.Shelf.selected g.D.Shelf.disk g.D.Shelf.reading_faults g.D.Shelf.saving_faults in
     let saved = ok_at c.save_first.result (sym c.is_err.ensures.value ∙ c.if-is_err.false) c.save_first.ensures.saved c.args.seed (written c.deref.result.now _ (document c.args.seed) c.deref.ensures.value c.in-Ok.ensures.file) in
     made_cause g.K.Sink.held g.K.Sink.faults c.args.sink.now c.write_replies.new.sink (see c.args.shelf) (see c.run_made-played.result.shelf) c.args.name.now c.args.seed
-    c.run_made-played.result.replies c.write_replies.result (c.run_made-played.ensures.shelf.reading ∙ saved.reading) c.write_replies.ensures
+    c.run_made-played.result.replies c.write_replies.result ((c.run_made-played.ensures c.args.seed c.in-Ok.ensures.document c.in-Ok.ensures.script).shelf.reading ∙ saved.reading) c.write_replies.ensures
 
 pub returns-clause-selected : goal.returns-clause-selected
 returns-clause-selected g c =
-    inr (c.run_made-played.ensures.shelf.selected ∙ ok_at c.save_first.result (sym c.is_err.ensures.value ∙ c.if-is_err.false) c.save_first.ensures.named)
+    inr ((c.run_made-played.ensures c.args.seed c.in-Ok.ensures.document c.in-Ok.ensures.script).shelf.selected ∙ ok_at c.save_first.result (sym c.is_err.ensures.value ∙ c.if-is_err.false) c.save_first.ensures.named)

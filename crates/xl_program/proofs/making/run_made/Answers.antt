@@ -1,20 +1,24 @@
-use Rattle.std.proofs.Common.{ap}
+use Rattle.std.proofs.Common.{ap, ◌∙◌}
+use Rattle.spec_generated.specs.Generated.{document, script}
 use Rattle.xl_core.specs.Editing.{known}
 use Rattle.xl_script.specs.Lines.{lists_of}
-use Rattle.xl_program.proofs.Keeping.{opened_keeps}
-use Rattle.xl_program.proofs.MadeRuns.{nothing_summed, summed_by}
+use Rattle.xl_program.proofs.MadeRuns.{no_states, nothing_summed, same_sum, seed_is_made, summed_on}
 use Rattle.xl_program.proofs.making.run_made.Goals as goal
 
 pub returns-in-Err : goal.returns-in-Err
-returns-in-Err g c =
+returns-in-Err g c = λ seed same_document same_lists.
     let see = known g.D.Shelf.selected g.D.Shelf.disk g.D.Shelf.reading_faults g.D.Shelf.saving_faults in
-    nothing_summed (see c.args.shelf) _ c.args.made.document (lists_of c.args.made.script) record {} (ap (λ kept. see kept.1) c.in-Err.ensures.back)
-
-pub sum_up-replies-requires-clause-kept : goal.sum_up-replies-requires-clause-kept
-sum_up-replies-requires-clause-kept g c κs within = opened_keeps c.in-Ok.core c.args.made.document c.args.shelf c.in-Ok.ensures.ok c.requires.limits c.in-Ok.ensures.right
+    nothing_summed (see c.args.shelf) _ (document seed) (script seed) record {} (ap (λ kept. see kept.1) c.in-Err.ensures.back)
 
 pub returns : goal.returns
-returns g c =
+returns g c = λ seed same_document same_lists.
     let see = known g.D.Shelf.selected g.D.Shelf.disk g.D.Shelf.reading_faults g.D.Shelf.saving_faults in
-    summed_by see c.in-Ok.core c.sum_up-replies.new.core c.args.made.document c.args.shelf c.into_shelf.result (lists_of c.args.made.script) c.sum_up-replies.result
-    (ap (λ k. k.history.base) c.in-Ok.ensures.ok) (ap (λ k. k.opening) c.in-Ok.ensures.ok) c.sum_up-replies.ensures.between c.into_shelf.ensures.right c.sum_up-replies.ensures.told
+    let core = c.in-Ok.core in
+    let played = c.play_beside-core.ensures in
+    let new = c.play_beside-core.result.core in
+    let none = no_states _ c.new.result.items c.new.ensures.items in
+    same_sum (see c.args.shelf) (see core.opening) (see c.into_shelf.result) (document seed) core.history.base (script seed) (lists_of c.args.made.script) c.sum_up-replies.result
+    (ap (λ k. see k.opening) c.in-Ok.ensures.ok) (ap (λ k. k.history.base) c.in-Ok.ensures.ok ∙ same_document) same_lists
+    (λ made. summed_on see core new c.into_shelf.result (lists_of c.args.made.script) _ c.play_beside-core.result.text c.sum_up-replies.result played.base played.opening played.legal c.into_shelf.ensures.right
+    made none played.text c.sum_up-replies.ensures.played c.sum_up-replies.ensures.text c.sum_up-replies.ensures.failed)
+    (seed_is_made seed)

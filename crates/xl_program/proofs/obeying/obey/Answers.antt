@@ -15,7 +15,7 @@ returns-in-Info-clause-comes g c =
     rw c.in-Info.is (c.describe-result.ensures.comes given)
 
 pub returns-in-Edit-clause-comes : goal.returns-in-Edit-clause-comes
-returns-in-Edit-clause-comes g c = rw c.in-Edit.is (c.edit.ensures.comes c.in-Edit.field-1)
+returns-in-Edit-clause-comes g c = rw c.in-Edit.is c.edit.ensures.comes
 
 pub returns-in-Make-clause-comes : goal.returns-in-Make-clause-comes
 returns-in-Make-clause-comes g c =
@@ -35,4 +35,7 @@ returns-in-Info-clause-shelf_cause g c =
 pub returns-in-Edit-clause-shelf_cause : goal.returns-in-Edit-clause-shelf_cause
 returns-in-Edit-clause-shelf_cause g c =
     let see = known g.D.Shelf.selected g.D.Shelf.disk g.D.Shelf.reading_faults g.D.Shelf.saving_faults in
-    rw c.in-Edit.is (cause_of (see c.args.shelf) (see c.edit.result.shelf) (edit c.in-Edit.name.now c.in-Edit.field-1) c.edit.result.result (λ rose. rose) c.edit.ensures.shelf_cause)
+    rw c.in-Edit.is (cause_of (see c.args.shelf) (see c.edit.result.shelf) (edit c.in-Edit.name.now c.in-Edit.workers) c.edit.result.result (λ rose. rose) c.edit.ensures.shelf_cause)
+
+pub edit-requires-clause-workers : goal.edit-requires-clause-workers
+edit-requires-clause-workers g c κs within = rw c.in-Edit.is at c.requires.few

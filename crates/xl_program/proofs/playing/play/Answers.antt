@@ -15,7 +15,6 @@ returns-clause-told g c =
     let told = sessions_told core.history.base opened lists _ core.history.entries (string_bytes c.in_ok-text.text) _ text made.between.base_is made.played made.sessions in
     record {
       text = told;
-      order = made.sessions.order;
-      alone = sessions_alone core.history.base opened lists _ core.history.entries (string_bytes c.in_ok-text.text) _ made.between.base_is made.played made.sessions told;
+      alone = λ none. sessions_alone core.history.base opened lists _ core.history.entries (string_bytes c.in_ok-text.text) _ made.between.base_is made.played made.sessions told;
       failed = rw c.entries-2.ensures at c.has_save_fault-save_failed.ensures;
     }

@@ -1,0 +1,41 @@
+-- A script that was read to its end.
+use Rattle.std.proofs.Common.{◌≡◌, inl, inr, ℕ, true, false, List, sym, ◌∙◌, subst}
+use Rattle.std.specs.Prelude.{Option, Result, Ok, Err}
+use Rattle.xl_ports.specs.Source.{IsEnded}
+use Rattle.xl_program.specs.Outcome.{Given, ComesAfterScript, ReadsToEnd, TellsStop}
+use Rattle.xl_program.specs.Parts.{ReadsScript}
+use Rattle.xl_program.specs.declared.stopped.Stopped.{Stopped}
+use Rattle.xl_program.specs.declared.stopped.Stopped.TheVariants.{SourceFault, BadLine, ShelfFault, Refused, SaveFault, SinkFault, Memory}
+
+-- whatever comes behind it
+pub ended_anyhow : (left : Option (List ℕ)) (result : Result (Unit {0}) Stopped) → IsEnded left → ReadsToEnd left result
+ended_anyhow left (Ok x) ended = ended
+ended_anyhow left (Err SourceFault) ended = tt
+ended_anyhow left (Err (BadLine number)) ended = tt
+ended_anyhow left (Err ShelfFault) ended = ended
+ended_anyhow left (Err (Refused why)) ended = ended
+ended_anyhow left (Err SaveFault) ended = ended
+ended_anyhow left (Err SinkFault) ended = ended
+ended_anyhow left (Err Memory) ended = tt
+
+-- where reading it stops, it need not be
+pub unread : (given : Given) (left : Option (List ℕ)) (why : Stopped) → ReadsScript given (Err why) → ReadsToEnd left (Err why)
+unread given left SourceFault reads = tt
+unread given left (BadLine number) reads = tt
+unread given left ShelfFault reads = absurd reads
+unread given left (Refused refused) reads = absurd reads
+unread given left SaveFault reads = absurd reads
+unread given left SinkFault reads = absurd reads
+unread given left Memory reads = tt
+
+-- so it was at each status that comes behind it
+pub ended_told : {K : Type 0} (held : K → Option (List ℕ)) (faults : K → ℕ) (left : Option (List ℕ)) (stopped : Stopped) (status last : ℕ) (old new : K) → status ≡ last
+    → ComesAfterScript last → TellsStop held faults old new stopped status → ReadsToEnd left (Err stopped) → IsEnded left
+ended_told held faults left SourceFault status last old new same after told reads = let bad : false ≡ true = subst ComesAfterScript (sym same ∙ told.0) after in cc
+ended_told held faults left (BadLine number) status last old new same after (inl told) reads = let bad : false ≡ true = subst ComesAfterScript (sym same ∙ told.0) after in cc
+ended_told held faults left (BadLine number) status last old new same after (inr told) reads = let bad : false ≡ true = subst ComesAfterScript (sym same ∙ told.0) after in cc
+ended_told held faults left ShelfFault status last old new same after told reads = reads
+ended_told held faults left (Refused why) status last old new same after told reads = reads
+ended_told held faults left SaveFault status last old new same after told reads = reads
+ended_told held faults left SinkFault status last old new same after told reads = reads
+ended_told held faults left Memory status last old new same after told reads = let bad : false ≡ true = subst ComesAfterScript (sym same ∙ told.0) after in cc

@@ -1,0 +1,161 @@
+-- The seats of a run, joined one after another.
+use Rattle.std.proofs.Common.{◌≡◌, ℕ, ◌+◌, Bool, true, false, List, [], ◌∷◌, ◌++◌, length, map, flat_map, refl, sym, ap, ◌∙◌, subst, arith, append_assoc, append-nil}
+use Rattle.std.specs.Prelude.{◌&&◌, string_bytes, String, Vec}
+use Rattle.std.specs.List.{AllByRecursion, list_all}
+use Rattle.std.specs.declared.alloc.Global.{Global}
+use Rattle.std.proofs.lemmas.List.Concat.{flat_map-cons}
+use Rattle.std.proofs.lemmas.List.{map-append}
+use mathlib.Core.List.{IsPrefix}
+use Rattle.xl_sessions.specs.Outcomes.{texts_of}
+use Rattle.xl_sessions.specs.Players.{places_of, shown_of, weight_in, AreKnown, AreSeats, HasWorked}
+use Rattle.xl_sessions.specs.declared.players.Player.{Player}
+use Rattle.xl_sessions.specs.declared.players.Worker.{Worker}
+use Rattle.xl_sessions.proofs.Zips.{prefix_trans}
+use Rattle.xl_studio.specs.declared.moment.Moment.{Moment}
+use Rattle.xl_studio.specs.declared.seat.Seat.{Seat}
+use Rattle.xl_studio.specs.declared.seat.Studio.{Studio}
+use Rattle.xl_studio.specs.Seats.{front_of, made_of, weight_of, IsSeatOf}
+use Rattle.xl_studio.specs.State.{State}
+use Rattle.xl_turn.specs.declared.view.Chronicle.{Ghosts}
+use Rattle.xl_turn.specs.Sums.{total}
+
+module _ {K : Type 0} {C : Ghosts (State K) (Moment K)} {X : Type 0} {H : X → Type 0} where
+  -- some players were joined, and these are left
+  pub record IsJoining (studio : Studio K) (before : Seat K C) (all left : List (Player (Seat K C) X H)) (own : Seat K C)
+      (texts : List (Vec (String Global) Global)) (done : Bool) : Type 0 where
+    pub seat : IsSeatOf studio own
+    pub seats : AreSeats studio left
+    pub made : made_of own ++ flat_map places_of left ≡ made_of before ++ flat_map places_of all
+    pub weight : weight_of own + total weight_in left ≡ weight_of before + total weight_in all
+    pub known : (front : List (Moment K)) → IsPrefix (front_of own) front → AreKnown front left
+        → IsPrefix (front_of before) front × AreKnown front all
+    pub shown : texts_of texts ++ map shown_of left ≡ map shown_of all
+    pub done_is : (done && list_all (λ (p : Player (Seat K C) X H). p.done) left)
+        ≡ list_all (λ (p : Player (Seat K C) X H). p.done) all
+
+  pub joining_none : (studio : Studio K) (own : Seat K C) (all left : List (Player (Seat K C) X H))
+      (texts : List (Vec (String Global) Global)) → left ≡ all → texts ≡ [] → IsSeatOf studio own → AreSeats studio all
+      → IsJoining studio own all left own texts true
+  joining_none studio own all left texts whole none seat seats =
+      subst (λ (ps : List (Player (Seat K C) X H)). IsJoining studio own all ps own texts true) (sym whole)
+      (subst (λ ts. IsJoining studio own all all own ts true) (sym none) (record {
+        seat = seat;
+        seats = seats;
+        made = refl;
+        weight = refl;
+        known = λ front begins known. (begins, known);
+        shown = refl;
+        done_is = refl;
+      }))
+
+  module _ {studio : Studio K} {before own : Seat K C} {all left : List (Player (Seat K C) X H)}
+      {texts : List (Vec (String Global) Global)} {done : Bool}
+      (p : Player (Seat K C) X H) (rest : List (Player (Seat K C) X H)) (up : IsJoining studio before all left own texts done)
+      (turn : left ≡ p ∷ rest) where
+    now : IsJoining studio before all (p ∷ rest) own texts done
+    now = subst (λ (ps : List (Player (Seat K C) X H)). IsJoining studio before all ps own texts done) turn up
+
+    pub joining_seat : IsSeatOf studio p.seat
+    joining_seat = now.seats.0
+
+    and_more : (a b c : Bool) → ((a && b) && c) ≡ (a && (b && c))
+    and_more true b c = refl
+    and_more false b c = refl
+
+    pub joining_more : (new : Seat K C) (more : List (Vec (String Global) Global)) (still : Bool) → IsSeatOf studio new
+        → made_of new ≡ made_of own ++ made_of p.seat → weight_of new ≡ weight_of own + weight_of p.seat
+        → IsPrefix (front_of own) (front_of new) → IsPrefix (front_of p.seat) (front_of new) → more ≡ texts ++ p.digests ∷ []
+        → still ≡ (done && p.done)
+        → IsJoining studio before all rest new more still
+    joining_more new more still seat made weight begins other longer still_is =
+        let was = now.weight in
+        record {
+          seat = seat;
+          seats = now.seats.1;
+          made = ap (λ (ps : List ℕ). ps ++ flat_map places_of rest) made
+              ∙ append_assoc (made_of own) (made_of p.seat) (flat_map places_of rest)
+              ∙ ap (λ (ps : List ℕ). made_of own ++ ps) (sym (flat_map-cons places_of p rest)) ∙ now.made;
+          weight = omega (arith, was, weight);
+          known = λ front at known. now.known front (prefix_trans (front_of own) (front_of new) front begins at)
+              (prefix_trans (front_of p.seat) (front_of new) front other at, known);
+          shown = ap (λ ts. texts_of ts ++ map shown_of rest) longer
+              ∙ ap (λ (ts : List (List (List ℕ))). ts ++ map shown_of rest)
+              (map-append (λ (ts : Vec (String Global) Global). map string_bytes ts.items) texts (p.digests ∷ []))
+              ∙ append_assoc (texts_of texts) (shown_of p ∷ []) (map shown_of rest) ∙ now.shown;
+          done_is = ap (λ (b : Bool). b && list_all (λ (q : Player (Seat K C) X H). q.done) rest) still_is
+              ∙ and_more done p.done (list_all (λ (q : Player (Seat K C) X H). q.done) rest) ∙ now.done_is;
+        }
+
+  module _ {studio : Studio K} {before own : Seat K C} {all left : List (Player (Seat K C) X H)}
+      {texts : List (Vec (String Global) Global)} {done : Bool}
+      (up : IsJoining studio before all left own texts done) (none : left ≡ []) where
+    end : IsJoining studio before all [] own texts done
+    end = subst (λ (ps : List (Player (Seat K C) X H)). IsJoining studio before all ps own texts done) none up
+
+    pub joined_made : made_of own ≡ made_of before ++ flat_map places_of all
+    joined_made = sym (append-nil (made_of own)) ∙ end.made
+
+    pub joined_weight : weight_of own ≡ weight_of before + total weight_in all
+    joined_weight = let was = end.weight in omega (arith, was)
+
+    self : IsPrefix (front_of own) (front_of own)
+    self = ([], append-nil (front_of own))
+
+    pub joined_begins : IsPrefix (front_of before) (front_of own)
+    joined_begins = (end.known (front_of own) self tt).0
+
+    pub joined_known : AreKnown (front_of own) all
+    joined_known = (end.known (front_of own) self tt).1
+
+    pub joined_shown : texts_of texts ≡ map shown_of all
+    joined_shown = sym (append-nil (texts_of texts)) ∙ end.shown
+
+    and_true : (b : Bool) → (b && true) ≡ b
+    and_true true = refl
+    and_true false = refl
+
+    pub joined_done : done ≡ list_all (λ (p : Player (Seat K C) X H). p.done) all
+    joined_done = sym (and_true done) ∙ end.done_is
+
+module _ {K : Type 0} {C : Ghosts (State K) (Moment K)} where
+  -- some workers were joined, and these are left
+  pub record AreJoiningWorkers (studio : Studio K) (before : Seat K C) (count : ℕ) (left : List (Worker (Seat K C)))
+      (own : Seat K C) : Type 0 where
+    pub seat : IsSeatOf studio own
+    pub worked : AllByRecursion (HasWorked studio) left
+    pub made : made_of own ≡ made_of before
+    pub weight : weight_of own + length left ≡ weight_of before + count
+    pub begins : IsPrefix (front_of before) (front_of own)
+
+  pub workers_none : (studio : Studio K) (own : Seat K C) (all left : List (Worker (Seat K C))) → left ≡ all → IsSeatOf studio own
+      → AllByRecursion (HasWorked studio) all → AreJoiningWorkers studio own (length all) left own
+  workers_none studio own all left whole seat worked = record {
+    seat = seat;
+    worked = subst (AllByRecursion (HasWorked studio)) (sym whole) worked;
+    made = refl;
+    weight = ap (λ n. weight_of own + n) (ap length whole);
+    begins = ([], append-nil (front_of own));
+  }
+
+  module _ {studio : Studio K} {before own : Seat K C} {count : ℕ} {left : List (Worker (Seat K C))} (w : Worker (Seat K C))
+      (rest : List (Worker (Seat K C))) (up : AreJoiningWorkers studio before count left own) (turn : left ≡ w ∷ rest) where
+    first_worked : AllByRecursion (HasWorked studio) (w ∷ rest)
+    first_worked = subst (AllByRecursion (HasWorked studio)) turn up.worked
+
+    pub worker_seat : IsSeatOf studio w.seat
+    worker_seat = first_worked.0.seat
+
+    pub workers_more : (new : Seat K C) → IsSeatOf studio new → made_of new ≡ made_of own ++ made_of w.seat
+        → weight_of new ≡ weight_of own + weight_of w.seat → IsPrefix (front_of own) (front_of new)
+        → AreJoiningWorkers studio before count rest new
+    workers_more new seat made weight begins =
+        let was = up.weight in
+        let longer = ap length turn in
+        let one = first_worked.0.light in
+        record {
+          seat = seat;
+          worked = first_worked.1;
+          made = made ∙ ap (λ (ps : List ℕ). made_of own ++ ps) first_worked.0.none ∙ append-nil (made_of own) ∙ up.made;
+          weight = omega (arith, was, longer, one, weight);
+          begins = prefix_trans (front_of before) (front_of own) (front_of new) up.begins begins;
+        }

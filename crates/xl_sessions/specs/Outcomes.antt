@@ -1,0 +1,34 @@
+-- What became of the lines of some sessions beside each other.
+use Rattle.std.specs.Prelude.{◌≡◌, ℕ, suc, Bool, true, List, [], ◌∷◌, map, slice_get, unwrap_or, string_bytes, String, Vec}
+use Rattle.std.specs.declared.alloc.Global.{Global}
+use Rattle.spec_document.specs.Document.{Document}
+use Rattle.spec_filters.specs.declared.FilterState.{FilterState}
+use Rattle.spec_history.specs.History.{Entry}
+use Rattle.spec_script.specs.Script.{Line}
+use Rattle.spec_seats.specs.Digests.{digests_in}
+use Rattle.spec_seats.specs.Made.{IsOf, HasMade}
+use Rattle.spec_seats.specs.Picked.{picked}
+
+-- a session's own list, and none past the last one
+abbrev pub list_at : {A : Type 0} → List (List A) → (session : ℕ) → List A
+list_at lists session = unwrap_or (slice_get lists session) []
+
+-- the fact holds of each, the first of which is that of the session `first`
+abbrev pub FromFirst : {P : Type 0} → (Q : ℕ → P → Type 0) → (first : ℕ) → List P → Type 0
+FromFirst Q first [] = Unit {0}
+FromFirst Q first (p ∷ ps) = Q first p × FromFirst Q (suc first) ps
+
+-- Of the history that the session knows, the entries at these places are its own, and its saves have ended. Where all its lines were
+-- played they are those of the lines, and it has the digests of the tiles that it was shown.
+pub record IsOutcome (base : Document) (session : ℕ) (filters : List FilterState) (lines : List Line) (es : List Entry) (places : List ℕ) (shown : List (List ℕ)) (done : Bool) : Type 0 where
+  pub of : IsOf session places es
+  pub made : done ≡ true → HasMade session filters lines places es
+  pub told : done ≡ true → shown ≡ digests_in base es (picked places es)
+
+-- the states of filters in boxes, session by session; `state` is that of a box
+abbrev pub states_of : {B : Type 0} → (state : B → FilterState) → List (Vec B Global) → List (List FilterState)
+states_of state lists = map (λ boxes. map state boxes.items) lists
+
+-- the bytes of some texts, list by list
+abbrev pub texts_of : List (Vec (String Global) Global) → List (List (List ℕ))
+texts_of lists = map (λ texts. map string_bytes texts.items) lists

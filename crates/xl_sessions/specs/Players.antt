@@ -1,0 +1,177 @@
+-- The sessions and the workers of a run: what they bring, their seats, and what they have made.
+use Rattle.std.specs.Prelude.{◌≡◌, ℕ, suc, ◌<◌, ◌≤◌, Bool, true, false, List, [], ◌∷◌, length, map, option_map, Option, Some, None, slice_get, unwrap_or, string_bytes, vec_capacity, Vec}
+use Rattle.std.specs.List.{AllByRecursion, AllZip}
+use Rattle.std.specs.declared.alloc.Global.{Global}
+use mathlib.Core.List.{IsPrefix}
+use Rattle.spec_filters.specs.declared.FilterState.{FilterState}
+use Rattle.spec_history.specs.History.{latest_of}
+use Rattle.spec_script.specs.Script.{Line}
+use Rattle.spec_script.specs.Fits.{AreFit}
+use Rattle.spec_seats.specs.Digests.{digests_in}
+use Rattle.spec_seats.specs.Made.{IsOf, HasMade}
+use Rattle.spec_seats.specs.Picked.{picked}
+use Rattle.spec_tables.specs.Agrees.{Agrees}
+use Rattle.xl_filters.specs.Chests.{states}
+use Rattle.xl_filters.specs.declared.chest.Slot.{Slot}
+use Rattle.xl_script.specs.Lines.{lines_of}
+use Rattle.xl_sessions.specs.Outcomes.{list_at, FromFirst, IsOutcome}
+use Rattle.xl_sessions.specs.Playing.{HasAll}
+use Rattle.xl_sessions.specs.declared.players.Part.{Part}
+use Rattle.xl_sessions.specs.declared.players.Player.{Player}
+use Rattle.xl_sessions.specs.declared.players.Worker.{Worker}
+use Rattle.xl_sessions.specs.declared.players.Room.{Room}
+use Rattle.xl_studio.specs.declared.moment.Moment.{Moment}
+use Rattle.xl_studio.specs.declared.seat.Seat.{Seat}
+use Rattle.xl_studio.specs.declared.seat.Studio.{Studio}
+use Rattle.xl_studio.specs.Jobs.{job_out}
+use Rattle.xl_studio.specs.Moments.{entries_in}
+use Rattle.xl_studio.specs.Seats.{base_of, front_of, made_of, weight_of, IsSeatOf}
+use Rattle.xl_studio.specs.State.{State}
+use Rattle.xl_turn.specs.declared.view.Chronicle.{Ghosts}
+
+-- the boxes of a session, none past the last list
+abbrev pub boxes_at : {B : Type 0} → List (Vec B Global) → (session : ℕ) → List B
+boxes_at lists session = unwrap_or (option_map (λ boxes. boxes.items) (slice_get lists session)) []
+
+-- what a box holds in its slot, as another crate's clauses see it
+abbrev pub in_slots : {X : Type 0} {H : X → Type 0} → (state : (x : X) × H x → FilterState) → Slot X H → FilterState
+in_slots state s = state (s.filter.vtable, s.filter.value)
+
+-- ---- what the sessions bring
+
+module _ {X : Type 0} {H : X → Type 0} where
+  -- a session's number, its lines and its filters, all of them in their slots
+  pub record IsBrought (state : Slot X H → FilterState) (session : ℕ) (filters : List FilterState) (lines : List Line) (p : Part X H) : Type 0 where
+    pub session_is : p.session ≡ session
+    pub lines_are : lines_of p.lines.items ≡ lines
+    pub chest_is : states state p.desk.chest ≡ map (λ s. Some s) filters
+
+  -- those of all sessions, the first of which has the number `first`
+  abbrev pub AreBrought : (state : Slot X H → FilterState) → (chests : List (List FilterState)) → (lists : List (List Line)) → (first : ℕ) → List (Part X H) → Type 0
+  AreBrought state chests lists first ps = FromFirst (λ session p. IsBrought state session (list_at chests session) (list_at lists session) p) first ps
+
+  -- they are those of some script
+  abbrev pub AreOfAScript : (state : Slot X H → FilterState) → List (Part X H) → Type 0
+  AreOfAScript state ps = (chests : List (List FilterState)) × (lists : List (List Line)) × AreBrought state chests lists 0 ps
+
+  -- the lines name no filter that is not there
+  pub record IsFitPart (state : Slot X H → FilterState) (session : ℕ) (p : Part X H) : Type 0 where
+    pub session_is : p.session ≡ session
+    pub all : HasAll (states state p.desk.chest)
+    pub fit : AreFit (length (states state p.desk.chest)) [] (lines_of p.lines.items)
+
+  abbrev pub AreFitParts : (state : Slot X H → FilterState) → List (Part X H) → Type 0
+  AreFitParts state ps = FromFirst (IsFitPart state) 0 ps
+
+-- ---- the players
+
+module _ {K : Type 0} {C : Ghosts (State K) (Moment K)} {X : Type 0} {H : X → Type 0} where
+  abbrev pub places_of : Player (Seat K C) X H → List ℕ
+  places_of p = made_of p.seat
+
+  -- the digests of the tiles that the session was shown
+  abbrev pub shown_of : Player (Seat K C) X H → List (List ℕ)
+  shown_of p = map string_bytes p.digests.items
+
+  abbrev pub weight_in : Player (Seat K C) X H → ℕ
+  weight_in p = weight_of p.seat
+
+  -- the part with a seat that knows this front and has made nothing
+  pub record IsSeated (studio : Studio K) (front : List (Moment K)) (part : Part X H) (p : Player (Seat K C) X H) : Type 0 where
+    pub part_is : p.part ≡ part
+    pub seat : IsSeatOf studio p.seat
+    pub front_is : front_of p.seat ≡ front
+    pub none : made_of p.seat ≡ []
+    pub light : weight_of p.seat ≡ 1
+    pub blank : p.digests.items ≡ []
+
+  abbrev pub AreSeated : Studio K → (front : List (Moment K)) → List (Part X H) → List (Player (Seat K C) X H) → Type 0
+  AreSeated studio front parts players = AllZip (IsSeated studio front) parts players
+
+  -- all that a session needs for its lines
+  pub record CanPlay (state : Slot X H → FilterState) (studio : Studio K) (p : Player (Seat K C) X H) : Type 0 where
+    pub below : p.part.session < 8
+    pub seat : IsSeatOf studio p.seat
+    pub none : made_of p.seat ≡ []
+    pub unchanged : latest_of (entries_in (front_of p.seat)) ≡ 0
+    pub all : HasAll (states state p.part.desk.chest)
+    pub fit : AreFit (length (states state p.part.desk.chest)) [] (lines_of p.part.lines.items)
+    pub blank : map string_bytes p.digests.items ≡ []
+
+  -- What the session has made is its own, and its saves have ended. Where it is done, that is what its part says, and it has the digests
+  -- of what it was shown.
+  pub record HasPlayed (state : Slot X H → FilterState) (studio : Studio K) (part : Part X H) (weight : ℕ) (p : Player (Seat K C) X H) : Type 0 where
+    pub seat : IsSeatOf studio p.seat
+    pub weight_is : weight_of p.seat ≡ weight
+    pub of : IsOf part.session (made_of p.seat) (entries_in (front_of p.seat))
+    pub made : p.done ≡ true → (filters : List FilterState) → Agrees (states state part.desk.chest) filters
+        → HasMade part.session filters (lines_of part.lines.items) (made_of p.seat) (entries_in (front_of p.seat))
+    pub told : p.done ≡ true → shown_of p ≡ digests_in (base_of studio) (entries_in (front_of p.seat)) (picked (made_of p.seat) (entries_in (front_of p.seat)))
+
+  -- a player before and after its lines
+  abbrev pub Plays : (state : Slot X H → FilterState) → Studio K → (old new : Player (Seat K C) X H) → Type 0
+  Plays state studio old new = HasPlayed state studio old.part (weight_of old.seat) new
+
+  -- what became of each part
+  abbrev pub HavePlayed : (state : Slot X H → FilterState) → Studio K → List (Part X H) → List (Player (Seat K C) X H) → Type 0
+  HavePlayed state studio parts players = AllZip (λ part p. HasPlayed state studio part 1 p) parts players
+
+  -- ---- by the sessions' numbers
+
+  -- the seat's entries are the session's
+  pub record IsOfSession (studio : Studio K) (session : ℕ) (p : Player (Seat K C) X H) : Type 0 where
+    pub seat : IsSeatOf studio p.seat
+    pub light : weight_of p.seat ≡ 1
+    pub of : IsOf session (made_of p.seat) (entries_in (front_of p.seat))
+
+  abbrev pub AreOfSessions : Studio K → List (Player (Seat K C) X H) → Type 0
+  AreOfSessions studio players = FromFirst (IsOfSession studio) 0 players
+
+  -- what became of the lines of each session
+  abbrev pub HaveOutcomes : Studio K → (chests : List (List FilterState)) → (lists : List (List Line)) → List (Player (Seat K C) X H) → Type 0
+  HaveOutcomes studio chests lists players =
+      FromFirst (λ session p. IsOutcome (base_of studio) session (list_at chests session) (list_at lists session) (entries_in (front_of p.seat)) (made_of p.seat) (shown_of p) p.done) 0 players
+
+  abbrev pub HaveSomeOutcomes : Studio K → List (Player (Seat K C) X H) → Type 0
+  HaveSomeOutcomes studio players = (chests : List (List FilterState)) × (lists : List (List Line)) × HaveOutcomes studio chests lists players
+
+  -- ---- joined
+
+  abbrev pub AreSeats : Studio K → List (Player (Seat K C) X H) → Type 0
+  AreSeats studio players = AllByRecursion (λ p. IsSeatOf studio p.seat) players
+
+  -- what each seat knows begins this front
+  abbrev pub AreKnown : (front : List (Moment K)) → List (Player (Seat K C) X H) → Type 0
+  AreKnown front players = AllByRecursion (λ p. IsPrefix (front_of p.seat) front) players
+
+-- ---- the workers
+
+module _ {K : Type 0} {C : Ghosts (State K) (Moment K)} where
+  -- it has made nothing, and has no job out
+  pub record IsFree (studio : Studio K) (w : Worker (Seat K C)) : Type 0 where
+    pub seat : IsSeatOf studio w.seat
+    pub none : made_of w.seat ≡ []
+    pub light : weight_of w.seat ≡ 1
+    pub job : job_out w.seat ≡ None
+    pub going : w.seat.closed ≡ false
+
+  abbrev pub AreFree : Studio K → List (Worker (Seat K C)) → Type 0
+  AreFree studio workers = AllByRecursion (IsFree studio) workers
+
+  -- it has made no entry
+  pub record HasWorked (studio : Studio K) (w : Worker (Seat K C)) : Type 0 where
+    pub seat : IsSeatOf studio w.seat
+    pub none : made_of w.seat ≡ []
+    pub light : weight_of w.seat ≡ 1
+
+-- ---- the memory
+
+-- there is room for the eight players, their digests, and so many workers
+pub record HasRoom {K : Type 0} {C : Ghosts (State K) (Moment K)} {X : Type 0} {H : X → Type 0} (workers : ℕ) (room : Room (Seat K C) X H) : Type 0 where
+  pub eight : length room.parts.items ≡ 8
+  pub none_seated : room.players.items ≡ []
+  pub none_working : room.workers.items ≡ []
+  pub none_shown : room.digests.items ≡ []
+  pub players : 8 ≤ vec_capacity room.players
+  pub workers_have : workers ≤ vec_capacity room.workers
+  pub digests : 8 ≤ vec_capacity room.digests

@@ -1,0 +1,38 @@
+//! What each session and each worker of a run has for itself.
+use xl_core::Desk;
+use xl_script::Line;
+
+/// What a session brings to a run: its lines, and the desk with its filters.
+#[derive(Drop)]
+pub(crate) struct Part {
+    pub(crate) session: u8,
+    pub(crate) lines: Vec<Line>,
+    pub(crate) desk: Desk,
+}
+
+/// A session with its seat, of the type `S`.
+#[derive(Drop)]
+pub(crate) struct Player<S> {
+    pub(crate) part: Part,
+    pub(crate) seat: S,
+    // The digests of the tiles that it was shown.
+    pub(crate) digests: Vec<String>,
+    // Whether all its lines were played.
+    pub(crate) done: bool,
+}
+
+/// A worker with its seat, of the type `S`.
+#[derive(Drop)]
+pub(crate) struct Worker<S> {
+    pub(crate) number: u8,
+    pub(crate) seat: S,
+}
+
+/// All memory that the sessions and the workers of a run need before they start.
+#[derive(Drop)]
+pub(crate) struct Room<S> {
+    pub(crate) parts: Vec<Part>,
+    pub(crate) players: Vec<Player<S>>,
+    pub(crate) workers: Vec<Worker<S>>,
+    pub(crate) digests: Vec<Vec<String>>,
+}
