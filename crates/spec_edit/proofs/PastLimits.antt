@@ -1,6 +1,6 @@
 -- A refusal for a limit carries what the document would come to.
 use Rattle.std.proofs.Common.{◌≡◌, ℕ, ◌+◌, ◌-◌, ◌*◌, ◌^◌, ◌<◌, ◌≤◌, Bool, true, false, nat_eq, not, List, [], ◌∷◌, ◌++◌, length, refl, sym, ◌∙◌, subst, ap, arith, length-append}
-use Rattle.std.specs.Prelude.{ℤ, pos, negsuc, Option, Some, None, is_none, nat_le, ◌==◌, int_le, ◌&&◌}
+use Rattle.std.specs.Prelude.{ℤ, pos, Option, Some, None, is_none, nat_le, ◌==◌, ◌&&◌}
 use Rattle.std.specs.List.{IsDistinct, list_any}
 use Rattle.std.proofs.lemmas.Bool.{leb-false}
 use Rattle.spec_forest.specs.Forest.{Found, nothing, a_leaf, a_group, none, leaf, group, size, total, levels, ids, find}
@@ -15,7 +15,7 @@ use Rattle.spec_grid.specs.declared.Rect.{Rect}
 use Rattle.spec_document.specs.declared.Base.{Base}
 use Rattle.spec_document.specs.Document.{Document, Nodes, Layer, Group, Channel, base_of_kind, base_code, mask_area, area, nodes_area}
 use Rattle.spec_document.specs.declared.Owner.TheVariants as owners
-use Rattle.spec_document.specs.Limits.{IsName, IsLayer, IsChannel, IsDocument}
+use Rattle.spec_document.specs.Limits.{is_offset, IsName, IsLayer, IsChannel, IsDocument}
 use Rattle.spec_edit.specs.declared.EditRefused.{EditRefused}
 use Rattle.spec_edit.specs.declared.EditRefused.TheVariants.{NotGroup, Inside, BadPlace, OutsideLayer, OtherType, NoMask, HasMask, NoChannel, NotIndexed, ModeRefused, TooMany, TooLarge, OffsetRange, BadName, GroupInIndexed, TooDeep}
 use Rattle.spec_edit.specs.Edit.{Edit, fill, write, filter, copy_rect, fill_mask, fill_channel, set_opacity, set_mode, set_visible, set_offset, rename, set_apply_mask, add_mask, drop_mask, new_layer, new_group, delete, restack, select, select_none, add_channel, drop_channel, set_colours}
@@ -26,6 +26,7 @@ use Rattle.spec_edit.proofs.FieldsLimited.{layer_area}
 use Rattle.spec_edit.proofs.CanvasLimited.{select_area}
 use Rattle.spec_edit.proofs.RulesNeeded.{offsets_needed, name_needed, are-put, leaf_is, node_is, Changed, a_layer, a_group_of, last-all}
 use Rattle.spec_edit.proofs.NodesLimited.{deep_at, put_place, parent_found, deep_is, restack_put}
+use Rattle.spec_forest.specs.declared.TheConstants.{MAX_NODES}
 
 -- ---- rules that speak of no limit
 
@@ -120,7 +121,7 @@ sized test x rules r edit new tells e next = then_says (unless test x) rules r e
 -- ---- what would become of it
 
 abbrev offset_test : (x y : ℤ) → Bool
-offset_test x y = (int_le (negsuc 262143) x && int_le x (pos 262144)) && (int_le (negsuc 262143) y && int_le y (pos 262144))
+offset_test x y = is_offset x && is_offset y
 
 abbrev name_test : List ℕ → Bool
 name_test name = nat_le (length name) 4096 && not (list_any (λ b. b == 0) name)
@@ -227,14 +228,14 @@ add_channel_tells d next table name r e =
 
 -- the last rules of a new node
 new_node_tells : (d : Document) (nodes branch : Nodes) (parent pixels : ℕ) (edit : Edit) (r : EditRefused) → levels d.nodes ≤ 8
-    → ((count : ℕ) → IsTooMany edit (record d { nodes = nodes }) count ≡ ((size nodes ≡ count) × (512 < count)))
+    → ((count : ℕ) → IsTooMany edit (record d { nodes = nodes }) count ≡ ((size nodes ≡ count) × (MAX_NODES < count)))
     → PutIn branch d.nodes nodes (deep_at d.nodes parent) → size branch ≡ 1 → levels branch ≡ 1 → nodes_area (d.width * d.height) branch ≡ pixels
-    → first (too_deep d.nodes parent 1 ∷ too_many (size d.nodes + 1) 512 ∷ too_large (area d + pixels) ∷ []) ≡ Some r
+    → first (too_deep d.nodes parent 1 ∷ too_many (size d.nodes + 1) MAX_NODES ∷ too_large (area d + pixels) ∷ []) ≡ Some r
     → IsPastLimit r edit (record d { nodes = nodes })
 new_node_tells d nodes branch parent pixels edit r low nodes_many p one_node one_level takes e =
     let new : Document = record d { nodes = nodes } in
     let r3 = too_large (area d + pixels) ∷ [] in
-    let r2 = too_many (size d.nodes + 1) 512 ∷ r3 in
+    let r2 = too_many (size d.nodes + 1) MAX_NODES ∷ r3 in
     let sizes = size-put branch d.nodes nodes (deep_at d.nodes parent) p in
     let count : size nodes ≡ size d.nodes + 1 = omega (arith, sizes, one_node) in
     let adds = total-put branch d.nodes nodes (deep_at d.nodes parent) p layer_area (λ g. d.width * d.height) in
@@ -242,8 +243,8 @@ new_node_tells d nodes branch parent pixels edit r low nodes_many p one_node one
     omega (arith, lowest branch d.nodes nodes (deep_at d.nodes parent) p low (omega (arith, past_it, one_level)), one_level) in
     sized (nat_le (depth_below d.nodes parent + 1 - 1) 8) (TooDeep (depth_below d.nodes parent + 1 - 1)) r2 r edit new
     (too_deep_tells d.nodes parent 1 edit new deepest) e (λ h1 e1.
-    sized (nat_le (size d.nodes + 1) 512) (TooMany (size d.nodes + 1)) r3 r edit new
-    (λ full. subst (λ T. T) (sym (nodes_many (size d.nodes + 1))) (count, leb-false (size d.nodes + 1) 512 full)) e1 (λ h2 e2.
+    sized (nat_le (size d.nodes + 1) MAX_NODES) (TooMany (size d.nodes + 1)) r3 r edit new
+    (λ full. subst (λ T. T) (sym (nodes_many (size d.nodes + 1))) (count, leb-false (size d.nodes + 1) MAX_NODES full)) e1 (λ h2 e2.
     sized (nat_le (area d + pixels) (2 ^ 28)) (TooLarge (area d + pixels)) [] r edit new
     (too_large_tells (area d + pixels) edit new (omega (arith, adds, takes))) e2
     (λ h3 e3. no_more r edit new e3)))
@@ -256,7 +257,7 @@ new_layer_tells d next table parent place x y w h kind name r k e =
     let branch : Nodes = leaf next (layer_made x y w h kind name) none in
     let nodes : Nodes = put_into parent place branch d.nodes in
     let new : Document = record d { nodes = nodes } in
-    let r7 = too_deep d.nodes parent 1 ∷ too_many (size d.nodes + 1) 512 ∷ too_large (area d + w * h) ∷ [] in
+    let r7 = too_deep d.nodes parent 1 ∷ too_many (size d.nodes + 1) MAX_NODES ∷ too_large (area d + w * h) ∷ [] in
     let r6 = bad_name name ∷ r7 in
     let r5 = unless (base_of_kind kind == base_code d.base) OtherType ∷ r6 in
     let r4 = offset_range x y ∷ r5 in
@@ -280,7 +281,7 @@ new_group_tells d next table parent place name r k e =
     let branch : Nodes = group next (group_made name) none none in
     let nodes : Nodes = put_into parent place branch d.nodes in
     let new : Document = record d { nodes = nodes } in
-    let r6 = too_deep d.nodes parent 1 ∷ too_many (size d.nodes + 1) 512 ∷ too_large (area d + canvas_area d) ∷ [] in
+    let r6 = too_deep d.nodes parent 1 ∷ too_many (size d.nodes + 1) MAX_NODES ∷ too_large (area d + canvas_area d) ∷ [] in
     let r5 = bad_name name ∷ r6 in
     let r4 = bad_place d.nodes parent place ∷ r5 in
     let r3 = not_group d parent ∷ r4 in

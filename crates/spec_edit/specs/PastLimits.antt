@@ -6,11 +6,12 @@ use Rattle.spec_document.specs.Limits.{IsDocument}
 use Rattle.spec_edit.specs.declared.EditRefused.{EditRefused}
 use Rattle.spec_edit.specs.declared.EditRefused.TheVariants.{NoNode, IsGroup, NotGroup, Inside, BadPlace, OutsideLayer, OtherType, NoMask, HasMask, NoChannel, NotIndexed, ModeRefused, TooMany, TooLarge, OffsetRange, BadName, GroupInIndexed, TooDeep}
 use Rattle.spec_edit.specs.Edit.{Edit, add_channel}
+use Rattle.spec_forest.specs.declared.TheConstants.{MAX_NODES}
 
 -- how many there would be, of channels or of nodes, and that these are too many
 abbrev pub IsTooMany : Edit → Document → (count : ℕ) → Type 0
 IsTooMany (add_channel name) new count = (length new.channels ≡ count) × (64 < count)
-IsTooMany edit new count = (size new.nodes ≡ count) × (512 < count)
+IsTooMany edit new count = (size new.nodes ≡ count) × (MAX_NODES < count)
 
 -- The number that a refusal for a limit carries is what the document would come to, and is past the limit. With an offset or a name
 -- that is refused it would be no document. The other refusals are for no limit.

@@ -21,6 +21,7 @@ use Rattle.spec_file.specs.Holds.{AddsChannel, AddChannels}
 use Rattle.spec_file.proofs.SumsBack.{passes_back}
 use Rattle.spec_file.proofs.NodesAre.{IsWithin}
 use Rattle.spec_file.proofs.ChannelsAre.{what_adds}
+use Rattle.spec_document.specs.declared.numbers.TheConstants.{SELECTION}
 
 -- a channel is added, and the document is within the limits again
 record IsChannel (file : List ℕ) (at : ℕ) (old new : Document) : Type 0 where
@@ -50,7 +51,7 @@ channel_back file at place old new all w few e =
     let c = unless_back (passes owners.Channel (all_kept old) props.0.list) _ new props.2 in
     let hierarchy = bind_back (pointer_at file (props.0.end + 8) BadHierarchy) _ new c.1 in
     let selection = is_selection props.0.list in
-    let d = wants_back (not selection || is_none old.selection) (fault TwoSelections (place_of 4 props.0.list)) _ new hierarchy.2 in
+    let d = wants_back (not selection || is_none old.selection) (fault TwoSelections (place_of SELECTION props.0.list)) _ new hierarchy.2 in
     let f = wants_back (selection || nat_lt (length old.channels) 64) (fault TooMany place) _ new d.1 in
     let g = wants_back (nat_le (area old + old.width * old.height) (2 ^ 28)) (fault TooLarge at) _ new f.1 in
     let plane = bind_back (hierarchy_at file hierarchy.0 old.width old.height 1 old.compression) _ new g.1 in

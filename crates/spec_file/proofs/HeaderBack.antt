@@ -15,6 +15,7 @@ use Rattle.spec_fields.proofs.Back.{bind_back, wants_back}
 use Rattle.spec_fields.proofs.FieldsBack.{word_first, given_back}
 use Rattle.spec_file.specs.Header.{magic, begins, version_of, base_of, is_indexed, is_side, Header, side_at, header_of}
 use Rattle.spec_file.specs.Holds.{HasHeader}
+use Rattle.spec_grid.specs.declared.TheConstants.{MAX_SIDE}
 
 pub both_hold : (a b : Bool) → (a && b) ≡ true → (a ≡ true) × (b ≡ true)
 both_hold true true e = (refl, refl)
@@ -23,7 +24,7 @@ both_hold false b e = cc
 
 pub side_back : (n : ℕ) → is_side n ≡ true → IsSide n
 side_back n e =
-    let both = both_hold (nat_le 1 n) (nat_le n 8192) e in (leb-true 1 n both.0, leb-true n 8192 both.1)
+    let both = both_hold (nat_le 1 n) (nat_le n MAX_SIDE) e in (leb-true 1 n both.0, leb-true n MAX_SIDE both.1)
 
 side_has : (file : List ℕ) (at n : ℕ) → side_at file at ≡ Ok n → HasWord file at n × IsSide n
 unfolding side_at

@@ -16,6 +16,7 @@ use Rattle.spec_file.specs.Holds.{Holds}
 use Rattle.spec_file.proofs.ForestGrows.{AreUpTo, none_up_to}
 use Rattle.spec_file.proofs.NodesWithin.{IsGrown, nodes_within}
 use Rattle.spec_file.proofs.ChannelsWithin.{HasSheets, channels_within}
+use Rattle.spec_forest.specs.declared.TheConstants.{MAX_NODES}
 
 colours_are : (base : Base) (colours : List (List ℕ)) → (length colours ≤ 256) × AllByRecursion IsColour colours → AreColours base (if is_indexed base then colours else [])
 colours_are Rgb colours h = refl
@@ -26,11 +27,11 @@ positive : (n : ℕ) (xs : List ℕ) → AllByRecursion (λ id. (1 ≤ id) × (i
 positive n [] h = tt
 positive n (x ∷ xs) h = (h.0.0, positive n xs h.1)
 
-words : (n : ℕ) (xs : List ℕ) → n ≤ 512 → AllByRecursion (λ id. (1 ≤ id) × (id ≤ n)) xs → AllByRecursion (λ id. id < 2 ^ 32) xs
+words : (n : ℕ) (xs : List ℕ) → n ≤ MAX_NODES → AllByRecursion (λ id. (1 ≤ id) × (id ≤ n)) xs → AllByRecursion (λ id. id < 2 ^ 32) xs
 words n [] few h = tt
 words n (x ∷ xs) few h = (omega (arith, h.0.1, few), words n xs few h.1)
 
-are_ids : (n : ℕ) (xs : List ℕ) → n ≤ 512 → AreUpTo n xs → AreIds xs
+are_ids : (n : ℕ) (xs : List ℕ) → n ≤ MAX_NODES → AreUpTo n xs → AreIds xs
 are_ids n xs few h = record { distinct = h.distinct; positive = positive n xs h.each; word = words n xs few h.each }
 
 pub held_document : (file : List ℕ) (d : Document) → AreBytes file → Holds file d → IsDocument d
@@ -44,7 +45,7 @@ held_document file d all h =
     let sheets = channels_within file h.channels (h.props.end + 12 + 4 * length h.layers) w d all (subst HasSheets (sym nodes.same) no_sheets) h.add_channels in
     let with_sheets : Document → Document = λ x. record x { channels = d.channels; selection = d.selection } in
     let same : d ≡ record start { nodes = w.nodes; channels = d.channels; selection = d.selection } = sheets.1 ∙ ap with_sheets nodes.same in
-    let few : size w.nodes ≤ 512 = omega (arith, nodes.count, h.few_nodes) in
+    let few : size w.nodes ≤ MAX_NODES = omega (arith, nodes.count, h.few_nodes) in
     let same_nodes : w.nodes ≡ d.nodes = sym (ap (λ x. x.nodes) sheets.1) in
     record {
       width = subst IsSide (sym (ap (λ x. x.width) same)) h.has_header.width_is;
@@ -54,7 +55,7 @@ held_document file d all h =
       kept = subst (λ x. AreKept Image x.kept) (sym same) (kept_within file Image 26 h.props all h.has_props);
       nodes = subst (λ x. AreNodes x.base x.nodes) (sym sheets.1) nodes.grown.nodes;
       ids = subst (λ x. AreIds (ids x)) same_nodes (are_ids (size w.nodes) (ids w.nodes) few nodes.grown.ids);
-      few = subst (λ x. size x ≤ 512) same_nodes few;
+      few = subst (λ x. size x ≤ MAX_NODES) same_nodes few;
       low = subst (λ x. levels x ≤ 8) same_nodes nodes.grown.low;
       channels = sheets.0.channels;
       few_channels = h.few_channels;

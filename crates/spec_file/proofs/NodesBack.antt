@@ -24,18 +24,19 @@ use Rattle.spec_file.specs.Holds.{HasHead, HasMaskIfAny, Places, AddsGroup, Adds
 use Rattle.spec_file.proofs.SumsBack.{passes_back}
 use Rattle.spec_file.proofs.NodesAre.{IsWithin, places_area, places_kept}
 use Rattle.spec_file.proofs.HeaderBack.{both_hold, side_back}
+use Rattle.spec_document.specs.declared.numbers.TheConstants.{GROUP_ITEM, ITEM_PATH}
 
 placed_back : (old : Document) (h : Head) (branch : Nodes) (new : Document) → placed old h branch ≡ Ok new → Places old h branch new
 unfolding placed
 placed_back old h branch new e =
-    let a = given_back (put_last (path_to h.props.list) branch old.nodes) (fault BadPath (place_of 30 h.props.list)) _ new e in
+    let a = given_back (put_last (path_to h.props.list) branch old.nodes) (fault BadPath (place_of ITEM_PATH h.props.list)) _ new e in
     let is : record old { nodes = a.0 } ≡ new = cc in
     (a.0, a.1, sym is)
 
 path_back : (old : Document) (h : Head) → path_of old h ≡ Ok tt → length (path_to h.props.list) < 8
 unfolding path_of
 path_back old h e =
-    let a = wants_back (nat_lt (length (path_to h.props.list)) 8) (fault BadPath (place_of 30 h.props.list)) _ tt e in
+    let a = wants_back (nat_lt (length (path_to h.props.list)) 8) (fault BadPath (place_of ITEM_PATH h.props.list)) _ tt e in
     ltb-true (length (path_to h.props.list)) 8 a.0
 
 -- the record stands at the offset, its list passes no limit, and no group stands in an indexed image
@@ -54,7 +55,7 @@ head_back file at d h w e =
     let text = bind_back (name_at file (at + 12)) _ h a.1 in
     let props = bind_back (properties_at file owners.Layer text.0.next) _ h text.2 in
     let b = unless_back (passes owners.Layer (all_kept d) props.0.list) _ h props.2 in
-    let c = wants_back (not (is_indexed d.base && is_group props.0.list)) (fault GroupInIndexed (place_of 29 props.0.list)) _ h b.1 in
+    let c = wants_back (not (is_indexed d.base && is_group props.0.list)) (fault GroupInIndexed (place_of GROUP_ITEM props.0.list)) _ h b.1 in
     let hierarchy = word_first file (props.0.end + 8) _ h c.1 in
     let mask = word_first file (props.0.end + 12) _ h hierarchy.2 in
     let both = both_hold (nat_le kind.0 5) (base_of_kind kind.0 == base_code d.base) a.0 in

@@ -19,6 +19,7 @@ use Rattle.spec_history.specs.History.{Kind, asked, starts, ends, Entry, after_k
 use Rattle.spec_history.specs.Calls.{most_edits, most_entries}
 use Rattle.spec_history.specs.Limited.{HasEdits, AsksEdits, AreEdits, edits_of, edits_in, ids_asked, AreGroupsUpTo}
 use Rattle.spec_history.proofs.Growing.{cond_both, replay-append}
+use Rattle.spec_forest.specs.declared.TheConstants.{MAX_NODES}
 
 -- a document within its limits, whose ids are below a next id
 abbrev pub Below : (next : ℕ) → Document → Type 0
@@ -218,7 +219,7 @@ pub numbered_version : (d : Document) (es : List Entry) (version : ℕ) → IsDo
     → length es ≤ most_entries
     → IsDocument (document_of (renumber d) es version)
 numbered_version d es version h are groups short =
-    let small = all-each (λ id. id ≤ 512) (λ id. id ≤ 2 ^ 31) (ids (renumber d).nodes) (λ id k. omega (arith, k)) (renumbered_ids d h.few) in
+    let small = all-each (λ id. id ≤ MAX_NODES) (λ id. id ≤ 2 ^ 31) (ids (renumber d).nodes) (λ id k. omega (arith, k)) (renumbered_ids d h.few) in
     short_version (renumber d) es version (renumbered d h) small are groups short
 
 -- ---- more entries

@@ -1,15 +1,14 @@
 -- What a list of properties that stands in a file of bytes says is within the limits of a document.
-use Rattle.std.proofs.Common.{◌≡◌, ℕ, zero, suc, ◌+◌, ◌*◌, ◌^◌, ◌<◌, ◌≤◌, min, Bool, true, false, cond, not, ◌||◌, ◌&&◌, ℤ, pos, negsuc, List, [], ◌∷◌, length, take, drop, map, filter, slice_index, refl, sym, ap, subst, arith}
-use Rattle.std.specs.Prelude.{Ok, Err, Option, Some, None, option_map, unwrap_or, nat_le, ◌==◌, MatchBool, find, reverse, int_le}
+use Rattle.std.proofs.Common.{◌≡◌, ℕ, zero, suc, ◌+◌, ◌*◌, ◌^◌, ◌<◌, ◌≤◌, min, Bool, true, false, cond, not, ◌||◌, ◌&&◌, pos, List, [], ◌∷◌, length, take, drop, map, filter, slice_index, refl, sym, ap, subst, arith}
+use Rattle.std.specs.Prelude.{Ok, Err, Option, Some, None, option_map, unwrap_or, nat_le, ◌==◌, MatchBool, find, reverse}
 use Rattle.std.specs.List.{AllByRecursion}
 use Rattle.std.specs.Int.Signed.{le_z_yes}
-use Rattle.std.proofs.lemmas.Float.{T_from_true}
 use Rattle.std.proofs.lemmas.Bool.{leb-true, eqb-true, eq-eqb}
 use Rattle.std.proofs.lemmas.List.{reverse-append, length-take-le, length-drop}
 use Rattle.spec_grid.specs.Rect.{count_from}
 use Rattle.spec_document.specs.declared.Owner.{Owner}
 use Rattle.spec_document.specs.declared.Owner.TheVariants.{Image, Layer, Channel, Mask}
-use Rattle.spec_document.specs.Limits.{AreBytes, IsColour, IsKept, AreKept, IsOffset, interprets, is_unit, is_unit_length}
+use Rattle.spec_document.specs.Limits.{AreBytes, IsColour, IsKept, AreKept, is_offset, IsOffset, interprets, is_unit, is_unit_length}
 use Rattle.spec_fields.specs.declared.ReadRefused.{ReadRefused}
 use Rattle.spec_fields.specs.declared.Kind.TheVariants.{BadProperty}
 use Rattle.spec_fields.specs.Reading.{Read, fault}
@@ -19,10 +18,12 @@ use Rattle.spec_fields.proofs.All.{all_take, all_drop, all_append}
 use Rattle.spec_fields.proofs.FieldsBack.{one_read, name_has, bytes_below}
 use Rattle.spec_fields.proofs.Below.{has_word_below}
 use Rattle.spec_props.specs.Meaning.{Property, payload_word, payload_int, value_of, colour_number, colours_in, colours_of, compression_of, opacity_of, x_of, y_of, kept_of}
-use Rattle.spec_props.specs.Rules.{rule, rule_of, is_offset}
+use Rattle.spec_document.proofs.Offsets.{offset_is}
+use Rattle.spec_props.specs.Rules.{rule, rule_of}
 use Rattle.spec_props.specs.Unit.{names_end, named_end, length_up_to, unit_length, true_length}
 use Rattle.spec_props.specs.Reading.{Properties, is_colour_map}
 use Rattle.spec_props.specs.Holds.{IsColourMap, HasProperty, Follow, HasProperties}
+use Rattle.spec_document.specs.declared.numbers.TheConstants.{COLOUR_MAP, COMPRESSION}
 
 pub stand : (file : List ℕ) (owner : Owner) (at : ℕ) (ps : List Property) (end : ℕ) → Follow file owner at ps end → AllByRecursion (HasProperty file owner) ps
 stand file owner at [] end f = tt
@@ -80,11 +81,6 @@ both_hold true true e = (refl, refl)
 both_hold true false e = cc
 both_hold false b e = cc
 
-offset_back : (z : ℤ) → is_offset z ≡ true → IsOffset z
-offset_back z e =
-    let both = both_hold (int_le (negsuc 262143) z) (int_le z (pos 262144)) e in
-    (le_z_yes (T_from_true (int_le (negsuc 262143) z) both.0), le_z_yes (T_from_true (int_le z (pos 262144)) both.1))
-
 no_offset : IsOffset (pos 0)
 no_offset = (le_z_yes tt, le_z_yes tt)
 
@@ -93,7 +89,7 @@ x_within file ps h =
     value_holds IsOffset file Layer 15 (λ p. payload_int p 0) (pos 0) ps h
     (λ p q e. let a = rule_back (length p.payload == 8) _ _ (rule_at file Layer p 15 q e) in
     let b = rule_back (is_offset (payload_int p 0)) _ _ a.1 in
-    offset_back (payload_int p 0) b.0)
+    offset_is (payload_int p 0) b.0)
     no_offset
 
 pub y_within : (file : List ℕ) (ps : List Property) → AllByRecursion (HasProperty file Layer) ps → IsOffset (y_of ps)
@@ -102,7 +98,7 @@ y_within file ps h =
     (λ p q e. let a = rule_back (length p.payload == 8) _ _ (rule_at file Layer p 15 q e) in
     let b = rule_back (is_offset (payload_int p 0)) _ _ a.1 in
     let c = rule_back (is_offset (payload_int p 1)) _ _ b.1 in
-    offset_back (payload_int p 1) c.0)
+    offset_is (payload_int p 1) c.0)
     no_offset
 
 colours_numbered : (p : Property) (first n : ℕ) → AreBytes p.payload → 4 + 3 * (first + n) ≤ length p.payload
@@ -117,7 +113,7 @@ colours_numbered p first (suc n) all fits =
 pub colours_within : (file : List ℕ) (ps : List Property) → AreBytes file → AllByRecursion (HasProperty file Image) ps → (length (colours_of ps) ≤ 256) × AllByRecursion IsColour (colours_of ps)
 colours_within file ps all h =
     value_holds (λ cs. (length cs ≤ 256) × AllByRecursion IsColour cs) file Image 1 colours_in [] ps h
-    (λ p q e. let t : (p.kind == 1) ≡ true = eq-eqb p.kind 1 e in
+    (λ p q e. let t : (p.kind == COLOUR_MAP) ≡ true = eq-eqb p.kind 1 e in
     let m : IsColourMap p = subst (λ b. MatchBool b (IsColourMap p) ((true_length file Image p.kind (p.at + 8) q.length_word ≡ length p.payload) × (q.length_word ≤ 2 ^ 24))) t q.length_is in
     let c = colours_numbered p 0 (payload_word p 0) (payload_bytes file Image p all q) (omega (arith, m.2)) in
     (omega (arith, c.0, m.1), c.1))
@@ -153,9 +149,9 @@ length_short true named n p q = p
 length_short false named n p q = q
 
 not_map : (owner : Owner) (kind : ℕ) → interprets owner kind ≡ false → is_colour_map owner kind ≡ false
-not_map Image kind e = by (kind == 1) e
+not_map Image kind e = by (kind == COLOUR_MAP) e
   where
-    by : (b : Bool) → (b || kind == 17) ≡ false → b ≡ false
+    by : (b : Bool) → (b || kind == COMPRESSION) ≡ false → b ≡ false
     by true e = cc
     by false e = refl
 not_map Layer kind e = refl

@@ -1,5 +1,5 @@
 -- What the words of a line ask for is within the limits.
-use Rattle.std.proofs.Common.{◌≡◌, ℕ, ◌-◌, ◌<◌, ◌≤◌, Bool, true, false, cond, ◌&&◌, ◌==◌, nat_lt, nat_le, List, [], ◌∷◌, length, refl, arith}
+use Rattle.std.proofs.Common.{◌≡◌, ℕ, ◌+◌, ◌-◌, ◌<◌, ◌≤◌, Bool, true, false, cond, ◌&&◌, ◌==◌, nat_lt, nat_le, List, [], ◌∷◌, length, refl, arith}
 use Rattle.std.specs.Prelude.{Option, Some, None, IfSome, option_map, ◌/◌, ◌%◌}
 use Rattle.std.proofs.lemmas.Bool.{and_parts, leb-true, ltb-true, eqb-true}
 use Rattle.std.proofs.lemmas.Nat.{div-add-mod'}
@@ -12,6 +12,7 @@ use Rattle.spec_history.specs.Machine as machine
 use Rattle.spec_history.specs.Machine.{Call}
 use Rattle.spec_script.specs.Words.{◌>>=◌, if_holds, plain_number, number_below, number, hex_digit, hex_bytes, hex, is_digit, flag, coordinate, rect, spot, offset, side, size, none, number_or_none, one, two, three, five, six, eight}
 use Rattle.spec_script.specs.Commands.{Command, an_edit, begins, ends, a_call, saves, forgets, Rule, edit_of, fill_rule, write_rule, filter_rule, copy_rule, fill_byte_rule, byte_rule, number_rule, flag_rule, one_rule, rect_byte_rule, offset_rule, rename_rule, new_layer_rule, new_group_rule, restack_rule, name_rule, are_colours, colours_rule, alone, optional_rule, tile_rule, forget_rule}
+use Rattle.spec_grid.specs.declared.TheConstants.{MAX_SIDE}
 
 -- a call with a line of its own, which a group of edits has not
 abbrev pub IsOwnCall : Call → Type 0
@@ -76,7 +77,7 @@ hex-are (b ∷ c ∷ digits) = hex_bytes-are (b ∷ c ∷ digits)
 
 side-is : (word : List ℕ) → IfSome (side word) IsSide
 side-is word =
-    if-then (λ n. n < 8193) IsSide (number_below 8193 word) (λ n. if_holds (nat_le 1 n) n) (below 8193 word) (λ n l.
+    if-then (λ n. n < MAX_SIDE + 1) IsSide (number_below (MAX_SIDE + 1) word) (λ n. if_holds (nat_le 1 n) n) (below (MAX_SIDE + 1) word) (λ n l.
     if-test IsSide (nat_le 1 n) n (λ e. (leb-true 1 n e, omega (arith, l))))
 
 abbrev AreSides : ℕ × ℕ → Type 0

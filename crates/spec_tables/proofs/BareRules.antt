@@ -12,6 +12,7 @@ use Rattle.spec_edit.specs.declared.EditRefused.TheVariants.{BadPlace, GroupInIn
 use Rattle.spec_edit.specs.Edit.{Edit, fill, write, filter, copy_rect, fill_mask, fill_channel, set_opacity, set_mode, set_visible, set_offset, rename, set_apply_mask, add_mask, drop_mask, new_layer, new_group, delete, restack, select, select_none, add_channel, drop_channel, set_colours}
 use Rattle.spec_edit.specs.Refusal.{unless, first, node, of_leaf, no_node_found, is_group_found, no_node, is_group, no_parent, not_group, children, bad_place, outside_layer, other_length, is_indexed, indexed_layer, other_kind, no_mask, has_mask, outside_mask, outside_canvas, offset_range, bad_name, too_large, too_many, depth_below, too_deep, stands_in, inside, canvas_area, area_found, selection_area, refusal}
 use Rattle.spec_tables.proofs.Bare.{bare, bare_layer, bare_nodes, bare_found, find-bare, size-bare, levels-bare, ancestors-bare, nodes_area-bare, children-bare, bare-without, bare-branch_of}
+use Rattle.spec_forest.specs.declared.TheConstants.{MAX_NODES}
 
 leaf_rule : (rule : Layer → Option EditRefused) → ((l : Layer) → rule (bare_layer l) ≡ rule l) → (f : Found Layer Group) → of_leaf rule (bare_found f) ≡ of_leaf rule f
 leaf_rule rule same nothing = refl
@@ -124,11 +125,11 @@ refusal-bare d (new_layer parent place x y w h kind name) = λ i.
     first (
     no_parent-bare d parent i ∷ not_group-bare d parent i ∷ bad_place-bare d.nodes parent place i ∷ offset_range x y
     ∷ unless (base_of_kind kind == base_code d.base) OtherType ∷ bad_name name ∷ too_deep-bare d.nodes parent 1 i
-    ∷ too_many (size-bare d.nodes i + 1) 512 ∷ too_large (area-bare d i + w * h) ∷ [])
+    ∷ too_many (size-bare d.nodes i + 1) MAX_NODES ∷ too_large (area-bare d i + w * h) ∷ [])
 refusal-bare d (new_group parent place name) = λ i.
     first (
     unless (not (is_indexed d.base)) GroupInIndexed ∷ no_parent-bare d parent i ∷ not_group-bare d parent i ∷ bad_place-bare d.nodes parent place i
-    ∷ bad_name name ∷ too_deep-bare d.nodes parent 1 i ∷ too_many (size-bare d.nodes i + 1) 512 ∷ too_large (area-bare d i + canvas_area d) ∷ [])
+    ∷ bad_name name ∷ too_deep-bare d.nodes parent 1 i ∷ too_many (size-bare d.nodes i + 1) MAX_NODES ∷ too_large (area-bare d i + canvas_area d) ∷ [])
 refusal-bare d (delete id) = no_node-bare d id
 refusal-bare d (restack id parent place) =
     let place_same : bad_place (without id (bare_nodes d.nodes)) parent place ≡ bad_place (without id d.nodes) parent place =

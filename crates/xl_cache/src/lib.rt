@@ -9,6 +9,6 @@ mod slot;
 mod slots;
 mod span;
 
-pub use cache::{Cache, MAX_STACKS};
+pub use cache::Cache;
 pub use slots::Slots;
-pub use spec_cache::Finished;
+pub use spec_cache::{Finished, MAX_STACKS};

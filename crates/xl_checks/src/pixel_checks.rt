@@ -9,7 +9,7 @@ ghost use Rattle.spec_edit.specs.Refusal.{node, first, unless, no_node, is_group
 ghost use Rattle.xl_tiles.specs.Written.{IsWithin};
 ghost use Rattle.xl_checks.specs.Found.{outcome, sheet_found};
 ghost use Rattle.xl_checks.specs.Rects.{rect_from};
-ghost use Rattle.xl_grid.specs.declared.tiling.TheConstants.{MAX_SIDE};
+ghost use Rattle.spec_grid.specs.declared.TheConstants.{MAX_SIDE};
 
 use crate::checks::{layer_at, lies_inside};
 use crate::corners::corner;

@@ -1,9 +1,9 @@
 //! The rules that edits are refused by, each for itself.
 ghost use Rattle.std.specs.Bool.{OnTrue};
-ghost use Rattle.std.specs.Prelude.{◌≡◌, ◌+◌, ◌^◌, ◌<◌, ◌≤◌, ◌&&◌, ◌==◌, not, is_none, [], ◌∷◌, length, negsuc, pos, int_le, ◌+ℤ◌, None, Some, IfOk, IfErr, OnOk};
+ghost use Rattle.std.specs.Prelude.{◌≡◌, ◌+◌, ◌^◌, ◌<◌, ◌≤◌, ◌&&◌, ◌==◌, not, is_none, [], ◌∷◌, length, pos, int_le, ◌+ℤ◌, None, Some, IfOk, IfErr, OnOk};
 ghost use Rattle.spec_blend.specs.Blend.{mode_of_code};
 ghost use Rattle.spec_document.specs.Document.{area, base_code, base_of_kind};
-ghost use Rattle.spec_document.specs.Limits.{IsDocument, IsOffset};
+ghost use Rattle.spec_document.specs.Limits.{IsDocument, is_offset, IsOffset};
 ghost use Rattle.spec_edit.specs.declared.EditRefused.TheVariants.{ModeRefused, OtherType};
 ghost use Rattle.spec_edit.specs.Refusal.{unless, first, no_node, no_channel, no_parent, not_group, bad_place, children, depth_below, too_deep, bad_name, offset_range, outside_canvas, too_large, too_many, is_indexed, canvas_area};
 ghost use Rattle.spec_grid.specs.Rect.{is_empty, lies_on};
@@ -11,15 +11,13 @@ ghost use Rattle.xl_tiles.specs.Written.{IsWithin};
 ghost use Rattle.xl_checks.specs.Found.{outcome};
 ghost use Rattle.xl_tree.specs.Refusals.{no_stack, bad_place as nodes_bad_place};
 
+use spec_document::MAX_OFFSET;
 use spec_edit::EditRefused;
 use xl_blend::mode_of;
 use xl_doc::{Base, Body, Bytes, Document, Mode, NodeId, Rect};
 
 /// How many bytes a name has at most.
 const MAX_NAME: usize = 4096;
-
-/// How far from the canvas a layer lies at most.
-const MAX_OFFSET: i32 = 262_144;
 
 /// How deep a node stands at most, where those at the top have depth 1.
 const MAX_DEPTH: u32 = 8;
@@ -156,7 +154,7 @@ pub fn check_offset(x: i32, y: i32) -> Result<(), EditRefused>
 }
 
 fn is_offset(z: i32) -> bool
-    ensures value { result ≡ (int_le (negsuc 262143) z && int_le z (pos 262144)) }
+    ensures value { result ≡ is_offset z }
     ensures near { OnTrue result (IsOffset z) }
 {
     -MAX_OFFSET <= z && z <= MAX_OFFSET

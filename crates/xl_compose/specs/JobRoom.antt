@@ -11,11 +11,12 @@ use Rattle.spec_picture.specs.Picture.{project}
 use Rattle.xl_compose.specs.Cost.{visible_below}
 use Rattle.xl_compose.specs.Levels.{AreIn, points}
 use Rattle.xl_compose.specs.Pieces.{AllFit, composed, weights}
+use Rattle.spec_grid.specs.declared.TheConstants.{MAX_SIDE}
 
 -- the tile is on the canvas
 pub record IsTile (band : Band) : Type 0 where
-  pub right : band.x + band.w ≤ 8192
-  pub below : band.y + band.h ≤ 8192
+  pub right : band.x + band.w ≤ MAX_SIDE
+  pub below : band.y + band.h ≤ MAX_SIDE
   pub wide : band.w ≤ 64
   pub high : band.h ≤ 64
   pub some : 1 ≤ band.h

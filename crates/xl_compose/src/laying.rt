@@ -6,6 +6,7 @@ ghost use Rattle.xl_compose.specs.Laid.{pixel};
 ghost use Rattle.xl_compose.specs.Levels.{AreIn, AreShown, IsIn, IsLaid, points};
 ghost use Rattle.xl_compose.specs.Neat.{IsNeat};
 ghost use Rattle.xl_compose.specs.Pieces.{kept_pixel, weight, weights};
+ghost use Rattle.spec_grid.specs.declared.TheConstants.{MAX_SIDE};
 
 use crate::lay::lay_part;
 use crate::own::own_row;
@@ -58,8 +59,8 @@ fn lay_piece<L: Ledger>(
     bytes: &mut [u8],
     steps: &mut Steps<L>,
 )
-    requires right { band.x + band.w ≤ 8192 }
-    requires below { band.y + band.h ≤ 8192 }
+    requires right { band.x + band.w ≤ MAX_SIDE }
+    requires below { band.y + band.h ≤ MAX_SIDE }
     requires high { band.h ≤ 64 }
     requires fits { IsIn (length room.old) band piece.now }
     requires row { band.w ≤ length source.old }
@@ -99,8 +100,8 @@ pub fn lay_pieces<L: Ledger>(
     bytes: &mut [u8],
     steps: &mut Steps<L>,
 )
-    requires right { band.x + band.w ≤ 8192 }
-    requires below { band.y + band.h ≤ 8192 }
+    requires right { band.x + band.w ≤ MAX_SIDE }
+    requires below { band.y + band.h ≤ MAX_SIDE }
     requires high { band.h ≤ 64 }
     requires fit { AreIn (length room.old) band pieces.now }
     requires row { band.w ≤ length source.old }

@@ -39,8 +39,8 @@ fn compose_band<L: Ledger>(
     steps: &mut Steps<L>,
 )
     requires agree { MarksAgree nodes }
-    requires right { band.x + band.w ≤ 8192 }
-    requires below { band.y + band.h ≤ 8192 }
+    requires right { band.x + band.w ≤ MAX_SIDE }
+    requires below { band.y + band.h ≤ MAX_SIDE }
     requires high { band.h ≤ 64 }
     requires some { 1 ≤ band.h }
     requires levels { levels nodes ≤ 8 }

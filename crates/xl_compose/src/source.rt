@@ -10,10 +10,12 @@ ghost use Rattle.xl_compose.specs.Masks.{AreMasks};
 ghost use Rattle.xl_compose.specs.Source.{at_place, sheet_source, sheet_pixel};
 ghost use Rattle.xl_compose.specs.Span.{place_by};
 ghost use Rattle.xl_compose.specs.Neat.{IsNeat};
+ghost use Rattle.spec_grid.specs.declared.TheConstants.{MAX_SIDE};
 
 use crate::lay::lay_part;
 use crate::own::own_row;
 use crate::span::{Band, Span, overlap};
+use spec_grid::MAX_SIDE;
 use std::sync::ledger::Ledger;
 use xl_blend::{Mode, Pixel, Steps, fade_row, fade_row_by};
 use xl_doc::{Layer, Rect};
@@ -98,7 +100,7 @@ fn lay_rows<L: Ledger>(
     requires masks { AreMasks layer.now.mask layer.now.apply_mask part masks.now }
     requires across { left + part.w ≤ band.w }
     requires down { top + part.h ≤ band.h }
-    requires wide { band.w ≤ 8192 }
+    requires wide { band.w ≤ MAX_SIDE }
     requires high { band.h ≤ 64 }
     requires picture { length picture.old ≡ band.h * band.w }
     requires source { part.w ≤ length source.old }
@@ -126,8 +128,8 @@ fn common(layer: &Layer, across: Span, down: Span) -> Rect
     ensures w { result.w ≡ across.count }
     ensures h { result.h ≡ down.count }
 {
-    prove!(layer.plane.width() <= 8192);
-    prove!(layer.plane.height() <= 8192);
+    prove!(layer.plane.width() <= MAX_SIDE);
+    prove!(layer.plane.height() <= MAX_SIDE);
     Rect {
         x: across.from as i32,
         y: down.from as i32,
@@ -140,7 +142,7 @@ fn common(layer: &Layer, across: Span, down: Span) -> Rect
 fn size_of(layer: &Layer, part: Rect, band: Band) -> (usize, usize)
     requires across { part.w ≤ band.w }
     requires down { part.h ≤ 64 }
-    requires wide { band.w ≤ 8192 }
+    requires wide { band.w ≤ MAX_SIDE }
     ensures pixels { result.0 ≡ part.w * part.h }
     ensures bytes { result.1 ≡ part.w * part.h * layer.now.plane.bpp }
     ensures few { result.0 ≤ 64 * band.w }
@@ -263,8 +265,8 @@ pub fn lay_layer<L: Ledger>(
     bytes: &mut [u8],
     steps: &mut Steps<L>,
 )
-    requires right { band.x + band.w ≤ 8192 }
-    requires below { band.y + band.h ≤ 8192 }
+    requires right { band.x + band.w ≤ MAX_SIDE }
+    requires below { band.y + band.h ≤ MAX_SIDE }
     requires high { band.h ≤ 64 }
     requires picture { length picture.old ≡ band.h * band.w }
     requires source { band.w ≤ length source.old }

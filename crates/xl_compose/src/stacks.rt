@@ -8,6 +8,7 @@ ghost use Rattle.xl_doc.specs.Nodes.{IsLeaf, MarksAgree, layer_of, nodes_of};
 ghost use Rattle.xl_compose.specs.Cost.{one_if, visible_in};
 ghost use Rattle.xl_compose.specs.Laid.{pixel};
 ghost use Rattle.xl_compose.specs.Neat.{IsNeat};
+ghost use Rattle.spec_grid.specs.declared.TheConstants.{MAX_SIDE};
 
 use crate::lay::lay_part;
 use crate::source::lay_layer;
@@ -54,8 +55,8 @@ fn lay_leaf<L: Ledger>(
     steps: &mut Steps<L>,
 )
     requires leaf { IsLeaf node.now.body }
-    requires right { band.x + band.w ≤ 8192 }
-    requires below { band.y + band.h ≤ 8192 }
+    requires right { band.x + band.w ≤ MAX_SIDE }
+    requires below { band.y + band.h ≤ MAX_SIDE }
     requires high { band.h ≤ 64 }
     requires picture { length picture.old ≡ band.h * band.w }
     requires room { band.w ≤ length room.old }
@@ -115,8 +116,8 @@ pub fn lay_stack<L: Ledger>(
     steps: &mut Steps<L>,
 ) -> bool
     requires agree { MarksAgree nodes }
-    requires right { band.x + band.w ≤ 8192 }
-    requires below { band.y + band.h ≤ 8192 }
+    requires right { band.x + band.w ≤ MAX_SIDE }
+    requires below { band.y + band.h ≤ MAX_SIDE }
     requires high { band.h ≤ 64 }
     requires some { 1 ≤ band.h }
     requires picture { length picture.old ≡ band.h * band.w }

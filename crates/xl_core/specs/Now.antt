@@ -1,11 +1,12 @@
 -- What stands now, as far as calls ask for it.
-use Rattle.std.specs.Prelude.{◌≡◌, ℕ, ◌+◌, ◌-◌, ◌^◌, ◌≤◌, ◌<◌, not, max, if◌then◌else◌, List, [], ◌∷◌, true, false, length, map, fold, slice_index, slice_get, Option, Some, None, IsSomeAnd, Result, Ok, Err}
+use Rattle.std.specs.Prelude.{◌≡◌, ℕ, ◌+◌, ◌-◌, ◌^◌, ◌≤◌, ◌<◌, not, if◌then◌else◌, List, [], ◌∷◌, true, false, length, map, slice_index, slice_get, Option, Some, None, IsSomeAnd, Result, Ok, Err}
 use Rattle.std.specs.List.{AllByRecursion}
 use Rattle.spec_grid.specs.declared.TileAt.{TileAt}
 use Rattle.spec_grid.specs.Grid.{is_on_grid}
 use Rattle.spec_forest.specs.Forest.{ids}
 use Rattle.spec_document.specs.Document.{Document}
 use Rattle.spec_document.specs.Limits.{IsDocument}
+use Rattle.spec_document.specs.Ids.{next_id}
 use Rattle.spec_picture.specs.Picture.{project}
 use Rattle.spec_edit.specs.Edit.{Edit}
 use Rattle.spec_edit.specs.Apply.{At, Refused, apply_group}
@@ -36,7 +37,7 @@ pub record Now : Type 0 where
   pub cache : Cache
 
 abbrev pub first_now : Document → Now
-first_now d = record { document = d; undo = []; redo = []; next_id = 1 + fold max 0 (ids d.nodes); next_group = 1; version = 0; cache = add_stacks (stack_ids d) d 0 no_slots }
+first_now d = record { document = d; undo = []; redo = []; next_id = next_id d; next_group = 1; version = 0; cache = add_stacks (stack_ids d) d 0 no_slots }
 
 -- what the next edit begins with
 abbrev pub at_now : Now → At

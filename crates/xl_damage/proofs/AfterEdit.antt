@@ -4,7 +4,7 @@ use Rattle.std.proofs.Common.{ap, sym, ◌∙◌, subst, arith}
 use Rattle.std.specs.List.{AllByRecursion}
 use Rattle.spec_forest.specs.Forest.{Forest, ids}
 use Rattle.spec_document.specs.Document.{Document}
-use Rattle.spec_damage.specs.Damage.{next_id}
+use Rattle.spec_document.specs.Ids.{next_id}
 use Rattle.spec_damage.proofs.NewEdits.{next_above}
 use Rattle.spec_edit.specs.declared.EditRefused.{EditRefused}
 use Rattle.spec_edit.specs.Edit.{Edit}

@@ -14,7 +14,8 @@ use Rattle.spec_picture.specs.Picture.{rect_found}
 use Rattle.spec_edit.specs.Edit as edits
 use Rattle.spec_edit.specs.Edit.{Edit}
 use Rattle.spec_edit.specs.Effect.{effect, layer_made, group_made, paint, filtered}
-use Rattle.spec_damage.specs.Damage.{Pair, damage, pairs, stacks_above, first_or, extent_pair, bottom_pairs, bottom_of, next_id, or_lower}
+use Rattle.spec_damage.specs.Damage.{Pair, damage, pairs, stacks_above, first_or, extent_pair, bottom_pairs, bottom_of, or_lower}
+use Rattle.spec_document.specs.Ids.{next_id}
 use Rattle.spec_damage.proofs.PixelEdits.{ancestors-with_leaf}
 use Rattle.spec_damage.proofs.Stacks.{stack_round, not_zero}
 use Rattle.spec_damage.proofs.Counts.{times, not_found}

@@ -13,6 +13,7 @@ use Rattle.spec_picture.specs.Picture.{hull_of, rect_found, extent}
 use Rattle.xl_grid.specs.Small.{IsNear, IsSmall}
 use Rattle.xl_doc.specs.Extents.{IsReach}
 use Rattle.xl_doc.proofs.Hulls.{hull_reach}
+use Rattle.spec_grid.specs.declared.TheConstants.{MAX_SIDE}
 
 no_reach : IsReach no_rect
 no_reach = record { x = (omega (arith, ints), omega (arith, ints)); y = (omega (arith, ints), omega (arith, ints)); right = omega (arith, ints); bottom = omega (arith, ints) }
@@ -44,13 +45,13 @@ found_reach base id (group i g c u) h =
 max_near : (a : ℤ) → IsOffset a → IsNear (int_max a (pos 0))
 max_near a h = (omega (arith, ints, int_max_is a (pos 0), h.0), omega (arith, ints, int_max_is a (pos 0), h.1))
 
-side_small : (a r : ℤ) (w : ℕ) → w ≤ 8192 → part_above_0 (int_min r (pos 0 +ℤ pos w) -ℤ int_max a (pos 0)) ≤ 2 ^ 20
+side_small : (a r : ℤ) (w : ℕ) → w ≤ MAX_SIDE → part_above_0 (int_min r (pos 0 +ℤ pos w) -ℤ int_max a (pos 0)) ≤ 2 ^ 20
 side_small a r w h = by (int_min r (pos 0 +ℤ pos w) -ℤ int_max a (pos 0)) refl where
   by : (z : ℤ) → int_min r (pos 0 +ℤ pos w) -ℤ int_max a (pos 0) ≡ z → part_above_0 z ≤ 2 ^ 20
   by (pos n) e = omega (arith, ints, int_max_is a (pos 0), int_min_is r (pos 0 +ℤ pos w), h, e)
   by (negsuc n) e = omega arith
 
-cut_small : (w h : ℕ) (r : Rect) → w ≤ 8192 → h ≤ 8192 → IsReach r → IsSmall (meet r (sheet w h))
+cut_small : (w h : ℕ) (r : Rect) → w ≤ MAX_SIDE → h ≤ MAX_SIDE → IsReach r → IsSmall (meet r (sheet w h))
 cut_small w h r wide high reach = record {
   x = max_near r.x reach.x;
   y = max_near r.y reach.y;

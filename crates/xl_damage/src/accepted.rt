@@ -1,5 +1,6 @@
 ghost use Rattle.std.specs.Prelude.{◌≡◌, ◌-◌, ◌<◌, ◌^◌, None, true, IfOk};
 ghost use Rattle.spec_damage.specs.Damage as damage;
+ghost use Rattle.spec_document.specs.Ids as ids;
 ghost use Rattle.spec_edit.specs.Edit.{IsEdit};
 ghost use Rattle.spec_edit.specs.Effect.{makes_node};
 ghost use Rattle.spec_edit.specs.Refusal.{refusal};
@@ -22,8 +23,8 @@ pub fn damage(
 ) -> Result<Vec<(NodeId, Rect)>, AllocError>
     requires edit { IsEdit (edit_of edit.now) }
     requires passes { refusal before.now (edit_of edit.now) ≡ None }
-    requires next { damage.next_id before.now < 2 ^ 32 }
-    requires another { makes_node (edit_of edit.now) ≡ true → damage.next_id before.now < 2 ^ 32 - 1 }
+    requires next { ids.next_id before.now < 2 ^ 32 }
+    requires another { makes_node (edit_of edit.now) ≡ true → ids.next_id before.now < 2 ^ 32 - 1 }
     ensures { IfOk result (λ list. pairs_of list.items ≡ damage.damage before.now (edit_of edit.now)) }
 {
     let any_table = Table::of(FilterState {

@@ -7,6 +7,7 @@ ghost use Rattle.xl_doc.specs.Selecting.{byte_or_0, IsNear};
 ghost use Rattle.xl_tiles.specs.Block.{byte_after};
 
 use crate::document::Document;
+use xl_grid::MAX_SIDE;
 use xl_tiles::Plane;
 
 // Whether a point lies on a sheet of these sides.
@@ -48,12 +49,12 @@ fn row_of<'a>(plane: &Plane, x: u32, y: u32, n: u32, room: &'a mut [u8]) -> &'a 
     requires bpp { plane.now.bpp ≡ 1 }
     requires columns { x + n ≤ plane.now.width }
     requires row { y < plane.now.height }
-    requires few { n ≤ 8192 }
+    requires few { n ≤ MAX_SIDE }
     requires room { length room.old ≡ 40960 }
     ensures length { length result.now ≡ n * plane.now.bpp }
     ensures each { (k c : ℕ) → k < n → c < plane.now.bpp → slice_index result.now (k * plane.now.bpp + c) ≡ byte_at plane.now (x + k) y c }
 {
-    let (line, tile) = room.split_at_mut(8192);
+    let (line, tile) = room.split_at_mut(MAX_SIDE as usize);
     let row = &mut line[..n as usize];
     plane.read_row(x, y, n, row, tile);
     row
@@ -64,7 +65,7 @@ fn plane_row(plane: &Plane, x: i32, y: i32, out: &mut [u8], room: &mut [u8])
     requires bpp { plane.now.bpp ≡ 1 }
     requires room { length room.old ≡ 40960 }
     requires near { IsNear x }
-    requires short { length out.old ≤ 8192 }
+    requires short { length out.old ≤ MAX_SIDE }
     ensures length { length out.new ≡ length out.old }
     ensures each { (k : ℕ) → k < length out.old → slice_index out.new k ≡ byte_or_0 plane.now (x +ℤ pos k) y }
 {
@@ -98,7 +99,7 @@ impl Document {
     pub fn selected_row(&self, x: i32, y: i32, out: &mut [u8], room: &mut [u8])
         requires room { length room.old ≡ 40960 }
         requires near { IsNear x }
-        requires short { length out.old ≤ 8192 }
+        requires short { length out.old ≤ MAX_SIDE }
         ensures length { length out.new ≡ length out.old }
         ensures each { (k : ℕ) → k < length out.old → slice_index out.new k ≡ selected self.now (x +ℤ pos k) y }
     {

@@ -3,6 +3,7 @@ ghost use Rattle.std.specs.Prelude.{◌≡◌, ◌+◌, ◌*◌, ◌^◌, ◌≤
 ghost use Rattle.spec_forest.specs.Forest.{size};
 ghost use Rattle.spec_document.specs.Document.{mask_area, nodes_area, plane_area};
 ghost use Rattle.xl_doc.specs.Nodes.{layer_of, nodes_of};
+ghost use Rattle.spec_forest.specs.declared.TheConstants.{MAX_NODES};
 
 use crate::channel::Mask;
 use crate::node::{Body, Node};
@@ -42,7 +43,7 @@ fn node_area(node: &Node) -> u64
 /// The pixels of layers and masks, and a canvas for each group.
 pub fn nodes_area(nodes: Stack<'_, Node>, canvas: u64) -> u64
     requires canvas { canvas ≤ 2 ^ 26 }
-    requires few { size nodes ≤ 512 }
+    requires few { size nodes ≤ MAX_NODES }
     ensures value { result ≡ nodes_area canvas (nodes_of nodes.entry) }
     ensures small { result ≤ 2 ^ 27 * size nodes.entry }
 {

@@ -10,7 +10,7 @@ use Rattle.spec_document.specs.Plane.{Plane, byte_at}
 use Rattle.spec_document.specs.Document.{Document, Channel}
 use Rattle.spec_edit.specs.Edit.{select}
 use Rattle.spec_edit.specs.Effect.{effect, with_rect, with_plane, selection_of}
-use Rattle.xl_grid.specs.declared.tiling.TheConstants.{MAX_SIDE}
+use Rattle.spec_grid.specs.declared.TheConstants.{MAX_SIDE}
 use Rattle.xl_tiles.specs.Alike.{AreAlike}
 use Rattle.xl_tiles.specs.Written.{IsWithin, from_edge, written}
 use Rattle.xl_edit.specs.Canvas.{AreFlat}

@@ -11,12 +11,10 @@ ghost use Rattle.xl_edit.specs.Fields.{layer_with, group_with, with_field};
 ghost use Rattle.xl_edit.specs.Kept.{KeepsLimits};
 
 use crate::refused::EditRefusedOrMemory;
+use spec_document::numbers::FLOAT_OPACITY;
 use std::alloc::Global;
 use xl_checks::{check_name, check_node, mode_at};
 use xl_doc::{Bytes, Document, Mode, Node, NodeId, Tree};
-
-/// The kind of the property that keeps an opacity as a float, which newer programs prefer to the byte.
-const FLOAT_OPACITY: u32 = 33;
 
 /// What a layer or a group is given.
 #[derive(Drop)]

@@ -11,7 +11,7 @@ ghost use Rattle.xl_edit.specs.Applied.{at, Applies, Makes};
 ghost use Rattle.xl_edit.specs.Built.{HasNext};
 ghost use Rattle.xl_edit.specs.Kept.{KeepsLimits};
 ghost use Rattle.xl_edit.specs.Nodes.{one_node};
-ghost use Rattle.xl_tree.specs.declared.forest.TheConstants.{MAX_NODES};
+ghost use Rattle.spec_forest.specs.declared.TheConstants.{MAX_NODES};
 ghost use Rattle.xl_tree.specs.Ids.{IsNew};
 ghost use Rattle.xl_tree.specs.Refusals.{put_refusal};
 

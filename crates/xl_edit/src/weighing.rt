@@ -6,7 +6,7 @@ ghost use Rattle.xl_edit.specs.Filling.{weight_at, byte_in, in_rows, AreRows, Ha
 ghost use Rattle.xl_tiles.specs.Area.{bytes_in};
 ghost use Rattle.xl_tiles.specs.Sized.{IsSized};
 ghost use Rattle.xl_tiles.specs.Written.{IsWithin};
-ghost use Rattle.xl_grid.specs.declared.tiling.TheConstants.{MAX_SIDE};
+ghost use Rattle.spec_grid.specs.declared.TheConstants.{MAX_SIDE};
 
 use crate::mixing::{mix_at, spread, threshold};
 use crate::places::Site;

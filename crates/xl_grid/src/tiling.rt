@@ -3,9 +3,6 @@ ghost use Rattle.spec_grid.specs.Grid as tiles;
 
 use spec_grid::{Rect, TileAt};
 
-/// The longest side of a canvas, a layer or a mask.
-pub const MAX_SIDE: u32 = 8192;
-
 /// The side of a tile. Those in the last column and row are smaller.
 pub const TILE_SIDE: u32 = 64;
 

@@ -16,6 +16,7 @@ use Rattle.spec_hierarchy.specs.Layout.{words, places_from, AreTiles, plane_layo
 use Rattle.xl_hier.proofs.Filling.{words_more, length_of_words, length_of_places, tile_small}
 use Rattle.xl_hier.proofs.Held.{plane_stands}
 use Rattle.xl_hier.proofs.TilesRead.{length_of_tiles}
+use Rattle.spec_grid.specs.declared.TheConstants.{MAX_SIDE}
 
 -- room behind a list: zeros
 pub room_behind : (table n m : ℕ) (old new : List ℕ) → length old ≡ table → m ≡ table + n → new ≡ take m old ++ replicate (m - table) 0
@@ -64,7 +65,7 @@ tiles_small fits compression p (t ∷ ts) (tile ∷ tiles) few are =
     let step : suc (length ts) * 16640 ≡ 16640 + length ts * 16640 = omega arith in
     (omega (arith, length-append tile (concat tiles), tile_small fits compression p t tile few are.0, more.0, step), omega (arith, more.1))
 
-few_tiles : (n : ℕ) → n ≤ 8192 → tiles_along n ≤ 128
+few_tiles : (n : ℕ) → n ≤ MAX_SIDE → tiles_along n ≤ 128
 few_tiles n h = omega (arith, h)
 
 -- a plane that was appended stands there

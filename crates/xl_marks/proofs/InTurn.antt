@@ -19,6 +19,7 @@ use Rattle.xl_marks.specs.Steps.{AreGoing, AreComing}
 use Rattle.xl_marks.proofs.Between.{each-held, without-stays, marked-mapped, mark_by}
 use Rattle.xl_marks.proofs.Once.{AreOnce, stacks-once, came-once, stacks-few}
 use Rattle.xl_marks.proofs.Few.{few-held, put-longer}
+use Rattle.spec_cache.specs.declared.TheConstants.{MAX_STACKS}
 
 -- ---- going
 
@@ -64,7 +65,7 @@ either-in s k all b here e rest = go (s == k) refl e
     go true p h = ap (λ n. has_id n all) (sym (eqb-true s k p)) ∙ here
     go false p h = rest h
 
-pub coming : (all ss : List ℕ) (width height version : ℕ) (cache : Cache) → length all ≤ 513 → AreOnce ss
+pub coming : (all ss : List ℕ) (width height version : ℕ) (cache : Cache) → length all ≤ MAX_STACKS → AreOnce ss
     → ((k : ℕ) → has_id k ss ≡ true → has_slots cache k ≡ false) → ((k : ℕ) → has_id k ss ≡ true → has_id k all ≡ true)
     → ((k : ℕ) → has_slots cache k ≡ true → has_id k all ≡ true) → AreInOrder cache.held → AreComing ss width height version cache
 coming all [] width height version cache few once absent within held order = tt

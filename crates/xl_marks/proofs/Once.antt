@@ -11,6 +11,7 @@ use Rattle.spec_world.specs.World.{group_ids, stack_ids}
 use Rattle.spec_world.proofs.Filled.{eq-swap}
 use Rattle.spec_world.proofs.Stacks.{has_id}
 use Rattle.xl_marks.specs.Change.{came_to}
+use Rattle.spec_cache.specs.declared.TheConstants.{MAX_STACKS}
 
 -- each number stands once
 abbrev pub AreOnce : List ℕ → Type 0
@@ -97,5 +98,5 @@ groups-few none = omega arith
 groups-few (leaf i l under) = omega (arith, groups-few under)
 groups-few (group i g children under) = omega (arith, groups-few children, groups-few under, length-both (group_ids children) (group_ids under))
 
-pub stacks-few : (d : Document) → IsDocument d → length (stack_ids d) ≤ 513
+pub stacks-few : (d : Document) → IsDocument d → length (stack_ids d) ≤ MAX_STACKS
 stacks-few d is = let few = is.few in omega (arith, few, filter-shorter (has_stack d) (0 ∷ group_ids d.nodes), groups-few d.nodes)

@@ -12,6 +12,7 @@ use Rattle.xl_damage.specs.Marks.{numbers, pairs_of}
 use Rattle.xl_marks.specs.Change.{without_stacks, marked_by, with_stacks}
 use Rattle.xl_marks.specs.Pool.{Pool}
 use Rattle.xl_marks.specs.Steps.{AreGoing, AreComing}
+use Rattle.spec_cache.specs.declared.TheConstants.{MAX_STACKS}
 
 -- ---- those that go
 
@@ -85,7 +86,7 @@ come-first stacks version first start coming = record {
 }
 
 pub come-here : (stacks : List NodeId) (i version : ℕ) (first : Cache) (start : Pool) (cache : Cache) (pool : Pool) (d : NodeId) → i < length stacks
-    → HaveCome stacks i version first start cache pool → (has_slots cache (get_or stacks i d).0 ≡ false) × (length cache.held < 513)
+    → HaveCome stacks i version first start cache pool → (has_slots cache (get_or stacks i d).0 ≡ false) × (length cache.held < MAX_STACKS)
 come-here stacks i version first start cache pool d within have =
     let here : AreComing (numbers (get_or stacks i d ∷ drop (i + 1) stacks)) start.width start.height version cache =
     subst (λ xs. AreComing (numbers xs) start.width start.height version cache) (drop_more stacks i d within) have.coming in

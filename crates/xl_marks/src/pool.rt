@@ -2,6 +2,7 @@
 ghost use Rattle.std.specs.Prelude.{◌≡◌, ◌+◌, ◌-◌, ◌<◌, ◌≤◌, IfOk};
 ghost use Rattle.spec_document.specs.Limits.{IsSide};
 ghost use Rattle.xl_marks.specs.Pool.{IsPoolOf};
+ghost use Rattle.spec_cache.specs.declared.TheConstants.{MAX_STACKS};
 
 use std::alloc::{AllocError, Global};
 use std::marker::Model;
@@ -38,8 +39,8 @@ impl Pool {
     ) -> Result<Pool, AllocError>
         requires width { IsSide width }
         requires height { IsSide height }
-        requires few { count ≤ 513 }
-        requires few_more { more ≤ 513 }
+        requires few { count ≤ MAX_STACKS }
+        requires few_more { more ≤ MAX_STACKS }
         ensures { IfOk result (IsPoolOf width height count more) }
     {
         let mut each = Vec::with_capacity(alloc, count + more)?;

@@ -5,6 +5,7 @@ ghost use Rattle.spec_world.specs.World.{group_ids, stack_ids};
 ghost use Rattle.xl_damage.specs.Marks.{numbers};
 ghost use Rattle.xl_doc.specs.Nodes.{nodes_of};
 ghost use Rattle.xl_marks.specs.Change.{came_to};
+ghost use Rattle.spec_cache.specs.declared.TheConstants.{MAX_STACKS};
 
 use std::alloc::{AllocError, Global};
 use xl_doc::{Document, Node, NodeId};
@@ -33,7 +34,7 @@ fn add_groups(list: &mut Vec<NodeId>, nodes: Stack<'_, Node>) -> Result<(), Allo
 /// The image and the groups.
 pub(crate) fn stacks(alloc: Global, doc: &Document) -> Result<Vec<NodeId>, AllocError>
     ensures value { IfOk result (λ list. numbers list.items ≡ stack_ids doc.now) }
-    ensures few { IfOk result (λ list. length list.items ≤ 513) }
+    ensures few { IfOk result (λ list. length list.items ≤ MAX_STACKS) }
 {
     let mut list = Vec::new(alloc);
     list.push(NodeId(0))?;
@@ -54,7 +55,7 @@ pub(crate) fn stacks_that_came(
     new: &Document,
 ) -> Result<Vec<NodeId>, AllocError>
     ensures value { IfOk result (λ list. numbers list.items ≡ came_to old.now new.now) }
-    ensures few { IfOk result (λ list. length list.items ≤ 513) }
+    ensures few { IfOk result (λ list. length list.items ≤ MAX_STACKS) }
 {
     let all = stacks(alloc, new)?;
     let mut came = Vec::new(alloc);

@@ -11,6 +11,7 @@ use Rattle.spec_blend.specs.declared.Mode.{Mode}
 use Rattle.spec_blend.specs.declared.Mode.TheVariants.{Normal, Multiply, Screen, Overlay, Difference, Addition, Subtract, DarkenOnly, LightenOnly, Divide, Dodge, Burn, HardLight, SoftLight, GrainExtract, GrainMerge}
 use Rattle.spec_blend.specs.Blend.{mode_code, mode_of_code}
 use Rattle.spec_grid.specs.Rect.{count_from}
+use Rattle.spec_document.specs.declared.TheConstants.{MAX_OFFSET}
 use Rattle.spec_document.specs.Limits.{IsColour, IsOffset}
 use Rattle.spec_fields.specs.Field.{word_value}
 use Rattle.spec_props.specs.Meaning.{payload_word, is_set, colour_number, colours_in, path_words}
@@ -90,7 +91,7 @@ offset_back : (z : ℤ) → IsOffset z → cast_signed w32 (cast_unsigned w32 z)
 offset_back z h = to_z-of_z w32 z (fits_word z h)
 
 word_of_offset : (z : ℤ) → IsOffset z → cast_unsigned w32 z < 2 ^ 32
-word_of_offset (pos n) h = let near : pos n ≤ℤ pos 262144 = h.1 in omega (arith, ints, near)
+word_of_offset (pos n) h = let near : pos n ≤ℤ MAX_OFFSET = h.1 in omega (arith, ints, near)
 word_of_offset (negsuc n) h = omega arith
 
 pub offsets_back : (at kind : ℕ) (o : ℤ × ℤ) → AreOffsets o → offsets_in (property at kind (offset_words o)) ≡ o

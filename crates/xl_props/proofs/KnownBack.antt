@@ -16,6 +16,7 @@ use Rattle.xl_props.specs.Written.{flag_word, mode_word, offset_words, one_byte,
 use Rattle.xl_props.proofs.More.{known_more}
 use Rattle.xl_props.proofs.Inverse.{opacity_back, mode_back, flag_back, offsets_back, path_back, colours_back}
 use Rattle.xl_props.proofs.Placed.{placed}
+use Rattle.spec_document.specs.declared.numbers.TheConstants.{COLOUR_MAP, OPACITY, MODE, VISIBLE, APPLY_MASK, OFFSETS, COMPRESSION, GROUP_ITEM, ITEM_PATH}
 
 -- what is known after some more properties
 abbrev pub after_all : Owner → Known → List Kept → Known
@@ -70,7 +71,7 @@ of_some {A = A} P o x e h = let Q : Option A → Type 0 = λ v. IfSome v P in su
 
 image_back : (k : Known) → IsKnown Image k → after_all Image unknown (image_list k) ≡ part_of Image k
 image_back k h =
-    then_more Image unknown (record unknown { colours = k.colours }) (if_there 1 colour_bytes k.colours) (if_there 17 one_byte k.compression)
+    then_more Image unknown (record unknown { colours = k.colours }) (if_there COLOUR_MAP colour_bytes k.colours) (if_there COMPRESSION one_byte k.compression)
     (piece Image 1 colour_bytes (λ o. record unknown { colours = o }) k.colours
     (λ x e. let few = of_some AreFewColours k.colours x e h.in_colours in λ i. record unknown { colours = Some (colours_back 0 1 x few.0 few.1 i) }))
     ∙ piece Image 17 one_byte (λ o. record unknown { colours = k.colours; compression = o }) k.compression (λ x e. refl)
@@ -83,24 +84,24 @@ layer_back k h =
     let k4 : Known = record k3 { mode = k.mode } in
     let k5 : Known = record k4 { visible = k.visible } in
     let k6 : Known = record k5 { apply_mask = k.apply_mask } in
-    let l6 = if_there 15 offset_words k.offsets in
-    let l5 = if_there 11 flag_word k.apply_mask ++ l6 in
-    let l4 = if_there 8 flag_word k.visible ++ l5 in
-    let l3 = if_there 7 mode_word k.mode ++ l4 in
-    let l2 = if_there 6 word k.opacity ++ l3 in
-    let l1 = if_there 30 words k.path ++ l2 in
-    then_more Layer unknown k1 (if_so 29 k.group) l1 (mark Layer 29 (λ b. record unknown { group = b }) k.group refl)
-    ∙ (then_more Layer k1 k2 (if_there 30 words k.path) l2
+    let l6 = if_there OFFSETS offset_words k.offsets in
+    let l5 = if_there APPLY_MASK flag_word k.apply_mask ++ l6 in
+    let l4 = if_there VISIBLE flag_word k.visible ++ l5 in
+    let l3 = if_there MODE mode_word k.mode ++ l4 in
+    let l2 = if_there OPACITY word k.opacity ++ l3 in
+    let l1 = if_there ITEM_PATH words k.path ++ l2 in
+    then_more Layer unknown k1 (if_so GROUP_ITEM k.group) l1 (mark Layer 29 (λ b. record unknown { group = b }) k.group refl)
+    ∙ (then_more Layer k1 k2 (if_there ITEM_PATH words k.path) l2
     (piece Layer 30 words (λ o. record k1 { path = o }) k.path
     (λ x e. let path = of_some IsPath k.path x e h.in_path in λ i. record k1 { path = Some (path_back 0 30 x path.2 i) }))
-    ∙ (then_more Layer k2 k3 (if_there 6 word k.opacity) l3
+    ∙ (then_more Layer k2 k3 (if_there OPACITY word k.opacity) l3
     (piece Layer 6 word (λ o. record k2 { opacity = o }) k.opacity
     (λ x e. let small = of_some (λ n. n ≤ 255) k.opacity x e h.in_opacity in λ i. record k2 { opacity = Some (opacity_back 6 x small i) }))
-    ∙ (then_more Layer k3 k4 (if_there 7 mode_word k.mode) l4
+    ∙ (then_more Layer k3 k4 (if_there MODE mode_word k.mode) l4
     (piece Layer 7 mode_word (λ o. record k3 { mode = o }) k.mode (λ x e. λ i. record k3 { mode = Some (mode_back 7 x i) }))
-    ∙ (then_more Layer k4 k5 (if_there 8 flag_word k.visible) l5
+    ∙ (then_more Layer k4 k5 (if_there VISIBLE flag_word k.visible) l5
     (piece Layer 8 flag_word (λ o. record k4 { visible = o }) k.visible (λ x e. λ i. record k4 { visible = Some (flag_back 8 x i) }))
-    ∙ (then_more Layer k5 k6 (if_there 11 flag_word k.apply_mask) l6
+    ∙ (then_more Layer k5 k6 (if_there APPLY_MASK flag_word k.apply_mask) l6
     (piece Layer 11 flag_word (λ o. record k5 { apply_mask = o }) k.apply_mask (λ x e. λ i. record k5 { apply_mask = Some (flag_back 11 x i) }))
     ∙ piece Layer 15 offset_words (λ o. record k6 { offsets = o }) k.offsets
     (λ x e. let near = of_some AreOffsets k.offsets x e h.in_offsets in λ i. record k6 { offsets = Some (offsets_back 0 15 x near i) }))))))

@@ -1,19 +1,20 @@
 -- The properties of values may be written, and their owner interprets them.
 use Rattle.std.proofs.Common.{◌≡◌, ◌≢◌, ℕ, ◌+◌, ◌%◌, ◌^◌, ◌<◌, ◌≤◌, Bool, true, false, not, ◌&&◌, List, [], ◌++◌, length, refl, ap, ◌∙◌, arith}
-use Rattle.std.specs.Prelude.{T, Option, Some, None, is_none, nat_lt, nat_le, ◌==◌, ℤ, pos, negsuc, int_le}
+use Rattle.std.specs.Prelude.{Option, Some, None, is_none, nat_lt, nat_le, ◌==◌, ℤ}
 use Rattle.std.specs.List.{AllByRecursion}
 use Rattle.std.proofs.lemmas.Bool.{le-leb, lt-ltb, eq-eqb}
 use Rattle.spec_blend.specs.declared.Mode.{Mode}
 use Rattle.spec_document.specs.declared.Owner.{Owner}
 use Rattle.spec_document.specs.declared.Owner.TheVariants.{Image, Layer, Channel, Mask}
 use Rattle.spec_document.specs.Document.{Kept}
-use Rattle.spec_document.specs.Limits.{interprets, IsOffset}
+use Rattle.spec_document.specs.Limits.{interprets, is_offset}
+use Rattle.spec_document.proofs.Offsets.{offset_true}
 use Rattle.spec_fields.specs.declared.Kind.TheVariants.{BadProperty, Compression, ModeRefused, OffsetRange}
 use Rattle.spec_fields.specs.Reading.{fault, fault_with}
 use Rattle.spec_fields.proofs.Steps.{chosen_true}
 use Rattle.spec_fields.proofs.All.{all_append}
 use Rattle.spec_props.specs.Meaning.{payload_word, payload_int}
-use Rattle.spec_props.specs.Rules.{rule, rule_of, is_offset}
+use Rattle.spec_props.specs.Rules.{rule, rule_of}
 use Rattle.xl_props.specs.declared.answer.Known.{Known}
 use Rattle.xl_props.specs.Known.{part_of, AreFewColours, AreOffsets, IsPath, IsKnown}
 use Rattle.xl_props.specs.Props.{property}
@@ -24,6 +25,7 @@ use Rattle.xl_props.proofs.Lengths.{length_words, length_colours}
 use Rattle.xl_props.proofs.Inverse.{code_back, offsets_back, count_back}
 use Rattle.xl_props.proofs.Placed.{IsWritable}
 use Rattle.xl_props.proofs.KnownBack.{of_some}
+use Rattle.spec_document.specs.declared.numbers.TheConstants.{COLOUR_MAP, SELECTION, OPACITY, MODE, VISIBLE, APPLY_MASK, OFFSETS, COMPRESSION, GROUP_ITEM, ITEM_PATH}
 
 -- what the owner interprets, and may be written
 pub record IsOwn (owner : Owner) (r : Kept) : Type 0 where
@@ -39,7 +41,7 @@ own_if_so : (owner : Owner) (kind : ℕ) (b : Bool) → IsOwn owner (raw kind []
 own_if_so owner kind true h = (h, tt)
 own_if_so owner kind false h = tt
 
-own_colours : (colours : List (List ℕ)) → AreFewColours colours → IsOwn Image (raw 1 (colour_bytes colours))
+own_colours : (colours : List (List ℕ)) → AreFewColours colours → IsOwn Image (raw COLOUR_MAP (colour_bytes colours))
 own_colours colours few =
     let long = length_colours colours few.1 in
     let count = count_back 0 1 colours few.0 in
@@ -55,7 +57,7 @@ own_colours colours few =
       };
     }
 
-own_code : (code : ℕ) → code ≤ 1 → IsOwn Image (raw 17 (one_byte code))
+own_code : (code : ℕ) → code ≤ 1 → IsOwn Image (raw COMPRESSION (one_byte code))
 own_code code h = record {
   known = refl;
   writable = record {
@@ -76,45 +78,37 @@ own_layer kind payload small not_end known short rules = record {
   writable = record { kind = small; not_end = not_end; short = short; colours = λ e. cc; unit = λ e. cc; rules = rules };
 }
 
-own_opacity : (n : ℕ) → IsOwn Layer (raw 6 (word n))
+own_opacity : (n : ℕ) → IsOwn Layer (raw OPACITY (word n))
 own_opacity n = own_layer 6 (word n) (omega arith) (λ e. omega (arith, e)) refl (omega arith) (λ at. refl)
 
-own_mode : (mode : Mode) → IsOwn Layer (raw 7 (mode_word mode))
+own_mode : (mode : Mode) → IsOwn Layer (raw MODE (mode_word mode))
 own_mode mode =
     own_layer 7 (mode_word mode) (omega arith) (λ e. omega (arith, e)) refl (omega arith)
     (λ at. ap (λ o. rule (not (is_none o)) (fault_with ModeRefused (at + 8) (payload_word (property at 7 (mode_word mode)) 0)) None) (code_back at 7 mode))
 
-own_visible : (flag : Bool) → IsOwn Layer (raw 8 (flag_word flag))
+own_visible : (flag : Bool) → IsOwn Layer (raw VISIBLE (flag_word flag))
 own_visible true = own_layer 8 (flag_word true) (omega arith) (λ e. omega (arith, e)) refl (omega arith) (λ at. refl)
 own_visible false = own_layer 8 (flag_word false) (omega arith) (λ e. omega (arith, e)) refl (omega arith) (λ at. refl)
 
-own_apply_mask : (flag : Bool) → IsOwn Layer (raw 11 (flag_word flag))
+own_apply_mask : (flag : Bool) → IsOwn Layer (raw APPLY_MASK (flag_word flag))
 own_apply_mask true = own_layer 11 (flag_word true) (omega arith) (λ e. omega (arith, e)) refl (omega arith) (λ at. refl)
 own_apply_mask false = own_layer 11 (flag_word false) (omega arith) (λ e. omega (arith, e)) refl (omega arith) (λ at. refl)
 
-true_from_T : (b : Bool) → T b → b ≡ true
-true_from_T true t = refl
-true_from_T false t = absurd t
-
-near : (z : ℤ) → IsOffset z → is_offset z ≡ true
-near z h =
-    ap (λ b. b && int_le z (pos 262144)) (true_from_T (int_le (negsuc 262143) z) h.0.le) ∙ true_from_T (int_le z (pos 262144)) h.1.le
-
-own_offsets : (o : ℤ × ℤ) → AreOffsets o → IsOwn Layer (raw 15 (offset_words o))
+own_offsets : (o : ℤ × ℤ) → AreOffsets o → IsOwn Layer (raw OFFSETS (offset_words o))
 unfolding offset_words
 own_offsets o h =
     own_layer 15 (offset_words o) (omega arith) (λ e. omega (arith, e)) refl (omega arith)
     (λ at. let p = property at 15 (offset_words o) in
     let both = offsets_back at 15 o h in
-    let x : is_offset (payload_int p 0) ≡ true = ap (λ (q : ℤ × ℤ). is_offset q.0) both ∙ near o.0 h.0 in
-    let y : is_offset (payload_int p 1) ≡ true = ap (λ (q : ℤ × ℤ). is_offset q.1) both ∙ near o.1 h.1 in
+    let x : is_offset (payload_int p 0) ≡ true = ap (λ (q : ℤ × ℤ). is_offset q.0) both ∙ offset_true o.0 h.0 in
+    let y : is_offset (payload_int p 1) ≡ true = ap (λ (q : ℤ × ℤ). is_offset q.1) both ∙ offset_true o.1 h.1 in
     chosen_true (is_offset (payload_int p 0)) (rule (is_offset (payload_int p 1)) (fault OffsetRange (at + 12)) None) (Some (fault OffsetRange (at + 8))) x
     ∙ chosen_true (is_offset (payload_int p 1)) None (Some (fault OffsetRange (at + 12))) y)
 
-own_group : IsOwn Layer (raw 29 [])
+own_group : IsOwn Layer (raw GROUP_ITEM [])
 own_group = own_layer 29 [] (omega arith) (λ e. omega (arith, e)) refl (omega arith) (λ at. refl)
 
-own_path : (path : List ℕ) → IsPath path → IsOwn Layer (raw 30 (words path))
+own_path : (path : List ℕ) → IsPath path → IsOwn Layer (raw ITEM_PATH (words path))
 own_path path h =
     let n = length (words path) in
     let long = length_words path in
@@ -123,7 +117,7 @@ own_path path h =
     own_layer 30 (words path) (omega arith) (λ e. omega (arith, e)) refl (omega (arith, long, h.1))
     (λ at. chosen_true (nat_lt 0 n && (n % 4 == 0)) None (Some (fault BadProperty at)) (ap (λ b. b && (n % 4 == 0)) some ∙ fours))
 
-own_selection : IsOwn Channel (raw 4 [])
+own_selection : IsOwn Channel (raw SELECTION [])
 own_selection = record {
   known = refl;
   writable = record { kind = omega arith; not_end = λ e. omega (arith, e); short = omega arith; colours = λ e. cc; unit = λ e. cc; rules = λ at. refl };
@@ -131,30 +125,30 @@ own_selection = record {
 
 own_image : (k : Known) → IsKnown Image k → AllByRecursion (IsOwn Image) (image_list k)
 own_image k h =
-    all_append (IsOwn Image) (if_there 1 colour_bytes k.colours) (if_there 17 one_byte k.compression)
+    all_append (IsOwn Image) (if_there COLOUR_MAP colour_bytes k.colours) (if_there COMPRESSION one_byte k.compression)
     (own_if_there Image 1 colour_bytes k.colours (λ x e. own_colours x (of_some AreFewColours k.colours x e h.in_colours)))
     (own_if_there Image 17 one_byte k.compression (λ x e. own_code x (of_some (λ code. code ≤ 1) k.compression x e h.in_compression)))
 
 own_of_layer : (k : Known) → IsKnown Layer k → AllByRecursion (IsOwn Layer) (layer_list k)
 own_of_layer k h =
     let own = IsOwn Layer in
-    let l7 = if_there 15 offset_words k.offsets in
-    let l6 = if_there 11 flag_word k.apply_mask ++ l7 in
-    let l5 = if_there 8 flag_word k.visible ++ l6 in
-    let l4 = if_there 7 mode_word k.mode ++ l5 in
-    let l3 = if_there 6 word k.opacity ++ l4 in
-    let l2 = if_there 30 words k.path ++ l3 in
-    all_append own (if_so 29 k.group) l2 (own_if_so Layer 29 k.group own_group) (
-    all_append own (if_there 30 words k.path) l3 (own_if_there Layer 30 words k.path (λ x e. own_path x (of_some IsPath k.path x e h.in_path))) (
-    all_append own (if_there 6 word k.opacity) l4 (own_if_there Layer 6 word k.opacity (λ x e. own_opacity x)) (
-    all_append own (if_there 7 mode_word k.mode) l5 (own_if_there Layer 7 mode_word k.mode (λ x e. own_mode x)) (
-    all_append own (if_there 8 flag_word k.visible) l6 (own_if_there Layer 8 flag_word k.visible (λ x e. own_visible x)) (
-    all_append own (if_there 11 flag_word k.apply_mask) l7 (own_if_there Layer 11 flag_word k.apply_mask (λ x e. own_apply_mask x))
+    let l7 = if_there OFFSETS offset_words k.offsets in
+    let l6 = if_there APPLY_MASK flag_word k.apply_mask ++ l7 in
+    let l5 = if_there VISIBLE flag_word k.visible ++ l6 in
+    let l4 = if_there MODE mode_word k.mode ++ l5 in
+    let l3 = if_there OPACITY word k.opacity ++ l4 in
+    let l2 = if_there ITEM_PATH words k.path ++ l3 in
+    all_append own (if_so GROUP_ITEM k.group) l2 (own_if_so Layer GROUP_ITEM k.group own_group) (
+    all_append own (if_there ITEM_PATH words k.path) l3 (own_if_there Layer 30 words k.path (λ x e. own_path x (of_some IsPath k.path x e h.in_path))) (
+    all_append own (if_there OPACITY word k.opacity) l4 (own_if_there Layer 6 word k.opacity (λ x e. own_opacity x)) (
+    all_append own (if_there MODE mode_word k.mode) l5 (own_if_there Layer 7 mode_word k.mode (λ x e. own_mode x)) (
+    all_append own (if_there VISIBLE flag_word k.visible) l6 (own_if_there Layer 8 flag_word k.visible (λ x e. own_visible x)) (
+    all_append own (if_there APPLY_MASK flag_word k.apply_mask) l7 (own_if_there Layer 11 flag_word k.apply_mask (λ x e. own_apply_mask x))
     (own_if_there Layer 15 offset_words k.offsets (λ x e. own_offsets x (of_some AreOffsets k.offsets x e h.in_offsets))))))))
 
 -- the owner interprets each property of its values
 pub own_known : (owner : Owner) (k : Known) → IsKnown owner (part_of owner k) → AllByRecursion (IsOwn owner) (known_list (part_of owner k))
 own_known Image k h = all_append (IsOwn Image) (image_list (part_of Image k)) [] (own_image (part_of Image k) h) tt
 own_known Layer k h = own_of_layer (part_of Layer k) h
-own_known Channel k h = all_append (IsOwn Channel) (if_so 4 k.selection) [] (own_if_so Channel 4 k.selection own_selection) tt
+own_known Channel k h = all_append (IsOwn Channel) (if_so SELECTION k.selection) [] (own_if_so Channel SELECTION k.selection own_selection) tt
 own_known Mask k h = tt

@@ -1,26 +1,26 @@
 -- The values of properties that reading found right are in their ranges.
 use Rattle.std.proofs.Common.{◌≡◌, ℕ, zero, suc, ◌+◌, ◌*◌, ◌/◌, ◌%◌, ◌^◌, ◌<◌, ◌≤◌, Bool, true, false, cond, not, ◌&&◌, List, [], ◌∷◌, length, drop, map, filter, reverse, refl, sym, ap, subst, arith}
-use Rattle.std.specs.Prelude.{◌==◌, nat_le, nat_lt, Option, Some, None, option_map, find, IfSome, slice_index, ℤ, pos, negsuc, int_le}
+use Rattle.std.specs.Prelude.{◌==◌, nat_le, nat_lt, Option, Some, None, option_map, find, IfSome, slice_index}
 use Rattle.std.specs.List.{AllByRecursion}
-use Rattle.std.specs.Int.Signed.{le_z_yes}
 use Rattle.std.proofs.lemmas.Bool.{leb-true, ltb-true, eqb-true}
-use Rattle.std.proofs.lemmas.Float.{T_from_true}
 use Rattle.std.proofs.lemmas.List.{length-take, length-drop, reverse-append}
 use Rattle.spec_grid.specs.Rect.{count_from}
 use Rattle.spec_document.specs.declared.Owner.{Owner}
 use Rattle.spec_document.specs.declared.Owner.TheVariants.{Image, Layer, Channel, Mask}
-use Rattle.spec_document.specs.Limits.{interprets, is_unit, is_unit_length, IsColour, IsOffset, IsKept}
+use Rattle.spec_document.specs.Limits.{interprets, is_unit, is_unit_length, IsColour, is_offset, IsKept}
+use Rattle.spec_document.proofs.Offsets.{offset_is}
 use Rattle.spec_fields.specs.declared.ReadRefused.{ReadRefused}
 use Rattle.spec_fields.specs.declared.Kind.TheVariants.{BadProperty, Compression, OffsetRange}
 use Rattle.spec_fields.specs.Reading.{fault, fault_with}
 use Rattle.spec_fields.proofs.All.{all_take, all_drop, all_append}
 use Rattle.spec_fields.proofs.Below.{word_below}
 use Rattle.spec_props.specs.Meaning.{Property, payload_word, payload_int, colour_number, colours_in, path_words, kept_of}
-use Rattle.spec_props.specs.Rules.{rule, rule_of, offsets_rule, is_offset}
+use Rattle.spec_props.specs.Rules.{rule, rule_of, offsets_rule}
 use Rattle.xl_props.specs.Known.{AreFewColours, AreOffsets, IsPath, IsKnown}
 use Rattle.xl_props.specs.Props.{property, if_any, known_of, compression_in, opacity_in, offsets_in}
 use Rattle.xl_props.specs.Checked.{IsChecked}
 use Rattle.xl_props.specs.After.{as_kept}
+use Rattle.spec_document.specs.declared.numbers.TheConstants.{COLOUR_MAP, OFFSETS, COMPRESSION, ITEM_PATH}
 
 both : (a b : Bool) → (a && b) ≡ true → (a ≡ true) × (b ≡ true)
 both true b e = (refl, e)
@@ -66,7 +66,7 @@ if_last : {A : Type 0} (owner : Owner) (kind : ℕ) (value : Property → A) (Q 
 if_last owner kind value Q each ps h =
     if_found (IsChecked owner) (λ p. p.kind == kind) value Q (λ p checked e. each p checked (eqb-true p.kind kind e)) (reverse ps) (all_reverse (IsChecked owner) ps h)
 
-few_colours : (p : Property) → IsChecked Image p → p.kind ≡ 1 → AreFewColours (colours_in p)
+few_colours : (p : Property) → IsChecked Image p → p.kind ≡ COLOUR_MAP → AreFewColours (colours_in p)
 few_colours p h e =
     let map_is = h.colours (ap (λ k. k == 1) e) in
     let n = payload_word p 0 in (
@@ -80,27 +80,22 @@ few_colours p h e =
 rules_of_kind : (owner : Owner) (kind : ℕ) (p : Property) → IsChecked owner p → p.kind ≡ kind → rule_of owner (property 0 kind p.payload) ≡ None
 rules_of_kind owner kind p h e = let P : ℕ → Type 0 = λ k. rule_of owner (property 0 k p.payload) ≡ None in subst P e h.rules
 
-known_code : (p : Property) → IsChecked Image p → p.kind ≡ 17 → compression_in p ≤ 1
+known_code : (p : Property) → IsChecked Image p → p.kind ≡ COMPRESSION → compression_in p ≤ 1
 known_code p h e =
     let q = property 0 17 p.payload in
     let code = slice_index p.payload 0 in
     let long = rule_held (length p.payload == 1) (fault BadProperty 0) (rule (nat_le code 1) (fault_with Compression 8 code) None) (rules_of_kind Image 17 p h e) in
     leb-true code 1 (rule_held (nat_le code 1) (fault_with Compression 8 code) None long.1).0
 
-offset_by : (z : ℤ) → is_offset z ≡ true → IsOffset z
-offset_by z e =
-    let sides = both (int_le (negsuc 262143) z) (int_le z (pos 262144)) e in
-    (le_z_yes (T_from_true (int_le (negsuc 262143) z) sides.0), le_z_yes (T_from_true (int_le z (pos 262144)) sides.1))
-
-near_offsets : (p : Property) → IsChecked Layer p → p.kind ≡ 15 → AreOffsets (offsets_in p)
+near_offsets : (p : Property) → IsChecked Layer p → p.kind ≡ OFFSETS → AreOffsets (offsets_in p)
 near_offsets p h e =
     let q = property 0 15 p.payload in
     let long = rule_held (length p.payload == 8) (fault BadProperty 0) (offsets_rule q) (rules_of_kind Layer 15 p h e) in
     let x = rule_held (is_offset (payload_int p 0)) (fault OffsetRange 8) (rule (is_offset (payload_int p 1)) (fault OffsetRange 12) None) long.1 in
     let y = rule_held (is_offset (payload_int p 1)) (fault OffsetRange 12) None x.1 in
-    (offset_by (payload_int p 0) x.0, offset_by (payload_int p 1) y.0)
+    (offset_is (payload_int p 0) x.0, offset_is (payload_int p 1) y.0)
 
-some_path : (p : Property) → IsChecked Layer p → p.kind ≡ 30 → IsPath (path_words p)
+some_path : (p : Property) → IsChecked Layer p → p.kind ≡ ITEM_PATH → IsPath (path_words p)
 some_path p h e =
     let n = length p.payload in
     let whole = rule_held (nat_lt 0 n && (n % 4 == 0)) (fault BadProperty 0) None (rules_of_kind Layer 30 p h e) in

@@ -24,6 +24,7 @@ use Rattle.xl_props.proofs.Placed.{IsWritable, placed, behind_all, next_of, they
 use Rattle.xl_props.proofs.KnownBack.{after_all, known_from, then_more, known_back}
 use Rattle.xl_props.proofs.Others.{all_tell_nothing, kept_writable}
 use Rattle.xl_props.proofs.Own.{IsOwn, own_known}
+use Rattle.spec_document.specs.declared.numbers.TheConstants.{COLOUR_MAP, OPACITY, MODE, VISIBLE, APPLY_MASK, OFFSETS, COMPRESSION, GROUP_ITEM, ITEM_PATH}
 
 all_map : {X : Type 0} (P Q : X → Type 0) → ((x : X) → P x → Q x) → (xs : List X) → AllByRecursion P xs → AllByRecursion Q xs
 all_map P Q f [] h = tt
@@ -69,21 +70,21 @@ few_if_so kind false = omega arith
 
 few_known : (k : Known) → length (known_list k) ≤ 10
 few_known k =
-    let l6 = if_there 15 offset_words k.offsets in
-    let l5 = if_there 11 flag_word k.apply_mask ++ l6 in
-    let l4 = if_there 8 flag_word k.visible ++ l5 in
-    let l3 = if_there 7 mode_word k.mode ++ l4 in
-    let l2 = if_there 6 word k.opacity ++ l3 in
-    let l1 = if_there 30 words k.path ++ l2 in
+    let l6 = if_there OFFSETS offset_words k.offsets in
+    let l5 = if_there APPLY_MASK flag_word k.apply_mask ++ l6 in
+    let l4 = if_there VISIBLE flag_word k.visible ++ l5 in
+    let l3 = if_there MODE mode_word k.mode ++ l4 in
+    let l2 = if_there OPACITY word k.opacity ++ l3 in
+    let l1 = if_there ITEM_PATH words k.path ++ l2 in
     let layer : length (layer_list k) ≤ 7 =
     omega (
       arith,
-      length-append (if_so 29 k.group) l1,
-      length-append (if_there 30 words k.path) l2,
-      length-append (if_there 6 word k.opacity) l3,
-      length-append (if_there 7 mode_word k.mode) l4,
-      length-append (if_there 8 flag_word k.visible) l5,
-      length-append (if_there 11 flag_word k.apply_mask) l6,
+      length-append (if_so GROUP_ITEM k.group) l1,
+      length-append (if_there ITEM_PATH words k.path) l2,
+      length-append (if_there OPACITY word k.opacity) l3,
+      length-append (if_there MODE mode_word k.mode) l4,
+      length-append (if_there VISIBLE flag_word k.visible) l5,
+      length-append (if_there APPLY_MASK flag_word k.apply_mask) l6,
       few_if_so 29 k.group,
       few_if_there 30 words k.path,
       few_if_there 6 word k.opacity,
@@ -97,7 +98,7 @@ few_known k =
       layer,
       length-append (image_list k) (channel_list k ++ layer_list k),
       length-append (channel_list k) (layer_list k),
-      length-append (if_there 1 colour_bytes k.colours) (if_there 17 one_byte k.compression),
+      length-append (if_there COLOUR_MAP colour_bytes k.colours) (if_there COMPRESSION one_byte k.compression),
       few_if_there 1 colour_bytes k.colours,
       few_if_there 17 one_byte k.compression,
       few_if_so 4 k.selection,

@@ -9,6 +9,7 @@ use Rattle.xl_props.specs.declared.answer.Known.{Known}
 use Rattle.xl_props.specs.declared.answer.Places.{Places}
 use Rattle.xl_props.specs.declared.answer.Props.{Props}
 use Rattle.xl_props.specs.Props.{compression_in, opacity_in, mode_in, offsets_in}
+use Rattle.spec_document.specs.declared.numbers.TheConstants.{COLOUR_MAP, SELECTION, OPACITY, MODE, VISIBLE, APPLY_MASK, OFFSETS, COMPRESSION, GROUP_ITEM, ITEM_PATH}
 
 -- the value that a property of this kind gives, or else what was known before
 abbrev pub newer : {A : Type 0} → (kind : ℕ) → (Property → A) → Property → Option A → Option A
@@ -20,19 +21,19 @@ marked kind p before = if p.kind == kind then true else before
 
 abbrev pub known_after : Owner → Property → Known → Known
 known_after Image p k = record k {
-  colours = newer 1 colours_in p k.colours;
-  compression = newer 17 compression_in p k.compression;
+  colours = newer COLOUR_MAP colours_in p k.colours;
+  compression = newer COMPRESSION compression_in p k.compression;
 }
 known_after Layer p k = record k {
-  opacity = newer 6 opacity_in p k.opacity;
-  mode = newer 7 mode_in p k.mode;
-  visible = newer 8 is_set p k.visible;
-  apply_mask = newer 11 is_set p k.apply_mask;
-  offsets = newer 15 offsets_in p k.offsets;
-  group = marked 29 p k.group;
-  path = newer 30 path_words p k.path;
+  opacity = newer OPACITY opacity_in p k.opacity;
+  mode = newer MODE mode_in p k.mode;
+  visible = newer VISIBLE is_set p k.visible;
+  apply_mask = newer APPLY_MASK is_set p k.apply_mask;
+  offsets = newer OFFSETS offsets_in p k.offsets;
+  group = marked GROUP_ITEM p k.group;
+  path = newer ITEM_PATH path_words p k.path;
 }
-known_after Channel p k = record k { selection = marked 4 p k.selection }
+known_after Channel p k = record k { selection = marked SELECTION p k.selection }
 known_after Mask p k = k
 
 -- the place of a property of this kind, or else that of one before
@@ -41,8 +42,8 @@ newer_place kind p before = if p.kind == kind then p.at else before
 
 abbrev pub places_after : Owner → Property → Places → Places
 places_after Image p s = s
-places_after Layer p s = record s { group = newer_place 29 p s.group; path = newer_place 30 p s.path }
-places_after Channel p s = record s { selection = newer_place 4 p s.selection }
+places_after Layer p s = record s { group = newer_place GROUP_ITEM p s.group; path = newer_place ITEM_PATH p s.path }
+places_after Channel p s = record s { selection = newer_place SELECTION p s.selection }
 places_after Mask p s = s
 
 -- a list, with what a property gives behind it where the owner does not interpret the property

@@ -13,6 +13,7 @@ use Rattle.xl_props.specs.declared.answer.Known.{Known}
 use Rattle.xl_props.specs.declared.answer.Places.{Places}
 use Rattle.xl_props.specs.declared.answer.Props.{Props}
 use Rattle.xl_props.specs.Known.{part_of}
+use Rattle.spec_document.specs.declared.numbers.TheConstants.{COLOUR_MAP, SELECTION, OPACITY, MODE, VISIBLE, APPLY_MASK, OFFSETS, COMPRESSION, GROUP_ITEM, ITEM_PATH}
 
 -- a property of these bytes
 abbrev pub property : (at kind : ℕ) → List ℕ → Property
@@ -38,16 +39,16 @@ offsets_in p = (payload_int p 0, payload_int p 1)
 -- the values that a list gives, whoever owns it
 abbrev pub values_of : List Property → Known
 values_of ps = record {
-  colours = if_any 1 colours_in ps;
-  compression = if_any 17 compression_in ps;
-  opacity = if_any 6 opacity_in ps;
-  mode = if_any 7 mode_in ps;
-  visible = if_any 8 is_set ps;
-  apply_mask = if_any 11 is_set ps;
-  offsets = if_any 15 offsets_in ps;
-  group = has 29 ps;
-  path = if_any 30 path_words ps;
-  selection = has 4 ps;
+  colours = if_any COLOUR_MAP colours_in ps;
+  compression = if_any COMPRESSION compression_in ps;
+  opacity = if_any OPACITY opacity_in ps;
+  mode = if_any MODE mode_in ps;
+  visible = if_any VISIBLE is_set ps;
+  apply_mask = if_any APPLY_MASK is_set ps;
+  offsets = if_any OFFSETS offsets_in ps;
+  group = has GROUP_ITEM ps;
+  path = if_any ITEM_PATH path_words ps;
+  selection = has SELECTION ps;
 }
 
 -- of these the values of the properties that the owner interprets
@@ -64,8 +65,8 @@ kept_places owner ps = map (λ p. p.at) (filter (λ p. not (interprets owner p.k
 
 abbrev pub places_of : Owner → Properties → Places
 places_of Image ps = record { group = 0; path = 0; selection = 0; kept = kept_places Image ps.list; end = ps.end }
-places_of Layer ps = record { group = place_of 29 ps.list; path = place_of 30 ps.list; selection = 0; kept = kept_places Layer ps.list; end = ps.end }
-places_of Channel ps = record { group = 0; path = 0; selection = place_of 4 ps.list; kept = kept_places Channel ps.list; end = ps.end }
+places_of Layer ps = record { group = place_of GROUP_ITEM ps.list; path = place_of ITEM_PATH ps.list; selection = 0; kept = kept_places Layer ps.list; end = ps.end }
+places_of Channel ps = record { group = 0; path = 0; selection = place_of SELECTION ps.list; kept = kept_places Channel ps.list; end = ps.end }
 places_of Mask ps = record { group = 0; path = 0; selection = 0; kept = kept_places Mask ps.list; end = ps.end }
 
 abbrev pub props_of : Owner → Properties → Props

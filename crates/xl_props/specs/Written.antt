@@ -13,6 +13,7 @@ use Rattle.spec_props.specs.Reading.{Properties, properties_at}
 use Rattle.spec_props.specs.Holds.{HasProperties}
 use Rattle.xl_props.specs.Known.{IsKnown}
 use Rattle.xl_props.specs.Props.{known_of}
+use Rattle.spec_document.specs.declared.numbers.TheConstants.{COLOUR_MAP, SELECTION, OPACITY, MODE, VISIBLE, APPLY_MASK, OFFSETS, COMPRESSION, GROUP_ITEM, ITEM_PATH}
 
 abbrev pub flag_word : Bool → List ℕ
 flag_word b = word (flag b)
@@ -32,16 +33,16 @@ if_there kind payload None = []
 if_there kind payload (Some x) = property kind (payload x) ∷ []
 
 abbrev pub image_list : Known → List Kept
-image_list k = if_there 1 colour_bytes k.colours ++ if_there 17 one_byte k.compression
+image_list k = if_there COLOUR_MAP colour_bytes k.colours ++ if_there COMPRESSION one_byte k.compression
 
 abbrev pub channel_list : Known → List Kept
-channel_list k = if_so 4 k.selection
+channel_list k = if_so SELECTION k.selection
 
 -- the mark of a group comes first, since other readers start a group afresh where they meet it
 abbrev pub layer_list : Known → List Kept
 layer_list k =
-    if_so 29 k.group ++ (if_there 30 path_bytes k.path ++ (if_there 6 word k.opacity ++ (if_there 7 mode_word k.mode
-    ++ (if_there 8 flag_word k.visible ++ (if_there 11 flag_word k.apply_mask ++ if_there 15 offset_words k.offsets)))))
+    if_so GROUP_ITEM k.group ++ (if_there ITEM_PATH path_bytes k.path ++ (if_there OPACITY word k.opacity ++ (if_there MODE mode_word k.mode
+    ++ (if_there VISIBLE flag_word k.visible ++ (if_there APPLY_MASK flag_word k.apply_mask ++ if_there OFFSETS offset_words k.offsets)))))
 
 -- the properties of the values, in the order in which they are written
 abbrev pub known_list : Known → List Kept

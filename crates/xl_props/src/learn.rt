@@ -5,12 +5,12 @@ ghost use Rattle.xl_props.specs.Checked.{IsChecked};
 ghost use Rattle.xl_props.specs.After.{known_after};
 
 use crate::answer::Known;
-use crate::numbers::{
+use crate::values::{colours_of, flag_of, mode_in_payload, offsets_of, opacity_of, path_of};
+use spec_document::Owner;
+use spec_document::numbers::{
     APPLY_MASK, COLOUR_MAP, COMPRESSION, GROUP_ITEM, ITEM_PATH, MODE, OFFSETS, OPACITY, SELECTION,
     VISIBLE,
 };
-use crate::values::{colours_of, flag_of, mode_in_payload, offsets_of, opacity_of, path_of};
-use spec_document::Owner;
 use std::alloc::{AllocError, Global};
 
 fn learn_image(

@@ -11,7 +11,6 @@ mod colour_list;
 mod kept_list;
 mod laws;
 mod learn;
-mod numbers;
 mod offset_list;
 mod path_list;
 mod payload;

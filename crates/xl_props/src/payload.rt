@@ -4,9 +4,9 @@ ghost use Rattle.spec_props.specs.Unit.{true_length};
 ghost use Rattle.spec_props.specs.Reading.{is_colour_map, payload_length_at};
 ghost use Rattle.xl_props.specs.Checked.{IsMapLength};
 
-use crate::numbers::{COLOUR_MAP, USER_UNIT};
 use crate::unit::unit_len;
 use spec_document::Owner;
+use spec_document::numbers::{COLOUR_MAP, USER_UNIT};
 use xl_fields::{Kind, ReadRefused, refused, u32_at};
 
 fn is_map(owner: Owner, kind: u32) -> bool

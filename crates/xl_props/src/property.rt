@@ -4,11 +4,11 @@ ghost use Rattle.xl_props.specs.Props.{property};
 ghost use Rattle.xl_props.specs.Checked.{IsChecked};
 ghost use Rattle.xl_props.specs.Next.{IsPropertyAt, GoesOn};
 
-use crate::numbers::END;
 use crate::payload::payload_len;
 use crate::rules::check_rules;
 use crate::so_far::is_interpreted;
 use spec_document::Owner;
+use spec_document::numbers::END;
 use xl_fields::{Kind, ReadRefused, refused, u32_at};
 
 /// The payload of the property at an offset, or its first fault.

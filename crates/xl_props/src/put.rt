@@ -8,9 +8,9 @@ ghost use Rattle.xl_fields.specs.Behind.{BeginsWith};
 ghost use Rattle.xl_props.specs.Known.{AreFewColours};
 
 use crate::colour_list::ColourMap;
-use crate::numbers::{COLOUR_MAP, COMPRESSION, ITEM_PATH, MODE, OFFSETS, OPACITY};
 use crate::path_list::Path;
 use spec_blend::Mode;
+use spec_document::numbers::{COLOUR_MAP, COMPRESSION, ITEM_PATH, MODE, OFFSETS, OPACITY};
 use std::alloc::{AllocError, Global};
 use xl_blend::code_of;
 use xl_fields::put_u32;
@@ -62,7 +62,7 @@ fn put_words(alloc: Global, out: &mut Vec<u8>, values: &[u32]) -> Result<(), All
 
 fn put_places(alloc: Global, out: &mut Vec<u8>, places: &[u32]) -> Result<(), AllocError>
     requires { length places.now ≤ 2 ^ 22 }
-    ensures ok { OnOk result (out.new.items ≡ out.old.items ++ spelled (raw 30 (words places.now))) }
+    ensures ok { OnOk result (out.new.items ≡ out.old.items ++ spelled (raw ITEM_PATH (words places.now))) }
     ensures front { BeginsWith out.new.items out.old.items }
 {
     put_head(alloc, out, ITEM_PATH, 4 * places.len())?;
@@ -71,7 +71,7 @@ fn put_places(alloc: Global, out: &mut Vec<u8>, places: &[u32]) -> Result<(), Al
 
 pub fn put_path(alloc: Global, out: &mut Vec<u8>, path: &Option<Path>) -> Result<(), AllocError>
     requires { IfSome path.now (λ places. length places ≤ 2 ^ 22) }
-    ensures ok { OnOk result (out.new.items ≡ out.old.items ++ all_spelled (if_there 30 words path.now)) }
+    ensures ok { OnOk result (out.new.items ≡ out.old.items ++ all_spelled (if_there ITEM_PATH words path.now)) }
     ensures front { BeginsWith out.new.items out.old.items }
 {
     match path {
@@ -96,7 +96,7 @@ fn put_bytes_of_each(
 
 fn put_map(alloc: Global, out: &mut Vec<u8>, colours: &[[u8; 3]]) -> Result<(), AllocError>
     requires { AreFewColours colours.now }
-    ensures ok { OnOk result (out.new.items ≡ out.old.items ++ spelled (raw 1 (colour_bytes colours.now))) }
+    ensures ok { OnOk result (out.new.items ≡ out.old.items ++ spelled (raw COLOUR_MAP (colour_bytes colours.now))) }
     ensures front { BeginsWith out.new.items out.old.items }
 {
     put_head(alloc, out, COLOUR_MAP, 4 + 3 * colours.len())?;
@@ -110,7 +110,7 @@ pub fn put_colours(
     colours: &Option<ColourMap>,
 ) -> Result<(), AllocError>
     requires { IfSome colours.now AreFewColours }
-    ensures ok { OnOk result (out.new.items ≡ out.old.items ++ all_spelled (if_there 1 colour_bytes colours.now)) }
+    ensures ok { OnOk result (out.new.items ≡ out.old.items ++ all_spelled (if_there COLOUR_MAP colour_bytes colours.now)) }
     ensures front { BeginsWith out.new.items out.old.items }
 {
     match colours {
@@ -120,7 +120,7 @@ pub fn put_colours(
 }
 
 pub fn put_compression(alloc: Global, out: &mut Vec<u8>, code: Option<u8>) -> Result<(), AllocError>
-    ensures ok { OnOk result (out.new.items ≡ out.old.items ++ all_spelled (if_there 17 one_byte code)) }
+    ensures ok { OnOk result (out.new.items ≡ out.old.items ++ all_spelled (if_there COMPRESSION one_byte code)) }
     ensures front { BeginsWith out.new.items out.old.items }
 {
     match code {
@@ -130,7 +130,7 @@ pub fn put_compression(alloc: Global, out: &mut Vec<u8>, code: Option<u8>) -> Re
 }
 
 pub fn put_opacity(alloc: Global, out: &mut Vec<u8>, opacity: Option<u8>) -> Result<(), AllocError>
-    ensures ok { OnOk result (out.new.items ≡ out.old.items ++ all_spelled (if_there 6 word opacity)) }
+    ensures ok { OnOk result (out.new.items ≡ out.old.items ++ all_spelled (if_there OPACITY word opacity)) }
     ensures front { BeginsWith out.new.items out.old.items }
 {
     match opacity {
@@ -140,7 +140,7 @@ pub fn put_opacity(alloc: Global, out: &mut Vec<u8>, opacity: Option<u8>) -> Res
 }
 
 pub fn put_mode(alloc: Global, out: &mut Vec<u8>, mode: Option<Mode>) -> Result<(), AllocError>
-    ensures ok { OnOk result (out.new.items ≡ out.old.items ++ all_spelled (if_there 7 mode_word mode)) }
+    ensures ok { OnOk result (out.new.items ≡ out.old.items ++ all_spelled (if_there MODE mode_word mode)) }
     ensures front { BeginsWith out.new.items out.old.items }
 {
     match mode {
@@ -166,7 +166,7 @@ pub fn put_flag(
 }
 
 fn put_point(alloc: Global, out: &mut Vec<u8>, x: i32, y: i32) -> Result<(), AllocError>
-    ensures ok { OnOk result (out.new.items ≡ out.old.items ++ spelled (raw 15 (offset_words (x, y)))) }
+    ensures ok { OnOk result (out.new.items ≡ out.old.items ++ spelled (raw OFFSETS (offset_words (x, y)))) }
     ensures front { BeginsWith out.new.items out.old.items }
 {
     put_head(alloc, out, OFFSETS, 8)?;
@@ -179,7 +179,7 @@ pub fn put_offsets(
     out: &mut Vec<u8>,
     offsets: Option<(i32, i32)>,
 ) -> Result<(), AllocError>
-    ensures ok { OnOk result (out.new.items ≡ out.old.items ++ all_spelled (if_there 15 offset_words offsets)) }
+    ensures ok { OnOk result (out.new.items ≡ out.old.items ++ all_spelled (if_there OFFSETS offset_words offsets)) }
     ensures front { BeginsWith out.new.items out.old.items }
 {
     match offsets {

@@ -6,10 +6,10 @@ ghost use Rattle.xl_props.specs.Next.{EndsFull};
 ghost use Rattle.xl_props.specs.Props.{props_read};
 
 use crate::answer::Props;
-use crate::numbers::END;
 use crate::property::next_property;
 use crate::so_far::{add, nothing};
 use spec_document::Owner;
+use spec_document::numbers::END;
 use std::alloc::Global;
 use xl_fields::{Kind, ReadRefused, ReadRefusedOrMemory, refused, u32_at};
 

@@ -1,14 +1,15 @@
 ghost use Rattle.std.specs.Prelude.{◌≡◌, ◌≢◌, ◌+◌, ◌<◌, ◌^◌, length, IsTrue, OnOk, OnErr, None};
+ghost use Rattle.spec_document.specs.Limits.{is_offset};
 ghost use Rattle.spec_fields.specs.Reading.{unless};
-ghost use Rattle.spec_props.specs.Rules.{of_length, is_offset, mode_rule, offsets_rule, path_rule, layer_rule, image_rule, channel_rule, rule_of};
+ghost use Rattle.spec_props.specs.Rules.{of_length, mode_rule, offsets_rule, path_rule, layer_rule, image_rule, channel_rule, rule_of};
 ghost use Rattle.xl_props.specs.Props.{property};
 
-use crate::numbers::{
+use crate::words::{int, word};
+use spec_document::numbers::{
     APPLY_MASK, COMPRESSION, FLOATING_SELECTION, GROUP_ITEM, ITEM_PATH, MODE, OFFSETS, OPACITY,
     SELECTION, USER_UNIT, VISIBLE,
 };
-use crate::words::{int, word};
-use spec_document::Owner;
+use spec_document::{MAX_OFFSET, Owner};
 use xl_blend::mode_of;
 use xl_fields::{Kind, ReadRefused, refused};
 
@@ -44,7 +45,7 @@ fn check_mode(at: usize, kind: u32, payload: &[u8]) -> Result<(), ReadRefused>
 pub fn is_in_range(offset: i32) -> bool
     ensures { result ≡ is_offset offset }
 {
-    -262144 <= offset && offset <= 262144
+    -MAX_OFFSET <= offset && offset <= MAX_OFFSET
 }
 
 fn check_offsets(at: usize, kind: u32, payload: &[u8]) -> Result<(), ReadRefused>
@@ -98,7 +99,7 @@ fn check_layer(at: usize, kind: u32, payload: &[u8]) -> Result<(), ReadRefused>
 
 fn check_compression(at: usize, kind: u32, payload: &[u8]) -> Result<(), ReadRefused>
     requires place { at < 2 ^ 63 }
-    requires number { kind ≡ 17 }
+    requires number { kind ≡ COMPRESSION }
     ensures exact { result ≡ unless (image_rule (property at kind payload.now)) }
     ensures anywhere { OnOk result (image_rule (property 0 kind payload.now) ≡ None) }
 {

@@ -9,12 +9,12 @@ use crate::answer::{Known, Places, Props};
 use crate::byte_list::Bytes;
 use crate::kept_list::{Kept, PropList};
 use crate::learn::learn;
-use crate::numbers::{
+use crate::offset_list::Offsets;
+use spec_document::Owner;
+use spec_document::numbers::{
     APPLY_MASK, COLOUR_MAP, COMPRESSION, FLOATING_SELECTION, GROUP_ITEM, ITEM_PATH, MODE, OFFSETS,
     OPACITY, SELECTION, VISIBLE,
 };
-use crate::offset_list::Offsets;
-use spec_document::Owner;
 use std::alloc::{AllocError, Global};
 
 /// Whether an owner interprets the properties of a kind.

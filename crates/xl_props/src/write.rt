@@ -8,11 +8,11 @@ ghost use Rattle.xl_props.specs.Written.{image_list, channel_list, layer_list, w
 
 use crate::answer::Known;
 use crate::kept_list::{Kept, PropList};
-use crate::numbers::{APPLY_MASK, END, GROUP_ITEM, SELECTION, VISIBLE};
 use crate::put::{
     put, put_colours, put_compression, put_flag, put_mark, put_mode, put_offsets, put_opacity,
     put_path,
 };
+use spec_document::numbers::{APPLY_MASK, END, GROUP_ITEM, SELECTION, VISIBLE};
 use std::alloc::{AllocError, Global};
 
 fn put_image(alloc: Global, out: &mut Vec<u8>, known: &Known) -> Result<(), AllocError>

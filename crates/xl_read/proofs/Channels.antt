@@ -14,6 +14,7 @@ use Rattle.spec_props.specs.Reading.{Properties, properties_at}
 use Rattle.spec_hierarchy.specs.Reading.{same_word_at, pointer_at, hierarchy_at}
 use Rattle.spec_file.specs.Placing.{place_of, passes}
 use Rattle.spec_file.specs.Channels.{with_channel, channel_at}
+use Rattle.spec_document.specs.declared.numbers.TheConstants.{SELECTION}
 
 pub channel_placed : (file : List ℕ) (at place : ℕ) (d new : Document) (text : Text) (ps : Properties) (hierarchy : ℕ) (plane : Plane)
     → same_word_at file at d.width ChannelSize ≡ Ok tt → same_word_at file (at + 4) d.height ChannelSize ≡ Ok tt → name_at file (at + 8) ≡ Ok text
@@ -30,7 +31,7 @@ channel_placed file at place d new text ps hierarchy plane wide high name_is pro
     ∙ (onward (properties_at file owners.Channel text.next) ps _ props_are
     ∙ (onward (unless (passes owners.Channel (all_kept d) ps.list)) tt _ within
     ∙ (onward (pointer_at file (ps.end + 8) BadHierarchy) hierarchy _ pointer_is
-    ∙ (pass (not (is_selection ps.list) || is_none d.selection) (fault TwoSelections (place_of 4 ps.list)) _ first
+    ∙ (pass (not (is_selection ps.list) || is_none d.selection) (fault TwoSelections (place_of SELECTION ps.list)) _ first
     ∙ (pass (is_selection ps.list || nat_lt (length d.channels) 64) (fault TooMany place) _ few
     ∙ (pass (nat_le (area d + d.width * d.height) (2 ^ 28)) (fault TooLarge at) _ (le-leb (area d + d.width * d.height) (2 ^ 28) room)
     ∙ (onward (hierarchy_at file hierarchy d.width d.height 1 d.compression) plane _ plane_is

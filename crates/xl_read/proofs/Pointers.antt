@@ -11,6 +11,7 @@ use Rattle.spec_fields.specs.Field.{word_at}
 use Rattle.spec_fields.proofs.Steps.{onward, chosen_false}
 use Rattle.spec_file.specs.Layers.{Upto, node_at, nodes_at}
 use Rattle.spec_file.specs.Channels.{channel_at, channels_at}
+use Rattle.spec_forest.specs.declared.TheConstants.{MAX_NODES}
 
 -- what was read fails
 failed : {A B : Type 0} (read : Read A) (refused : ReadRefused) (rest : A → Read B) → read ≡ Err refused → (read >>= rest) ≡ Err refused
@@ -55,38 +56,38 @@ module _ (file : List ℕ) where
 
 -- after i layer pointers
 pub record NodesLeft (file : List ℕ) (start : ℕ) (first : Document) (i : ℕ) (d : Document) : Type 0 where
-  pub same : nodes_at 512 file start first ≡ nodes_at (512 - i) file (start + 4 * i) d
+  pub same : nodes_at MAX_NODES file start first ≡ nodes_at (MAX_NODES - i) file (start + 4 * i) d
   pub count : size d.nodes ≡ i
 
 module _ (file : List ℕ) (start : ℕ) (first : Document) (i : ℕ) (d : Document) (left : NodesLeft file start first i d) where
-  nodes_step : (pointer : ℕ) → i < 512 → word_at file (start + 4 * i) ≡ Ok pointer → pointer ≢ 0
-      → nodes_at 512 file start first ≡ (node_at file pointer d >>= (λ new. nodes_at (512 - (i + 1)) file (start + 4 * i + 4) new))
+  nodes_step : (pointer : ℕ) → i < MAX_NODES → word_at file (start + 4 * i) ≡ Ok pointer → pointer ≢ 0
+      → nodes_at MAX_NODES file start first ≡ (node_at file pointer d >>= (λ new. nodes_at (MAX_NODES - (i + 1)) file (start + 4 * i + 4) new))
   nodes_step pointer low word some =
-      let room : 512 - i ≡ suc (512 - (i + 1)) = omega arith in
-      left.same ∙ (ap (λ n. nodes_at n file (start + 4 * i) d) room ∙ node_more file (512 - (i + 1)) (start + 4 * i) pointer d word some)
+      let room : MAX_NODES - i ≡ suc (MAX_NODES - (i + 1)) = omega arith in
+      left.same ∙ (ap (λ n. nodes_at n file (start + 4 * i) d) room ∙ node_more file (MAX_NODES - (i + 1)) (start + 4 * i) pointer d word some)
 
-  pub nodes_next : (pointer : ℕ) (new : Document) → i < 512 → word_at file (start + 4 * i) ≡ Ok pointer → pointer ≢ 0 → node_at file pointer d ≡ Ok new
+  pub nodes_next : (pointer : ℕ) (new : Document) → i < MAX_NODES → word_at file (start + 4 * i) ≡ Ok pointer → pointer ≢ 0 → node_at file pointer d ≡ Ok new
       → size new.nodes ≡ 1 + size d.nodes → NodesLeft file start first (i + 1) new
   nodes_next pointer new low word some node grown =
       let place : start + 4 * i + 4 ≡ start + 4 * (i + 1) = omega arith in
       record {
-        same = nodes_step pointer low word some ∙ (onward (node_at file pointer d) new _ node ∙ ap (λ n. nodes_at (512 - (i + 1)) file n new) place);
+        same = nodes_step pointer low word some ∙ (onward (node_at file pointer d) new _ node ∙ ap (λ n. nodes_at (MAX_NODES - (i + 1)) file n new) place);
         count = omega (arith, left.count, grown);
       }
 
-  pub nodes_fault : (pointer : ℕ) (refused : ReadRefused) → i < 512 → word_at file (start + 4 * i) ≡ Ok pointer → pointer ≢ 0 → node_at file pointer d ≡ Err refused
-      → nodes_at 512 file start first ≡ Err refused
+  pub nodes_fault : (pointer : ℕ) (refused : ReadRefused) → i < MAX_NODES → word_at file (start + 4 * i) ≡ Ok pointer → pointer ≢ 0 → node_at file pointer d ≡ Err refused
+      → nodes_at MAX_NODES file start first ≡ Err refused
   nodes_fault pointer refused low word some node = nodes_step pointer low word some ∙ failed (node_at file pointer d) refused _ node
 
-  pub nodes_end : word_at file (start + 4 * i) ≡ Ok 0 → nodes_at 512 file start first ≡ Ok (record { document = d; next = start + 4 * i + 4 })
-  nodes_end word = left.same ∙ node_end file (512 - i) (start + 4 * i) d word
+  pub nodes_end : word_at file (start + 4 * i) ≡ Ok 0 → nodes_at MAX_NODES file start first ≡ Ok (record { document = d; next = start + 4 * i + 4 })
+  nodes_end word = left.same ∙ node_end file (MAX_NODES - i) (start + 4 * i) d word
 
-  pub nodes_cut : (refused : ReadRefused) → word_at file (start + 4 * i) ≡ Err refused → nodes_at 512 file start first ≡ Err refused
-  nodes_cut refused word = left.same ∙ node_cut file (512 - i) (start + 4 * i) d refused word
+  pub nodes_cut : (refused : ReadRefused) → word_at file (start + 4 * i) ≡ Err refused → nodes_at MAX_NODES file start first ≡ Err refused
+  nodes_cut refused word = left.same ∙ node_cut file (MAX_NODES - i) (start + 4 * i) d refused word
 
-  pub nodes_many : (pointer : ℕ) → i ≡ 512 → word_at file (start + 4 * i) ≡ Ok pointer → pointer ≢ 0 → nodes_at 512 file start first ≡ Err (fault TooMany (start + 4 * i))
+  pub nodes_many : (pointer : ℕ) → i ≡ MAX_NODES → word_at file (start + 4 * i) ≡ Ok pointer → pointer ≢ 0 → nodes_at MAX_NODES file start first ≡ Err (fault TooMany (start + 4 * i))
   nodes_many pointer all word some =
-      let room : 512 - i ≡ 0 = omega arith in
+      let room : MAX_NODES - i ≡ 0 = omega arith in
       left.same ∙ (ap (λ n. nodes_at n file (start + 4 * i) d) room ∙ node_many file (start + 4 * i) pointer d word some)
 
 -- after i channel pointers

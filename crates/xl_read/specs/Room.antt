@@ -6,6 +6,7 @@ use Rattle.spec_document.specs.Document.{Document, Channel, mask_area, channel_k
 use Rattle.spec_file.specs.Layers.{Head}
 use Rattle.spec_file.specs.Placing.{path_to}
 use Rattle.xl_read.specs.Head.{head_kept}
+use Rattle.spec_forest.specs.declared.TheConstants.{MAX_NODES}
 
 -- a mask has these sides
 abbrev pub HasSides : (width height : ℕ) → Option Channel → Type 0
@@ -22,5 +23,5 @@ pub record FitsMask (d : Document) (h : Head) (mask : Option Channel) : Type 0 w
 pub record MayPlace (d : Document) (h : Head) : Type 0 where
   pub leads : IsSome (put_last (path_to h.props.list) none d.nodes)
   pub short : length (path_to h.props.list) < 8
-  pub few : size d.nodes < 512
+  pub few : size d.nodes < MAX_NODES
   pub kept : all_kept d + head_kept h ≤ 2 ^ 28

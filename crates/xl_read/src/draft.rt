@@ -4,6 +4,7 @@ ghost use Rattle.spec_document.specs.Limits.{IsDocument, IsSide};
 ghost use Rattle.spec_forest.specs.Forest.{none, size};
 ghost use Rattle.spec_forest.specs.Changes.{put_last};
 ghost use Rattle.xl_read.specs.Draft.{body_area, node_kept, Places};
+ghost use Rattle.spec_forest.specs.declared.TheConstants.{MAX_NODES};
 
 use crate::header::Header;
 use crate::kept::payload_bytes;
@@ -147,7 +148,7 @@ impl Draft {
     pub fn place(&mut self, path: &[u32], node: Node)
         requires leads { IsSome (put_last path.now none self.old.nodes) }
         requires short { length path.now < 8 }
-        requires few { size self.old.nodes < 512 }
+        requires few { size self.old.nodes < MAX_NODES }
         requires area { area self.old + body_area (self.old.width * self.old.height) node.body ≤ 2 ^ 28 }
         requires kept { all_kept self.old + node_kept node ≤ 2 ^ 28 }
         ensures placed { Places path.now node self.old self.new }

@@ -4,6 +4,7 @@ ghost use Rattle.spec_document.specs.declared.Owner.TheVariants as owners;
 ghost use Rattle.spec_file.specs.Placing.{path_to, place_of};
 ghost use Rattle.spec_props.specs.Meaning.{has_colours, colours_of, compression_of, opacity_of, mode_of, visible_of, apply_mask_of, x_of, y_of, is_group, is_selection, kept_of};
 ghost use Rattle.xl_read.specs.Listing.{parent_of};
+ghost use Rattle.spec_document.specs.declared.numbers.TheConstants.{GROUP_ITEM, ITEM_PATH, SELECTION};
 
 use crate::listing::{Listing, Owned};
 use spec_blend::Mode;
@@ -140,14 +141,14 @@ impl Listing<'_, OfLayer> {
 
     /// The offset of the mark of a group, or 0.
     pub fn group_place(&self) -> usize
-        ensures { result ≡ place_of 29 self.now.list }
+        ensures { result ≡ place_of GROUP_ITEM self.now.list }
     {
         self.props.places.group
     }
 
     /// The offset of the item path, or 0.
     pub fn path_place(&self) -> usize
-        ensures { result ≡ place_of 30 self.now.list }
+        ensures { result ≡ place_of ITEM_PATH self.now.list }
     {
         self.props.places.path
     }
@@ -183,7 +184,7 @@ impl Listing<'_, OfChannel> {
 
     /// The offset of the mark of the selection, or 0.
     pub fn selection_place(&self) -> usize
-        ensures { result ≡ place_of 4 self.now.list }
+        ensures { result ≡ place_of SELECTION self.now.list }
     {
         self.props.places.selection
     }

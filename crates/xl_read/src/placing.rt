@@ -4,6 +4,7 @@ ghost use Rattle.spec_forest.specs.Changes.{put_last};
 ghost use Rattle.xl_tree.specs.Places.{alone};
 ghost use Rattle.xl_doc.specs.Nodes.{nodes_of, is_group_body};
 ghost use Rattle.xl_read.specs.Parts.{AreParts};
+ghost use Rattle.spec_forest.specs.declared.TheConstants.{MAX_NODES};
 
 use xl_doc::{Node, NodeId, Tree};
 
@@ -19,7 +20,7 @@ pub fn leads(tree: &Tree<Node>, path: &[u32]) -> bool
 pub fn put_last(tree: &mut Tree<Node>, path: &[u32], node: Node)
     requires leads { IsSome (put_last path.now none (nodes_of tree.old)) }
     requires short { length path.now < 8 }
-    requires few { size (nodes_of tree.old) < 512 }
+    requires few { size (nodes_of tree.old) < MAX_NODES }
     requires parts { AreParts tree.old }
     ensures put { put_last path.now (nodes_of (alone (is_group_body node.body) (1 + size (nodes_of tree.old)) node)) (nodes_of tree.old) ≡ Some (nodes_of tree.new) }
     ensures parts { AreParts tree.new }

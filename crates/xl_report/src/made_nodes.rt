@@ -6,6 +6,7 @@ ghost use Rattle.spec_forest.specs.Changes.{above};
 ghost use Rattle.spec_generated.specs.Generated.{in_two_groups, leaves_from};
 ghost use Rattle.xl_report.specs.Looks.{IsLook};
 ghost use Rattle.xl_report.specs.MadeNodes.{group_node, layer_node};
+ghost use Rattle.spec_forest.specs.declared.TheConstants.{MAX_NODES};
 
 use crate::look::Look;
 use std::alloc::{AllocError, Global};
@@ -77,8 +78,8 @@ fn put_group(
     requires place { count tree.old ≡ place }
     requires some { 1 ≤ first }
     requires fresh { AllByRecursion (λ id. id < first) (ids tree.old) }
-    requires few { size tree.old + 1 + length looks.now ≤ 512 }
-    requires low { first ≤ 512 }
+    requires few { size tree.old + 1 + length looks.now ≤ MAX_NODES }
+    requires low { first ≤ MAX_NODES }
     requires looks { AllByRecursion IsLook looks.now }
     ensures { OnOk result (tree.new ≡ above tree.old (group first group_node (leaves_from (1 + first) (map layer_node looks.now)) none)) }
 {

@@ -3,6 +3,7 @@ ghost use Rattle.spec_picture.specs.Picture.{picture_bytes};
 ghost use Rattle.spec_report.specs.Pam.{pam as pam_of, pam_head};
 ghost use Rattle.xl_ports.specs.Sink.{Writes};
 ghost use Rattle.xl_report.specs.Written.{WritesText};
+ghost use Rattle.spec_grid.specs.declared.TheConstants.{MAX_SIDE};
 
 use crate::fault::PamFaultOrMemory;
 use std::alloc::{AllocError, Global};
@@ -28,7 +29,7 @@ fn head(alloc: Global, width: u32, height: u32) -> Result<String, AllocError>
 
 // Rows of the canvas.
 fn band(width: u32, y: u32, h: u32) -> Rect
-    requires { y ≤ 8192 }
+    requires { y ≤ MAX_SIDE }
     ensures { result ≡ record { x = pos 0; y = pos y; w = width; h = h } }
 {
     Rect {

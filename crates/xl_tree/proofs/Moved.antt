@@ -22,6 +22,7 @@ use Rattle.xl_tree.proofs.Placed.{Spot, a_leaf_at, a_group_at, spot}
 use Rattle.xl_tree.proofs.PutLast.{flat-alone, size-alone}
 use Rattle.xl_tree.proofs.Shifted.{map-down, map-up, shallow-flat}
 use Rattle.xl_tree.proofs.Taken.{siblings}
+use Rattle.spec_forest.specs.declared.TheConstants.{MAX_NODES}
 
 module _ {N : Type 0} where
   pub flat-above : (level : ℕ) (a b : Forest N N) → flat level (above a b) ≡ flat level a ++ flat level b
@@ -57,7 +58,7 @@ module _ {N : Type 0} where
       ∙ (ap (λ x. front 0 h ++ x) (sym (append_assoc (flat (0 + depth h) b) (flat (0 + depth h) under) (back 0 h)) ∙ ap (λ x. x ++ back 0 h) (sym (flat-above (0 + depth h) b under)))
       ∙ sym (flat-plug 0 h (above b under))))
 
-  pub put_in : (stack place : ℕ) (es new : List (Entry N)) (f b : Forest N N) (at level : ℕ) → es ≡ flat 0 f → IsSlot stack place f at level → size f + size b ≤ 512 → levels (put_into stack place b f) ≤ 8 → new ≡ take at es ++ (flat level b ++ drop at es) → PutIn new (put_into stack place b f)
+  pub put_in : (stack place : ℕ) (es new : List (Entry N)) (f b : Forest N N) (at level : ℕ) → es ≡ flat 0 f → IsSlot stack place f at level → size f + size b ≤ MAX_NODES → levels (put_into stack place b f) ≤ 8 → new ≡ take at es ++ (flat level b ++ drop at es) → PutIn new (put_into stack place b f)
   put_in stack place es new f b at level es_is s few low new_is =
       let new_flat : new ≡ flat 0 (plug s.hole (above b s.under)) =
       plugged s.hole s.under b f at level new s.forest_is s.at_is s.level_is (new_is ∙ ap (λ x. take at x ++ (flat level b ++ drop at x)) es_is) in
@@ -68,7 +69,7 @@ module _ {N : Type 0} where
             (omega (arith, low, ap levels (s.put_is b)));
       }
 
-  pub put_in_one : (stack place : ℕ) (es new : List (Entry N)) (f : Forest N N) (at level id : ℕ) (mark : Bool) (node : N) → es ≡ flat 0 f → IsSlot stack place f at level → size f < 512 → levels (put_into stack place (alone mark id node) f) ≤ 8 → new ≡ insert es at (entry_of level id mark node) → PutIn new (put_into stack place (alone mark id node) f)
+  pub put_in_one : (stack place : ℕ) (es new : List (Entry N)) (f : Forest N N) (at level id : ℕ) (mark : Bool) (node : N) → es ≡ flat 0 f → IsSlot stack place f at level → size f < MAX_NODES → levels (put_into stack place (alone mark id node) f) ≤ 8 → new ≡ insert es at (entry_of level id mark node) → PutIn new (put_into stack place (alone mark id node) f)
   put_in_one stack place es new f at level id mark node es_is s few low new_is =
       put_in stack place es new f (alone mark id node) at level es_is s (omega (arith, few, size-alone id mark node)) low
       (new_is ∙ ap (λ x. take at es ++ (x ++ drop at es)) (sym (flat-alone level id mark node)))
@@ -220,7 +221,7 @@ module _ {N : Type 0} where
       let P : List (Entry N) → Type 0 = AreShallow in subst P (sym tail) (shallow-flat 0 (forest_of bs) s.low)
 
   -- a branch that was parked at the end is put into a slot
-  pub grafted : (stack place : ℕ) (r b : Forest N N) (es new : List (Entry N)) (at count level n : ℕ) → es ≡ flat 0 r ++ flat 0 b → n ≡ length es → count ≡ size b → IsSlot stack place r at level → size r + size b ≤ 512 → levels (put_into stack place b r) ≤ 8
+  pub grafted : (stack place : ℕ) (r b : Forest N N) (es new : List (Entry N)) (at count level n : ℕ) → es ≡ flat 0 r ++ flat 0 b → n ≡ length es → count ≡ size b → IsSlot stack place r at level → size r + size b ≤ MAX_NODES → levels (put_into stack place b r) ≤ 8
       → new ≡ take at es ++ (map (shifted 0 level) (drop (n - count) es) ++ take (n - count - at) (drop at es)) → PutIn new (put_into stack place b r)
   grafted stack place r b es new at count level n es_is n_is count_is slot few low new_is =
       put_in stack place (flat 0 r) new r b at level refl slot few low
@@ -242,7 +243,7 @@ module _ {N : Type 0} where
     pub rest_siblings : AreSiblings 0 rest
     pub branch_siblings : AreSiblings 0 branch
 
-  pub parts : (id at count n : ℕ) (f : Forest N N) (es : List (Entry N)) → size f ≤ 512 → levels f ≤ 8 → (r : Removal id at f) → count ≡ size r.branch → n ≡ length es → es ≡ flat 0 (without id f) ++ flat 0 (branch_of id f) → Parts id at f es (take (n - count) es) (drop (n - count) es)
+  pub parts : (id at count n : ℕ) (f : Forest N N) (es : List (Entry N)) → size f ≤ MAX_NODES → levels f ≤ 8 → (r : Removal id at f) → count ≡ size r.branch → n ≡ length es → es ≡ flat 0 (without id f) ++ flat 0 (branch_of id f) → Parts id at f es (take (n - count) es) (drop (n - count) es)
   parts id at count n f es few low r count_is n_is es_is =
       let rest_size : length (flat 0 (without id f)) ≡ size (without id f) = length-flat 0 (without id f) in
       let branch_size : length (flat 0 (branch_of id f)) ≡ size r.branch = length-flat 0 (branch_of id f) ∙ ap size r.branch_is in

@@ -14,6 +14,7 @@ use Rattle.xl_tree.proofs.Flat.{forest_of_is}
 use Rattle.xl_tree.proofs.FlatHoles.{entry_of, insert-plug}
 use Rattle.xl_tree.proofs.Paths.{end_at-hole}
 use Rattle.xl_tree.proofs.Taken.{siblings}
+use Rattle.spec_forest.specs.declared.TheConstants.{MAX_NODES}
 
 module _ {N : Type 0} where
   pub flat-alone : (level id : ℕ) (mark : Bool) (node : N) → flat level (alone mark id node) ≡ entry_of level id mark node ∷ []
@@ -42,7 +43,7 @@ module _ {N : Type 0} where
     pub view : put_last path branch f ≡ Some (forest_of new)
     pub siblings : AreSiblings 0 new
 
-  pub put_last_entry : (path : List ℕ) (es new : List (Entry N)) (f : Forest N N) (at id : ℕ) (mark : Bool) (node : N) → AreSiblings 0 es → forest_of es ≡ f → end_at path f ≡ Some at → length path < 8 → size f < 512 → new ≡ insert es at (entry_of (length path) id mark node) → PutLast path (alone mark id node) f new
+  pub put_last_entry : (path : List ℕ) (es new : List (Entry N)) (f : Forest N N) (at id : ℕ) (mark : Bool) (node : N) → AreSiblings 0 es → forest_of es ≡ f → end_at path f ≡ Some at → length path < 8 → size f < MAX_NODES → new ≡ insert es at (entry_of (length path) id mark node) → PutLast path (alone mark id node) f new
   put_last_entry path es new f at id mark node s is e short few new_is =
       let b : Forest N N = alone mark id node in
       let m = hole_from_end path f at (hole_last path f) (sym (end_at-hole path f) ∙ e) in
@@ -54,7 +55,7 @@ module _ {N : Type 0} where
       let es_is : es ≡ flat 0 (plug h none) = s.flat_is ∙ ap (flat 0) (is ∙ sym hole_is) in
       let new_flat : new ≡ flat 0 (plug h b) =
       new_is ∙ ((λ i. insert (es_is i) (sym m.2 i) (entry_of (length path) id mark node)) ∙ insert-plug 0 h (entry_of (length path) id mark node) b one) in
-      let new_size : size (plug h b) ≤ 512 = omega (arith, few, size-plug h none b, size-alone id mark node, ap size hole_is) in
+      let new_size : size (plug h b) ≤ MAX_NODES = omega (arith, few, size-plug h none b, size-alone id mark node, ap size hole_is) in
       let low : 0 + levels (plug h b) ≤ 8 = omega (arith, s.low, short, deep, levels-plug h none b, levels-alone id mark node, ap levels hole_is, ap levels is) in
       record {
         view = put_last-hole path b f ∙ (ap (option_map (λ x. plug x b)) m.1 ∙ ap Some (sym (forest_of_is 0 new (plug h b) new_flat)));

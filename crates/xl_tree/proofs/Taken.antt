@@ -5,10 +5,11 @@ use Rattle.xl_tree.specs.declared.entries.Entry.{Entry}
 use Rattle.xl_tree.specs.Flat.{flat, below, forest_of}
 use Rattle.xl_tree.specs.Kept.{AreSiblings}
 use Rattle.xl_tree.proofs.Flat.{length-flat, take-flat_group, drop-flat_group, forest_of_is, flat_is, size-forest_of}
+use Rattle.spec_forest.specs.declared.TheConstants.{MAX_NODES}
 
 module _ {N : Type 0} where
   -- siblings, by their forest
-  pub siblings : (level : ℕ) (es : List (Entry N)) (f : Forest N N) → es ≡ flat level f → size f ≤ 512 → level + levels f ≤ 8 → AreSiblings level es
+  pub siblings : (level : ℕ) (es : List (Entry N)) (f : Forest N N) → es ≡ flat level f → size f ≤ MAX_NODES → level + levels f ≤ 8 → AreSiblings level es
   siblings level es f e few low = record { flat_is = flat_is level es f e; few = omega (arith, few, ap length e, length-flat level f); low = omega (arith, low, ap levels (forest_of_is level es f e)) }
 
   -- what follows a leaf
@@ -24,7 +25,7 @@ module _ {N : Type 0} where
     pub children : AreSiblings (level + 1) (take (below e.level rest) rest)
     pub under : AreSiblings level (drop (below e.level rest) rest)
 
-  pub after_leaf : (level : ℕ) (f : Forest N N) (e : Entry N) (rest : List (Entry N)) → e ∷ rest ≡ flat level f → size f ≤ 512 → level + levels f ≤ 8 → e.group ≡ false → AfterLeaf level f e rest
+  pub after_leaf : (level : ℕ) (f : Forest N N) (e : Entry N) (rest : List (Entry N)) → e ∷ rest ≡ flat level f → size f ≤ MAX_NODES → level + levels f ≤ 8 → e.group ≡ false → AfterLeaf level f e rest
   after_leaf level none e rest is few low g = cc
   after_leaf level (leaf id w u) e rest is few low g =
       let first : e ≡ record { id = id; level = level; group = false; node = w } = cc in
@@ -39,7 +40,7 @@ module _ {N : Type 0} where
       let yes : true ≡ false = sym (ap (λ x. x.group) first) ∙ g in
       cc
 
-  pub after_group : (level : ℕ) (f : Forest N N) (e : Entry N) (rest : List (Entry N)) → e ∷ rest ≡ flat level f → size f ≤ 512 → level + levels f ≤ 8 → e.group ≡ true → AfterGroup level f e rest
+  pub after_group : (level : ℕ) (f : Forest N N) (e : Entry N) (rest : List (Entry N)) → e ∷ rest ≡ flat level f → size f ≤ MAX_NODES → level + levels f ≤ 8 → e.group ≡ true → AfterGroup level f e rest
   after_group level none e rest is few low g = cc
   after_group level (leaf id w u) e rest is few low g =
       let first : e ≡ record { id = id; level = level; group = false; node = w } = cc in

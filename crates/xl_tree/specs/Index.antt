@@ -3,6 +3,7 @@ use Rattle.std.specs.Prelude.{◌≡◌, ℕ, ◌+◌, ◌≤◌, ◌==◌, nat_
 use Rattle.std.specs.HashMap.{get, hash_map_len, spare}
 use Rattle.xl_tree.specs.declared.entries.Entry.{Entry}
 use Rattle.xl_tree.specs.declared.index.Index.{Index}
+use Rattle.spec_forest.specs.declared.TheConstants.{MAX_NODES}
 
 -- the place of the first entry with an id
 abbrev pub place_in : {N : Type 0} → (id : ℕ) → List (Entry N) → Option ℕ
@@ -19,4 +20,4 @@ IsIndex index entries = (id : ℕ) → place_at index id ≡ place_in id entries
 
 -- there is room for the entries of any tree
 abbrev pub HasRoom : Index → Type 0
-HasRoom index = 512 ≤ hash_map_len index.places + spare index.places
+HasRoom index = MAX_NODES ≤ hash_map_len index.places + spare index.places

@@ -8,17 +8,18 @@ use Rattle.xl_tree.specs.declared.index.Index.{Index}
 use Rattle.xl_tree.specs.Flat.{flat, forest_of}
 use Rattle.xl_tree.specs.Ids.{AreOwn}
 use Rattle.xl_tree.specs.Index.{HasRoom, IsIndex}
+use Rattle.spec_forest.specs.declared.TheConstants.{MAX_NODES}
 
 -- these are the entries of siblings at a level, in preorder, with all below them, within the limits
 pub record AreSiblings {N : Type 0} (level : ℕ) (entries : List (Entry N)) : Type 0 where
   pub flat_is : entries ≡ flat level (forest_of entries)
-  pub few : length entries ≤ 512
+  pub few : length entries ≤ MAX_NODES
   pub low : level + levels (forest_of entries) ≤ 8
 
 -- the entries of a forest within the limits, each node with an id of its own, an index of them, and room for all that may come
 pub record IsKept {N Z : Type 0} (entries : Vec (Entry N) Z) (index : Index) : Type 0 where
   pub siblings : AreSiblings 0 entries.items
   pub own : AreOwn (ids (forest_of entries.items))
-  pub room : 512 ≤ vec_capacity entries
+  pub room : MAX_NODES ≤ vec_capacity entries
   pub indexed : IsIndex index entries.items
   pub index_room : HasRoom index

@@ -2,9 +2,10 @@ ghost use Rattle.std.specs.Prelude.{◌≡◌, ◌≤◌, IfOk};
 ghost use Rattle.std.specs.Vec.{vec_capacity};
 
 use crate::entries::Entry;
-use crate::forest::{MAX_NODES, Tree};
+use crate::forest::Tree;
 use crate::index::Index;
 use crate::naming::Share;
+use spec_forest::MAX_NODES;
 use std::alloc::{AllocError, Global};
 
 impl<N: Share + Drop> Tree<N> {
@@ -35,7 +36,7 @@ fn shared_entry<N: Share>(alloc: Global, entry: &Entry<N>) -> Result<Entry<N>, A
 /// The same entries again, with the room of a tree.
 fn shared<N: Share + Drop>(alloc: Global, entries: &[Entry<N>]) -> Result<Vec<Entry<N>>, AllocError>
     ensures items { IfOk result (λ other. other.items ≡ entries.now) }
-    ensures room { IfOk result (λ other. 512 ≤ vec_capacity other) }
+    ensures room { IfOk result (λ other. MAX_NODES ≤ vec_capacity other) }
 {
     let mut others = Vec::with_capacity(alloc, MAX_NODES as usize)?;
     for entry in entries {

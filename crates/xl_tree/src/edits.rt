@@ -6,6 +6,7 @@ ghost use Rattle.xl_tree.specs.Ids.{IsNew};
 ghost use Rattle.xl_tree.specs.Places.{alone};
 ghost use Rattle.xl_tree.specs.Reads.{size_of};
 ghost use Rattle.xl_tree.specs.Refusals.{answer_of, answer_with, no_node, no_stack, put_refusal, restack_refusal, stands_in};
+ghost use Rattle.spec_forest.specs.declared.TheConstants.{MAX_NODES};
 
 use crate::branch::Branch;
 use crate::entries::Entry;
@@ -26,7 +27,7 @@ impl<N: Shown + Drop> Tree<N> {
         node: N,
     ) -> Result<(), (TreeRefused, N)>
         requires new { IsNew id.0 self.old }
-        requires few { size self.old < 512 }
+        requires few { size self.old < MAX_NODES }
         requires low { put_refusal parent.0 place self.old ≡ None
             → levels (put_into parent.0 place (alone (N.is_group node) id.0 node) self.old) ≤ 8 }
         ensures answer { result ≡ answer_with (put_refusal parent.0 place self.old) node }
@@ -81,7 +82,7 @@ impl<N: Drop> Tree<N> {
         branch: &mut Branch<N>,
     ) -> Result<(), TreeRefused>
         requires apart { IsDistinct nat_eq (ids branch.old.forest ++ ids self.old) }
-        requires few { size branch.old.forest + size self.old ≤ 512 }
+        requires few { size branch.old.forest + size self.old ≤ MAX_NODES }
         requires low { put_refusal parent.0 place self.old ≡ None
             → levels (put_into parent.0 place branch.old.forest self.old) ≤ 8 }
         ensures answer { result ≡ answer_of (put_refusal parent.0 place self.old) }

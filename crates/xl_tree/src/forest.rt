@@ -12,11 +12,9 @@ use crate::index::Index;
 use crate::naming::{NodeId, Shown};
 use crate::places::end_at;
 use crate::stacks::Stack;
+use spec_forest::MAX_NODES;
 use std::alloc::{AllocError, Global};
 use std::marker::Model;
-
-/// The most nodes that a tree has.
-pub const MAX_NODES: u32 = 512;
 
 /// An ordered forest, with an index of its nodes by id. Each node has an id of its own, which is not
 /// 0. Its room is taken when it is made.
@@ -55,7 +53,7 @@ impl<N: Drop> Tree<N> {
     /// The number of nodes.
     pub fn len(&self) -> u32
         ensures len { result ≡ size self.now }
-        ensures few { result ≤ 512 }
+        ensures few { result ≤ MAX_NODES }
     {
         self.entries.len() as u32
     }
@@ -63,7 +61,7 @@ impl<N: Drop> Tree<N> {
     /// The whole forest.
     pub fn top(&self) -> Stack<'_, N>
         ensures value { result ≡ self.now }
-        ensures few { size self.now ≤ 512 }
+        ensures few { size self.now ≤ MAX_NODES }
         ensures low { levels self.now ≤ 8 }
         ensures own { AreOwn (ids self.now) }
     {
@@ -74,7 +72,7 @@ impl<N: Drop> Tree<N> {
     /// names neither.
     pub fn stack(&self, id: NodeId) -> Option<Stack<'_, N>>
         ensures value { result ≡ stack_at id.0 self.now }
-        ensures few { IfSome result (λ stack. size stack ≤ 512) }
+        ensures few { IfSome result (λ stack. size stack ≤ MAX_NODES) }
         ensures low { IfSome result (λ stack. levels stack ≤ 8) }
     {
         if id.0 == 0 {
@@ -88,7 +86,7 @@ impl<N: Drop> Tree<N> {
     pub(crate) fn found(&self, id: NodeId) -> Option<(&Entry<N>, Stack<'_, N>)>
         ensures none { IfNone result (find id.0 self.now ≡ nothing) }
         ensures some { IfSome result (λ p. IsFound (find id.0 self.now) p.0.now p.1) }
-        ensures few { IfSome result (λ p. size p.1 ≤ 512) }
+        ensures few { IfSome result (λ p. size p.1 ≤ MAX_NODES) }
         ensures low { IfSome result (λ p. levels p.1 ≤ 8) }
     {
         let (first, rest) = self.from_node(id).split_first()?;
@@ -126,7 +124,7 @@ impl<N: Shown + Drop> Tree<N> {
         requires leads { IsSome (put_last path.now none self.old) }
         requires new { IsNew id.0 self.old }
         requires short { length path.now < 8 }
-        requires few { size self.old < 512 }
+        requires few { size self.old < MAX_NODES }
         ensures { put_last path.now (alone (N.is_group node) id.0 node) self.old ≡ Some self.new }
     {
         let at = end_at(self.top(), path).unwrap();

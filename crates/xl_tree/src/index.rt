@@ -2,7 +2,7 @@ ghost use Rattle.std.specs.Prelude.{◌≡◌, ◌≤◌, ℕ, None, length, IfO
 ghost use Rattle.xl_tree.specs.Index.{HasRoom, IsIndex, place_at};
 
 use crate::entries::Entry;
-use crate::forest::MAX_NODES;
+use spec_forest::MAX_NODES;
 use std::alloc::{AllocError, Global};
 use std::collections::HashMap;
 
@@ -32,7 +32,7 @@ impl Index {
     /// Tells of these entries from now on.
     pub fn renew<N>(&mut self, entries: &[Entry<N>])
         requires room { HasRoom self.old }
-        requires few { length entries.now ≤ 512 }
+        requires few { length entries.now ≤ MAX_NODES }
         ensures room { HasRoom self.new }
         ensures index { IsIndex self.new entries.now }
     {

@@ -21,7 +21,8 @@ mod writes;
 
 pub use above::Ancestors;
 pub use branch::Branch;
-pub use forest::{MAX_NODES, Tree};
+pub use forest::Tree;
 pub use naming::{NodeId, Share, Shown};
 pub use refused::TreeRefused;
+pub use spec_forest::MAX_NODES;
 pub use stacks::{Split, Stack};

@@ -2,6 +2,7 @@ ghost use Rattle.std.specs.Prelude.{◌≡◌, ◌≤◌};
 ghost use Rattle.spec_forest.specs.Forest.{size};
 ghost use Rattle.spec_forest.specs.Holes.{from_place};
 ghost use Rattle.xl_tree.specs.Places.{end_at};
+ghost use Rattle.spec_forest.specs.declared.TheConstants.{MAX_NODES};
 
 use crate::stacks::{Split, Stack};
 
@@ -22,7 +23,7 @@ pub fn from_place<N: Drop>(stack: Stack<'_, N>, place: u32) -> Stack<'_, N>
 
 /// How many nodes come before what is put last in the group that a path names.
 pub fn end_at<N: Drop>(stack: Stack<'_, N>, path: &[u32]) -> Option<u32>
-    requires { size stack ≤ 512 }
+    requires { size stack ≤ MAX_NODES }
     ensures { result ≡ end_at path.now stack.entry }
 {
     let mut before = 0;

@@ -2,6 +2,7 @@ ghost use Rattle.std.specs.Prelude.{◌≡◌, ◌≤◌, fold, max, option_map,
 ghost use Rattle.std.specs.Option.{option_copied};
 ghost use Rattle.spec_forest.specs.Forest.{count, find, ids, size, stack_at};
 ghost use Rattle.xl_tree.specs.Reads.{child_at, bottom_shown, levels_of, node_of, size_of};
+ghost use Rattle.spec_forest.specs.declared.TheConstants.{MAX_NODES};
 
 use crate::entries::greatest;
 use crate::forest::Tree;
@@ -79,7 +80,7 @@ impl<N: Shown + Drop> Tree<N> {
 
 /// The number of nodes at the top of a stack.
 fn count<N: Drop>(stack: Stack<'_, N>) -> u32
-    requires { size stack ≤ 512 }
+    requires { size stack ≤ MAX_NODES }
     ensures { result ≡ count stack.entry }
 {
     let mut rest = stack;

@@ -6,6 +6,7 @@ ghost use Rattle.xl_tree.specs.Flat.{forest_of};
 ghost use Rattle.xl_tree.specs.Kept.{AreSiblings};
 ghost use Rattle.xl_tree.specs.Refusals.{no_stack, past, put_refusal, refusal_of};
 ghost use Rattle.xl_tree.specs.Slots.{IsSlot, IsStackAt};
+ghost use Rattle.spec_forest.specs.declared.TheConstants.{MAX_NODES};
 
 use crate::entries::{Entry, deeper, from_id};
 use crate::naming::NodeId;
@@ -71,7 +72,7 @@ fn stack_in<N: Drop>(
 fn nodes_before<N: Drop>(stack: Stack<'_, N>, place: u32) -> Result<u32, TreeRefused>
     ensures refused { refusal_of result ≡ past place (count stack.entry) }
     ensures before { IfOk result (λ n. n ≡ size stack.entry - size (from_place place stack.entry)) }
-    ensures few { IfOk result (λ n. n ≤ 512) }
+    ensures few { IfOk result (λ n. n ≤ MAX_NODES) }
 {
     let all = stack.len();
     let mut rest = stack;

@@ -3,6 +3,7 @@ ghost use Rattle.spec_forest.specs.Forest.{levels, none, size};
 ghost use Rattle.xl_tree.specs.Flat.{forest_of};
 ghost use Rattle.xl_tree.specs.Kept.{AreSiblings};
 ghost use Rattle.xl_tree.specs.Parts.{whole, Falls};
+ghost use Rattle.spec_forest.specs.declared.TheConstants.{MAX_NODES};
 
 use crate::entries::{Entry, deeper, deepest};
 use crate::naming::NodeId;
@@ -116,7 +117,7 @@ impl<'a, N: Drop> Stack<'a, N> {
     /// The number of nodes, at any depth.
     pub fn len(&self) -> u32
         ensures len { result ≡ size self.now }
-        ensures few { result ≤ 512 }
+        ensures few { result ≤ MAX_NODES }
     {
         self.entries.len() as u32
     }

@@ -7,7 +7,7 @@ use Rattle.spec_document.specs.Document.{area, base_code, base_of_kind}
 use Rattle.spec_edit.specs.declared.EditRefused.{EditRefused}
 use Rattle.spec_edit.specs.declared.EditRefused.TheVariants.{OtherType}
 use Rattle.spec_edit.specs.Refusal.{first, unless, offset_range, no_parent, not_group, bad_place, bad_name, too_deep, too_many, too_large}
-use Rattle.xl_tree.specs.declared.forest.TheConstants.{MAX_NODES}
+use Rattle.spec_forest.specs.declared.TheConstants.{MAX_NODES}
 use Rattle.xl_checks.proofs.RulesInTurn.{then_first, stops}
 use Rattle.xl_checks.proofs.checks.check_new_layer.Goals as goal
 

@@ -10,6 +10,7 @@ use Rattle.xl_compose.proofs.Costs.{band_cost}
 use Rattle.xl_compose.proofs.Recomposed.{some_stack, picture_is, count_is}
 use Rattle.xl_compose.proofs.PictureRows.{bands_more, rows_all, rows_fit, natural_is}
 use Rattle.xl_compose.proofs.recompose.compose_bands.Goals as goal
+use Rattle.spec_grid.specs.declared.TheConstants.{MAX_SIDE}
 
 pub unwrap-nodes-requires : goal.unwrap-nodes-requires
 unwrap-nodes-requires g c = rw c.stack.ensures.value (some_stack c.args.stack.0 c.doc.inside.tree (rw (← c.doc.view_is) at c.requires.stack))
@@ -59,8 +60,8 @@ pub returns-clause-picture : goal.returns-clause-picture
 returns-clause-picture g c =
     let d = c.args.doc.now in
     let many : length c.loop-b.out ≡ 4 * (c.args.rect.w * c.args.rect.h) = omega arith in
-    let small_w : d.width ≤ 8192 = rw (← c.doc.view_is) c.doc.invariant.limits.width.1 in
-    let small_h : d.height ≤ 8192 = rw (← c.doc.view_is) c.doc.invariant.limits.height.1 in
+    let small_w : d.width ≤ MAX_SIDE = rw (← c.doc.view_is) c.doc.invariant.limits.width.1 in
+    let small_h : d.height ≤ MAX_SIDE = rw (← c.doc.view_is) c.doc.invariant.limits.height.1 in
     let x = c.natural-x.ensures ∙ natural_is c.args.rect.x c.args.rect.w d.width c.requires.inside.left c.requires.inside.right small_w in
     let y = c.natural-y.ensures ∙ natural_is c.args.rect.y c.args.rect.h d.height c.requires.inside.top c.requires.inside.bottom small_h in
     let all : min (64 * c.loop-b.b) c.args.rect.h ≡ c.args.rect.h = omega arith in

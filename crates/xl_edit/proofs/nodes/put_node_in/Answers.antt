@@ -3,7 +3,7 @@ use Rattle.std.proofs.Common.{◌≡◌, ℕ, ◌<◌, cond, sym, ◌∙◌, ap,
 use Rattle.std.specs.Prelude.{Ok, Err, is_ok}
 use Rattle.spec_forest.specs.Forest.{Forest}
 use Rattle.spec_forest.specs.Changes.{put_into}
-use Rattle.xl_tree.specs.declared.forest.TheConstants.{MAX_NODES}
+use Rattle.spec_forest.specs.declared.TheConstants.{MAX_NODES}
 use Rattle.xl_tree.specs.Places.{alone}
 use Rattle.xl_tree.specs.Refusals.{answer_with}
 use Rattle.xl_doc.specs.declared.node.Node.{Node}

@@ -5,6 +5,7 @@ use Rattle.spec_grid.specs.Grid.{tiles_along}
 use Rattle.xl_hier.proofs.Filling.{starts, pointer_small, filling_more, numbered, filled}
 use Rattle.xl_hier.proofs.Front.{front_kept}
 use Rattle.xl_hier.proofs.writing.write_tiles.Goals as goal
+use Rattle.spec_grid.specs.declared.TheConstants.{MAX_SIDE}
 
 -- how many tiles there are, as code counts them
 count_is : (columns rows w h p q : ℕ) → columns ≡ tiles_along w → rows ≡ tiles_along h → w ≡ p → h ≡ q → columns * rows ≡ tiles_along q * tiles_along p
@@ -13,7 +14,7 @@ count_is columns rows w h p q c r ew eh =
     let rows' : rows ≡ tiles_along q = r ∙ ap tiles_along eh in
     (λ i. columns' i * rows' i) ∙ omega arith
 
-few_tiles : (n : ℕ) → n ≤ 8192 → tiles_along n ≤ 128
+few_tiles : (n : ℕ) → n ≤ MAX_SIDE → tiles_along n ≤ 128
 few_tiles n h = omega (arith, h)
 
 front_size : (table n : ℕ) (out : List ℕ) → length out ≡ table + n + 4 → length (take table out) ≡ table

@@ -5,12 +5,13 @@ use Rattle.spec_forest.specs.Forest.{find}
 use Rattle.spec_picture.specs.Picture.{extent, rect_found}
 use Rattle.xl_write.proofs.Inside.{LiesInside, cut_inside}
 use Rattle.xl_write.proofs.group.group_rect.Goals as goal
+use Rattle.spec_grid.specs.declared.TheConstants.{MAX_SIDE}
 
 lies : (c : goal.Else-is_empty) → LiesInside c.args.doc.now.width c.args.doc.now.height c.group_extent-extent.result
 lies c =
     let d = c.args.doc.now in
-    let wide : d.width ≤ 8192 = rw (← c.doc.view_is) c.doc.invariant.limits.width.1 in
-    let high : d.height ≤ 8192 = rw (← c.doc.view_is) c.doc.invariant.limits.height.1 in
+    let wide : d.width ≤ MAX_SIDE = rw (← c.doc.view_is) c.doc.invariant.limits.width.1 in
+    let high : d.height ≤ MAX_SIDE = rw (← c.doc.view_is) c.doc.invariant.limits.height.1 in
     let some : is_empty (extent d c.args.id.0) ≡ false = ap is_empty (sym c.group_extent-extent.ensures) ∙ (sym c.is_empty.ensures ∙ c.if-is_empty.false) in
     subst (LiesInside d.width d.height) (sym c.group_extent-extent.ensures) (cut_inside (rect_found (find c.args.id.0 d.nodes)) d.width d.height wide high some)
 

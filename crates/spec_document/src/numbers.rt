@@ -1,4 +1,4 @@
-//! The numbers of the properties that are interpreted, of the end of a list, and of an image's unit.
+//! The numbers of the properties that are interpreted, of the end of a list, of an image's unit, and of the opacity as a float.
 
 /// The end of a list.
 pub const END: u32 = 0;
@@ -38,3 +38,6 @@ pub const GROUP_ITEM: u32 = 29;
 
 /// The places of a layer from the top of the tree, one for each depth.
 pub const ITEM_PATH: u32 = 30;
+
+/// The opacity as a float, which newer programs prefer to the byte. It is kept, and dropped by a new opacity.
+pub const FLOAT_OPACITY: u32 = 33;
