@@ -1,12 +1,12 @@
 -- Which edit of a group is refused is the same with any tables.
 use Rattle.std.proofs.Common.{◌≡◌, ℕ, suc, ◌+◌, List, [], ◌∷◌, refl, sym, ◌∙◌, ap}
-use Rattle.std.specs.Prelude.{if◌then◌else◌, Option, Some, None, Result, Ok, Err}
+use Rattle.std.specs.Prelude.{if◌then◌else◌, Option, Some, None, Result}
 use Rattle.spec_document.specs.Document.{Document}
 use Rattle.spec_edit.specs.declared.EditRefused.{EditRefused}
 use Rattle.spec_edit.specs.Edit.{Edit}
 use Rattle.spec_edit.specs.Refusal.{refusal}
 use Rattle.spec_edit.specs.Effect.{effect, makes_node}
-use Rattle.spec_edit.specs.Apply.{At, Refused, unless_refused, after, apply_from, apply_group, is_filter, first_table, other_tables}
+use Rattle.spec_edit.specs.Apply.{At, Refused, unless_refused, after, apply_from, is_filter, first_table, other_tables}
 use Rattle.spec_tables.specs.Acceptance.{refused_in}
 use Rattle.spec_tables.proofs.Bare.{bare}
 use Rattle.spec_tables.proofs.BareEdits.{effect-bare}

@@ -1,6 +1,6 @@
 -- Filters that are asked one after another.
-use Rattle.std.proofs.Common.{◌≡◌, ℕ, ◌+◌, Bool, true, false, cond, List, [], ◌∷◌, ◌++◌, ◌⊎◌, inl, inr, refl, sym, ◌∙◌, ap, subst, arith}
-use Rattle.std.specs.Prelude.{Option, Some, None, is_some, option_map, option_to_list, slice_set, IsTrue, IsSome, IfSome}
+use Rattle.std.proofs.Common.{◌≡◌, ℕ, ◌+◌, true, false, cond, List, [], ◌∷◌, ◌++◌, ◌⊎◌, inl, inr, refl, sym, ◌∙◌, ap, subst, arith}
+use Rattle.std.specs.Prelude.{Option, Some, None, is_some, option_map, option_to_list, slice_set, IsTrue, IfSome}
 use Rattle.std.proofs.lemmas.List.{append-nil, append_assoc}
 use Rattle.spec_grid.specs.declared.Rect.{Rect}
 use Rattle.spec_edit.specs.Edit as edits
@@ -13,7 +13,7 @@ use Rattle.spec_filters.specs.Slots.{state_at, has_slot}
 use Rattle.spec_tables.specs.Tables.{table_at, tables_for, used_by}
 use Rattle.spec_tables.specs.Agrees.{Agrees, AreThere, SameSlots, IsUsed, AreAsked}
 use Rattle.spec_tables.specs.Acceptance.{filter_count, slot_of}
-use Rattle.spec_tables.proofs.Chests.{state_in, used_agrees, used_slots, same_there}
+use Rattle.spec_tables.proofs.Chests.{state_in, used_agrees, used_slots}
 
 -- ---- an edit is a filter, or asks none
 

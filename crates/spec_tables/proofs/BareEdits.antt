@@ -1,11 +1,9 @@
 -- What an edit makes of a document, without the bytes of layers' pixels, depends on these bytes as little as on a table.
-use Rattle.std.proofs.Common.{◌≡◌, ℕ, List, [], ◌∷◌, ◌++◌, refl, sym, ◌∙◌, ap, remove}
-use Rattle.std.specs.Prelude.{Option, Some, None, unwrap_or, ℤ, pos, ◌+ℤ◌, false, option_map}
-use Rattle.spec_blend.specs.declared.Mode.TheVariants.{Normal}
-use Rattle.spec_blend.specs.Blend.{mode_of_code}
+use Rattle.std.proofs.Common.{◌≡◌, ℕ, List, refl, sym, ◌∙◌, ap}
+use Rattle.std.specs.Prelude.{Option, Some, None, ℤ, pos, ◌+ℤ◌, false, option_map}
 use Rattle.spec_forest.specs.Forest.{none, leaf, group}
 use Rattle.spec_forest.specs.Changes.{with_leaf, with_group, put_into, without, branch_of}
-use Rattle.spec_document.specs.Document.{Document, Nodes, Layer, Group, Channel, without_kind}
+use Rattle.spec_document.specs.Document.{Document, Nodes, Layer, Group, Channel}
 use Rattle.spec_document.specs.Plane.{Plane, byte_at}
 use Rattle.spec_document.specs.Selection.{selected_in}
 use Rattle.spec_grid.specs.declared.Rect.{Rect}

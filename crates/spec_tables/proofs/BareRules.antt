@@ -1,16 +1,16 @@
 -- No rule of an edit looks at the bytes of a layer's pixels.
 use Rattle.std.proofs.Common.{◌≡◌, ℕ, ◌+◌, ◌-◌, ◌*◌, ◌==◌, false, List, [], ◌∷◌, length, refl, sym, ◌∙◌, ap}
-use Rattle.std.specs.Prelude.{Option, Some, None, nat_le, not, ◌||◌, is_none, if◌then◌else◌, option_map, unwrap_or, pos}
+use Rattle.std.specs.Prelude.{Option, None, nat_le, not, ◌||◌, is_none, if◌then◌else◌, option_map, unwrap_or, pos}
 use Rattle.std.specs.List.{list_any}
 use Rattle.spec_blend.specs.Blend.{mode_of_code}
-use Rattle.spec_forest.specs.Forest.{Found, nothing, a_leaf, a_group, find, size, levels}
+use Rattle.spec_forest.specs.Forest.{Found, nothing, a_leaf, a_group, levels}
 use Rattle.spec_forest.specs.Changes.{without, branch_of}
-use Rattle.spec_document.specs.Document.{Document, Nodes, Layer, Group, area, base_code, base_of_kind, nodes_area, selection_count}
+use Rattle.spec_document.specs.Document.{Document, Nodes, Layer, Group, area, base_code, base_of_kind, selection_count}
 use Rattle.spec_grid.specs.declared.Rect.{Rect}
 use Rattle.spec_edit.specs.declared.EditRefused.{EditRefused}
 use Rattle.spec_edit.specs.declared.EditRefused.TheVariants.{BadPlace, GroupInIndexed, Inside, OtherType, ModeRefused, TooDeep}
 use Rattle.spec_edit.specs.Edit.{Edit, fill, write, filter, copy_rect, fill_mask, fill_channel, set_opacity, set_mode, set_visible, set_offset, rename, set_apply_mask, add_mask, drop_mask, new_layer, new_group, delete, restack, select, select_none, add_channel, drop_channel, set_colours}
-use Rattle.spec_edit.specs.Refusal.{unless, first, node, of_leaf, no_node_found, is_group_found, no_node, is_group, no_parent, not_group, children, bad_place, outside_layer, other_length, is_indexed, indexed_layer, other_kind, no_mask, has_mask, outside_mask, outside_canvas, offset_range, bad_name, too_large, too_many, depth_below, too_deep, stands_in, inside, canvas_area, area_found, selection_area, refusal}
+use Rattle.spec_edit.specs.Refusal.{unless, first, node, of_leaf, no_node_found, is_group_found, no_node, is_group, no_parent, not_group, children, bad_place, outside_layer, other_length, is_indexed, indexed_layer, other_kind, no_mask, has_mask, outside_canvas, offset_range, bad_name, too_large, too_many, depth_below, too_deep, inside, canvas_area, area_found, selection_area, refusal}
 use Rattle.spec_tables.proofs.Bare.{bare, bare_layer, bare_nodes, bare_found, find-bare, size-bare, levels-bare, ancestors-bare, nodes_area-bare, children-bare, bare-without, bare-branch_of}
 use Rattle.spec_forest.specs.declared.TheConstants.{MAX_NODES}
 

@@ -1,12 +1,11 @@
 -- Chests and the lists with which they agree.
 use Rattle.std.proofs.Common.{◌≡◌, ℕ, zero, suc, List, [], ◌∷◌, map, refl, sym, ◌∙◌, ap}
-use Rattle.std.specs.Prelude.{Option, Some, None, is_some, option_map, slice_set, slice_get, slice_index_or, IsTrue}
+use Rattle.std.specs.Prelude.{Option, Some, None, is_some, option_map, slice_set, slice_get}
 use Rattle.spec_edit.specs.Effect.{changed_at}
 use Rattle.spec_filters.specs.declared.FilterKind.TheVariants.{Invert}
 use Rattle.spec_filters.specs.declared.FilterState.{FilterState}
-use Rattle.spec_filters.specs.Filters.{table_of, after_use}
+use Rattle.spec_filters.specs.Filters.{after_use}
 use Rattle.spec_filters.specs.Slots.{state_at, has_slot}
-use Rattle.spec_tables.specs.Tables.{table_at}
 use Rattle.spec_tables.specs.Agrees.{Agrees, SameSlots}
 
 abbrev Some_list : List (Option FilterState) → Type 0

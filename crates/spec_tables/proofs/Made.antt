@@ -1,6 +1,5 @@
 -- The edits that a call makes are those whose filters are asked.
 use Rattle.std.proofs.Common.{◌≡◌, ℕ, List, refl}
-use Rattle.spec_edit.specs.Edit.{Edit}
 use Rattle.spec_history.specs.Machine as machine
 use Rattle.spec_history.specs.Machine.{Call, Reply}
 use Rattle.spec_history.specs.History.{asked}

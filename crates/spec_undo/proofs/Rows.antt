@@ -6,7 +6,7 @@ use Rattle.spec_forest.specs.Forest.{none, leaf, group}
 use Rattle.spec_document.specs.Document as doc
 use Rattle.spec_document.specs.Document.{Document, Layer, Channel, Nodes}
 use Rattle.spec_document.specs.Plane.{Plane}
-use Rattle.spec_undo.specs.Planes.{tile_count, changed_tiles}
+use Rattle.spec_undo.specs.Planes.{changed_tiles}
 use Rattle.spec_undo.specs.Changed.{changed_in}
 
 -- a plane of one row and one byte per pixel

@@ -11,19 +11,10 @@ ghost use Rattle.xl_tiles.specs.Written.{IsWithin};
 ghost use Rattle.xl_checks.specs.Found.{outcome};
 ghost use Rattle.xl_tree.specs.Refusals.{no_stack, bad_place as nodes_bad_place};
 
-use spec_document::MAX_OFFSET;
+use spec_document::{MAX_AREA, MAX_DEPTH, MAX_NAME, MAX_OFFSET};
 use spec_edit::EditRefused;
 use xl_blend::mode_of;
 use xl_doc::{Base, Body, Bytes, Document, Mode, NodeId, Rect};
-
-/// How many bytes a name has at most.
-const MAX_NAME: usize = 4096;
-
-/// How deep a node stands at most, where those at the top have depth 1.
-const MAX_DEPTH: u32 = 8;
-
-/// How many pixels the planes of a document have at most, with a canvas for each group.
-const MAX_AREA: u64 = 1 << 28;
 
 /// Refuses an id that no node has.
 pub fn check_node(doc: &Document, id: NodeId) -> Result<(), EditRefused>

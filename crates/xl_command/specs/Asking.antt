@@ -1,5 +1,5 @@
 -- What a command of the code asks for.
-use Rattle.std.specs.Prelude.{ℕ, ◌≤◌, List, Option, Some, None, map, if◌then◌else◌}
+use Rattle.std.specs.Prelude.{◌≤◌, List, Option, Some, None, map, if◌then◌else◌}
 use denote.Ref.{Bor}
 use Rattle.std.specs.Str.Parse.{starts_with_minus}
 use Rattle.spec_command.specs.Arguments.{Argument, Asked, edit, render, info, make}

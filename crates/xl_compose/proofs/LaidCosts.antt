@@ -1,5 +1,5 @@
 -- What the pieces of nodes weigh, where the pictures of some groups are given.
-use Rattle.std.proofs.Common.{◌≡◌, ℕ, ◌+◌, ◌*◌, ◌≤◌, Bool, true, false, cond, List, [], ◌∷◌, ◌++◌, refl, sym, ◌∙◌, ap, arith, append-nil}
+use Rattle.std.proofs.Common.{◌≡◌, ℕ, ◌+◌, Bool, true, false, cond, List, [], ◌∷◌, ◌++◌, ◌∙◌, ap, arith, append-nil}
 use Rattle.std.specs.Prelude.{Option, Some, None}
 use Rattle.spec_forest.specs.Forest.{stack_at}
 use Rattle.spec_document.specs.Document.{Document, Nodes}

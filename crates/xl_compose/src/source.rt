@@ -170,7 +170,7 @@ fn lay_rect<L: Ledger>(
     requires within { IsWithin layer.now.plane.width layer.now.plane.height part }
     requires across { left + part.w ≤ band.w }
     requires down { top + part.h ≤ band.h }
-    requires wide { band.w ≤ 8192 }
+    requires wide { band.w ≤ MAX_SIDE }
     requires high { band.h ≤ 64 }
     requires picture { length picture.old ≡ band.h * band.w }
     requires source { band.w ≤ length source.old }
@@ -224,7 +224,7 @@ fn lay_columns<L: Ledger>(
     requires rows { down.from + down.count ≤ layer.now.plane.height }
     requires across { across.skip + across.count ≤ band.w }
     requires down { down.skip + down.count ≤ band.h }
-    requires wide { band.w ≤ 8192 }
+    requires wide { band.w ≤ MAX_SIDE }
     requires high { band.h ≤ 64 }
     requires picture { length picture.old ≡ band.h * band.w }
     requires source { band.w ≤ length source.old }
@@ -235,7 +235,7 @@ fn lay_columns<L: Ledger>(
         ≡ over mode (pixel picture.old (v * band.w + k)) (at_place (place_by across.skip across.from across.count k) (place_by down.skip down.from down.count v) (sheet_pixel colours.now opacity layer.now)) }
     ensures cost { steps.new ≡ steps.old + down.count * across.count }
 {
-    prove!(layer.plane.width() <= 8192);
+    prove!(layer.plane.width() <= MAX_SIDE);
     let mut done = 0;
     while done < across.count {
         let span = Span {

@@ -10,7 +10,7 @@ use Rattle.spec_edit.specs.Apply.{At, Refused, apply_group}
 use Rattle.spec_cache.specs.Slots.{Shown}
 use Rattle.spec_cache.specs.Cache.{Cache, kept}
 use Rattle.spec_history.specs.Machine as machine
-use Rattle.spec_history.specs.Machine.{Call, Reply, tile_of, no_stack, outside_tile, Answer, moved, not_top, top_group, names, Cause, State, Done, latest, document_at, has_stack, tile_reply, made, again, answer, undo_answer, redo_answer}
+use Rattle.spec_history.specs.Machine.{Call, Reply, tile_of, no_stack, outside_tile, Answer, moved, not_top, top_group, names, Cause, State, Done, latest, document_at, has_stack, made, again, answer, undo_answer, redo_answer}
 use Rattle.spec_history.specs.Chained.{Undoes, Redoes, IsThere, IsChained}
 use Rattle.spec_history.proofs.Growing.{Grows, grows_by, document_at-grows}
 use Rattle.spec_history.proofs.Versions.{IsWithin, IsSound}

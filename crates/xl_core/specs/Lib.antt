@@ -7,3 +7,4 @@ pub mod Group
 pub mod Room
 pub mod Steps
 pub mod Jobs
+pub mod Tally

@@ -2,6 +2,7 @@ ghost use Rattle.std.specs.Prelude.{◌≡◌, ℕ, List, Bool, Option, None, If
 ghost use Rattle.xl_core.specs.Editing.{place_done};
 ghost use Rattle.xl_core.specs.Jobs.{IsTaken, says_closing, IsOutcomeOf, finished_by};
 
+use crate::tally::Tally;
 use std::alloc::{AllocError, Global};
 use std::sync::Wait;
 use xl_cache::Finished;
@@ -21,9 +22,11 @@ pub enum Taken {
 
 /// Where workers take jobs, each with a seat of its own, and hand in what they have composed. A seat has one job out at most.
 pub trait JobDesk {
+    ghost use mathlib.Core.List.{IsPrefix};
     ghost use Rattle.spec_document.specs.Document.{Document};
     ghost use Rattle.spec_history.specs.History.{Entry};
     ghost use Rattle.xl_core.specs.Jobs.{Out};
+    ghost use Rattle.xl_core.specs.Tally.{counted};
 
     type Seat;
 
@@ -48,6 +51,9 @@ pub trait JobDesk {
     /// The entries of that history that the seat knows.
     ghost entries: { Self.Seat → List Entry };
 
+    /// What became of the pictures that were handed in with the seat.
+    ghost tally: { Self.Seat → Tally };
+
     /// Takes a job, which is then out. After out of memory none is.
     fn take_job<W: Wait>(
         &self,
@@ -62,7 +68,9 @@ pub trait JobDesk {
         ensures memory { OnErr result (out seat.new ≡ None) }
         ensures closed { closed seat.new ≡ says_closing result }
         ensures weight { weight seat.new ≡ weight seat.old }
-        ensures places { places seat.new ≡ places seat.old };
+        ensures places { places seat.new ≡ places seat.old }
+        ensures begins { IsPrefix (entries seat.old) (entries seat.new) }
+        ensures tally { tally seat.new ≡ tally seat.old };
 
     /// Hands in the picture of the job that is out. None is out then. The answer follows from the history that the seat knows then.
     fn finish<W: Wait>(&self, rt: &W, seat: &mut Self::Seat, done: Done) -> Finished
@@ -73,7 +81,9 @@ pub trait JobDesk {
         ensures none { out seat.new ≡ None }
         ensures closed { closed seat.new ≡ closed seat.old }
         ensures weight { weight seat.new ≡ weight seat.old }
-        ensures places { places seat.new ≡ places seat.old };
+        ensures places { places seat.new ≡ places seat.old }
+        ensures begins { IsPrefix (entries seat.old) (entries seat.new) }
+        ensures tally { tally seat.new ≡ counted (tally seat.old) result };
 }
 
 /// What a core does without its shelf. Behind this bound nothing is said of threads, which an `impl` of a trait could not know of a

@@ -14,6 +14,7 @@ mod saving;
 mod standing;
 mod state;
 mod step;
+mod tally;
 mod tile;
 
 pub use desk::Desk;
@@ -22,5 +23,6 @@ pub use jobs::{JobDesk, JobSource, Taken};
 pub use saving::Begun;
 pub use spec_world::{SaveEnd, calls_mark_exactly, worlds_are_right};
 pub use state::Core;
+pub use tally::Tally;
 pub use xl_cache::Finished;
 pub use xl_compose::{Done, Job, Picture};

@@ -1,8 +1,7 @@
 -- Selections over a canvas.
-use Rattle.std.specs.Prelude.{◌≡◌, ℕ, ℤ, pos, negsuc, ◌≤ℤ◌, Option, Some, None, if◌then◌else◌}
+use Rattle.std.specs.Prelude.{◌≡◌, ℕ, ℤ, pos, negsuc, ◌≤ℤ◌, if◌then◌else◌}
 use Rattle.spec_grid.specs.Rect.{has_point, part_above_0, sheet}
 use Rattle.spec_document.specs.Plane.{Plane, byte_at}
-use Rattle.spec_document.specs.Document.{Channel}
 
 -- the sides of the canvas
 abbrev pub IsOver : (width height : ℕ) → Plane → Type 0

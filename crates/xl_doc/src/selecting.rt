@@ -8,7 +8,7 @@ ghost use Rattle.xl_tiles.specs.Block.{byte_after};
 
 use crate::document::Document;
 use xl_grid::MAX_SIDE;
-use xl_tiles::Plane;
+use xl_tiles::{Plane, ROOM};
 
 // Whether a point lies on a sheet of these sides.
 fn is_on(width: u32, height: u32, x: i32, y: i32) -> bool
@@ -42,7 +42,7 @@ fn put(out: &mut [u8], at: usize, row: &[u8])
 }
 
 /// The room that `selected_row` needs: a row, and a tile of the selection.
-pub const ROW_ROOM: usize = 40960;
+pub const ROW_ROOM: usize = MAX_SIDE as usize + ROOM;
 
 // The bytes of n pixels of row y, from column x on, in the room.
 fn row_of<'a>(plane: &Plane, x: u32, y: u32, n: u32, room: &'a mut [u8]) -> &'a [u8]
@@ -50,7 +50,7 @@ fn row_of<'a>(plane: &Plane, x: u32, y: u32, n: u32, room: &'a mut [u8]) -> &'a 
     requires columns { x + n ≤ plane.now.width }
     requires row { y < plane.now.height }
     requires few { n ≤ MAX_SIDE }
-    requires room { length room.old ≡ 40960 }
+    requires room { length room.old ≡ ROW_ROOM }
     ensures length { length result.now ≡ n * plane.now.bpp }
     ensures each { (k c : ℕ) → k < n → c < plane.now.bpp → slice_index result.now (k * plane.now.bpp + c) ≡ byte_at plane.now (x + k) y c }
 {
@@ -63,7 +63,7 @@ fn row_of<'a>(plane: &Plane, x: u32, y: u32, n: u32, room: &'a mut [u8]) -> &'a 
 // The bytes of a row of points, from a point on. Outside the plane they are 0.
 fn plane_row(plane: &Plane, x: i32, y: i32, out: &mut [u8], room: &mut [u8])
     requires bpp { plane.now.bpp ≡ 1 }
-    requires room { length room.old ≡ 40960 }
+    requires room { length room.old ≡ ROW_ROOM }
     requires near { IsNear x }
     requires short { length out.old ≤ MAX_SIDE }
     ensures length { length out.new ≡ length out.old }
@@ -97,7 +97,7 @@ impl Document {
 
     /// The same for a row of points, from a point on.
     pub fn selected_row(&self, x: i32, y: i32, out: &mut [u8], room: &mut [u8])
-        requires room { length room.old ≡ 40960 }
+        requires room { length room.old ≡ ROW_ROOM }
         requires near { IsNear x }
         requires short { length out.old ≤ MAX_SIDE }
         ensures length { length out.new ≡ length out.old }

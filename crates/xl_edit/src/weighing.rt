@@ -12,11 +12,8 @@ use crate::mixing::{mix_at, spread, threshold};
 use crate::places::Site;
 use std::alloc::{AllocError, Global};
 use xl_checks::corner;
-use xl_doc::{Document, Plane, Rect};
+use xl_doc::{Document, Plane, ROW_ROOM, Rect};
 use xl_tiles::ROOM;
-
-/// The room that a row of the selection takes.
-const ROW_ROOM: usize = 40960;
 
 // A column and row of a plane on the canvas.
 fn on_canvas(site: Site, x: u32, y: u32) -> (i32, i32)
@@ -33,7 +30,7 @@ fn on_canvas(site: Site, x: u32, y: u32) -> (i32, i32)
 // The weights of the pixels of a row of a plane.
 fn weigh_pixels(doc: &Document, site: Site, x: u32, y: u32, weights: &mut [u8], room: &mut [u8])
     requires site { IsNearby site }
-    requires room { length room.old ≡ 40960 }
+    requires room { length room.old ≡ ROW_ROOM }
     requires column { x ≤ MAX_SIDE }
     requires row { y ≤ MAX_SIDE }
     requires short { length weights.old ≤ MAX_SIDE }
@@ -59,7 +56,7 @@ fn weigh_row(
     room: &mut [u8],
 )
     requires site { IsNearby site }
-    requires room { length room.old ≡ 40960 }
+    requires room { length room.old ≡ ROW_ROOM }
     requires column { x ≤ MAX_SIDE }
     requires row { y ≤ MAX_SIDE }
     requires short { length weights.old ≤ MAX_SIDE }
@@ -98,7 +95,7 @@ fn mix_rows(
     requires new { HasRows rect.w rect.h plane.now.bpp step new.now }
     requires weights { length weights.old ≡ rect.w }
     requires wide { length wide.old ≡ rect.w * plane.now.bpp }
-    requires room { length room.old ≡ 40960 }
+    requires room { length room.old ≡ ROW_ROOM }
     requires bytes { bytes.old ≡ bytes_in plane.now rect }
     ensures { AreRows rect.w rect.h plane.now.bpp (byte_in doc.now site plane.now rect (in_rows step plane.now.bpp new.now)) bytes.new }
 {

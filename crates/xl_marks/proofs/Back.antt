@@ -1,20 +1,19 @@
 -- Where a change leads to, and back from there.
-use Rattle.std.proofs.Common.{◌≡◌, ℕ, Bool, true, false, cond, not, ◌&&◌, ◌||◌, List, map, filter, refl, sym, ◌∙◌, ap, subst, true≢false}
+use Rattle.std.proofs.Common.{◌≡◌, ℕ, Bool, true, false, cond, not, ◌&&◌, ◌||◌, List, map, filter, refl, sym, ◌∙◌, ap, subst}
 use Rattle.std.specs.Prelude.{Option, Some, is_some}
 use Rattle.std.specs.List.{list_any}
 use Rattle.spec_grid.specs.Rect.{do_meet}
 use Rattle.spec_grid.specs.Grid.{tile_rect}
 use Rattle.spec_document.specs.Document.{Document}
-use Rattle.spec_document.specs.Limits.{IsDocument}
 use Rattle.spec_damage.specs.Damage.{Pair}
-use Rattle.spec_cache.specs.Slots.{Slots, AreOfCanvas, blank_slots, mark_slot}
-use Rattle.spec_cache.specs.Cache.{Held, Cache, IsCache, no_slots, slots_of, has_slots}
+use Rattle.spec_cache.specs.Slots.{Slots, blank_slots, mark_slot}
+use Rattle.spec_cache.specs.Cache.{Cache, IsCache, no_slots, slots_of, has_slots}
 use Rattle.spec_cache.proofs.Order.{is_cache-map, is_cache-filter, of_canvas-changed}
 use Rattle.spec_history.specs.Machine.{has_stack}
 use Rattle.spec_world.specs.World.{stack_ids, add_stacks}
 use Rattle.spec_world.proofs.Stacks.{has_id, stacks-listed, came-listed, slots_of-added, is_cache-all-added}
 use Rattle.xl_marks.specs.Change as change
-use Rattle.xl_marks.specs.Change.{Change, came_to, change_between, turned, gone_along, without_stacks, marked_by, with_stacks, rects_in, IsCacheOf, IsPath, LeadsBack, BeginsWithItsCache}
+use Rattle.xl_marks.specs.Change.{came_to, change_between, turned, gone_along, with_stacks, rects_in, IsCacheOf, LeadsBack, BeginsWithItsCache}
 use Rattle.xl_marks.proofs.Between.{mark_by}
 use Rattle.xl_marks.proofs.InTurn.{staying, has-staying, left-cache}
 

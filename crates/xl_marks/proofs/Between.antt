@@ -2,18 +2,16 @@
 use Rattle.std.proofs.Common.{◌≡◌, ℕ, suc, Bool, true, false, cond, not, ◌&&◌, ◌||◌, ◌==◌, List, [], ◌∷◌, map, filter, refl, sym, ◌∙◌, ap, eq-eqb}
 use Rattle.std.specs.Prelude.{Option, Some, is_some, option_map, find}
 use Rattle.std.specs.List.{AllByRecursion}
-use Rattle.std.proofs.lemmas.Bool.{eqb-true}
-use Rattle.spec_grid.specs.declared.Rect.{Rect}
 use Rattle.spec_document.specs.Document.{Document}
 use Rattle.spec_damage.specs.Damage.{Pair}
-use Rattle.spec_cache.specs.Slots.{Slot, Slots, tile_numbered, tiled_from, mark_slots}
+use Rattle.spec_cache.specs.Slots.{Slot, Slots, tiled_from, mark_slots}
 use Rattle.spec_cache.specs.Cache.{Held, Cache, slots_in, has_slots, drop_stack, mark, change_held}
 use Rattle.spec_cache.proofs.Marks.{mark_slots-cons}
-use Rattle.spec_history.specs.Machine.{Cause, has_stack}
-use Rattle.spec_world.specs.World.{stack_ids, rects_of, mark_held, cache_between, add_stacks}
+use Rattle.spec_history.specs.Machine.{has_stack}
+use Rattle.spec_world.specs.World.{mark_held}
 use Rattle.spec_world.proofs.Filled.{eq-swap}
 use Rattle.spec_world.proofs.Stacks.{has_id, came-listed}
-use Rattle.xl_marks.specs.Change.{came_to, change_between, without_stacks, marked_by, with_stacks, IsCacheOf, AreOfCanvas, rects_in, LeavesCacheBetween}
+use Rattle.xl_marks.specs.Change.{came_to, without_stacks, marked_by, with_stacks, rects_in, LeavesCacheBetween}
 
 -- ---- stacks that go
 

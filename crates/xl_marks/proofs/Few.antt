@@ -1,6 +1,6 @@
 -- Stacks in order that are all in a list are no more than this has numbers.
 use Rattle.std.proofs.Common.{◌≡◌, ℕ, suc, ◌<◌, ◌≤◌, Bool, true, false, cond, not, ◌||◌, ◌==◌, nat_lt, List, [], ◌∷◌, length, filter, refl, sym, ◌∙◌, ap, arith, true≢false}
-use Rattle.std.specs.Prelude.{Option, Some, is_some, option_map, find}
+use Rattle.std.specs.Prelude.{Some, is_some, option_map, find}
 use Rattle.std.specs.List.{AllByRecursion}
 use Rattle.std.proofs.lemmas.Bool.{eqb-true, ne_eqb}
 use Rattle.spec_cache.specs.Cache.{Held, AreInOrder, slots_in, put_in}

@@ -1,7 +1,6 @@
 -- The stacks that go have slots when their turn comes, and for those that come there is room.
-use Rattle.std.proofs.Common.{◌≡◌, ℕ, suc, ◌<◌, ◌≤◌, Bool, true, false, cond, not, ◌&&◌, ◌||◌, ◌==◌, List, [], ◌∷◌, length, map, filter, refl, sym, ◌∙◌, ap, subst, arith, eq-eqb, true≢false}
+use Rattle.std.proofs.Common.{◌≡◌, ℕ, ◌≤◌, Bool, true, false, cond, not, ◌&&◌, ◌||◌, ◌==◌, List, [], ◌∷◌, length, map, filter, refl, sym, ◌∙◌, ap, subst, arith, eq-eqb, true≢false}
 use Rattle.std.specs.Prelude.{Option, Some, None, is_some, option_map}
-use Rattle.std.specs.List.{AllByRecursion}
 use Rattle.std.proofs.lemmas.Bool.{eqb-true}
 use Rattle.spec_document.specs.Document.{Document}
 use Rattle.spec_document.specs.Limits.{IsDocument}

@@ -3,7 +3,7 @@ use Rattle.std.proofs.Common.{◌≡◌, ℕ, ◌+◌, Bool, true, false, cond, 
 use Rattle.spec_edit.specs.Edit.{Edit}
 use Rattle.spec_edit.specs.Effect.{effect, makes_node}
 use Rattle.spec_edit.specs.Apply.{At, first_table, other_tables, is_filter}
-use Rattle.spec_damage.specs.Damage.{Pair, damage, damage_of, group_damage}
+use Rattle.spec_damage.specs.Damage.{Pair, damage, damage_of}
 use Rattle.xl_marks.specs.Change.{rects_in}
 use Rattle.xl_marks.specs.Group.{damage_along, HasGroupDamage}
 

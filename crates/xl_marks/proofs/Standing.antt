@@ -1,8 +1,6 @@
 -- Each group of a document is found, so all its stacks are there.
-use Rattle.std.proofs.Common.{◌≡◌, ℕ, suc, ◌+◌, ◌≤◌, Bool, true, false, cond, ◌||◌, ◌==◌, List, [], ◌∷◌, ◌++◌, filter, refl, sym, ◌∙◌, ap, arith, eq-eqb, true≢false}
+use Rattle.std.proofs.Common.{◌≡◌, ℕ, ◌+◌, ◌≤◌, Bool, true, false, cond, ◌||◌, ◌==◌, List, [], ◌∷◌, filter, refl, sym, ◌∙◌, ap, arith, eq-eqb, true≢false}
 use Rattle.std.specs.Prelude.{Some, is_some}
-use Rattle.std.specs.List.{AllByRecursion}
-use Rattle.std.proofs.lemmas.Bool.{eqb-true}
 use Rattle.std.proofs.lemmas.List.Folds.{list_any-append}
 use Rattle.spec_forest.specs.Forest.{Found, nothing, a_leaf, a_group, none, leaf, group, ids, find, or_else, children_of}
 use Rattle.spec_document.specs.Document.{Document, Nodes, Layer, Group}

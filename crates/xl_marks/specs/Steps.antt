@@ -1,5 +1,5 @@
 -- Stacks that go and come one after another.
-use Rattle.std.specs.Prelude.{◌≡◌, ℕ, ◌<◌, true, false, List, [], ◌∷◌, length, map}
+use Rattle.std.specs.Prelude.{◌≡◌, ℕ, ◌<◌, true, false, List, [], ◌∷◌, length}
 use Rattle.spec_cache.specs.Cache.{Cache, has_slots, add_stack, drop_stack}
 use Rattle.spec_cache.specs.declared.TheConstants.{MAX_STACKS}
 

@@ -4,10 +4,11 @@ ghost use Rattle.spec_document.specs.Document.{area, all_kept, kept_bytes};
 ghost use Rattle.spec_file.specs.Channels.{with_channel, channel_at};
 ghost use Rattle.xl_read.specs.Yields.{Yields};
 
-use crate::draft::{Draft, MAX_AREA};
+use crate::draft::Draft;
 use crate::listing::Listing;
 use crate::owners::OfChannel;
 use crate::words::{Shape, plane_at, pointer_at, same_word_at};
+use spec_document::MAX_AREA;
 use std::alloc::Global;
 use std::sync::Arc;
 use xl_doc::{Bytes, Channel, MAX_CHANNELS};

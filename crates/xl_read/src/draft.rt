@@ -15,9 +15,6 @@ use std::alloc::{AllocError, Global};
 use std::marker::Model;
 use xl_doc::{Base, Channel, Channels, ColourMap, Document, Node, PropList, Tree};
 
-/// How many pixels all planes have at most, with a canvas for each group.
-pub const MAX_AREA: u64 = 1 << 28;
-
 /// The document as far as it was read, with the totals that its limits are about.
 #[derive(Drop)]
 pub struct Draft {

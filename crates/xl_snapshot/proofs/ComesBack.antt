@@ -1,6 +1,6 @@
 -- The shelf after a save is one that a core takes back.
-use Rattle.std.proofs.Common.{◌≡◌, inl, inr, ℕ, ◌≤◌, List, [], ◌∷◌, ◌++◌, Some, None, ap, sym, ◌∙◌, arith, subst}
-use Rattle.std.specs.Prelude.{Option, unwrap_or, Contains}
+use Rattle.std.proofs.Common.{◌≡◌, ℕ, List, [], ◌∷◌, ◌++◌, Some, None, ap, sym, ◌∙◌, arith, subst}
+use Rattle.std.specs.Prelude.{Option, unwrap_or}
 use Rattle.spec_document.specs.Document.{Document}
 use Rattle.spec_layout.specs.Layout.{Written}
 use Rattle.spec_history.specs.Machine.{saved}
@@ -8,12 +8,9 @@ use Rattle.spec_history.specs.History.{Entry, starts, latest_of, document_of}
 use Rattle.spec_history.specs.Kept.{IsLegal}
 use Rattle.spec_world.specs.declared.SaveEnd.{SaveEnd}
 use Rattle.spec_world.specs.declared.SaveEnd.TheVariants.{Done, Fault, Memory}
-use Rattle.xl_ports.specs.Shelf.{Content}
-use Rattle.xl_ports.specs.Disk.{Disk, MayLeave, MightHaveLeft, Between, IsQuiet}
+use Rattle.xl_ports.specs.Disk.{Disk, Between}
 use Rattle.xl_save.specs.Save.{SavesOnly, HasSaved}
-use Rattle.spec_saves.specs.Names.{Named, the_old, version, names, save_faults}
-use Rattle.spec_saves.specs.Contents.{IsNamed, IsIn}
-use Rattle.spec_saves.specs.Shelf.{Known, file_name, ShelfIsRight, DiskIsRight, IsSettled, RoseOften}
+use Rattle.spec_saves.specs.Shelf.{Known, file_name, ShelfIsRight, DiskIsRight}
 use Rattle.spec_saves.specs.Returns.{Returns, DiskReturns, Among}
 use Rattle.xl_snapshot.specs.Saving.{IsSavedOn, Puts}
 use Rattle.xl_snapshot.proofs.Returning.{IsStarted, start_is, done_returns, failed_returns, untouched_returns}

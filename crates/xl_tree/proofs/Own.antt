@@ -1,11 +1,11 @@
 -- The ids of a tree stay the nodes' own.
-use Rattle.std.proofs.Common.{◌≡◌, ℕ, ◌≤◌, arith, Bool, true, false, cond, eqb, nat_eq, List, [], ◌∷◌, ◌++◌, refl, sym, ◌∙◌, subst, ap}
+use Rattle.std.proofs.Common.{◌≡◌, ℕ, ◌≤◌, arith, Bool, true, false, eqb, nat_eq, List, [], ◌∷◌, ◌++◌, refl, sym, ◌∙◌, subst, ap}
 use Rattle.std.specs.List.{AllByRecursion, IsDistinct}
 use Rattle.std.proofs.lemmas.Map.Keys.{IsDistinct-cons}
 use Rattle.std.specs.Prelude.{Option, Some, None, option_map}
 use Rattle.std.proofs.lemmas.List.{append-nil}
 use Rattle.spec_forest.specs.Forest.{Forest, none, leaf, group, ids, nothing, find}
-use Rattle.spec_forest.specs.Changes.{above, put_into, put_last, without, branch_of, with_leaf, with_group}
+use Rattle.spec_forest.specs.Changes.{above, put_into, put_last, without, branch_of, with_leaf}
 use Rattle.spec_forest.specs.Holes.{Hole, plug}
 use Rattle.spec_forest.specs.Runs.{HasRun}
 use Rattle.spec_forest.proofs.Runs.{all-join, run-distinct, parts-distinct, run-all, rest-all, all-run, rest-distinct}

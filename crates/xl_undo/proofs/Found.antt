@@ -7,7 +7,7 @@ use Rattle.xl_tree.specs.Reads.{node_of}
 use Rattle.xl_doc.specs.declared.node.Node.{Node}
 use Rattle.xl_doc.specs.declared.node.Body.{Body}
 use Rattle.xl_doc.specs.declared.node.Body.TheVariants as body
-use Rattle.xl_doc.specs.Nodes.{nodes_of, layer_of, group_of, sheet_of, IsLeaf, MarksAgree}
+use Rattle.xl_doc.specs.Nodes.{nodes_of, layer_of, group_of, IsLeaf, MarksAgree}
 use Rattle.spec_undo.specs.Changed.{over_layers}
 use Rattle.xl_undo.specs.Seen.{IsLayerOf, IsSeen}
 

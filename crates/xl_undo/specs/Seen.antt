@@ -5,7 +5,7 @@ use Rattle.spec_document.specs.Document.{Layer, Group}
 use Rattle.xl_doc.specs.declared.node.Node.{Node}
 use Rattle.xl_doc.specs.declared.node.Body.{Body}
 use Rattle.xl_doc.specs.declared.node.Body.TheVariants as body
-use Rattle.xl_doc.specs.Nodes.{IsLeaf, IsGroup, layer_of}
+use Rattle.xl_doc.specs.Nodes.{IsGroup}
 
 -- the body is that of the layer
 abbrev pub IsLayerOf : Layer → Body → Type 0

@@ -63,6 +63,3 @@ impl Record {
         self.tiles
     }
 }
-
-// Stated here, so that whoever sends a type with records in it need not look into them.
-unsafe impl Send for Record {}

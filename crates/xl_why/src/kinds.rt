@@ -3,6 +3,8 @@ ghost use Rattle.spec_script.specs.Words as grammar;
 ghost use Rattle.xl_script.specs.Numbers.{below, below_zero};
 ghost use Rattle.xl_why.specs.Kinds as kinds;
 
+use spec_grid::MAX_SIDE;
+
 /// What a word behind a keyword has to be.
 #[derive(Clone, Copy, Debug)]
 pub enum Kind {
@@ -95,7 +97,7 @@ fn is_offset(word: &[u8]) -> bool
 fn is_side(word: &[u8]) -> bool
     ensures { result ≡ is_some (grammar.side word.now) }
 {
-    match number_below(8193, word) {
+    match number_below(u64::from(MAX_SIDE) + 1, word) {
         None | Some(0) => false,
         Some(_) => true,
     }

@@ -1,4 +1,4 @@
-use Rattle.std.proofs.Common.{◌≡◌, arith, refl, sym, ap}
+use Rattle.std.proofs.Common.{arith, refl}
 use Rattle.std.specs.Prelude.{Some}
 use Rattle.spec_document.specs.declared.Base.TheVariants.{Rgb}
 use Rattle.xl_doc.specs.Nodes.{nodes_of}

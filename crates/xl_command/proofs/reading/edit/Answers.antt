@@ -1,4 +1,4 @@
-use Rattle.std.proofs.Common.{◌≡◌, ◌≤◌, ◌∙◌, sym, ap, codes, Some, arith, subst}
+use Rattle.std.proofs.Common.{◌∙◌, ap, codes, Some, arith}
 use Rattle.clap.specs.Words.{app_of, found_of, rows_of}
 use Rattle.spec_command.specs.Arguments.{edit}
 use Rattle.spec_command.specs.Grammar.{edit_app, edit_of}

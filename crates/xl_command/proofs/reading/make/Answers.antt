@@ -1,9 +1,7 @@
-use Rattle.std.proofs.Common.{◌≡◌, ◌∙◌, ◌^◌, ◌-◌, sym, ap, refl, codes, Some, inl, inr, arith, slice_index, true, false}
-use Rattle.std.specs.Prelude.{MatchOption}
-use Rattle.clap.specs.Words.{IsParsedFrom, app_of, found_of, matches_of, rows_of}
-use Rattle.clap.specs.declared.parser.matches.ArgMatches.{ArgMatches}
+use Rattle.std.proofs.Common.{◌∙◌, ◌^◌, ◌-◌, ap, refl, codes, Some, inl, inr, arith, slice_index, true}
+use Rattle.clap.specs.Words.{app_of}
 use Rattle.spec_command.specs.Arguments.{make}
-use Rattle.spec_command.specs.Grammar.{is_faultless, make_app, make_of}
+use Rattle.spec_command.specs.Grammar.{make_app, make_of}
 use Rattle.xl_command.specs.Asking.{arguments_of}
 use Rattle.xl_command.proofs.Given.{asked_given}
 use Rattle.xl_command.proofs.Passed.{number_is_small, number_is_taken}

@@ -7,7 +7,6 @@ use Rattle.xl_compose.specs.Added.{AreAdded}
 use Rattle.xl_compose.specs.NodePieces.{leaf_pieces, stack_piece}
 use Rattle.xl_compose.proofs.AddedPieces.{blank_added, clean_added, group_added, hidden_added, leaf_added}
 use Rattle.xl_compose.proofs.LaidCosts.{blank_weighs, given_weighs, group_weighs, leaf_weighs}
-use Rattle.xl_compose.specs.Cost.{laid_in}
 use Rattle.xl_compose.proofs.adding.+add_stack.Goals as goal
 
 pub returns-in_ok-add_blank-in-Empty-clause-added : goal.returns-in_ok-add_blank-in-Empty-clause-added

@@ -1,4 +1,4 @@
-use Rattle.std.proofs.Common.{◌≡◌, ℕ, ◌+◌, ◌*◌, ◌≤◌, List, length, take, min, ap, sym, ◌∙◌, arith, refl, mul_comm}
+use Rattle.std.proofs.Common.{◌≡◌, ℕ, ◌+◌, ◌*◌, ◌≤◌, List, length, min, ap, sym, ◌∙◌, arith, refl, mul_comm}
 use Rattle.std.specs.Prelude.{Some, flat_map}
 use Rattle.spec_forest.specs.Forest.{stack_at}
 use Rattle.spec_grid.specs.Rect.{count_from}

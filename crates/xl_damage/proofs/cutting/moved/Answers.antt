@@ -9,7 +9,7 @@ use Rattle.spec_edit.specs.declared.EditRefused.TheVariants.{OutsideLayer}
 use Rattle.spec_edit.specs.Refusal.{unless, of_leaf}
 use Rattle.spec_damage.specs.Damage.{moved}
 use Rattle.xl_tree.specs.Reads.{node_of}
-use Rattle.xl_doc.specs.Nodes.{nodes_of, IsLeaf, IsGroup}
+use Rattle.xl_doc.specs.Nodes.{IsLeaf, IsGroup}
 use Rattle.xl_doc.specs.Nodes as nodes
 use Rattle.xl_checks.proofs.Seen.{no_node_seen, leaf_seen, group_seen, IsLeafAt, IsGroupAt}
 use Rattle.xl_damage.proofs.cutting.moved.Goals as goal

@@ -1,4 +1,4 @@
-use Rattle.std.proofs.Common.{◌≡◌, ◌+◌, sym, ◌∙◌, ap, subst}
+use Rattle.std.proofs.Common.{◌+◌, sym, ◌∙◌, ap, subst}
 use Rattle.xl_marks.proofs.Turns.{HaveGone, slots-sides, gone-next}
 use Rattle.xl_marks.proofs.steps.drop_stacks.Goals as goal
 

@@ -1,5 +1,5 @@
 -- The canvas stays; and where the change cannot be made all filters were asked.
-use Rattle.std.proofs.Common.{◌≡◌, ap, sym, ◌∙◌, subst}
+use Rattle.std.proofs.Common.{ap, sym, ◌∙◌, subst}
 use Rattle.xl_marks.specs.Change.{Change, change_between}
 use Rattle.xl_edit.specs.Applied.{at}
 use Rattle.xl_edit.specs.Edits.{edits_of}

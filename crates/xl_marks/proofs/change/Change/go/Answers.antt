@@ -1,4 +1,4 @@
-use Rattle.std.proofs.Common.{◌≡◌, sym, ◌∙◌, ap, subst}
+use Rattle.std.proofs.Common.{sym, ◌∙◌, ap, subst}
 use Rattle.xl_damage.specs.Marks.{numbers}
 use Rattle.xl_marks.specs.Change.{marked_by, without_stacks}
 use Rattle.xl_marks.specs.Steps.{AreGoing}
