@@ -27,6 +27,7 @@ pub trait JobDesk {
     ghost use Rattle.spec_history.specs.History.{Entry};
     ghost use Rattle.xl_core.specs.Jobs.{Out};
     ghost use Rattle.xl_core.specs.Tally.{counted};
+    ghost use Rattle.xl_core.specs.declared.tally.Tally.{Tally};
 
     type Seat;
 
