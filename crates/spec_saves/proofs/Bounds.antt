@@ -55,13 +55,23 @@ no_more_versions last vs all = subst (AllByRecursion (λ w. w ≤ last)) (sym (a
 
 -- ---- one entry
 
-answered_later : (base : Document) (s : State) (call : Call) (tables : List (List ℕ)) → IsSound s → latest s ≤ latest (answer base s call tables).state
+pub answered_later : (base : Document) (s : State) (call : Call) (tables : List (List ℕ)) → IsSound s → latest s ≤ latest (answer base s call tables).state
 answered_later base s call tables sound = let more = (goes-answer base s call tables sound).more in omega (arith, more)
 
 sound_kind : (base : Document) (s : State) (e : Entry) (kind : Kind) → IsSound s → IsSound (history.after_kind base s e kind)
 sound_kind base s e (asked call tables) sound = (goes-answer base s call tables sound).sound
 sound_kind base s e starts sound = record { some = sound.some; undo = sound.undo; redo = sound.redo }
 sound_kind base s e ends sound = record { some = sound.some; undo = sound.undo; redo = sound.redo }
+
+-- the version of the save that is out is there after an entry too
+pub out_kind : (base : Document) (s : State) (e : Entry) (kind : Kind) → IsSound s → IsOutThere (latest s) s.out
+    → IsOutThere (latest (history.after_kind base s e kind)) (history.after_kind base s e kind).out
+out_kind base s e (asked call tables) sound there =
+    let t = (answer base s call tables).state in
+    later_out (latest s) (latest t) (answered_later base s call tables sound) t.out
+    (subst (IsOutThere (latest s)) (sym (out-answer base s call tables)) there)
+out_kind base s e starts sound there = omega arith
+out_kind base s e ends sound there = tt
 
 at_end : (last : ℕ) (ns : List Named) (vs : List ℕ) (out : Saving) (reply : Reply) → EndsWith out.version reply
     → IsBounded last (Some out) ns vs → IsBounded last None (after_end ns reply) (vs ++ [])
@@ -94,7 +104,7 @@ at_kind base s earlier e (asked call tables) ns vs sound may bounded =
     record {
       some = bounded.some;
       names = later_names (latest s) (latest t) le ns bounded.names;
-      out = later_out (latest s) (latest t) le t.out (subst (IsOutThere (latest s)) (sym (out-answer base s call tables)) bounded.out);
+      out = out_kind base s e (asked call tables) sound bounded.out;
       versions = no_more_versions (latest t) vs (later_versions (latest s) (latest t) le vs bounded.versions);
     }
 at_kind base s earlier e starts ns vs sound may bounded =
@@ -102,7 +112,7 @@ at_kind base s earlier e starts ns vs sound may bounded =
     record {
       some = bounded.some;
       names = bounded.names;
-      out = omega arith;
+      out = out_kind base s e starts sound bounded.out;
       versions = subst P (sym may.2) (one_more_version (latest s) vs (latest s) bounded.versions (omega arith));
     }
 at_kind base s earlier e ends ns vs sound may bounded = may_end (latest s) ns vs s.out e.session e.index e.reply may bounded

@@ -1,4 +1,5 @@
 pub mod Bounds
 pub mod Staying
 pub mod Ending
+pub mod Acknowledged
 mod Rows

@@ -1,9 +1,14 @@
 -- Worked saves.
-use Rattle.std.specs.Prelude.{◌≡◌, ℕ, [], ◌∷◌, None, refl}
+use Rattle.std.proofs.Common.{arith, lit<}
+use Rattle.std.specs.Prelude.{◌≡◌, ℕ, List, [], ◌∷◌, None, refl}
+use Rattle.std.specs.List.Sorted.{IsStrictlyIncreasing}
 use Rattle.spec_document.specs.Document.{Document}
+use Rattle.spec_document.specs.Ids.{next_id}
 use Rattle.spec_history.specs.Machine.{edit, Reply, changed, saved, save_fault, save_memory}
 use Rattle.spec_history.specs.History.{Entry, Kind, asked, starts, ends}
+use Rattle.spec_history.specs.Kept.{IsLegal}
 use Rattle.spec_saves.specs.Names.{the_old, version, names, files, saved_versions, save_faults, out_version}
+use Rattle.spec_saves.specs.Acknowledged.{acknowledged_versions}
 
 abbrev entry : (index : ℕ) → Kind → Reply → Entry
 entry index kind reply = record { session = 0; index = index; kind = kind; reply = reply }
@@ -46,3 +51,53 @@ both_started = refl
 
 version_out : (base : Document) → out_version base (entry 0 starts (saved 0) ∷ []) ≡ 0
 version_out base = refl
+
+-- ---- acknowledged saves
+
+-- a save, an edit while it is out, and a save after both
+abbrev edited_between : Document → List Entry
+edited_between base =
+    entry 0 starts (saved 0)
+    ∷ entry 1 (asked (edit None []) []) (changed 1 1 (next_id base))
+    ∷ entry 0 ends (saved 0)
+    ∷ entry 2 starts (saved 1)
+    ∷ entry 2 ends (saved 1)
+    ∷ []
+
+edited_between_is_legal : (base : Document) → IsLegal base (edited_between base)
+edited_between_is_legal base = record {
+  run = ((refl, refl, refl), ((refl, refl), ((refl, refl, refl), ((refl, refl, refl), ((refl, refl, refl), tt)))));
+  kept = (tt, (tt, (tt, (tt, (tt, tt)))));
+}
+
+-- each is acknowledged with the version of its start
+acknowledged_around_edit : (base : Document) → acknowledged_versions (edited_between base) ≡ 0 ∷ 1 ∷ []
+acknowledged_around_edit base = refl
+
+-- two saves of one version
+abbrev unchanged_between : List Entry
+unchanged_between = entry 0 starts (saved 0) ∷ entry 0 ends (saved 0) ∷ entry 1 starts (saved 0) ∷ entry 1 ends (saved 0) ∷ []
+
+unchanged_between_is_legal : (base : Document) → IsLegal base unchanged_between
+unchanged_between_is_legal base = record {
+  run = ((refl, refl, refl), ((refl, refl, refl), ((refl, refl, refl), ((refl, refl, refl), tt))));
+  kept = (tt, (tt, (tt, (tt, tt))));
+}
+
+acknowledged_twice : acknowledged_versions unchanged_between ≡ 0 ∷ 0 ∷ []
+acknowledged_twice = refl
+
+-- so a legal history need not raise them
+need_not_rise : IsStrictlyIncreasing (acknowledged_versions unchanged_between) → ⊥
+need_not_rise rise = let less = rise 0 (lit< tt) in absurd (omega (arith, less))
+
+-- a save that failed, one that found no memory and one that is out are not acknowledged
+not_acknowledged : acknowledged_versions
+    (entry 0 starts (saved 0)
+    ∷ entry 0 ends (save_fault 0)
+    ∷ entry 1 starts (saved 0)
+    ∷ entry 1 ends (save_memory 0)
+    ∷ entry 2 starts (saved 0)
+    ∷ [])
+    ≡ []
+not_acknowledged = refl

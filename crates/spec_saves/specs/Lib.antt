@@ -2,3 +2,4 @@ pub mod Names
 pub mod Contents
 pub mod Shelf
 pub mod Returns
+pub mod Acknowledged
