@@ -1,8 +1,9 @@
 -- What the file may hold after a history, by name: what it held at the opening, or versions that were saved.
-use Rattle.std.specs.Prelude.{ℕ, Bool, true, false, List, [], ◌∷◌, ◌++◌, fold, flat_map, count_by, Option, Some, None}
+use Rattle.std.specs.Prelude.{ℕ, Bool, true, false, List, [], ◌∷◌, ◌++◌, fold, flat_map, count_by, Option, Some, None, option_to_list}
 use Rattle.spec_document.specs.Document.{Document}
 use Rattle.spec_history.specs.Machine.{Reply, changed, refused, moved, nothing_to_undo, nothing_to_redo, not_top, tile_of, stale, no_stack, outside_tile, top_is, saved, save_fault, save_memory, history_full, Saving}
 use Rattle.spec_history.specs.History.{Kind, asked, starts, ends, Entry, replay}
+use Rattle.spec_saves.specs.Acknowledged.{version_saved}
 
 -- what the file held at the opening, or this version of the document
 pub data Named : Type 0 where
@@ -55,21 +56,7 @@ files base es = with_out (names es) (replay base es).out
 
 -- the version that a save starts with
 abbrev pub version_started : Reply → List ℕ
-version_started (saved v) = v ∷ []
-version_started (save_fault v) = []
-version_started (save_memory v) = []
-version_started (changed new group next) = []
-version_started (refused index cause) = []
-version_started (moved now) = []
-version_started nothing_to_undo = []
-version_started nothing_to_redo = []
-version_started (not_top top) = []
-version_started (tile_of shown) = []
-version_started (stale have seen) = []
-version_started (no_stack node) = []
-version_started outside_tile = []
-version_started (top_is group now) = []
-version_started history_full = []
+version_started reply = option_to_list (version_saved reply)
 
 abbrev pub versions_of : Kind → Reply → List ℕ
 versions_of (asked call tables) reply = []
