@@ -1,8 +1,15 @@
--- What of a studio may go to another thread, and what threads may share.
-use denote.Param.Send.{IsSend, IsSync, sendable, view_send, recorded_send, recorded_sync, struct_send, struct_sync}
+-- What of a studio may go to another thread, and what threads may share: by the parts of a struct, and by the captures of a closure.
+use mathlib.Core.List.{[], ◌∷◌}
+use Prim.Native.Nat.{ℕ}
+use mir.Syntax.{Ty, Sym}
+use denote.Exit.{no}
+use denote.Param.{param, arg}
+use denote.Param.Send.{IsSend, IsSync, AllSend, AllSync, sendable, view_send, param_send, param_sync, arg_send, arg_sync}
+use denote.Param.Send.{recorded_send, recorded_sync, struct_send, struct_sync}
 use denote.RattleType.{RattleType}
-use denote.Struct.Declared.{shape}
+use denote.Struct.Declared.{Declared, shape, row}
 use denote.Struct.Struct.{Struct}
+use denote.Struct.Tuple.{TupleAt, type_at}
 use Rattle.std.proofs.Crossing.{crosses}
 use Rattle.xl_cache.proofs.cache.Cache.TheSendSync as cache
 use Rattle.xl_core.proofs.entry.Entry.TheSendSync as entry
@@ -21,6 +28,27 @@ use Rattle.xl_studio.specs.contracts.shared.SharedChronicle.TheImpl as chronicle
 use Rattle.xl_turn.proofs.seat.Seat.TheSendSync as turns
 use Rattle.xl_turn.proofs.seat.TurnLock.TheSendSync as lock
 use Rattle.xl_undo.specs.contracts.recording.Record as Record
+
+-- ---- a struct, by its fields
+
+pub parts_send : (T : Declared) → AllSend (shape T).fields → IsSend (row T)
+parts_send T all = recorded_send (Struct (shape T)) _ _ T.to_one (struct_send (shape T) all)
+
+pub parts_sync : (T : Declared) → AllSync (shape T).fields → IsSync (row T)
+parts_sync T all = recorded_sync (Struct (shape T)) _ _ T.to_one (struct_sync (shape T) all)
+
+-- ---- a closure, by its captures
+
+pub captures_send : (i : ℕ) (δ : Ty) (ν : Sym) (A B C D E F : RattleType)
+    → IsSend A → IsSend B → IsSend C → IsSend D → IsSend E → IsSend F
+    → IsSend (param i (arg δ no (TupleAt ν (A ∷ B ∷ C ∷ D ∷ E ∷ F ∷ []))))
+captures_send i δ ν A B C D E F a b c d e f =
+    param_send i _ (arg_send δ no _ (parts_send (type_at ν (A ∷ B ∷ C ∷ D ∷ E ∷ F ∷ [])) (a, (b, (c, (d, (e, (f, tt))))))))
+
+pub captures_sync : (i : ℕ) (δ : Ty) (ν : Sym) (A B C D : RattleType) → IsSync A → IsSync B → IsSync C → IsSync D
+    → IsSync (param i (arg δ no (TupleAt ν (A ∷ B ∷ C ∷ D ∷ []))))
+captures_sync i δ ν A B C D a b c d =
+    param_sync i _ (arg_sync δ no _ (parts_sync (type_at ν (A ∷ B ∷ C ∷ D ∷ [])) (a, (b, (c, (d, tt))))))
 
 -- ---- what lies under the lock
 
