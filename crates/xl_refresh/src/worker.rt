@@ -1,7 +1,9 @@
 ghost use Rattle.std.specs.Prelude.{◌≡◌, false, None};
+ghost use mathlib.Core.List.{IsPrefix};
 ghost use Rattle.xl_core.specs.Jobs.{IsTaken};
+ghost use Rattle.xl_core.specs.Tally.{counted, with_more};
 ghost use Rattle.xl_core.specs.declared.jobs.Taken.TheVariants as takes;
-ghost use Rattle.xl_refresh.specs.Counted.{counted, is_closed};
+ghost use Rattle.xl_refresh.specs.Ends.{is_closed};
 
 use crossbeam_utils::Backoff;
 use std::alloc::Global;
@@ -9,7 +11,7 @@ use std::sync::Wait;
 use std::sync::ledger::Ledger;
 use xl_blend::Steps;
 use xl_compose::compose;
-use xl_core::{Finished, Job, JobDesk, Taken};
+use xl_core::{Finished, Job, JobDesk, Taken, Tally};
 use xl_ports::{Actor, Gate, Place};
 
 /// Why a worker has stopped.
@@ -31,40 +33,16 @@ pub struct Worked {
     pub end: WorkEnd,
 }
 
-/// How many pictures were installed, and how many came too late.
-#[derive(Clone, Copy, Debug, PartialEq, Eq)]
-pub(crate) struct Counts {
-    pub installed: u32,
-    pub late: u32,
-}
-
-impl Counts {
-    // The counts with one answer more.
-    fn with(self, finished: Finished) -> Counts
-        ensures { result ≡ counted self finished }
-    {
-        match finished {
-            Finished::Installed => Counts {
-                installed: self.installed.saturating_add(1),
-                late: self.late,
-            },
-            Finished::Late { marked_at: _ } => Counts {
-                installed: self.installed,
-                late: self.late.saturating_add(1),
-            },
-            Finished::Gone => self,
-        }
-    }
-
+impl Worked {
     // What was done by the end.
-    fn until(self, end: WorkEnd) -> Worked
-        ensures installed { result.installed ≡ self.installed }
-        ensures late { result.late ≡ self.late }
+    fn new(tally: Tally, end: WorkEnd) -> Worked
+        ensures installed { result.installed ≡ tally.installed }
+        ensures late { result.late ≡ tally.late }
         ensures end { result.end ≡ end }
     {
         Worked {
-            installed: self.installed,
-            late: self.late,
+            installed: tally.installed,
+            late: tally.late,
             end,
         }
     }
@@ -87,6 +65,8 @@ fn do_job<J: JobDesk, G: Gate, W: Wait, L: Ledger>(
     ensures closed { J.closed seat.new ≡ J.closed seat.old }
     ensures weight { J.weight seat.new ≡ J.weight seat.old }
     ensures places { J.places seat.new ≡ J.places seat.old }
+    ensures begins { IsPrefix (J.entries seat.old) (J.entries seat.new) }
+    ensures tally { J.tally seat.new ≡ counted (J.tally seat.old) result }
 {
     gate.pass(Actor::Worker(worker), Place::JobTaken);
     let done = compose(job, steps);
@@ -114,22 +94,21 @@ pub fn work<J: JobDesk, G: Gate, W: Wait, L: Ledger>(
     ensures closed { J.closed seat.new ≡ is_closed result.end }
     ensures weight { J.weight seat.new ≡ J.weight seat.old }
     ensures places { J.places seat.new ≡ J.places seat.old }
+    ensures begins { IsPrefix (J.entries seat.old) (J.entries seat.new) }
+    ensures tally { J.tally seat.new ≡ with_more (J.tally seat.old) result.installed result.late }
 {
-    let mut counts = Counts {
-        installed: 0,
-        late: 0,
-    };
+    let mut tally = Tally::NONE;
     let backoff = Backoff::new();
     for _ in rt.forever() {
         match desk.take_job(rt, alloc, seat) {
             Ok(Taken::Job(job)) => {
                 let finished = do_job(rt, desk, seat, gate, worker, job, steps);
-                counts = counts.with(finished);
+                tally = tally.with(finished);
                 backoff.reset();
             }
             Ok(Taken::Nothing) => backoff.snooze(),
-            Ok(Taken::Closing) => return counts.until(WorkEnd::Closed),
-            Err(_) => return counts.until(WorkEnd::Memory),
+            Ok(Taken::Closing) => return Worked::new(tally, WorkEnd::Closed),
+            Err(_) => return Worked::new(tally, WorkEnd::Memory),
         }
     }
     unreachable!()

@@ -7,7 +7,7 @@ use Rattle.spec_document.specs.Document.{Document}
 use Rattle.spec_cache.specs.Slots.{Shown}
 use Rattle.spec_cache.specs.Cache.{kept}
 use Rattle.spec_history.specs.Machine as machine
-use Rattle.spec_history.specs.Machine.{Call, Reply, no_stack, outside_tile, tile_of, stale, history_full, State, latest, document_at, has_stack, tile_reply, answer}
+use Rattle.spec_history.specs.Machine.{Call, Reply, tile_of, stale, history_full, State, latest}
 use Rattle.spec_history.specs.History.{Entry, Kind, asked, starts, ends, replay, latest_of}
 use Rattle.spec_history.specs.Kept.{IsFreshReply, IsLegal}
 use Rattle.spec_history.specs.Calls.{most_entries}

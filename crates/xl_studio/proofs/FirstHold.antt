@@ -5,7 +5,7 @@ use mathlib.Core.List.{IsPrefix}
 use Rattle.spec_document.specs.Document.{Document}
 use Rattle.spec_history.specs.Calls.{most_entries}
 use Rattle.spec_history.specs.Machine.{history_full}
-use Rattle.spec_history.specs.History.{Entry, Kind, starts}
+use Rattle.spec_history.specs.History.{Entry, starts}
 use Rattle.spec_history.specs.Kept.{IsLegal}
 use Rattle.spec_saves.specs.Shelf.{ShelfIsRight}
 use Rattle.spec_saves.specs.Shelf as shelves
@@ -19,7 +19,7 @@ use Rattle.xl_core.specs.Editing.{Editing, start_of, out_of}
 use Rattle.xl_core.specs.declared.saving.Begun.{Begun}
 use Rattle.xl_core.specs.declared.saving.Begun.TheVariants.{Snapshot, Out, Full}
 use Rattle.xl_studio.specs.declared.moment.Moment.{Moment}
-use Rattle.xl_studio.specs.declared.moment.Moment.TheVariants.{Opened, Made}
+use Rattle.xl_studio.specs.declared.moment.Moment.TheVariants.{Made}
 use Rattle.xl_studio.specs.Moments.{entries_in, closed_with, closed_next, place_out, closed_by}
 use Rattle.xl_studio.specs.State.{moments_of}
 use Rattle.xl_studio.specs.Calling.{Known, HasHeard}

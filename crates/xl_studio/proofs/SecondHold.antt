@@ -1,5 +1,5 @@
 -- The second hold of a save: the save is still out, and its end is the next entry.
-use Rattle.std.proofs.Common.{◌≡◌, inl, inr, ℕ, suc, ◌+◌, ◌-◌, ◌<◌, ◌≤◌, true, List, [], ◌∷◌, ◌++◌, length, Option, Some, None, refl, sym, ap, ◌∙◌, subst, arith, append_assoc, length-append}
+use Rattle.std.proofs.Common.{◌≡◌, inr, ℕ, ◌+◌, ◌-◌, ◌<◌, List, [], ◌∷◌, ◌++◌, length, Option, Some, None, refl, sym, ap, ◌∙◌, subst, arith, append_assoc, length-append}
 use Rattle.std.specs.Prelude.{is_some, fold, unwrap_or}
 use Rattle.std.proofs.lemmas.List.Sums.{fold-append}
 use mathlib.Core.List.{IsPrefix}
@@ -17,17 +17,16 @@ use Rattle.spec_saves.specs.Returns.{Returns}
 use Rattle.xl_turn.specs.Sums.{times}
 use Rattle.xl_turn.specs.Turns.{Closes, IsClosed}
 use Rattle.xl_turn.specs.Seats.{MayLeave, made_after}
-use Rattle.xl_core.specs.History.{History}
 use Rattle.xl_core.specs.Editing.{Editing, last_of, start_of, end_of, out_of, index_out, ComesBack}
 use Rattle.xl_snapshot.specs.Saving.{IsSavedOn}
 use Rattle.xl_snapshot.proofs.ComesBack.{comes_back}
 use Rattle.xl_snapshot.proofs.Later.{returns_later}
 use Rattle.xl_studio.specs.declared.moment.Moment.{Moment}
 use Rattle.xl_studio.specs.declared.moment.Moment.TheVariants.{Opened, Made}
-use Rattle.xl_studio.specs.Moments.{IsAsked, AreAsked, entries_in, out_next, out_from, place_out, out_with, closed_next, closed_by}
+use Rattle.xl_studio.specs.Moments.{IsAsked, AreAsked, entries_in, out_from, place_out, closed_next, closed_by}
 use Rattle.xl_studio.specs.State.{moments_of, IsKept}
 use Rattle.xl_studio.specs.Calling.{Known}
-use Rattle.xl_studio.specs.Saving.{IsWhole, end_behind}
+use Rattle.xl_studio.specs.Saving.{IsWhole}
 use Rattle.xl_studio.specs.Seats.{history_of}
 use Rattle.xl_studio.specs.UnderWay.{AddsEnd, IsUnderWay, HasStarted, HasEnded, MayComeBack}
 use Rattle.xl_studio.proofs.Grown.{length-moments, entries-append}

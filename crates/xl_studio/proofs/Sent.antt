@@ -13,6 +13,7 @@ use denote.Struct.Tuple.{TupleAt, type_at}
 use Rattle.std.proofs.Crossing.{crosses}
 use Rattle.xl_cache.proofs.cache.Cache.TheSendSync as cache
 use Rattle.xl_core.proofs.entry.Entry.TheSendSync as entry
+use Rattle.xl_core.proofs.tally.Tally.TheSendSync as tally
 use Rattle.xl_core.specs.contracts.standing.Standing as Standing
 use Rattle.xl_core.specs.contracts.state.Core as Core
 use Rattle.xl_core.specs.contracts.step.Step as Step
@@ -83,7 +84,7 @@ module _ (D : RattleType) (g : Shelf.Ghosts D.Denot) where
       let c = chronicle.ghosts D g chronicle.no_dict chronicle.no_dict in
       let T = Seat.the_type D c g in
       let front = turns.the_field_send (Shared.the_row D g) (Moment.the_row D) c (shared_send d) in
-      recorded_send (Struct (shape T)) _ _ T.to_one (struct_send (shape T) (front, (search sendable, (search sendable, (search (crosses, sendable) depth 20, tt)))))
+      recorded_send (Struct (shape T)) _ _ T.to_one (struct_send (shape T) (front, (search sendable, (search sendable, (search (crosses, sendable) depth 20, (tally.the_field_send, tt))))))
 
   pub studio_sync : IsSend D → IsSync studio_row
   studio_sync d =

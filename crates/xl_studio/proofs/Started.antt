@@ -1,5 +1,5 @@
 -- What the start of a save and its end make of the list under the lock.
-use Rattle.std.proofs.Common.{◌≡◌, ℕ, ◌+◌, ◌<◌, ◌≤◌, cond, List, [], ◌∷◌, ◌++◌, length, Option, Some, None, refl, sym, ap, ◌∙◌, subst, arith, add-zero}
+use Rattle.std.proofs.Common.{◌≡◌, ℕ, ◌+◌, ◌≤◌, cond, List, [], ◌∷◌, ◌++◌, length, Some, None, refl, sym, ap, ◌∙◌, subst, arith, add-zero}
 use Rattle.std.specs.Prelude.{slice_get, Result, Ok, Err, IfOk, IsSome}
 use Rattle.std.proofs.lemmas.List.Sums.{sum_by-cons}
 use Rattle.spec_document.specs.Document.{Document}
@@ -13,10 +13,9 @@ use Rattle.spec_world.specs.Events.{end_reply}
 use Rattle.spec_world.specs.Right.{IsRight}
 use Rattle.spec_saves.proofs.Staying.{saves_started-snoc}
 use Rattle.spec_saves.specs.Names.{saves_started, is_start, version_out}
-use Rattle.xl_core.specs.Editing.{Editing, world, IsAsBefore, Begins, Ends, start_of, end_of, out_of}
+use Rattle.xl_core.specs.Editing.{Editing, world, Begins, Ends, start_of, end_of, out_of}
 use Rattle.xl_core.specs.declared.saving.Begun.{Begun}
 use Rattle.xl_core.specs.declared.saving.Begun.TheVariants.{Snapshot, Out, Full}
-use Rattle.xl_studio.specs.declared.moment.Moment.{Moment}
 use Rattle.xl_studio.specs.declared.moment.Moment.TheVariants.{Opened, Made}
 use Rattle.xl_studio.specs.Moments.{handed_at, starts_with, made_from, moments, entries_in}
 use Rattle.xl_studio.specs.State.{moments_of, IsKept}

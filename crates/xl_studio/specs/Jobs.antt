@@ -1,11 +1,12 @@
 -- A seat's job.
-use Rattle.std.specs.Prelude.{◌≡◌, ℕ, ◌≤◌, true, List, Option, Some, None, Result, Ok, Err, option_map, IfSome}
+use Rattle.std.specs.Prelude.{◌≡◌, ◌≤◌, true, List, Option, Some, None, Result, Ok, Err, option_map, IfSome}
 use Rattle.spec_grid.specs.Grid.{is_on_grid}
 use Rattle.spec_document.specs.Document.{Document}
 use Rattle.spec_history.specs.Machine.{has_stack}
 use Rattle.spec_history.specs.History.{latest_of, document_of}
 use Rattle.xl_core.specs.declared.jobs.Taken.{Taken}
 use Rattle.xl_core.specs.declared.jobs.Taken.TheVariants as takes
+use Rattle.xl_core.specs.declared.tally.Tally.{Tally}
 use Rattle.xl_core.specs.Jobs.{Out}
 use Rattle.xl_turn.specs.declared.view.Chronicle.{Ghosts}
 use Rattle.xl_studio.specs.declared.moment.Moment.{Moment}
@@ -37,6 +38,10 @@ module _ {K : Type 0} {C : Ghosts (State K) (Moment K)} where
   -- the job that the seat has out
   abbrev pub job_out : Seat K C → Option Out
   job_out s = option_map out_of s.job
+
+  -- what became of the pictures that were handed in with the seat
+  abbrev pub tally_of : Seat K C → Tally
+  tally_of s = s.tally
 
   -- the seat is this studio's, and what it has out is a job of its front
   pub record IsWorker (studio : Studio K) (s : Seat K C) : Type 0 where

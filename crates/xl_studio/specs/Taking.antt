@@ -1,5 +1,5 @@
 -- Which jobs are given out.
-use Rattle.std.specs.Prelude.{◌≡◌, Bool, true, false, Option, Some, None, Result, Ok, Err}
+use Rattle.std.specs.Prelude.{◌≡◌, true, false, Option, Some, None, Result, Ok, Err}
 use Rattle.spec_cache.specs.Cache.{next_place}
 use Rattle.xl_compose.specs.Job.{Job, StandsFor}
 use Rattle.xl_core.specs.declared.jobs.Taken.{Taken}

@@ -44,10 +44,12 @@ fn away(taken: &Result<Taken, AllocError>, document: Snapshot<Document>) -> Opti
 
 impl<D: Shelf> JobDesk for Studio<D> {
     ghost use Rattle.std.specs.Prelude.{◌≡◌, None, IfOk, IfSome, OnErr};
+    ghost use mathlib.Core.List.{IsPrefix};
     ghost use Rattle.xl_core.specs.Editing.{place_done};
     ghost use Rattle.xl_core.specs.Jobs.{IsTaken, says_closing, IsOutcomeOf, finished_by};
+    ghost use Rattle.xl_core.specs.Tally.{counted};
     ghost use Rattle.xl_studio.specs.Calling.{HasHeard};
-    ghost use Rattle.xl_studio.specs.Jobs.{job_out, IsWorker};
+    ghost use Rattle.xl_studio.specs.Jobs.{job_out, tally_of, IsWorker};
     ghost use Rattle.xl_studio.specs.Moments.{entries_in};
     ghost use Rattle.xl_studio.specs.Seats.{base_of, front_of, weight_of, made_of, known_by};
 
@@ -67,6 +69,8 @@ impl<D: Shelf> JobDesk for Studio<D> {
 
     ghost entries = { λ s. entries_in (front_of s) };
 
+    ghost tally = { tally_of };
+
     fn take_job<W: Wait>(
         &self,
         rt: &W,
@@ -81,6 +85,9 @@ impl<D: Shelf> JobDesk for Studio<D> {
         ensures closed { seat.new.closed ≡ says_closing result }
         ensures weight { weight_of seat.new ≡ weight_of seat.old }
         ensures places { made_of seat.new ≡ made_of seat.old }
+        ensures front { IsPrefix (front_of seat.old) (front_of seat.new) }
+        ensures begins { IsPrefix (entries_in (front_of seat.old)) (entries_in (front_of seat.new)) }
+        ensures tally { tally_of seat.new ≡ tally_of seat.old }
     {
         let mut held = self.lock.enter(rt, &mut seat.seat);
         let document = Snapshot::of(held.value.last_document());
@@ -102,6 +109,9 @@ impl<D: Shelf> JobDesk for Studio<D> {
         ensures closed { seat.new.closed ≡ seat.old.closed }
         ensures weight { weight_of seat.new ≡ weight_of seat.old }
         ensures places { made_of seat.new ≡ made_of seat.old }
+        ensures front { IsPrefix (front_of seat.old) (front_of seat.new) }
+        ensures begins { IsPrefix (entries_in (front_of seat.old)) (entries_in (front_of seat.new)) }
+        ensures tally { tally_of seat.new ≡ counted (tally_of seat.old) result }
     {
         let mut held = self.lock.enter(rt, &mut seat.seat);
         let finished = held.value.finish(done);
@@ -109,6 +119,7 @@ impl<D: Shelf> JobDesk for Studio<D> {
         self.lock.leave(held, &mut seat.seat);
         seat.seen = seen;
         seat.job = None;
+        seat.tally = seat.tally.with(finished);
         finished
     }
 }

@@ -5,13 +5,13 @@ ghost use Rattle.xl_core.specs.Editing.{world};
 ghost use Rattle.xl_turn.specs.Seats.{IsApart, IsEachOnce};
 ghost use Rattle.xl_turn.specs.Turns.{longer};
 ghost use Rattle.xl_studio.specs.Seats.{base_of, opening_shelf, front_of, made_of, weight_of, known_by, IsSeatOf};
-ghost use Rattle.xl_studio.specs.Jobs.{job_out};
+ghost use Rattle.xl_studio.specs.Jobs.{job_out, tally_of};
 ghost use Rattle.xl_studio.specs.State.{moments_of};
 
 use crate::seat::{Seat, Studio};
 use crate::shared::Shared;
 use std::alloc::{AllocFailed, Global};
-use xl_core::Core;
+use xl_core::{Core, Tally};
 use xl_ports::Shelf;
 use xl_turn::TurnLock;
 
@@ -29,6 +29,7 @@ impl<D: Shelf> Studio<D> {
         ensures made { IfOk result (λ r. made_of r.1 ≡ []) }
         ensures weight { IfOk result (λ r. weight_of r.1 ≡ 2 ^ 32) }
         ensures free { IfOk result (λ r. job_out r.1 ≡ None) }
+        ensures tally { IfOk result (λ r. tally_of r.1 ≡ Tally.NONE) }
         ensures back { IfErr result (λ failed. failed.value ≡ core) }
     {
         match TurnLock::open(alloc, Shared::new(core)) {
@@ -39,6 +40,7 @@ impl<D: Shelf> Studio<D> {
                     seen: 0,
                     closed: false,
                     job: None,
+                    tally: Tally::NONE,
                 },
             )),
             Err(failed) => Err(AllocFailed {
@@ -47,7 +49,7 @@ impl<D: Shelf> Studio<D> {
         }
     }
 
-    /// Splits a seat in two. The new one knows the same front, made nothing, and takes a weight of 1.
+    /// Splits a seat in two. The new one knows the same front, made nothing, handed nothing in, and takes a weight of 1.
     pub fn split(&self, seat: &mut Seat<D>) -> Seat<D>
         requires seat { IsSeatOf self.now seat.old }
         requires weight { 2 ≤ weight_of seat.old }
@@ -60,17 +62,21 @@ impl<D: Shelf> Studio<D> {
         ensures weight { weight_of result ≡ 1 }
         ensures free { job_out result ≡ None }
         ensures closed { result.closed ≡ false }
+        ensures tally { tally_of result ≡ Tally.NONE }
         ensures job { job_out seat.new ≡ job_out seat.old }
+        ensures tally_stays { tally_of seat.new ≡ tally_of seat.old }
     {
         Seat {
             seat: self.lock.split(&mut seat.seat),
             seen: seat.seen,
             closed: false,
             job: None,
+            tally: Tally::NONE,
         }
     }
 
     /// Joins two seats. The joined one knows the longer front, which both old ones begin, and made what both made. No entry is of both.
+    /// Its tally stays its own.
     pub fn join(&self, seat: &mut Seat<D>, other: Seat<D>)
         requires seat { IsSeatOf self.now seat.old }
         requires other { IsSeatOf self.now other }
@@ -81,12 +87,14 @@ impl<D: Shelf> Studio<D> {
         ensures made { made_of seat.new ≡ made_of seat.old ++ made_of other }
         ensures apart { IsApart (made_of seat.old) (made_of other) }
         ensures weight { weight_of seat.new ≡ weight_of seat.old + weight_of other }
+        ensures tally { tally_of seat.new ≡ tally_of seat.old }
     {
         let Seat {
             seat: joined,
             seen,
             closed: _,
             job: _,
+            tally: _,
         } = other;
         self.lock.join(&mut seat.seat, joined);
         seat.seen = seat.seen.max(seen);
@@ -108,6 +116,7 @@ impl<D: Shelf> Studio<D> {
             seen: _,
             closed: _,
             job: _,
+            tally: _,
         } = seat;
         lock.close(seat).into_core()
     }

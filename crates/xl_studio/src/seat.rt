@@ -1,6 +1,7 @@
 use crate::moment::Moment;
 use crate::shared::Shared;
 use std::snapshot::Snapshot;
+use xl_core::Tally;
 use xl_doc::{Document, NodeId, TileAt};
 use xl_ports::Shelf;
 use xl_turn::{Chronicle, TurnLock};
@@ -27,6 +28,8 @@ where
     pub(crate) closed: bool,
     // The job that it has out.
     pub(crate) job: Option<Away>,
+    // What became of the pictures that were handed in with it.
+    pub(crate) tally: Tally,
 }
 
 /// A job that is out: its tile and its version, and the document at that version, for contracts alone.

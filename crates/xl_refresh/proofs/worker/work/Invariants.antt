@@ -1,7 +1,9 @@
 use Rattle.std.proofs.Common.{◌≡◌, None}
+use mathlib.Core.List.{IsPrefix}
+use Rattle.xl_core.specs.Tally.{with_more}
 use Rattle.xl_refresh.proofs.worker.work.Given as goal
 
--- the seat stays the desk's, and no job is out
+-- the seat stays the desk's, no job is out, its history grows, and the sums so far are the answers that it had
 abbrev pub invariant-loop : goal.invariant-loop
 invariant-loop g l =
     (goal.iterator-loop g).can_next l.iterator'
@@ -10,3 +12,5 @@ invariant-loop g l =
     × (g.J.JobDesk.out l.seat ≡ None)
     × (g.J.JobDesk.weight l.seat ≡ g.J.JobDesk.weight l.initial.seat)
     × (g.J.JobDesk.places l.seat ≡ g.J.JobDesk.places l.initial.seat)
+    × IsPrefix (g.J.JobDesk.entries l.initial.seat) (g.J.JobDesk.entries l.seat)
+    × (g.J.JobDesk.tally l.seat ≡ with_more (g.J.JobDesk.tally l.initial.seat) l.tally.installed l.tally.late)

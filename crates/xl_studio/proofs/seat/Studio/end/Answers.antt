@@ -1,6 +1,5 @@
 use Rattle.std.proofs.Common.{◌≡◌, ℕ, List, ap, sym, ◌∙◌, subst}
 use mathlib.Core.List.{IsPrefix}
-use Rattle.spec_history.specs.Kept.{IsLegal}
 use Rattle.xl_core.specs.Editing.{known}
 use Rattle.xl_edit.specs.Replies.{reply_of}
 use Rattle.xl_turn.specs.Seats as turns
