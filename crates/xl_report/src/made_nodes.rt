@@ -1,5 +1,5 @@
 //! The layers and groups of the document that is made from a seed.
-ghost use Rattle.std.specs.Prelude.{◌≡◌, ◌≤◌, ◌<◌, ◌+◌, map, length, pos, IfOk, OnOk};
+ghost use Rattle.std.specs.Prelude.{◌≡◌, ◌≤◌, ◌<◌, ◌+◌, map, length, pos, ◌≤ℤ◌, IfOk, OnOk};
 ghost use Rattle.std.specs.List.{AllByRecursion};
 ghost use Rattle.spec_forest.specs.Forest.{count, group, ids, none, size};
 ghost use Rattle.spec_forest.specs.Changes.{above};
@@ -7,6 +7,7 @@ ghost use Rattle.spec_generated.specs.Generated.{in_two_groups, leaves_from};
 ghost use Rattle.xl_report.specs.Looks.{IsLook};
 ghost use Rattle.xl_report.specs.MadeNodes.{group_node, layer_node};
 ghost use Rattle.spec_forest.specs.declared.TheConstants.{MAX_NODES};
+ghost use Rattle.spec_document.specs.declared.TheConstants.{MAX_OFFSET};
 
 use crate::look::Look;
 use std::alloc::{AllocError, Global};
@@ -25,7 +26,7 @@ const RGBA: u8 = 1;
 const RGBA_BYTES: u32 = 4;
 
 fn offset(pixels: u32) -> i32
-    requires { pixels ≤ 262144 }
+    requires { pos pixels ≤ℤ MAX_OFFSET }
     ensures { result ≡ pos pixels }
 {
     pixels as i32

@@ -1,20 +1,22 @@
 use Rattle.std.proofs.Common.{◌≡◌, ◌≤◌, ap, pos, w32, to_z, of_z, rules, arith}
 use Rattle.std.proofs.lemmas.Int.{ints}
+use Rattle.std.specs.Prelude.{◌≤ℤ◌}
+use Rattle.spec_document.specs.declared.TheConstants.{MAX_OFFSET}
 use Rattle.spec_document.specs.Plane.{Plane}
 use Rattle.spec_generated.specs.Generated.{Look}
 use Rattle.xl_report.proofs.MadeTrees.{layer_is}
 use Rattle.xl_report.proofs.made_nodes.layer.Goals as goal
 
 pub offset-requires : goal.offset-requires
-offset-requires c = let is : c.look.inside.x ≡ c.args.look.now.x = ap (λ (l : Look). l.x) c.look.view_is in omega (arith, is, c.requires.x)
+offset-requires c = let is : c.look.inside.x ≡ c.args.look.now.x = ap (λ (l : Look). l.x) c.look.view_is in omega (arith, ints, is, c.requires.x)
 
 pub offset-requires-2 : goal.offset-requires-2
-offset-requires-2 c = let is : c.look.inside.y ≡ c.args.look.now.y = ap (λ (l : Look). l.y) c.look.view_is in omega (arith, is, c.requires.y)
+offset-requires-2 c = let is : c.look.inside.y ≡ c.args.look.now.y = ap (λ (l : Look). l.y) c.look.view_is in omega (arith, ints, is, c.requires.y)
 
 pub invariant_of-layer : goal.invariant_of-layer
 invariant_of-layer c =
-    let x : c.look.inside.x ≤ 262144 = let is : c.look.inside.x ≡ c.args.look.now.x = ap (λ (l : Look). l.x) c.look.view_is in omega (arith, is, c.requires.x) in
-    let y : c.look.inside.y ≤ 262144 = let is : c.look.inside.y ≡ c.args.look.now.y = ap (λ (l : Look). l.y) c.look.view_is in omega (arith, is, c.requires.y) in
+    let x : pos c.look.inside.x ≤ℤ MAX_OFFSET = let is : c.look.inside.x ≡ c.args.look.now.x = ap (λ (l : Look). l.x) c.look.view_is in omega (arith, ints, is, c.requires.x) in
+    let y : pos c.look.inside.y ≤ℤ MAX_OFFSET = let is : c.look.inside.y ≡ c.args.look.now.y = ap (λ (l : Look). l.y) c.look.view_is in omega (arith, ints, is, c.requires.y) in
     rw (c.offset.ensures, c.offset-2.ensures)
     (record {
       kind = omega arith;
