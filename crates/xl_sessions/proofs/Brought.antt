@@ -29,41 +29,41 @@ full_has_all [] slot below = absurd (omega arith)
 full_has_all (s ∷ filters) zero below = refl
 full_has_all (s ∷ filters) (suc slot) below = full_has_all filters slot (omega arith)
 
-full_states : {B : Type 0} (state : B → FilterState) (boxes : List B)
+pub full_states : {B : Type 0} (state : B → FilterState) (boxes : List B)
     → map (λ b. Some (state b)) boxes ≡ map (λ s. Some s) (map state boxes)
 full_states state [] = refl
 full_states state (b ∷ boxes) = ap (λ slots. Some (state b) ∷ slots) (full_states state boxes)
 
 -- ---- lists
 
-front_of_drop : {A : Type 0} (n : ℕ) (xs : List (List A)) (x : List A) (rest : List (List A)) → drop n xs ≡ x ∷ rest
+pub front_of_drop : {A : Type 0} (n : ℕ) (xs : List (List A)) (x : List A) (rest : List (List A)) → drop n xs ≡ x ∷ rest
     → list_at xs n ≡ x
 front_of_drop zero xs x rest is = ap (λ l. list_at l 0) is
 front_of_drop (suc n) [] x rest is = let longer = ap length is in absurd (omega (arith, longer))
 front_of_drop (suc n) (y ∷ ys) x rest is = front_of_drop n ys x rest is
 
-rest_of_drop : {A : Type 0} (n : ℕ) (xs : List A) (x : A) (rest : List A) → drop n xs ≡ x ∷ rest → rest ≡ drop (suc n) xs
+pub rest_of_drop : {A : Type 0} (n : ℕ) (xs : List A) (x : A) (rest : List A) → drop n xs ≡ x ∷ rest → rest ≡ drop (suc n) xs
 rest_of_drop zero xs x rest is = sym (ap (drop 1) is)
 rest_of_drop (suc n) [] x rest is = let longer = ap length is in absurd (omega (arith, longer))
 rest_of_drop (suc n) (y ∷ ys) x rest is = rest_of_drop n ys x rest is
 
-drop_more : {A : Type 0} (xs : List A) (n : ℕ) → drop 1 (drop n xs) ≡ drop (suc n) xs
+pub drop_more : {A : Type 0} (xs : List A) (n : ℕ) → drop 1 (drop n xs) ≡ drop (suc n) xs
 drop_more xs zero = refl
 drop_more [] (suc n) = refl
 drop_more (x ∷ xs) (suc n) = drop_more xs n
 
-first_left : {B : Type 0} (boxes : List (Vec B Global)) (n : ℕ) → boxes_at (drop n boxes) 0 ≡ boxes_at boxes n
+pub first_left : {B : Type 0} (boxes : List (Vec B Global)) (n : ℕ) → boxes_at (drop n boxes) 0 ≡ boxes_at boxes n
 first_left boxes zero = refl
 first_left [] (suc n) = refl
 first_left (b ∷ boxes) (suc n) = first_left boxes n
 
 module _ {B : Type 0} (state : B → FilterState) where
-  states_at : (boxes : List (Vec B Global)) (n : ℕ) → list_at (states_of state boxes) n ≡ map state (boxes_at boxes n)
+  pub states_at : (boxes : List (Vec B Global)) (n : ℕ) → list_at (states_of state boxes) n ≡ map state (boxes_at boxes n)
   states_at [] n = refl
   states_at (b ∷ boxes) zero = refl
   states_at (b ∷ boxes) (suc n) = states_at boxes n
 
-  count_at : (boxes : List (Vec B Global)) (n : ℕ)
+  pub count_at : (boxes : List (Vec B Global)) (n : ℕ)
       → unwrap_or (slice_get (map length (states_of state boxes)) n) 0 ≡ length (boxes_at boxes n)
   count_at [] n = refl
   count_at (b ∷ boxes) zero = length-map b.items state

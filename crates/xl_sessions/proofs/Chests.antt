@@ -58,7 +58,7 @@ line_fits given dropped chest (script.forget slot) stocked fit = stocked slot fi
 has_by_slots : (chest : List (Option FilterState)) (slot : ℕ) → slice_index_or (map is_some chest) slot false ≡ has_slot chest slot
 has_by_slots chest slot = get_or-map is_some chest slot None
 
-stocked_after : (given : ℕ) (dropped : List ℕ) (old new : List (Option FilterState)) → SameSlots old new → IsStocked given dropped old → IsStocked given dropped new
+pub stocked_after : (given : ℕ) (dropped : List ℕ) (old new : List (Option FilterState)) → SameSlots old new → IsStocked given dropped old → IsStocked given dropped new
 stocked_after given dropped old new same stocked slot there =
     sym (has_by_slots new slot) ∙ ap (λ (slots : List Bool). slice_index_or slots slot false) same ∙ has_by_slots old slot ∙ stocked slot there
 
@@ -91,7 +91,7 @@ any_last [] slot n none = (refl, or_parts (slot == n) none) where
   or_parts false h = refl
 any_last (d ∷ dropped) slot n none = either_last (d == n) (list_any (λ d. d == n) (dropped ++ slot ∷ [])) none (any_last dropped slot n)
 
-stocked_without : (given : ℕ) (dropped : List ℕ) (chest : List (Option FilterState)) (slot : ℕ) → IsStocked given dropped chest
+pub stocked_without : (given : ℕ) (dropped : List ℕ) (chest : List (Option FilterState)) (slot : ℕ) → IsStocked given dropped chest
     → IsStocked given (dropped ++ slot ∷ []) (slice_set chest slot None)
 stocked_without given dropped chest slot stocked n there =
     let parts = and_parts (nat_lt n given) (not (list_any (λ d. d == n) (dropped ++ slot ∷ []))) there in

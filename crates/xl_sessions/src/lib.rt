@@ -14,4 +14,5 @@ mod threads;
 pub use beside::{PlayedBeside, play_beside};
 pub use desk::desk_of;
 pub use played::play_session;
-pub use printing::{each_entry_is_printed, print_history};
+pub use printing::{each_entry_is_printed, order_words, print_history};
+pub use seating::first_boxes;

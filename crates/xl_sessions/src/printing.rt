@@ -135,8 +135,8 @@ fn order_word(entry: &Entry) -> OrderWord
     }
 }
 
-// The words of the order line.
-fn order_words(alloc: Global, entries: &[Entry]) -> Result<Vec<OrderWord>, AllocError>
+/// The words of the order line.
+pub fn order_words(alloc: Global, entries: &[Entry]) -> Result<Vec<OrderWord>, AllocError>
     ensures { IfOk result (λ words. words.items ≡ map word_of_entry entries.now) }
 {
     let mut words = Vec::with_capacity(alloc, entries.len())?;

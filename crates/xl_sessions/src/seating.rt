@@ -15,8 +15,8 @@ use xl_ports::Shelf;
 use xl_script::{SESSIONS, Script};
 use xl_studio::{Seat, Studio};
 
-// Takes the first list of boxes, if there is one.
-fn first_boxes(
+/// Takes the first list of boxes, if there is one.
+pub fn first_boxes(
     alloc: Global,
     chest: &mut Vec<Vec<Box<dyn PointFilter + Send>>>,
 ) -> Vec<Box<dyn PointFilter + Send>>
