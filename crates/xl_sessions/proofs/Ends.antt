@@ -2,6 +2,7 @@
 use Rattle.std.proofs.Common.{◌≡◌, ℕ, ◌+◌, ◌<◌, ◌≤◌, Bool, true, false, cond, List, [], ◌∷◌, ◌++◌, Some, None, refl, ap, sym, ◌∙◌, arith, subst, append-nil, eq-eqb, ne_eqb, ◌==◌, append_assoc}
 use Rattle.std.specs.Prelude.{not, ◌&&◌, Option, IfSome}
 use Rattle.std.proofs.lemmas.Bool.{eqb-true}
+use Rattle.std.proofs.Math.Bool.{and-false}
 use Rattle.spec_document.specs.Document.{Document}
 use Rattle.spec_history.specs.Machine.{Reply, State, Saving, initial}
 use Rattle.spec_history.specs.History.{Entry, Kind, asked, starts, ends, is_end_kind, next_index, after_kind, after_entry, replay_from, replay, MayBe, MayEnd, RunFrom, Run}
@@ -64,12 +65,8 @@ pub record AreBelow (out : Option Saving) (earlier : List Entry) : Type 0 where
   pub ended : (session index : ℕ) → next_index earlier session ≤ index → has_end earlier session index ≡ false
   pub going : IfSome out (λ o. o.index < next_index earlier o.session)
 
-and_false : (b : Bool) → (b && false) ≡ false
-and_false true = refl
-and_false false = refl
-
 no_end_kind : (e : Entry) (session index : ℕ) → is_end_kind e.kind ≡ false → is_end_at session index e ≡ false
-no_end_kind e session index is = rw is (and_false (e.session == session && e.index == index))
+no_end_kind e session index is = rw is (and-false (e.session == session && e.index == index))
 
 other_index : (s i : Bool) (k : Bool) → i ≡ false → ((s && i) && k) ≡ false
 other_index true i k off = rw off refl

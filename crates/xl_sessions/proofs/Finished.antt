@@ -19,7 +19,6 @@ use Rattle.xl_sessions.specs.declared.players.Player.{Player}
 use Rattle.xl_sessions.proofs.Lined.{legal_has_lines}
 use Rattle.xl_sessions.proofs.Outcomes.{HasOutcome, Own, none_is_out, saves_have_ended, digests_are, makes_a_text}
 use Rattle.xl_sessions.proofs.PlayedParts.{all_own, all_outcomes, all_seats}
-use Rattle.xl_sessions.proofs.Zips.{prefix_trans}
 use Rattle.xl_studio.specs.declared.moment.Moment.{Moment}
 use Rattle.xl_studio.specs.declared.seat.Seat.{Seat}
 use Rattle.xl_studio.specs.declared.seat.Studio.{Studio}
@@ -28,6 +27,7 @@ use Rattle.xl_studio.specs.State.{State, moments_of}
 use Rattle.xl_studio.proofs.Seated.{back}
 use Rattle.xl_turn.specs.declared.view.Chronicle.{Ghosts}
 use Rattle.xl_turn.specs.Seats.{IsEachOnce}
+use Rattle.xl_turn.proofs.Fronts.{prefix_trans}
 
 -- the text of a result, where all lines were played
 pub text_is : {T E : Type 0} (r : Result T E) (bytes : T → List ℕ) (all : Bool) (base : Document) (lists : List (List Line))
@@ -71,9 +71,9 @@ module _ {K : Type 0} {C : Ghosts (State K) (Moment K)} {X : Type 0} {H : X → 
   pub out_is_none : (base : Document) → (replay base es).out ≡ None
   out_is_none base = none_is_out places_of shown_of done_of es players eight once own base
 
-  outs : (chests : List (List FilterState)) (lists : List (List Line)) → HaveOutcomes studio chests lists players
+  whole_outcomes : (chests : List (List FilterState)) (lists : List (List Line)) → HaveOutcomes studio chests lists players
       → FromFirst (HasOutcome places_of shown_of done_of es (base_of studio) chests lists) 0 players
-  outs chests lists have =
+  whole_outcomes chests lists have =
       subst (λ (all : List Entry). FromFirst (HasOutcome places_of shown_of done_of all (base_of studio) chests lists) 0 players) (back c)
       (all_outcomes studio players joined (moments_of c) known whole chests lists (all_seats studio players of) have)
 
@@ -81,7 +81,7 @@ module _ {K : Type 0} {C : Ghosts (State K) (Moment K)} {X : Type 0} {H : X → 
       → IsLegal (base_of studio) es → (all : Bool) → all ≡ list_all done_of players → all ≡ true
       → IsTextOf (printed (base_of studio) es) (base_of studio) lists chests es
   makes_text chests lists have legal all is so =
-      makes_a_text places_of shown_of done_of es players eight once own (base_of studio) chests lists (outs chests lists have)
+      makes_a_text places_of shown_of done_of es players eight once own (base_of studio) chests lists (whole_outcomes chests lists have)
       (sym is ∙ so) legal
 
   -- each entry can be printed, where all lines were played
@@ -102,5 +102,5 @@ module _ {K : Type 0} {C : Ghosts (State K) (Moment K)} {X : Type 0} {H : X → 
       text_is r bytes all (base_of studio) lists chests es done (makes_text chests lists have legal all is)
       (λ so. prints_all (base_of studio) so legal (saves_have_ended places_of shown_of done_of es players eight once own)
       (λ session below. ap (λ (ts : List (List (List ℕ))). list_at ts session) told
-      ∙ digests_are places_of shown_of done_of es players eight once own (base_of studio) chests lists (outs chests lists have)
+      ∙ digests_are places_of shown_of done_of es players eight once own (base_of studio) chests lists (whole_outcomes chests lists have)
       (sym is ∙ so) session below))

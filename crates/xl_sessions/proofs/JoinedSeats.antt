@@ -1,16 +1,16 @@
 -- The seats of a run, joined one after another.
-use Rattle.std.proofs.Common.{◌≡◌, ℕ, ◌+◌, Bool, true, false, List, [], ◌∷◌, ◌++◌, length, map, flat_map, refl, sym, ap, ◌∙◌, subst, arith, append_assoc, append-nil}
+use Rattle.std.proofs.Common.{◌≡◌, ℕ, ◌+◌, Bool, true, List, [], ◌∷◌, ◌++◌, length, map, flat_map, refl, sym, ap, ◌∙◌, subst, arith, append_assoc, append-nil}
 use Rattle.std.specs.Prelude.{◌&&◌, string_bytes, String, Vec}
 use Rattle.std.specs.List.{AllByRecursion, list_all}
 use Rattle.std.specs.declared.alloc.Global.{Global}
 use Rattle.std.proofs.lemmas.List.Concat.{flat_map-cons}
 use Rattle.std.proofs.lemmas.List.{map-append}
+use Rattle.std.proofs.Math.Bool.{and-true, and_assoc}
 use mathlib.Core.List.{IsPrefix}
 use Rattle.xl_sessions.specs.Outcomes.{texts_of}
 use Rattle.xl_sessions.specs.Players.{places_of, shown_of, weight_in, AreKnown, AreSeats, HasWorked}
 use Rattle.xl_sessions.specs.declared.players.Player.{Player}
 use Rattle.xl_sessions.specs.declared.players.Worker.{Worker}
-use Rattle.xl_sessions.proofs.Zips.{prefix_trans}
 use Rattle.xl_studio.specs.declared.moment.Moment.{Moment}
 use Rattle.xl_studio.specs.declared.seat.Seat.{Seat}
 use Rattle.xl_studio.specs.declared.seat.Studio.{Studio}
@@ -18,6 +18,7 @@ use Rattle.xl_studio.specs.Seats.{front_of, made_of, weight_of, IsSeatOf}
 use Rattle.xl_studio.specs.State.{State}
 use Rattle.xl_turn.specs.declared.view.Chronicle.{Ghosts}
 use Rattle.xl_turn.specs.Sums.{total}
+use Rattle.xl_turn.proofs.Fronts.{prefix_self, prefix_trans}
 
 module _ {K : Type 0} {C : Ghosts (State K) (Moment K)} {X : Type 0} {H : X → Type 0} where
   -- some players were joined, and these are left
@@ -58,10 +59,6 @@ module _ {K : Type 0} {C : Ghosts (State K) (Moment K)} {X : Type 0} {H : X → 
     pub joining_seat : IsSeatOf studio p.seat
     joining_seat = now.seats.0
 
-    and_more : (a b c : Bool) → ((a && b) && c) ≡ (a && (b && c))
-    and_more true b c = refl
-    and_more false b c = refl
-
     pub joining_more : (new : Seat K C) (more : List (Vec (String Global) Global)) (still : Bool) → IsSeatOf studio new
         → made_of new ≡ made_of own ++ made_of p.seat → weight_of new ≡ weight_of own + weight_of p.seat
         → IsPrefix (front_of own) (front_of new) → IsPrefix (front_of p.seat) (front_of new) → more ≡ texts ++ p.digests ∷ []
@@ -83,7 +80,7 @@ module _ {K : Type 0} {C : Ghosts (State K) (Moment K)} {X : Type 0} {H : X → 
               (map-append (λ (ts : Vec (String Global) Global). map string_bytes ts.items) texts (p.digests ∷ []))
               ∙ append_assoc (texts_of texts) (shown_of p ∷ []) (map shown_of rest) ∙ now.shown;
           done_is = ap (λ (b : Bool). b && list_all (λ (q : Player (Seat K C) X H). q.done) rest) still_is
-              ∙ and_more done p.done (list_all (λ (q : Player (Seat K C) X H). q.done) rest) ∙ now.done_is;
+              ∙ and_assoc done p.done (list_all (λ (q : Player (Seat K C) X H). q.done) rest) ∙ now.done_is;
         }
 
   module _ {studio : Studio K} {before own : Seat K C} {all left : List (Player (Seat K C) X H)}
@@ -98,24 +95,17 @@ module _ {K : Type 0} {C : Ghosts (State K) (Moment K)} {X : Type 0} {H : X → 
     pub joined_weight : weight_of own ≡ weight_of before + total weight_in all
     joined_weight = let was = end.weight in omega (arith, was)
 
-    self : IsPrefix (front_of own) (front_of own)
-    self = ([], append-nil (front_of own))
-
     pub joined_begins : IsPrefix (front_of before) (front_of own)
-    joined_begins = (end.known (front_of own) self tt).0
+    joined_begins = (end.known (front_of own) (prefix_self (front_of own)) tt).0
 
     pub joined_known : AreKnown (front_of own) all
-    joined_known = (end.known (front_of own) self tt).1
+    joined_known = (end.known (front_of own) (prefix_self (front_of own)) tt).1
 
     pub joined_shown : texts_of texts ≡ map shown_of all
     joined_shown = sym (append-nil (texts_of texts)) ∙ end.shown
 
-    and_true : (b : Bool) → (b && true) ≡ b
-    and_true true = refl
-    and_true false = refl
-
     pub joined_done : done ≡ list_all (λ (p : Player (Seat K C) X H). p.done) all
-    joined_done = sym (and_true done) ∙ end.done_is
+    joined_done = sym (and-true done) ∙ end.done_is
 
 module _ {K : Type 0} {C : Ghosts (State K) (Moment K)} where
   -- some workers were joined, and these are left
@@ -134,7 +124,7 @@ module _ {K : Type 0} {C : Ghosts (State K) (Moment K)} where
     worked = subst (AllByRecursion (HasWorked studio)) (sym whole) worked;
     made = refl;
     weight = ap (λ n. weight_of own + n) (ap length whole);
-    begins = ([], append-nil (front_of own));
+    begins = prefix_self (front_of own);
   }
 
   module _ {studio : Studio K} {before own : Seat K C} {count : ℕ} {left : List (Worker (Seat K C))} (w : Worker (Seat K C))

@@ -20,7 +20,6 @@ pub mod SoFar
 pub mod UnderWay
 -- lists beside each other
 pub mod Zips
-pub mod Emptied
 -- what the sessions bring
 pub mod Brought
 -- what became of their lines

@@ -23,6 +23,7 @@ use Rattle.xl_turn.specs.Sums.{total, times, same, below}
 use Rattle.xl_turn.specs.Seats.{IsEachOnce}
 use Rattle.xl_turn.proofs.Totals.{total_append}
 use Rattle.xl_sessions.specs.Outcomes.{list_at, FromFirst, IsOutcome}
+use Rattle.xl_sessions.proofs.Zips.{from_first_map}
 
 -- ---- an outcome, as the history grows
 
@@ -64,12 +65,6 @@ module _ {P A : Type 0} (f : P → List A) (Q : ℕ → List A → Type 0) where
       let same : suc first + n ≡ first + suc n = omega arith in
       subst (λ (k : ℕ). Q k (slice_index_or (map f ps) n [])) same
       (at_session (suc first) n ps (omega (arith, lt)) all.1)
-
-module _ {P : Type 0} (Q R : ℕ → P → Type 0) where
-  pub from_first : (first : ℕ) (ps : List P) → ((session : ℕ) (p : P) → Q session p → R session p) → FromFirst Q first ps
-      → FromFirst R first ps
-  from_first first [] to all = tt
-  from_first first (p ∷ ps) to all = (to first p all.0, from_first (suc first) ps to all.1)
 
 -- ---- all sessions together
 
@@ -114,15 +109,15 @@ module _ {P : Type 0} (places_of : P → List ℕ) (shown_of : P → List (List 
     each_once : (x : ℕ) → total (λ (ps : List ℕ). times x ps) places ≡ below (length es) x
     each_once = once_each places_of (length es) ps once
 
-    at_0 : (Q : ℕ → List ℕ → Type 0) → FromFirst (λ session p. Q session (places_of p)) 0 ps → (session : ℕ) → session < 8
+    of_session : (Q : ℕ → List ℕ → Type 0) → FromFirst (λ session p. Q session (places_of p)) 0 ps → (session : ℕ) → session < 8
         → Q session (slice_index_or places session [])
-    at_0 Q all session lt =
+    of_session Q all session lt =
         let same : 0 + session ≡ session = omega arith in
         subst (λ (k : ℕ). Q k (slice_index_or places session [])) same
         (at_session places_of Q 0 session ps (omega (arith, lt, eight)) all)
 
     of : (session : ℕ) → session < 8 → IsOf session (slice_index_or places session []) es
-    of = at_0 (λ session own. IsOf session own es) own
+    of = of_session (λ session own. IsOf session own es) own
 
     -- no save is out
     pub none_is_out : (base : Document) → (replay base es).out ≡ None
@@ -141,12 +136,12 @@ module _ {P : Type 0} (places_of : P → List ℕ) (shown_of : P → List (List 
       pub digests_are : (session : ℕ) → session < 8 → list_at (map shown_of ps) session ≡ digests_in base es (mine es session)
       digests_are session lt =
           told_at base 0 session ps (omega (arith, lt, eight))
-          (from_first (λ s p. Made chests lists s p × Told base s p) (Told base) 0 ps (λ s p both. both.1) done)
+          (from_first_map (λ s p. Made chests lists s p × Told base s p) (Told base) 0 ps (λ s p both. both.1) done)
           ∙ ap (digests_in base es) (sym (mine_picked es places eight_lists each_once of session))
 
       -- and the printed lines are a text of the script
       pub makes_a_text : IsLegal base es → IsTextOf (printed base es) base lists chests es
       makes_a_text legal =
           seats_make_text es places eight_lists each_once base lists chests legal
-          (at_0 (λ session own. HasMade session (list_at chests session) (list_at lists session) own es)
-          (from_first (λ s p. Made chests lists s p × Told base s p) (Made chests lists) 0 ps (λ s p both. both.0) done))
+          (of_session (λ session own. HasMade session (list_at chests session) (list_at lists session) own es)
+          (from_first_map (λ s p. Made chests lists s p × Told base s p) (Made chests lists) 0 ps (λ s p both. both.0) done))

@@ -17,7 +17,7 @@ use Rattle.xl_sessions.specs.declared.players.Part.{Part}
 use Rattle.xl_sessions.specs.declared.players.Player.{Player}
 use Rattle.xl_sessions.proofs.Brought.{full_agrees}
 use Rattle.xl_sessions.proofs.Outcomes.{HasOutcome, Own, outcome_grows}
-use Rattle.xl_sessions.proofs.Zips.{prefix_trans, zip_length, zip_through, zip_from, from_first_each, from_first_with, from_first_below}
+use Rattle.xl_sessions.proofs.Zips.{zip_length, zip_through, zip_from, from_first_each, from_first_with, from_first_below}
 use Rattle.xl_studio.specs.declared.moment.Moment.{Moment}
 use Rattle.xl_studio.specs.declared.seat.Seat.{Seat}
 use Rattle.xl_studio.specs.declared.seat.Studio.{Studio}
@@ -27,6 +27,7 @@ use Rattle.xl_studio.specs.State.{State}
 use Rattle.xl_studio.proofs.Grown.{entries-prefix}
 use Rattle.xl_turn.specs.declared.view.Chronicle.{Ghosts}
 use Rattle.xl_turn.specs.Sums.{total}
+use Rattle.xl_turn.proofs.Fronts.{prefix_trans}
 
 -- what a vector has after its whole list was lent
 lent_back : {A : Type 0} (n : ℕ) (ys xs : List A) → length ys ≡ n → take n (ys ++ drop (length ys) xs) ≡ ys
@@ -154,16 +155,16 @@ module _ {K : Type 0} {C : Ghosts (State K) (Moment K)} {X : Type 0} {H : X → 
 
   module _ (studio : Studio K) (players : List (Player (Seat K C) X H)) (joined front : List (Moment K))
       (known : AreKnown joined players) (begins : IsPrefix joined front) where
-    begun : (p : Player (Seat K C) X H) → IsPrefix (front_of p.seat) joined
+    entries_begin : (p : Player (Seat K C) X H) → IsPrefix (front_of p.seat) joined
         → IsPrefix (entries_in (front_of p.seat)) (entries_in front)
-    begun p at = entries-prefix (front_of p.seat) front (prefix_trans (front_of p.seat) joined front at begins)
+    entries_begin p at = entries-prefix (front_of p.seat) front (prefix_trans (front_of p.seat) joined front at begins)
 
     -- the entries of each session, in the whole history
     pub all_own : AreOfSessions studio players → FromFirst (Own places_of shown_of (λ p. p.done) (entries_in front)) 0 players
     all_own of =
         from_first_with (IsOfSession studio) (λ p. IsPrefix (front_of p.seat) joined)
         (Own places_of shown_of (λ p. p.done) (entries_in front)) 0 players
-        (λ session p is at. of_grows session (made_of p.seat) (entries_in (front_of p.seat)) (entries_in front) (begun p at)
+        (λ session p is at. of_grows session (made_of p.seat) (entries_in (front_of p.seat)) (entries_in front) (entries_begin p at)
         is.of) of known
 
     -- what became of each session's lines, in the whole history
@@ -179,5 +180,5 @@ module _ {K : Type 0} {C : Ghosts (State K) (Moment K)} {X : Type 0} {H : X → 
         (HasOutcome places_of shown_of (λ p. p.done) (entries_in front) (base_of studio) chests lists) 0 players
         (λ session p is at. outcome_grows (base_of studio) session (list_at chests session) (list_at lists session)
         (entries_in (front_of p.seat)) (entries_in front) (made_of p.seat) (shown_of p) p.done
-        is.1.front.legal (begun p at) is.0)
+        is.1.front.legal (entries_begin p at) is.0)
         (from_first_with Q (λ p. IsSeatOf studio p.seat) Seated 0 players (λ session p out seat. (out, seat)) outs seats) known

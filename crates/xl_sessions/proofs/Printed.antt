@@ -2,6 +2,7 @@
 use Rattle.std.proofs.Common.{◌≡◌, ℕ, zero, suc, ◌+◌, ◌<◌, ◌≤◌, ◌==◌, Bool, true, false, cond, List, [], ◌∷◌, ◌++◌, Option, Some, None, refl, ap, sym, ◌∙◌, arith, append_assoc, flat_map, eq-eqb}
 use Rattle.std.specs.Prelude.{◌&&◌, Result, Ok, Err, IfOk, drop, slice_get, unwrap_or}
 use Rattle.std.proofs.lemmas.Bool.{eqb-true}
+use Rattle.std.proofs.Math.Bool.{and-false}
 use Rattle.spec_document.specs.Document.{Document}
 use Rattle.spec_grid.specs.Rect.{count_from}
 use Rattle.spec_history.specs.Machine as machine
@@ -74,10 +75,6 @@ abbrev IsOpen : (session : ℕ) → (earlier : List Entry) → (start : Option E
 IsOpen session earlier None = Unit {0}
 IsOpen session earlier (Some start) = (start.session ≡ session) × (has_end earlier start.session start.index ≡ false)
 
-and_false : (b : Bool) → (b && false) ≡ false
-and_false true = refl
-and_false false = refl
-
 not_here : (s i k : Bool) → s ≡ false → ((s && i) && k) ≡ false
 not_here true i k off = let bad : true ≡ false = off in cc
 not_here false i k off = refl
@@ -95,7 +92,7 @@ opens : (base : Document) (s : State) (session : ℕ) (earlier : List Entry) (e 
 opens base s session earlier e (asked call tables) is mine below may = tt
 opens base s session earlier e starts is mine below may =
     let here : is_end_at e.session e.index e ≡ false = ap (λ (kind : Kind). (e.session == e.session && e.index == e.index) && is_end_kind kind) is
-    ∙ and_false (e.session == e.session && e.index == e.index) in
+    ∙ and-false (e.session == e.session && e.index == e.index) in
     let at : next_index earlier e.session ≤ e.index = omega (arith, may.0) in
     (mine, no_end_more earlier e e.session e.index (below.ended e.session e.index at) here)
 opens base s session earlier e ends is mine below may = tt

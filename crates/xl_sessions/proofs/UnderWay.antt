@@ -18,10 +18,7 @@ use Rattle.xl_studio.specs.Moments.{entries_in}
 use Rattle.xl_sessions.specs.Playing.{FitsChest, HasAll, IsLineMade}
 use Rattle.xl_sessions.proofs.Chests.{IsStocked, all_stocked, line_fits, line_stocked}
 use Rattle.xl_sessions.proofs.SoFar.{IsSoFar, so_far_none, so_far_of, so_far_line}
-
--- a beginning of a beginning
-pub prefix_of_prefix : {X : Type 0} (xs ys zs : List X) → IsPrefix xs ys → IsPrefix ys zs → IsPrefix xs zs
-prefix_of_prefix xs ys zs first second = (first.0 ++ second.0, sym (append_assoc xs first.0 second.0) ∙ ap (λ front. front ++ second.0) first.1 ∙ second.1)
+use Rattle.xl_turn.proofs.Fronts.{prefix_self, prefix_trans}
 
 module _ {K : Type 0} where
   -- what the lines so far have made, and that those left may be played
@@ -38,7 +35,7 @@ module _ {K : Type 0} where
       → known.made ≡ [] → latest_of (entries_in known.front) ≡ 0 → texts ≡ [] → HasAll start → AreFit (length start) [] all
       → IsUnderWay base session start start all left known known texts
   under_way_none base session start all left known texts whole none unchanged blank has fit = record {
-    begins = ([], append-nil known.front);
+    begins = prefix_self known.front;
     taken = [];
     lines = sym whole;
     so_far = so_far_none base session start known texts none unchanged blank;
@@ -59,7 +56,7 @@ module _ {K : Type 0} where
         → IsPrefix known.front new.front → (told : List (List ℕ)) × (said ≡ texts ++ told) × IsLineMade see opening base session line now after known new told
         → IsUnderWay base session start after all rest old new said
     under_way_more see opening line rest turn after new said legal begins made = record {
-      begins = prefix_of_prefix old.front known.front new.front way.begins begins;
+      begins = prefix_trans old.front known.front new.front way.begins begins;
       taken = way.taken ++ line ∷ [];
       lines = way.lines ∙ ap (λ lines. way.taken ++ lines) turn ∙ sym (append_assoc way.taken (line ∷ []) rest);
       so_far = subst (IsSoFar base session start after (way.taken ++ line ∷ []) new) (sym made.1) (so_far_line legal way.so_far see opening line after new made.0 made.2);

@@ -1,12 +1,8 @@
 -- Lists beside each other, place by place and element by element.
-use Rattle.std.proofs.Common.{◌≡◌, ℕ, suc, ◌+◌, ◌<◌, List, [], ◌∷◌, ◌++◌, length, refl, ap, sym, ◌∙◌, subst, arith, append_assoc}
+use Rattle.std.proofs.Common.{◌≡◌, ℕ, suc, ◌+◌, ◌<◌, List, [], ◌∷◌, ◌++◌, length, refl, ap, subst, arith}
 use Rattle.std.specs.Prelude.{slice_index_or}
 use Rattle.std.specs.List.{AllByRecursion, AllZip}
-use mathlib.Core.List.{IsPrefix}
 use Rattle.xl_sessions.specs.Outcomes.{FromFirst}
-
-pub prefix_trans : {X : Type 0} (xs ys zs : List X) → IsPrefix xs ys → IsPrefix ys zs → IsPrefix xs zs
-prefix_trans xs ys zs p q = (p.0 ++ q.0, sym (append_assoc xs p.0 q.0) ∙ ap (λ l. l ++ q.0) p.1 ∙ q.1)
 
 -- ---- what each call for an element has left
 
@@ -15,8 +11,8 @@ module _ {X : Type 0} where
   abbrev pub Changes : (R : X → X → Type 0) → (x y : X) → Type 0
   Changes R x y = (a : X) × (b : X) × (a ≡ x) × (b ≡ y) × R a b
 
-  changed : (R : X → X → Type 0) (x y : X) → Changes R x y → R x y
-  changed R x y made = subst (λ a. R a y) made.2 (subst (R made.0) made.3 made.4)
+  change_made : (R : X → X → Type 0) (x y : X) → Changes R x y → R x y
+  change_made R x y made = subst (λ a. R a y) made.2 (subst (R made.0) made.3 made.4)
 
   zip_of : (R : X → X → Type 0) (xs ys : List X) → length ys ≡ length xs
       → ((i : ℕ) (d : X) → i < length xs → R (slice_index_or xs i d) (slice_index_or ys i d)) → AllZip R xs ys
@@ -29,7 +25,7 @@ module _ {X : Type 0} where
   pub zip_changed : (R : X → X → Type 0) (xs ys : List X) → length ys ≡ length xs
       → ((i : ℕ) (d : X) → i < length xs → Changes R (slice_index_or xs i d) (slice_index_or ys i d)) → AllZip R xs ys
   zip_changed R xs ys same each = zip_of R xs ys same
-      (λ i d lt. changed R (slice_index_or xs i d) (slice_index_or ys i d) (each i d lt))
+      (λ i d lt. change_made R (slice_index_or xs i d) (slice_index_or ys i d) (each i d lt))
 
   -- what holds of each that was left
   pub all_left : (P : X → Type 0) (xs ys : List X) → AllZip (λ x y. P y) xs ys → AllByRecursion P ys
@@ -45,13 +41,6 @@ zip_length R [] [] all = refl
 zip_length R [] (y ∷ ys) all = absurd all
 zip_length R (x ∷ xs) [] all = absurd all
 zip_length R (x ∷ xs) (y ∷ ys) all = ap suc (zip_length R xs ys all.1)
-
-pub zip_more : {A B : Type 0} (R : A → B → Type 0) (xs : List A) (ys : List B) (x : A) (y : B) → AllZip R xs ys → R x y
-    → AllZip R (xs ++ x ∷ []) (ys ++ y ∷ [])
-zip_more R [] [] x y all last = (last, tt)
-zip_more R [] (b ∷ ys) x y all last = absurd all
-zip_more R (a ∷ xs) [] x y all last = absurd all
-zip_more R (a ∷ xs) (b ∷ ys) x y all last = (all.0, zip_more R xs ys x y all.1 last)
 
 pub zip_through : {A B C : Type 0} (R : A → B → Type 0) (S : B → C → Type 0) (T : A → C → Type 0) (xs : List A) (ys : List B)
     (zs : List C)
@@ -86,6 +75,12 @@ pub from_first_each : {P : Type 0} (Q : ℕ → P → Type 0) (R : P → Type 0)
     → ((n : ℕ) (p : P) → Q n p → R p) → FromFirst Q first ps → AllByRecursion R ps
 from_first_each Q R first [] to all = tt
 from_first_each Q R first (p ∷ ps) to all = (to first p all.0, from_first_each Q R (suc first) ps to all.1)
+
+-- one fact for another
+pub from_first_map : {P : Type 0} (Q R : ℕ → P → Type 0) (first : ℕ) (ps : List P) → ((n : ℕ) (p : P) → Q n p → R n p)
+    → FromFirst Q first ps → FromFirst R first ps
+from_first_map Q R first [] to all = tt
+from_first_map Q R first (p ∷ ps) to all = (to first p all.0, from_first_map Q R (suc first) ps to all.1)
 
 -- with what else is known of each
 pub from_first_with : {P : Type 0} (Q : ℕ → P → Type 0) (R : P → Type 0) (S : ℕ → P → Type 0) (first : ℕ) (ps : List P)

@@ -1,5 +1,5 @@
 use Rattle.std.proofs.Common.{ap, ◌∙◌, [], ◌∷◌, length, length-append, arith}
-use Rattle.xl_sessions.proofs.Emptied.{emptied}
+use Rattle.std.proofs.lemmas.List.{nil_from_length}
 use Rattle.xl_sessions.proofs.JoinedSeats.{joining_none, joining_seat, joining_more, joined_made, joined_weight, joined_begins, joined_known, joined_shown, joined_done}
 use Rattle.xl_sessions.proofs.joining.join_players.Goals as goal
 
@@ -39,24 +39,24 @@ loop-player-preserved g c =
 
 pub returns-clause-made : goal.returns-clause-made
 returns-clause-made g c = joined_made c.loop-player.invariant.0
-    (emptied _ (omega (arith, c.in-None.ensures.steps.0, c.loop-player.player-iterator.rest.ok)))
+    (nil_from_length _ (omega (arith, c.in-None.ensures.steps.0, c.loop-player.player-iterator.rest.ok)))
 
 pub returns-clause-weight : goal.returns-clause-weight
 returns-clause-weight g c = joined_weight c.loop-player.invariant.0
-    (emptied _ (omega (arith, c.in-None.ensures.steps.0, c.loop-player.player-iterator.rest.ok)))
+    (nil_from_length _ (omega (arith, c.in-None.ensures.steps.0, c.loop-player.player-iterator.rest.ok)))
 
 pub returns-clause-begins : goal.returns-clause-begins
 returns-clause-begins g c = joined_begins c.loop-player.invariant.0
-    (emptied _ (omega (arith, c.in-None.ensures.steps.0, c.loop-player.player-iterator.rest.ok)))
+    (nil_from_length _ (omega (arith, c.in-None.ensures.steps.0, c.loop-player.player-iterator.rest.ok)))
 
 pub returns-clause-known : goal.returns-clause-known
 returns-clause-known g c = joined_known c.loop-player.invariant.0
-    (emptied _ (omega (arith, c.in-None.ensures.steps.0, c.loop-player.player-iterator.rest.ok)))
+    (nil_from_length _ (omega (arith, c.in-None.ensures.steps.0, c.loop-player.player-iterator.rest.ok)))
 
 pub returns-clause-digests : goal.returns-clause-digests
 returns-clause-digests g c = joined_shown c.loop-player.invariant.0
-    (emptied _ (omega (arith, c.in-None.ensures.steps.0, c.loop-player.player-iterator.rest.ok)))
+    (nil_from_length _ (omega (arith, c.in-None.ensures.steps.0, c.loop-player.player-iterator.rest.ok)))
 
 pub returns-clause-done : goal.returns-clause-done
 returns-clause-done g c = joined_done c.loop-player.invariant.0
-    (emptied _ (omega (arith, c.in-None.ensures.steps.0, c.loop-player.player-iterator.rest.ok)))
+    (nil_from_length _ (omega (arith, c.in-None.ensures.steps.0, c.loop-player.player-iterator.rest.ok)))

@@ -9,12 +9,12 @@ use Rattle.xl_sessions.specs.declared.players.Part.{Part}
 use Rattle.xl_sessions.proofs.Brought.{ArePartsUpTo, parts_none, parts_below, parts_more, parts_all}
 use Rattle.xl_sessions.proofs.seating.parts_of.Goals as goal
 
-pushed : {B X : Type 0} {H : X → Type 0} {state : B → FilterState} {in_slot : Slot X H → FilterState}
+with_parts : {B X : Type 0} {H : X → Type 0} {state : B → FilterState} {in_slot : Slot X H → FilterState}
     {lists : List (List script.Line)} {boxes : List (Vec B Global)} {left : List (List Line)}
     {left_boxes : List (Vec B Global)} {session : ℕ} {parts more : List (Part X H)}
     → more ≡ parts → ArePartsUpTo state in_slot lists boxes left left_boxes session parts
     → ArePartsUpTo state in_slot lists boxes left left_boxes session more
-pushed {state = state} {in_slot = in_slot} {lists = lists} {boxes = boxes} {left = left} {left_boxes = left_boxes}
+with_parts {state = state} {in_slot = in_slot} {lists = lists} {boxes = boxes} {left = left} {left_boxes = left_boxes}
     {session = session} is up = subst (ArePartsUpTo state in_slot lists boxes left left_boxes session) (sym is) up
 
 pub loop-lines-init : goal.loop-lines-init
@@ -29,7 +29,7 @@ first_boxes-boxes-requires g c = c.loop-lines.invariant.short
 
 pub loop-lines-preserved : goal.loop-lines-preserved
 loop-lines-preserved g c =
-    pushed c.in_ok-push.ensures.items
+    with_parts c.in_ok-push.ensures.items
     (parts_more _ _ c.in-Some.lines c.next.new.self.rest.items c.loop-lines.invariant c.in-Some.ensures.steps.0
     c.first_boxes-boxes.result.items c.first_boxes-boxes.new.chest.items _ _
     c.first_boxes-boxes.ensures.first c.first_boxes-boxes.ensures.others c.first_boxes-boxes.ensures.others_short refl refl

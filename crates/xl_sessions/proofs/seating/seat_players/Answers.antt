@@ -1,5 +1,5 @@
 use Rattle.std.proofs.Common.{refl, ap, ◌∙◌, length, arith}
-use Rattle.xl_sessions.proofs.Emptied.{emptied}
+use Rattle.std.proofs.lemmas.List.{nil_from_length}
 use Rattle.xl_sessions.proofs.Seated.{seating_none, seating_weight, seating_more, all_seated, all_lighter}
 use Rattle.xl_sessions.proofs.seating.seat_players.Goals as goal
 
@@ -33,8 +33,8 @@ loop-part-preserved g c = (
 
 pub returns-clause-lighter : goal.returns-clause-lighter
 returns-clause-lighter g c = all_lighter c.loop-part.invariant.0
-    (emptied _ (omega (arith, c.in-None.ensures.steps.0, c.loop-part.part-iterator.rest.ok)))
+    (nil_from_length _ (omega (arith, c.in-None.ensures.steps.0, c.loop-part.part-iterator.rest.ok)))
 
 pub returns-clause-seated : goal.returns-clause-seated
 returns-clause-seated g c = all_seated c.loop-part.invariant.0
-    (emptied _ (omega (arith, c.in-None.ensures.steps.0, c.loop-part.part-iterator.rest.ok)))
+    (nil_from_length _ (omega (arith, c.in-None.ensures.steps.0, c.loop-part.part-iterator.rest.ok)))
