@@ -2,10 +2,11 @@
 use Rattle.std.proofs.Common.{◌≡◌, ◌+◌, ◌≤◌, false, List, [], ◌∷◌, ◌++◌, length, None, refl, sym, ap, ◌∙◌, subst, arith, append_assoc, append-nil, length-append}
 use Rattle.std.specs.List.{AllByRecursion}
 use Rattle.spec_seats.proofs.More.{all_more}
-use Rattle.xl_sessions.specs.Players.{IsSeated, AreSeated, IsFree, AreFree}
+use Rattle.xl_sessions.specs.Players.{IsSeated, AreSeated, IsFree, AreFree, AreNumbered}
 use Rattle.xl_sessions.specs.declared.players.Part.{Part}
 use Rattle.xl_sessions.specs.declared.players.Player.{Player}
 use Rattle.xl_sessions.specs.declared.players.Worker.{Worker}
+use Rattle.xl_sessions.proofs.Zips.{from_first_more}
 use Rattle.xl_studio.specs.declared.moment.Moment.{Moment}
 use Rattle.xl_studio.specs.declared.seat.Seat.{Seat}
 use Rattle.xl_studio.specs.declared.seat.Studio.{Studio}
@@ -93,3 +94,10 @@ module _ {K : Type 0} {C : Ghosts (State K) (Moment K)} where
   one_more_free studio workers more w free longer seat none light job going =
       subst (AllByRecursion (IsFree studio)) (sym longer)
       (all_more (IsFree studio) workers w free (record { seat = seat; none = none; light = light; job = job; going = going }))
+
+  pub one_more_numbered : (workers more : List (Worker (Seat K C))) (w : Worker (Seat K C)) → AreNumbered workers
+      → more ≡ workers ++ w ∷ [] → w.number ≡ length workers → AreNumbered more
+  one_more_numbered workers more w numbered longer place =
+      let next : w.number ≡ 0 + length workers = omega (arith, place) in
+      subst (λ (ws : List (Worker (Seat K C))). AreNumbered ws) (sym longer)
+      (from_first_more (λ n (x : Worker (Seat K C)). x.number ≡ n) 0 workers w numbered next)

@@ -158,11 +158,16 @@ module _ {K : Type 0} {C : Ghosts (State K) (Moment K)} where
   abbrev pub AreFree : Studio K → List (Worker (Seat K C)) → Type 0
   AreFree studio workers = AllByRecursion (IsFree studio) workers
 
-  -- it has made no entry
+  -- each worker's number is its place in the list
+  abbrev pub AreNumbered : List (Worker (Seat K C)) → Type 0
+  AreNumbered workers = FromFirst (λ place w. w.number ≡ place) 0 workers
+
+  -- it has made no entry, and ends with no job out
   pub record HasWorked (studio : Studio K) (w : Worker (Seat K C)) : Type 0 where
     pub seat : IsSeatOf studio w.seat
     pub none : made_of w.seat ≡ []
     pub light : weight_of w.seat ≡ 1
+    pub job : job_out w.seat ≡ None
 
 -- ---- the memory
 

@@ -6,7 +6,7 @@ ghost use Rattle.spec_seats.specs.Ended.{AreEnded};
 ghost use Rattle.spec_text.specs.Printed.{order_text, word_of_entry};
 ghost use Rattle.spec_text.specs.Text.{is_save_memory, printed};
 ghost use Rattle.std.specs.List.{AllByRecursion};
-ghost use Rattle.std.specs.Prelude.{◌≡◌, ℕ, false, ◌<◌, List, ◌∷◌, ◌++◌, drop, map, if◌then◌else◌, IfOk, OnOk, string_bytes, unwrap_or, slice_get, []};
+ghost use Rattle.std.specs.Prelude.{◌≡◌, ℕ, false, ◌<◌, List, ◌∷◌, ◌++◌, drop, map, IfOk, OnOk, string_bytes, unwrap_or, slice_get, []};
 ghost use Rattle.xl_edit.specs.Calls.{call_of};
 ghost use Rattle.xl_edit.specs.Replies.{reply_of};
 ghost use Rattle.xl_sessions.specs.Printing.{IsPrinted, line_here, first_digest, lines_with, lines_of_sessions};

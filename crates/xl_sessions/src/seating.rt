@@ -3,7 +3,7 @@ ghost use Rattle.spec_script.specs.Fits.{FitsFilters};
 ghost use Rattle.std.specs.List.{AllByRecursion};
 ghost use Rattle.std.specs.Prelude.{◌≡◌, ◌+◌, ◌<◌, ◌≤◌, ◌^◌, [], length, map, drop, IfOk, vec_capacity};
 ghost use Rattle.xl_script.specs.Lines.{lists_of};
-ghost use Rattle.xl_sessions.specs.Players.{boxes_at, AreBrought, AreFitParts, AreSeated, AreFree, HasRoom};
+ghost use Rattle.xl_sessions.specs.Players.{boxes_at, AreBrought, AreFitParts, AreSeated, AreFree, AreNumbered, HasRoom};
 ghost use Rattle.xl_sessions.specs.Outcomes.{states_of};
 ghost use Rattle.xl_studio.specs.Seats.{front_of, known_by, weight_of, IsSeatOf};
 
@@ -114,7 +114,7 @@ pub(crate) fn seat_players<D: Shelf>(
     }
 }
 
-/// So many workers, each with a seat that is split off.
+/// So many workers, numbered from 0, each with a seat that is split off.
 pub(crate) fn seat_workers<D: Shelf>(
     studio: &Studio<D>,
     own: &mut Seat<D>,
@@ -129,6 +129,7 @@ pub(crate) fn seat_workers<D: Shelf>(
     ensures stays { known_by own.new ≡ known_by own.old }
     ensures lighter { weight_of own.new + number ≡ weight_of own.old }
     ensures free { AreFree studio.now workers.new.items }
+    ensures numbers { AreNumbered workers.new.items }
     ensures count { length workers.new.items ≡ number }
 {
     for at in 0..number {
