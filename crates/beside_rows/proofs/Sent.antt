@@ -1,19 +1,18 @@
--- What may go to another thread: what is heard, a closure by its captures, and a pair.
+-- What may go to another thread: what is heard, a closure by five captures, and a pair.
 use mathlib.Core.List.{[], ◌∷◌}
 use Prim.Native.Nat.{ℕ}
 use mir.Syntax.{Ty, Sym}
 use denote.Exit.{no}
 use denote.Param.{param, arg}
-use denote.Param.Send.{IsSend, sendable, param_send, arg_send, recorded_send, struct_send}
+use denote.Param.Send.{IsSend, sendable, param_send, arg_send}
 use denote.RattleType.{RattleType}
-use denote.Struct.Declared.{shape}
-use denote.Struct.Struct.{Struct}
 use denote.Struct.Tuple.{TupleAt, type_at}
 use Rattle.std.proofs.Crossing.{crosses}
 use Rattle.std.specs.contracts.alloc.AllocError as AllocError
 use Rattle.std.specs.contracts.result.Result as Result
 use Rattle.xl_edit.proofs.reply.Reply.TheSendSync as reply
 use Rattle.xl_edit.specs.contracts.reply.Reply as Reply
+use Rattle.xl_studio.proofs.Sent.{parts_send}
 
 pub heard_send : IsSend (Result.the_row Reply.the_row AllocError.the_row)
 heard_send = search (reply.the_send, crosses, sendable) depth 60 fits 20000
@@ -21,16 +20,8 @@ heard_send = search (reply.the_send, crosses, sendable) depth 60 fits 20000
 pub five_send : (i : ℕ) (δ : Ty) (ν : Sym) (A B C D E : RattleType) → IsSend A → IsSend B → IsSend C → IsSend D → IsSend E
     → IsSend (param i (arg δ no (TupleAt ν (A ∷ B ∷ C ∷ D ∷ E ∷ []))))
 five_send i δ ν A B C D E a b c d e =
-    let T = type_at ν (A ∷ B ∷ C ∷ D ∷ E ∷ []) in
-    param_send i _ (arg_send δ no _ (recorded_send (Struct (shape T)) _ _ T.to_one (struct_send (shape T) (a, (b, (c, (d, (e, tt))))))))
+    param_send i _ (arg_send δ no _ (parts_send (type_at ν (A ∷ B ∷ C ∷ D ∷ E ∷ [])) (a, (b, (c, (d, (e, tt)))))))
 
-pub six_send : (i : ℕ) (δ : Ty) (ν : Sym) (A B C D E F : RattleType) → IsSend A → IsSend B → IsSend C → IsSend D → IsSend E → IsSend F
-    → IsSend (param i (arg δ no (TupleAt ν (A ∷ B ∷ C ∷ D ∷ E ∷ F ∷ []))))
-six_send i δ ν A B C D E F a b c d e f =
-    let T = type_at ν (A ∷ B ∷ C ∷ D ∷ E ∷ F ∷ []) in
-    param_send i _ (arg_send δ no _ (recorded_send (Struct (shape T)) _ _ T.to_one (struct_send (shape T) (a, (b, (c, (d, (e, (f, tt)))))))))
-
-pub pair_send : (i : ℕ) (δ : Ty) (ν : Sym) (A B : RattleType) → IsSend A → IsSend B → IsSend (param i (arg δ no (TupleAt ν (A ∷ B ∷ []))))
-pair_send i δ ν A B a b =
-    let T = type_at ν (A ∷ B ∷ []) in
-    param_send i _ (arg_send δ no _ (recorded_send (Struct (shape T)) _ _ T.to_one (struct_send (shape T) (a, (b, tt)))))
+pub pair_send : (i : ℕ) (δ : Ty) (ν : Sym) (A B : RattleType) → IsSend A → IsSend B
+    → IsSend (param i (arg δ no (TupleAt ν (A ∷ B ∷ []))))
+pair_send i δ ν A B a b = param_send i _ (arg_send δ no _ (parts_send (type_at ν (A ∷ B ∷ [])) (a, (b, tt))))

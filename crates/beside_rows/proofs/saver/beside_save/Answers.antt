@@ -8,7 +8,8 @@ use Rattle.beside_rows.proofs.saver.beside_save.Goals as goal
 pub join-seat-requires-send-F : goal.join-seat-requires-send-F
 join-seat-requires-send-F g c κs within =
     let D = param 1 g.row.D in
-    five_send _ _ _ _ _ _ _ _ (shr_send _ _ _ c.type_bounds.sync-R) (shr_send _ _ _ sync) (shr_send _ _ _ (studio_sync D g.D.Shelf c.type_bounds.send-D))
+    let studio = studio_sync D g.D.Shelf c.type_bounds.send-D in
+    five_send _ _ _ _ _ _ _ _ (shr_send _ _ _ c.type_bounds.sync-R) (shr_send _ _ _ sync) (shr_send _ _ _ studio)
     (seat_send D g.D.Shelf c.type_bounds.send-D) (shr_send _ _ _ c.type_bounds.sync-G)
 
 pub join-seat-requires-send-A : goal.join-seat-requires-send-A

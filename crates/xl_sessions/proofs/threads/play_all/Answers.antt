@@ -7,8 +7,8 @@ use Rattle.std.proofs.Crossing.{sync}
 use Rattle.xl_sessions.specs.Players.{in_slots, CanPlay, Plays}
 use Rattle.xl_sessions.specs.contracts.threads.play_all.dyn-1.{slots}
 use Rattle.xl_sessions.proofs.Each.{each_read}
-use Rattle.xl_studio.proofs.Sent.{seat_row, seat_send, studio_sync}
-use Rattle.xl_sessions.proofs.Sent.{player_send, captures_sync}
+use Rattle.xl_studio.proofs.Sent.{captures_sync, seat_row, seat_send, studio_sync}
+use Rattle.xl_sessions.proofs.Sent.{player_send}
 use Rattle.xl_sessions.proofs.Zips.{zip_changed}
 use Rattle.xl_sessions.proofs.threads.play_all.Goals as goal
 

@@ -4,8 +4,8 @@ use denote.Param.Send.{shr_send, mut_send, mut_slice_send}
 use denote.Param.Sent.{code_send}
 use Rattle.std.proofs.Crossing.{sync}
 use Rattle.xl_sessions.specs.contracts.threads.run.dyn-1.{slots}
-use Rattle.xl_studio.proofs.Sent.{seat_row, seat_send, studio_sync}
-use Rattle.xl_sessions.proofs.Sent.{player_send, captures_send}
+use Rattle.xl_studio.proofs.Sent.{captures_send, seat_row, seat_send, studio_sync}
+use Rattle.xl_sessions.proofs.Sent.{player_send}
 use Rattle.xl_sessions.proofs.threads.run.Goals as goal
 
 pub join_mut-requires-send-F : goal.join_mut-requires-send-F

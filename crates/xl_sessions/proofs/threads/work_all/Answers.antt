@@ -3,8 +3,8 @@ use denote.Param.{param}
 use denote.Param.Send.{param_send, arg_send, shr_sync}
 use Rattle.std.proofs.Crossing.{sync}
 use Rattle.xl_sessions.specs.Players.{HasWorked}
-use Rattle.xl_studio.proofs.Sent.{seat_row, seat_send, studio_sync}
-use Rattle.xl_sessions.proofs.Sent.{worker_send, captures_sync}
+use Rattle.xl_studio.proofs.Sent.{captures_sync, seat_row, seat_send, studio_sync}
+use Rattle.xl_sessions.proofs.Sent.{worker_send}
 use Rattle.xl_sessions.proofs.Zips.{zip_changed, all_left}
 use Rattle.xl_sessions.proofs.threads.work_all.Goals as goal
 
