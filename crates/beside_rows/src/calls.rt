@@ -1,15 +1,18 @@
 //! The calls of a session.
-ghost use Rattle.std.specs.Prelude.{◌≡◌, ◌<◌};
+ghost use Rattle.std.specs.Prelude.{◌≡◌, ◌<◌, []};
+ghost use Rattle.xl_filters.specs.Chests.{states_in};
 ghost use Rattle.xl_studio.specs.Seats.{weight_of, IsSeatOf};
 
-use crate::edits::{Change, edit_for};
+use crate::edits::{Change, IMAGE, edit_for};
 use crate::opened::plain_desk;
 use std::alloc::{AllocError, Global};
 use std::marker::Brand;
 use std::sync::Wait;
 use std::sync::ledger::{Blank, Ledger};
 use xl_blend::Steps;
-use xl_edit::{NodeId, Reply, TileAt};
+use xl_core::Desk;
+use xl_edit::{Reply, TileAt};
+use xl_filters::PointFilter;
 use xl_ports::{Actor, Gate, Place, Shelf};
 use xl_studio::{Seat, Studio};
 
@@ -28,56 +31,43 @@ pub enum Ask {
     Peek,
 }
 
-fn top<W: Wait, D: Shelf, L: Ledger>(
+// The reply to what a session asks, at a desk without filters.
+fn reply_to<W: Wait, D: Shelf, L: Ledger>(
     rt: &W,
     alloc: Global,
     studio: &Studio<D>,
     seat: &mut Seat<D>,
     session: u8,
-    blank: Blank,
+    ask: Ask,
+    desk: &mut Desk,
+    steps: &mut Steps<L>,
 ) -> Result<Reply, AllocError>
-    requires name { blank.name ≡ L.name }
-    requires parts { blank.parts ≡ L.parts }
-    requires some { 0 < blank.parts }
     requires seat { IsSeatOf studio.now seat.old }
     requires session { session < 8 }
+    requires plain { states_in state desk.old.chest ≡ [] }
     ensures seat { IsSeatOf studio.now seat.new }
     ensures weight { weight_of seat.new ≡ weight_of seat.old }
 {
-    let mut desk = plain_desk(alloc)?;
-    let mut steps = Steps::<L>::new(blank);
-    studio.top(rt, alloc, seat, session, &mut desk, &mut steps)
+    match ask {
+        Ask::Top => studio.top(rt, alloc, seat, session, desk, steps),
+        Ask::Edit(change) => {
+            let group = edit_for(alloc, change)?;
+            studio.edit(rt, alloc, seat, session, group, desk, steps)
+        }
+        Ask::Undo => studio.undo(rt, alloc, seat, session, None, desk, steps),
+        Ask::Tile => studio.tile(rt, alloc, seat, session, IMAGE, TILE, desk, steps),
+        Ask::Peek => studio.peek(rt, alloc, seat, session, IMAGE, TILE, desk, steps),
+    }
 }
 
-fn edit<W: Wait, D: Shelf, L: Ledger>(
+// Makes a call of a session with steps of its own.
+fn ask_with<W: Wait, D: Shelf, L: Ledger>(
     rt: &W,
     alloc: Global,
     studio: &Studio<D>,
     seat: &mut Seat<D>,
     session: u8,
-    change: Change,
-    blank: Blank,
-) -> Result<Reply, AllocError>
-    requires name { blank.name ≡ L.name }
-    requires parts { blank.parts ≡ L.parts }
-    requires some { 0 < blank.parts }
-    requires seat { IsSeatOf studio.now seat.old }
-    requires session { session < 8 }
-    ensures seat { IsSeatOf studio.now seat.new }
-    ensures weight { weight_of seat.new ≡ weight_of seat.old }
-{
-    let mut desk = plain_desk(alloc)?;
-    let group = edit_for(alloc, change)?;
-    let mut steps = Steps::<L>::new(blank);
-    studio.edit(rt, alloc, seat, session, group, &mut desk, &mut steps)
-}
-
-fn undo<W: Wait, D: Shelf, L: Ledger>(
-    rt: &W,
-    alloc: Global,
-    studio: &Studio<D>,
-    seat: &mut Seat<D>,
-    session: u8,
+    ask: Ask,
     blank: Blank,
 ) -> Result<Reply, AllocError>
     requires name { blank.name ≡ L.name }
@@ -90,51 +80,7 @@ fn undo<W: Wait, D: Shelf, L: Ledger>(
 {
     let mut desk = plain_desk(alloc)?;
     let mut steps = Steps::<L>::new(blank);
-    studio.undo(rt, alloc, seat, session, None, &mut desk, &mut steps)
-}
-
-fn tile<W: Wait, D: Shelf, L: Ledger>(
-    rt: &W,
-    alloc: Global,
-    studio: &Studio<D>,
-    seat: &mut Seat<D>,
-    session: u8,
-    blank: Blank,
-) -> Result<Reply, AllocError>
-    requires name { blank.name ≡ L.name }
-    requires parts { blank.parts ≡ L.parts }
-    requires some { 0 < blank.parts }
-    requires seat { IsSeatOf studio.now seat.old }
-    requires session { session < 8 }
-    ensures seat { IsSeatOf studio.now seat.new }
-    ensures weight { weight_of seat.new ≡ weight_of seat.old }
-{
-    let mut desk = plain_desk(alloc)?;
-    let mut steps = Steps::<L>::new(blank);
-    let (node, at) = (NodeId(0), TILE);
-    studio.tile(rt, alloc, seat, session, node, at, &mut desk, &mut steps)
-}
-
-fn peek<W: Wait, D: Shelf, L: Ledger>(
-    rt: &W,
-    alloc: Global,
-    studio: &Studio<D>,
-    seat: &mut Seat<D>,
-    session: u8,
-    blank: Blank,
-) -> Result<Reply, AllocError>
-    requires name { blank.name ≡ L.name }
-    requires parts { blank.parts ≡ L.parts }
-    requires some { 0 < blank.parts }
-    requires seat { IsSeatOf studio.now seat.old }
-    requires session { session < 8 }
-    ensures seat { IsSeatOf studio.now seat.new }
-    ensures weight { weight_of seat.new ≡ weight_of seat.old }
-{
-    let mut desk = plain_desk(alloc)?;
-    let mut steps = Steps::<L>::new(blank);
-    let (node, at) = (NodeId(0), TILE);
-    studio.peek(rt, alloc, seat, session, node, at, &mut desk, &mut steps)
+    reply_to(rt, alloc, studio, seat, session, ask, &mut desk, &mut steps)
 }
 
 /// Makes a call of a session.
@@ -151,14 +97,7 @@ pub fn ask_for<W: Wait, D: Shelf>(
     ensures seat { IsSeatOf studio.now seat.new }
     ensures weight { weight_of seat.new ≡ weight_of seat.old }
 {
-    let blank = Blank::new(1);
-    match ask {
-        Ask::Top => top::<W, D, Brand>(rt, alloc, studio, seat, session, blank),
-        Ask::Edit(change) => edit::<W, D, Brand>(rt, alloc, studio, seat, session, change, blank),
-        Ask::Undo => undo::<W, D, Brand>(rt, alloc, studio, seat, session, blank),
-        Ask::Tile => tile::<W, D, Brand>(rt, alloc, studio, seat, session, blank),
-        Ask::Peek => peek::<W, D, Brand>(rt, alloc, studio, seat, session, blank),
-    }
+    ask_with::<W, D, Brand>(rt, alloc, studio, seat, session, ask, Blank::new(1))
 }
 
 /// Makes a call of a session, which passes the gate before and after it.

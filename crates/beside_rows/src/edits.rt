@@ -8,6 +8,9 @@ ghost use Rattle.xl_edit.specs.Edits.{edit_of, edits_of};
 use std::alloc::{AllocError, Global};
 use xl_edit::{Bytes, Edit, Edits, Group, NodeId, Rect};
 
+/// The image.
+pub const IMAGE: NodeId = NodeId(0);
+
 /// The group that is made, which is the document's second node.
 pub const GROUP: NodeId = NodeId(2);
 
@@ -70,7 +73,7 @@ fn add_group(alloc: Global, name: &[u8]) -> Result<Group, AllocError>
     group_of(
         alloc,
         Edit::NewGroup {
-            parent: NodeId(0),
+            parent: IMAGE,
             place: 0,
             name,
         },

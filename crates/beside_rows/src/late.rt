@@ -4,13 +4,13 @@ ghost use Rattle.xl_studio.specs.Jobs.{job_out, IsWorker};
 ghost use Rattle.xl_studio.specs.Seats.{IsSeatOf};
 
 use crate::calls::{Ask, ask_for};
-use crate::edits::{Change, GROUP};
+use crate::edits::{Change, GROUP, IMAGE};
 use crate::jobs::{hand_in, take_of, worker_of};
 use crate::opened::studio_of;
 use std::alloc::{AllocError, Global};
 use std::sync::Wait;
 use xl_core::Finished;
-use xl_edit::{NodeId, Reply};
+use xl_edit::Reply;
 use xl_ports::Shelf;
 use xl_studio::{Seat, Studio};
 
@@ -75,7 +75,7 @@ fn hand_in_late<W: Wait, D: Shelf>(
     ensures seat { IsSeatOf studio.now seat.new }
 {
     mark_after_3(rt, alloc, studio, seat)?;
-    let job = take_of(rt, alloc, studio, worker, NodeId(0))?;
+    let job = take_of(rt, alloc, studio, worker, IMAGE)?;
     ask(rt, alloc, studio, seat, Ask::Edit(Change::Fade(9)))?;
     Ok(hand_in(rt, studio, worker, job))
 }
@@ -147,8 +147,8 @@ fn hand_in_both<W: Wait, D: Shelf>(
     })
 }
 
-/// A group is made, and each of two workers takes a job of it. One is handed in after the group was deleted, and the other after that was
-/// undone.
+/// A group is made, and each of two workers takes a job of it. One is handed in after the group was deleted, and the other after that
+/// was undone.
 pub fn delete_and_undo<W: Wait>(rt: &W, alloc: Global) -> Result<Undone, AllocError> {
     let (studio, mut seat) = studio_of(alloc)?;
     let mut first = worker_of(&studio, &mut seat);

@@ -108,7 +108,7 @@ fn saved_at(alloc: Global, version: u8) -> Result<String, AllocError> {
     format!(in alloc; "0.2 saved {version}")
 }
 
-// The version that a file holds: its pixel is the first fill's byte, or the opened one's.
+// The version that a file holds, by the first byte of its pixel: a fill writes its version there, and the opened file has 200.
 fn version_in(file: &[u8]) -> u8 {
     match file.get(189) {
         Some(200) => 0,

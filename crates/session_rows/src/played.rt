@@ -6,8 +6,8 @@ use std::thread::Threads;
 use xl_fakes::{Hold, HoldGate, MemoryShelf, MemorySink, MemorySource};
 use xl_program::run;
 
-/// How many times a held pass looks before it goes on.
-const LOOKS: u32 = 100_000_000;
+/// How often a hold looks at most.
+const MOST_LOOKS: u32 = 100_000_000;
 
 /// What a run wrote and left.
 #[derive(Drop)]
@@ -43,7 +43,7 @@ pub fn played<R: Threads + Wait + Sync>(
     workers: &str,
     holds: Vec<Hold>,
 ) -> Result<Outcome, AllocError> {
-    let gate = HoldGate::new(alloc, holds, LOOKS)?;
+    let gate = HoldGate::new(alloc, holds, MOST_LOOKS)?;
     let shelf = shelf_with(alloc, file)?;
     let mut source = MemorySource::new(script.to_vec(alloc)?, 1 << 16, Vec::new(alloc));
     let mut sink = MemorySink::new(alloc, 1 << 20, Vec::new(alloc));

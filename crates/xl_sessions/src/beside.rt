@@ -33,7 +33,7 @@ use xl_ports::{Gate, Shelf};
 use xl_script::Script;
 use xl_studio::{Seat, Studio};
 
-/// The core after all sessions of a script, and the text that is printed of them, unless memory ran out.
+/// The core after all sessions of a script, and the text that is printed of them, unless memory ran out or the history was full.
 #[derive(Drop)]
 pub struct PlayedBeside<D: Shelf> {
     pub core: Core<D>,
@@ -218,12 +218,12 @@ fn play_in<R: Threads + Wait + Sync, D: Shelf, G: Gate>(
     }
 }
 
-/// Makes the calls and saves of the sessions beside each other, each in a thread of its own, while workers keep the pictures of marked
-/// tiles up to date. Answers the printed text: the lines of each session, and the order line.
+/// Makes the calls and saves of the sessions beside each other, each in a thread of its own, while workers keep the pictures of
+/// marked tiles up to date. Answers the printed text: the lines of each session, and the order line.
 ///
-/// `chest` holds the filters of each session, those of session 0 first. Where a thread cannot be made the sessions are played one after
-/// another. Where memory runs out for a session it stops, and so does a worker; all saves that were started have ended then, and the
-/// shelf is in.
+/// `chest` holds the filters of each session, those of session 0 first. Where a thread cannot be made the sessions are played one
+/// after another. A session ends early where memory runs out for it, or the history is full, and then there is no text; a worker
+/// ends where memory runs out for it. All saves that were started have ended in any case, and the shelf is in.
 pub fn play_beside<R: Threads + Wait + Sync, D: Shelf, G: Gate>(
     rt: &R,
     alloc: Global,
