@@ -27,7 +27,8 @@ use Rattle.xl_studio.proofs.Grown.{entries-append, entries-prefix}
 use Rattle.xl_sessions.specs.Playing.{is_unprinted, said}
 
 -- After others had made their entries the call was made, as the next entry. The places of a session have that one more.
-pub record IsCallMore (session : ℕ) (c : Call) (tables : List (List ℕ)) (reply : Reply) (places : List ℕ) (es : List Entry) (places_then : List ℕ) (es_then : List Entry) : Type 0 where
+pub record IsCallMore (session : ℕ) (c : Call) (tables : List (List ℕ)) (reply : Reply) (places : List ℕ) (es : List Entry)
+    (places_then : List ℕ) (es_then : List Entry) : Type 0 where
   pub entered : List Entry
   pub index : ℕ
   pub begins : IsPrefix es entered
@@ -38,7 +39,8 @@ abbrev pub entry_more : (session : ℕ) → Call → (tables : List (List ℕ)) 
 entry_more session c tables reply index = record { session = session; index = index; kind = asked c tables; reply = reply }
 
 -- a fact of places and of a history goes along two equations
-pub at_both : (P : List ℕ → List Entry → Type 0) (places places_then : List ℕ) (es es_then : List Entry) → places_then ≡ places → es_then ≡ es → P places es → P places_then es_then
+pub at_both : (P : List ℕ → List Entry → Type 0) (places places_then : List ℕ) (es es_then : List Entry) → places_then ≡ places
+    → es_then ≡ es → P places es → P places_then es_then
 at_both P places places_then es es_then p q is = subst (λ ps. P ps es_then) (sym p) (subst (P places) (sym q) is)
 
 -- ---- where it is answered by a reply that is printed
@@ -68,11 +70,14 @@ printed_memory (machine.save_memory version) is = is
 printed_memory machine.history_full is = refl
 
 module _ {K : Type 0} where
-  more_where : (full : Bool) (session : ℕ) (c : Call) (tables : List (List ℕ)) (reply : Reply) (old new : Known K) (entered : List (Moment K)) → IsPrefix old.front entered → is_unprinted reply ≡ false
+  more_where : (full : Bool) (session : ℕ) (c : Call) (tables : List (List ℕ)) (reply : Reply) (old new : Known K)
+      (entered : List (Moment K)) → IsPrefix old.front entered → is_unprinted reply ≡ false
       → MatchBool full ((reply ≡ machine.history_full) × (new.front ≡ entered) × (new.made ≡ old.made))
-      ((new.front ≡ entered ++ Made (called_entry (entries_in entered) session c tables reply) None ∷ []) × (new.made ≡ old.made ++ length (entries_in entered) ∷ []))
+      ((new.front ≡ entered ++ Made (called_entry (entries_in entered) session c tables reply) None ∷ [])
+      × (new.made ≡ old.made ++ length (entries_in entered) ∷ []))
       → IsCallMore session c tables reply old.made (entries_in old.front) new.made (entries_in new.front)
-  more_where true session c tables reply old new entered begins printed is = absurd (never_both (is_unprinted reply) (unprinted_full reply is.0) printed)
+  more_where true session c tables reply old new entered begins printed is =
+      absurd (never_both (is_unprinted reply) (unprinted_full reply is.0) printed)
   more_where false session c tables reply old new entered begins printed is =
       let e : Entry = called_entry (entries_in entered) session c tables reply in
       record {
@@ -83,18 +88,22 @@ module _ {K : Type 0} where
         entries_are = ap entries_in is.0 ∙ entries-append entered (Made e None ∷ []);
       }
 
-  pub call_more : (base : Document) (session : ℕ) (c : Call) (tables : List (List ℕ)) (reply : Reply) (old new : Known K) → IsCalled base session c tables reply old new → is_unprinted reply ≡ false
+  pub call_more : (base : Document) (session : ℕ) (c : Call) (tables : List (List ℕ)) (reply : Reply) (old new : Known K)
+      → IsCalled base session c tables reply old new → is_unprinted reply ≡ false
       → IsCallMore session c tables reply old.made (entries_in old.front) new.made (entries_in new.front)
-  call_more base session c tables reply old new called printed = more_where _ session c tables reply old new called.entered called.begins printed called.made
+  call_more base session c tables reply old new called printed =
+      more_where _ session c tables reply old new called.entered called.begins printed called.made
 
 -- ---- what follows
 
-module _ {session : ℕ} {c : Call} {tables : List (List ℕ)} {reply : Reply} {places : List ℕ} {es : List Entry} {places_then : List ℕ} {es_then : List Entry}
+module _ {session : ℕ} {c : Call} {tables : List (List ℕ)} {reply : Reply} {places : List ℕ} {es : List Entry}
+    {places_then : List ℕ} {es_then : List Entry}
     (of : IsOf session places es) (more : IsCallMore session c tables reply places es places_then es_then) where
   -- the session has seen the last version
   pub call_up : IsCaughtUp places_then es_then
   call_up =
-      at_both IsCaughtUp (places ++ length more.entered ∷ []) places_then (more.entered ++ entry_more session c tables reply more.index ∷ []) es_then more.places_are more.entries_are
+      at_both IsCaughtUp (places ++ length more.entered ∷ []) places_then
+      (more.entered ++ entry_more session c tables reply more.index ∷ []) es_then more.places_are more.entries_are
       (caught_up_last places more.entered (entry_more session c tables reply more.index))
 
   picked_more : picked places_then es_then ≡ picked places es ++ entry_more session c tables reply more.index ∷ []
@@ -102,12 +111,16 @@ module _ {session : ℕ} {c : Call} {tables : List (List ℕ)} {reply : Reply} {
       let e = entry_more session c tables reply more.index in
       (λ i. picked (more.places_are i) (more.entries_are i)) ∙ picked_one places es more.entered e more.begins of.within
 
-  pub call_filters : (filters : List FilterState) → filters_along filters (picked places_then es_then) ≡ used_by (filters_along filters (picked places es)) (edits_made c reply)
+  pub call_filters : (filters : List FilterState)
+      → filters_along filters (picked places_then es_then) ≡ used_by (filters_along filters (picked places es)) (edits_made c reply)
   call_filters filters =
       let e = entry_more session c tables reply more.index in
-      ap (filters_along filters) picked_more ∙ filters-append filters (picked places es) (e ∷ []) ∙ filters_made (filters_along filters (picked places es)) c tables reply
+      ap (filters_along filters) picked_more ∙ filters-append filters (picked places es) (e ∷ [])
+      ∙ filters_made (filters_along filters (picked places es)) c tables reply
 
-  pub call_told : (base : Document) → IsLegal base es → digests_in base es_then (picked places_then es_then) ≡ digests_in base es (picked places es) ++ digest_in base es_then (asked c tables) reply
+  pub call_told : (base : Document) → IsLegal base es
+      → digests_in base es_then (picked places_then es_then)
+      ≡ digests_in base es (picked places es) ++ digest_in base es_then (asked c tables) reply
   call_told base legal =
       let e = entry_more session c tables reply more.index in
       (λ i. digests_in base (more.entries_are i) (picked (more.places_are i) (more.entries_are i)))
@@ -115,16 +128,20 @@ module _ {session : ℕ} {c : Call} {tables : List (List ℕ)} {reply : Reply} {
       ∙ ap (λ all. digests_in base es (picked places es) ++ digest_in base all (asked c tables) reply) (sym more.entries_are)
 
 -- it has made a call more
-pub call_made : (session : ℕ) (filters : List FilterState) (lines : List Line) (c : Call) (reply : Reply) (places : List ℕ) (es : List Entry) (places_then : List ℕ) (es_then : List Entry)
+pub call_made : (session : ℕ) (filters : List FilterState) (lines : List Line) (c : Call) (reply : Reply) (places : List ℕ)
+    (es : List Entry) (places_then : List ℕ) (es_then : List Entry)
     → HasMade session filters lines places es → IsCaughtUp places es
-    → IsCallMore session c (expected_tables (filters_along filters (picked places es)) (asked c []) reply) reply places es places_then es_then
+    → IsCallMore session c (expected_tables (filters_along filters (picked places es)) (asked c []) reply)
+    reply places es places_then es_then
     → is_unprinted reply ≡ false → IsFreshReply (latest_of es) reply
     → HasMade session filters (lines ++ call c ∷ []) places_then es_then
 call_made session filters lines c reply places es places_then es_then made up more printed fresh =
     let tables : List (List ℕ) = expected_tables (filters_along filters (picked places es)) (asked c []) reply in
     let e = entry_more session c tables reply more.index in
-    at_both (HasMade session filters (lines ++ call c ∷ [])) (places ++ length more.entered ∷ []) places_then (more.entered ++ e ∷ []) es_then more.places_are more.entries_are
-    (made_call session filters lines places es more.entered e c tables made up more.begins refl refl refl (printed_memory reply printed) fresh)
+    at_both (HasMade session filters (lines ++ call c ∷ [])) (places ++ length more.entered ∷ []) places_then
+    (more.entered ++ e ∷ []) es_then more.places_are more.entries_are
+    (made_call session filters lines places es more.entered e c tables made up more.begins refl refl refl
+    (printed_memory reply printed) fresh)
 
 -- where no tile was asked for nothing is said
 said_none : (reply : Reply) (bytes : List ℕ) → said false reply bytes ≡ []
@@ -132,7 +149,8 @@ said_none (tile_of version) bytes = refl
 said_none reply bytes = refl
 
 -- what is said of the call is the digest of the tile that it is shown
-pub call_said : (base : Document) (es : List Entry) (c : Call) (tables : List (List ℕ)) (reply : Reply) (bytes : List ℕ) → Shows (record { base = base; entries = es }) c reply bytes
+pub call_said : (base : Document) (es : List Entry) (c : Call) (tables : List (List ℕ)) (reply : Reply) (bytes : List ℕ)
+    → Shows (record { base = base; entries = es }) c reply bytes
     → said (asks_tile c) reply bytes ≡ digest_in base es (asked c tables) reply
 call_said base es (machine.tile stack at) tables (tile_of version) bytes shown = ap (λ bs. said true (tile_of version) bs) shown
 call_said base es (machine.tile stack at) tables reply bytes shown = refl

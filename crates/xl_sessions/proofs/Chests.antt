@@ -48,7 +48,8 @@ call_there given dropped chest (machine.tile stack at) stocked finds = tt
 call_there given dropped chest (machine.peek stack at) stocked finds = tt
 call_there given dropped chest machine.top stocked finds = tt
 
-pub line_fits : (given : ℕ) (dropped : List ℕ) (chest : List (Option FilterState)) (line : script.Line) → IsStocked given dropped chest → IsFit given dropped line → FitsChest chest line
+pub line_fits : (given : ℕ) (dropped : List ℕ) (chest : List (Option FilterState)) (line : script.Line)
+    → IsStocked given dropped chest → IsFit given dropped line → FitsChest chest line
 line_fits given dropped chest (script.call c) stocked fit = (fit.0, call_there given dropped chest c stocked fit.1)
 line_fits given dropped chest script.save stocked fit = tt
 line_fits given dropped chest (script.forget slot) stocked fit = stocked slot fit
@@ -58,13 +59,16 @@ line_fits given dropped chest (script.forget slot) stocked fit = stocked slot fi
 has_by_slots : (chest : List (Option FilterState)) (slot : ℕ) → slice_index_or (map is_some chest) slot false ≡ has_slot chest slot
 has_by_slots chest slot = get_or-map is_some chest slot None
 
-pub stocked_after : (given : ℕ) (dropped : List ℕ) (old new : List (Option FilterState)) → SameSlots old new → IsStocked given dropped old → IsStocked given dropped new
+pub stocked_after : (given : ℕ) (dropped : List ℕ) (old new : List (Option FilterState)) → SameSlots old new
+    → IsStocked given dropped old → IsStocked given dropped new
 stocked_after given dropped old new same stocked slot there =
-    sym (has_by_slots new slot) ∙ ap (λ (slots : List Bool). slice_index_or slots slot false) same ∙ has_by_slots old slot ∙ stocked slot there
+    sym (has_by_slots new slot) ∙ ap (λ (slots : List Bool). slice_index_or slots slot false) same ∙ has_by_slots old slot
+    ∙ stocked slot there
 
 -- ---- after a filter was forgotten
 
-pub agrees_without : (chest : List (Option FilterState)) (filters : List FilterState) (slot : ℕ) → Agrees chest filters → Agrees (slice_set chest slot None) filters
+pub agrees_without : (chest : List (Option FilterState)) (filters : List FilterState) (slot : ℕ) → Agrees chest filters
+    → Agrees (slice_set chest slot None) filters
 agrees_without [] filters slot agrees = agrees
 agrees_without (x ∷ chest) [] slot agrees = absurd (never x agrees) where
   never : (x : Option FilterState) → Agrees (x ∷ chest) [] → ⊥
@@ -80,16 +84,19 @@ not_both true false h = refl
 not_both true true h = absurd (true≢false (sym h))
 not_both false b h = absurd (true≢false (sym h))
 
-either_last : {P : Type 0} {behind : Bool} (b rest : Bool) → (b || rest) ≡ false → (rest ≡ false → (behind ≡ false) × P) → ((b || behind) ≡ false) × P
+either_last : {P : Type 0} {behind : Bool} (b rest : Bool) → (b || rest) ≡ false → (rest ≡ false → (behind ≡ false) × P)
+    → ((b || behind) ≡ false) × P
 either_last true rest h last = absurd (true≢false h)
 either_last false rest h last = last h
 
-any_last : (dropped : List ℕ) (slot n : ℕ) → list_any (λ d. d == n) (dropped ++ slot ∷ []) ≡ false → (list_any (λ d. d == n) dropped ≡ false) × ((slot == n) ≡ false)
+any_last : (dropped : List ℕ) (slot n : ℕ) → list_any (λ d. d == n) (dropped ++ slot ∷ []) ≡ false
+    → (list_any (λ d. d == n) dropped ≡ false) × ((slot == n) ≡ false)
 any_last [] slot n none = (refl, or_parts (slot == n) none) where
   or_parts : (b : Bool) → (b || false) ≡ false → b ≡ false
   or_parts true h = h
   or_parts false h = refl
-any_last (d ∷ dropped) slot n none = either_last (d == n) (list_any (λ d. d == n) (dropped ++ slot ∷ [])) none (any_last dropped slot n)
+any_last (d ∷ dropped) slot n none =
+    either_last (d == n) (list_any (λ d. d == n) (dropped ++ slot ∷ [])) none (any_last dropped slot n)
 
 pub stocked_without : (given : ℕ) (dropped : List ℕ) (chest : List (Option FilterState)) (slot : ℕ) → IsStocked given dropped chest
     → IsStocked given (dropped ++ slot ∷ []) (slice_set chest slot None)
@@ -101,9 +108,13 @@ stocked_without given dropped chest slot stocked n there =
 
 -- ---- after any line
 
-pub line_stocked : {K : Type 0} (see : K → shelves.Known) (opening : K) (given : ℕ) (dropped : List ℕ) (base : Document) (session : ℕ) (line : script.Line) (before after : List (Option FilterState)) (old new : Known K) (told : List (List ℕ))
-    → IsLineMade see opening base session line before after old new told → IsStocked given dropped before → IsStocked given (dropped_by dropped line) after
-line_stocked see opening given dropped base session (script.call c) before after old new told made stocked = stocked_after given dropped before after made.used.slots stocked
-line_stocked see opening given dropped base session script.save before after old new told made stocked = subst (IsStocked given dropped) (sym made.1) stocked
+pub line_stocked : {K : Type 0} (see : K → shelves.Known) (opening : K) (given : ℕ) (dropped : List ℕ) (base : Document)
+    (session : ℕ) (line : script.Line) (before after : List (Option FilterState)) (old new : Known K) (told : List (List ℕ))
+    → IsLineMade see opening base session line before after old new told → IsStocked given dropped before
+    → IsStocked given (dropped_by dropped line) after
+line_stocked see opening given dropped base session (script.call c) before after old new told made stocked =
+    stocked_after given dropped before after made.used.slots stocked
+line_stocked see opening given dropped base session script.save before after old new told made stocked =
+    subst (IsStocked given dropped) (sym made.1) stocked
 line_stocked see opening given dropped base session (script.forget slot) before after old new told made stocked =
     subst (IsStocked given (dropped ++ slot ∷ [])) (sym made.1) (stocked_without given dropped before slot stocked)

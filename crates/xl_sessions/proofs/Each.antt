@@ -10,5 +10,6 @@ module _ {X : Type 0} where
   each_at P (x ∷ xs) all (suc i) d lt = each_at P xs all.1 i d (omega (arith, lt))
 
   -- of the one that is read at a place
-  pub each_read : (P : X → Type 0) (xs : List X) → AllByRecursion P xs → (i : ℕ) (x : X) → i < length xs → x ≡ slice_index_or xs i x → P x
+  pub each_read : (P : X → Type 0) (xs : List X) → AllByRecursion P xs → (i : ℕ) (x : X) → i < length xs → x ≡ slice_index_or xs i x
+      → P x
   each_read P xs all i x lt is = subst P (sym is) (each_at P xs all i x lt)

@@ -74,14 +74,16 @@ module _ {K : Type 0} {C : Ghosts (State K) (Moment K)} {X : Type 0} {H : X → 
   whole_outcomes : (chests : List (List FilterState)) (lists : List (List Line)) → HaveOutcomes studio chests lists players
       → FromFirst (HasOutcome places_of shown_of done_of es (base_of studio) chests lists) 0 players
   whole_outcomes chests lists have =
-      subst (λ (all : List Entry). FromFirst (HasOutcome places_of shown_of done_of all (base_of studio) chests lists) 0 players) (back c)
+      subst (λ (all : List Entry). FromFirst (HasOutcome places_of shown_of done_of all (base_of studio) chests lists) 0 players)
+      (back c)
       (all_outcomes studio players joined (moments_of c) known whole chests lists (all_seats studio players of) have)
 
   makes_text : (chests : List (List FilterState)) (lists : List (List Line)) → HaveOutcomes studio chests lists players
       → IsLegal (base_of studio) es → (all : Bool) → all ≡ list_all done_of players → all ≡ true
       → IsTextOf (printed (base_of studio) es) (base_of studio) lists chests es
   makes_text chests lists have legal all is so =
-      makes_a_text places_of shown_of done_of es players eight once own (base_of studio) chests lists (whole_outcomes chests lists have)
+      makes_a_text places_of shown_of done_of es players eight once own (base_of studio) chests lists
+      (whole_outcomes chests lists have)
       (sym is ∙ so) legal
 
   -- each entry can be printed, where all lines were played
@@ -93,7 +95,8 @@ module _ {K : Type 0} {C : Ghosts (State K) (Moment K)} {X : Type 0} {H : X → 
 
   -- and then the text is one of the script
   pub is_text : {T E : Type 0} (r : Result T E) (bytes : T → List ℕ) (texts : List (List (List ℕ))) (all : Bool)
-      → IsLegal (base_of studio) es → all ≡ list_all done_of players → texts ≡ map shown_of players → (shown : List Entry) → shown ≡ es
+      → IsLegal (base_of studio) es → all ≡ list_all done_of players → texts ≡ map shown_of players → (shown : List Entry)
+      → shown ≡ es
       → IfOk r (λ text. all ≡ true) → Prints r bytes texts all shown
       → (chests : List (List FilterState)) (lists : List (List Line)) → HaveOutcomes studio chests lists players
       → IfOk r (λ text. IsTextOf (bytes text) (base_of studio) lists chests es)
@@ -102,5 +105,6 @@ module _ {K : Type 0} {C : Ghosts (State K) (Moment K)} {X : Type 0} {H : X → 
       text_is r bytes all (base_of studio) lists chests es done (makes_text chests lists have legal all is)
       (λ so. prints_all (base_of studio) so legal (saves_have_ended places_of shown_of done_of es players eight once own)
       (λ session below. ap (λ (ts : List (List (List ℕ))). list_at ts session) told
-      ∙ digests_are places_of shown_of done_of es players eight once own (base_of studio) chests lists (whole_outcomes chests lists have)
+      ∙ digests_are places_of shown_of done_of es players eight once own (base_of studio) chests lists
+      (whole_outcomes chests lists have)
       (sym is ∙ so) session below))

@@ -8,7 +8,8 @@ use Rattle.spec_history.specs.History.{Entry, mine}
 use Rattle.xl_sessions.specs.Printing.{IsPrinted, lines_with, lines_of_sessions}
 
 -- what was printed and what is left are together all lines of the session, and all that is left has a line
-pub record IsOnTheWay (session : ℕ) (text : List ℕ) (digests : List (List ℕ)) (es : List Entry) (done : List ℕ) (left : List (List ℕ)) (rest : List Entry) : Type 0 where
+pub record IsOnTheWay (session : ℕ) (text : List ℕ) (digests : List (List ℕ)) (es : List Entry) (done : List ℕ)
+    (left : List (List ℕ)) (rest : List Entry) : Type 0 where
   pub together : done ++ lines_with left (mine rest session) ≡ text ++ lines_with digests (mine es session)
   pub printed : AllByRecursion (λ e. IsPrinted e.reply) rest
 
@@ -19,8 +20,10 @@ count_more first zero = ap (λ (k : ℕ). k ∷ []) (omega arith)
 count_more first (suc n) =
     ap (λ (ks : List ℕ). first ∷ ks) (count_more (suc first) n ∙ ap (λ (k : ℕ). count_from (suc first) n ++ k ∷ []) (omega arith))
 
-pub sessions_more : (digests : List (List (List ℕ))) (es : List Entry) (session : ℕ) (text new : List ℕ) → text ≡ lines_of_sessions digests es session
-    → new ≡ text ++ lines_with (unwrap_or (slice_get digests session) []) (mine es session) → new ≡ lines_of_sessions digests es (session + 1)
+pub sessions_more : (digests : List (List (List ℕ))) (es : List Entry) (session : ℕ) (text new : List ℕ)
+    → text ≡ lines_of_sessions digests es session
+    → new ≡ text ++ lines_with (unwrap_or (slice_get digests session) []) (mine es session)
+    → new ≡ lines_of_sessions digests es (session + 1)
 sessions_more digests es session text new is more =
     let f : ℕ → List ℕ = λ k. lines_with (unwrap_or (slice_get digests k) []) (mine es k) in
     let one : session + 1 ≡ suc session = omega arith in

@@ -24,7 +24,8 @@ use Rattle.xl_script.specs.declared.script.Line.TheVariants.{Save, Forget}
 use Rattle.xl_sessions.specs.Playing.{IsSaveMade, IsLineMade}
 use Rattle.xl_studio.proofs.Grown.{entries-append, entries-prefix}
 
-of_moved : (session : ℕ) (made made' : List ℕ) (es es' : List Entry) → made ≡ made' → es ≡ es' → IsOf session made es → IsOf session made' es'
+of_moved : (session : ℕ) (made made' : List ℕ) (es es' : List Entry) → made ≡ made' → es ≡ es' → IsOf session made es
+    → IsOf session made' es'
 of_moved session made made' es es' p q of = subst (λ ms. IsOf session ms es') p (subst (IsOf session made) q of)
 
 pub saved_places : (places : List ℕ) (entered between : List Entry) (s : Entry)
@@ -35,74 +36,109 @@ saved_places places entered between s =
     ap (λ n. (places ++ length entered ∷ []) ++ n ∷ []) size
 
 module _ {K : Type 0} where
-  of_longer : (session : ℕ) (old new : Known K) → IsPrefix old.front new.front → new.made ≡ old.made → IsOf session old.made (entries_in old.front) → IsOf session new.made (entries_in new.front)
+  of_longer : (session : ℕ) (old new : Known K) → IsPrefix old.front new.front → new.made ≡ old.made
+      → IsOf session old.made (entries_in old.front) → IsOf session new.made (entries_in new.front)
   of_longer session old new begins made of =
       of_moved session old.made new.made (entries_in new.front) (entries_in new.front) (sym made) refl
       (of_grows session old.made (entries_in old.front) (entries_in new.front) (entries-prefix old.front new.front begins) of)
 
-  of_where : (full : Bool) (P : Type 0) (session : ℕ) (c : Call) (tables : List (List ℕ)) (reply : Reply) (old new : Known K) (entered : List (Moment K)) → IsPrefix old.front entered
+  of_where : (full : Bool) (P : Type 0) (session : ℕ) (c : Call) (tables : List (List ℕ)) (reply : Reply) (old new : Known K)
+      (entered : List (Moment K)) → IsPrefix old.front entered
       → MatchBool full (P × (new.front ≡ entered) × (new.made ≡ old.made))
-      ((new.front ≡ entered ++ Made (called_entry (entries_in entered) session c tables reply) None ∷ []) × (new.made ≡ old.made ++ length (entries_in entered) ∷ []))
+      ((new.front ≡ entered ++ Made (called_entry (entries_in entered) session c tables reply) None ∷ [])
+      × (new.made ≡ old.made ++ length (entries_in entered) ∷ []))
       → IsOf session old.made (entries_in old.front) → IsOf session new.made (entries_in new.front)
-  of_where true P session c tables reply old new entered begins is of = of_longer session old new (subst (IsPrefix old.front) (sym is.1) begins) is.2 of
+  of_where true P session c tables reply old new entered begins is of =
+      of_longer session old new (subst (IsPrefix old.front) (sym is.1) begins) is.2 of
   of_where false P session c tables reply old new entered begins is of =
       let e : Entry = called_entry (entries_in entered) session c tables reply in
-      of_moved session (old.made ++ length (entries_in entered) ∷ []) new.made (entries_in entered ++ e ∷ []) (entries_in new.front) (sym is.1)
+      of_moved session (old.made ++ length (entries_in entered) ∷ []) new.made (entries_in entered ++ e ∷ []) (entries_in new.front)
+      (sym is.1)
       (sym (ap entries_in is.0 ∙ entries-append entered (Made e None ∷ [])))
-      (of_call session old.made (entries_in old.front) (entries_in entered) e c tables of (entries-prefix old.front entered begins) refl refl)
+      (of_call session old.made (entries_in old.front) (entries_in entered) e c tables of
+      (entries-prefix old.front entered begins) refl refl)
 
-  pub of_called : (base : Document) (session : ℕ) (c : Call) (tables : List (List ℕ)) (reply : Reply) (old new : Known K) → IsCalled base session c tables reply old new
+  pub of_called : (base : Document) (session : ℕ) (c : Call) (tables : List (List ℕ)) (reply : Reply) (old new : Known K)
+      → IsCalled base session c tables reply old new
       → IsOf session old.made (entries_in old.front) → IsOf session new.made (entries_in new.front)
-  of_called base session c tables reply old new called of = of_where _ _ session c tables reply old new called.entered called.begins called.made of
+  of_called base session c tables reply old new called of =
+      of_where _ _ session c tables reply old new called.entered called.begins called.made of
 
-  pub of_after_call : {E : Type 0} (R : Type 0) (reply_of : R → Reply) (tables_of : List FilterState → R → List (List ℕ)) (r : Result R E) (base : Document) (session : ℕ) (c : Call) (old new : Known K) (chest : List (Option FilterState))
-      → ((filters : List FilterState) → Agrees chest filters → IfOk r (λ reply. IsCalled base session c (tables_of filters reply) (reply_of reply) old new))
+  pub of_after_call : {E : Type 0} (R : Type 0) (reply_of : R → Reply) (tables_of : List FilterState → R → List (List ℕ))
+      (r : Result R E) (base : Document) (session : ℕ) (c : Call) (old new : Known K) (chest : List (Option FilterState))
+      → ((filters : List FilterState) → Agrees chest filters
+      → IfOk r (λ reply. IsCalled base session c (tables_of filters reply) (reply_of reply) old new))
       → OnErr r (HasHeard old new) → IsOf session old.made (entries_in old.front) → IsOf session new.made (entries_in new.front)
   of_after_call R reply_of tables_of (Ok reply) base session c old new chest answered heard of =
-      let some = some_list chest in of_called base session c (tables_of some.0 reply) (reply_of reply) old new (answered some.0 some.1) of
-  of_after_call R reply_of tables_of (Err e) base session c old new chest answered heard of = of_longer session old new heard.begins heard.made of
+      let some = some_list chest in
+      of_called base session c (tables_of some.0 reply) (reply_of reply) old new (answered some.0 some.1) of
+  of_after_call R reply_of tables_of (Err e) base session c old new chest answered heard of =
+      of_longer session old new heard.begins heard.made of
 
   -- ---- a save
 
   pub saved_entries : (entered between : List (Moment K)) (s t : Entry) (shelf : K)
-      → entries_in (entered ++ Made s (Some shelf) ∷ [] ++ between ++ Made t None ∷ []) ≡ before_end (entries_in entered) s (entries_in between) ++ t ∷ []
+      → entries_in (entered ++ Made s (Some shelf) ∷ [] ++ between ++ Made t None ∷ [])
+      ≡ before_end (entries_in entered) s (entries_in between) ++ t ∷ []
   saved_entries entered between s t shelf =
       entries-append (entered ++ Made s (Some shelf) ∷ [] ++ between) (Made t None ∷ [])
       ∙ ap (λ es. es ++ t ∷ [])
-      (entries-append (entered ++ Made s (Some shelf) ∷ []) between ∙ ap (λ es. es ++ entries_in between) (entries-append entered (Made s (Some shelf) ∷ [])))
+      (entries-append (entered ++ Made s (Some shelf) ∷ []) between
+      ∙ ap (λ es. es ++ entries_in between) (entries-append entered (Made s (Some shelf) ∷ [])))
 
-  of_whole : (see : K → shelves.Known) (opening : K) (base : Document) (session : ℕ) (reply : Reply) (old new : Known K) → IsWhole see opening base session reply old new
+  of_whole : (see : K → shelves.Known) (opening : K) (base : Document) (session : ℕ) (reply : Reply) (old new : Known K)
+      → IsWhole see opening base session reply old new
       → IsOf session old.made (entries_in old.front) → IsOf session new.made (entries_in new.front)
   of_whole see opening base session reply old new whole of =
       let es = entries_in whole.entered in
       let s : Entry = start_of (history_of base whole.entered) session in
       let t : Entry = end_behind es session reply in
-      of_moved session (with_save old.made es s (entries_in whole.between)) new.made (before_end es s (entries_in whole.between) ++ t ∷ []) (entries_in new.front)
+      of_moved session (with_save old.made es s (entries_in whole.between)) new.made
+      (before_end es s (entries_in whole.between) ++ t ∷ []) (entries_in new.front)
       (sym (whole.made ∙ saved_places old.made es (entries_in whole.between) s))
       (sym (ap entries_in whole.front ∙ saved_entries whole.entered whole.between s t whole.shelf))
-      (of_save session old.made (entries_in old.front) es s (entries_in whole.between) t of (entries-prefix old.front whole.entered whole.begins) refl refl refl refl refl)
+      (of_save session old.made (entries_in old.front) es s (entries_in whole.between) t of
+      (entries-prefix old.front whole.entered whole.begins) refl refl refl refl refl)
 
-  pub of_saved : (see : K → shelves.Known) (opening : K) (base : Document) (session : ℕ) (reply : Reply) (old new : Known K) → IsSaved see opening base session reply old new
+  pub of_saved : (see : K → shelves.Known) (opening : K) (base : Document) (session : ℕ) (reply : Reply) (old new : Known K)
+      → IsSaved see opening base session reply old new
       → IsOf session old.made (entries_in old.front) → IsOf session new.made (entries_in new.front)
   of_saved see opening base session reply old new saved of = elim saved.is [
     | inl full ↦ of_longer session old new full.begins full.made of
     | inr whole ↦ of_whole see opening base session reply old new whole of
   ]
 
-  pub of_after_save : {E : Type 0} (R : Type 0) (reply_of : R → Reply) (r : Result R E) (see : K → shelves.Known) (opening : K) (base : Document) (session : ℕ) (old new : Known K)
+  pub of_after_save : {E : Type 0} (R : Type 0) (reply_of : R → Reply) (r : Result R E) (see : K → shelves.Known) (opening : K)
+      (base : Document) (session : ℕ) (old new : Known K)
       → IfOk r (λ reply. IsSaved see opening base session (reply_of reply) old new)
       → OnErr r (HasHeard old new) → IsOf session old.made (entries_in old.front) → IsOf session new.made (entries_in new.front)
-  of_after_save R reply_of (Ok reply) see opening base session old new saved heard of = of_saved see opening base session (reply_of reply) old new saved of
-  of_after_save R reply_of (Err e) see opening base session old new saved heard of = of_longer session old new heard.begins heard.made of
+  of_after_save R reply_of (Ok reply) see opening base session old new saved heard of =
+      of_saved see opening base session (reply_of reply) old new saved of
+  of_after_save R reply_of (Err e) see opening base session old new saved heard of =
+      of_longer session old new heard.begins heard.made of
 
   -- ---- a line that is no call
 
-  pub save_line : (see : K → shelves.Known) (opening : K) (base : Document) (session : ℕ) (line : Line) (before : List (Option FilterState)) (old new : Known K) (texts : List (List ℕ)) → line ≡ Save → IsSaveMade see opening base session old new
-      → (told : List (List ℕ)) × (texts ≡ texts ++ told) × IsLineMade see opening base session (line_of line) before before old new told
-  save_line see opening base session line before old new texts is made =
-      ([], sym (append-nil texts), subst (λ (l : Line). IsLineMade see opening base session (line_of l) before before old new []) (sym is) (made, refl, refl))
+  pub save_line : (see : K → shelves.Known) (opening : K) (base : Document) (session : ℕ) (line : Line)
+      (before : List (Option FilterState)) (old new : Known K) (texts : List (List ℕ)) → line ≡ Save
+      → IsSaveMade see opening base session old new
+      → (told : List (List ℕ)) × (texts ≡ texts ++ told)
+      × IsLineMade see opening base session (line_of line) before before old new told
+  save_line see opening base session line before old new texts is made = (
+    [],
+    sym (append-nil texts),
+    subst (λ (l : Line). IsLineMade see opening base session (line_of l) before before old new [])
+        (sym is) (made, refl, refl),
+  )
 
-  pub forget_line : (see : K → shelves.Known) (opening : K) (base : Document) (session : ℕ) (line : Line) (slot : ℕ) (before after : List (Option FilterState)) (known : Known K) (texts : List (List ℕ)) → line ≡ Forget slot → after ≡ slice_set before slot None
-      → (told : List (List ℕ)) × (texts ≡ texts ++ told) × IsLineMade see opening base session (line_of line) before after known known told
-  forget_line see opening base session line slot before after known texts is without =
-      ([], sym (append-nil texts), subst (λ (l : Line). IsLineMade see opening base session (line_of l) before after known known []) (sym is) (refl, without, refl))
+  pub forget_line : (see : K → shelves.Known) (opening : K) (base : Document) (session : ℕ) (line : Line) (slot : ℕ)
+      (before after : List (Option FilterState)) (known : Known K) (texts : List (List ℕ)) → line ≡ Forget slot
+      → after ≡ slice_set before slot None
+      → (told : List (List ℕ)) × (texts ≡ texts ++ told)
+      × IsLineMade see opening base session (line_of line) before after known known told
+  forget_line see opening base session line slot before after known texts is without = (
+    [],
+    sym (append-nil texts),
+    subst (λ (l : Line). IsLineMade see opening base session (line_of l) before after known known [])
+        (sym is) (refl, without, refl),
+  )

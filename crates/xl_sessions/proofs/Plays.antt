@@ -34,7 +34,9 @@ module _ {K E : Type 0} {C : Ghosts (State K) (Moment K)} {X : Type 0} {H : X �
       → IsSeatOf studio p.seat → weight_of p.seat ≡ weight → IsOf part.session (made_of p.seat) (entries_in (front_of p.seat))
       → OnOk result ((filters : List FilterState) → Agrees (states state part.desk.chest) filters
       → HasMade part.session filters (lines_of lines.items) (made_of p.seat) (entries_in (front_of p.seat)))
-      → OnOk result (shown_of p ≡ digests_in (base_of studio) (entries_in (front_of p.seat)) (picked (made_of p.seat) (entries_in (front_of p.seat))))
+      → OnOk result
+      (shown_of p ≡ digests_in (base_of studio) (entries_in (front_of p.seat))
+      (picked (made_of p.seat) (entries_in (front_of p.seat))))
       → HasPlayed state studio part weight p
   has_played state studio part weight p lines result lines_are done seat weight_is of made told =
       let es = entries_in (front_of p.seat) in

@@ -32,8 +32,10 @@ start_more session index version = record { session = session; index = index; ki
 abbrev pub end_more : (session index : ℕ) → Reply → Entry
 end_more session index reply = record { session = session; index = index; kind = ends; reply = reply }
 
--- After others had made their entries the save was started; others made some until its end. The places of a session have these two more.
-pub record IsSaveMore (session : ℕ) (reply : Reply) (places : List ℕ) (es : List Entry) (places_then : List ℕ) (es_then : List Entry) : Type 0 where
+-- After others had made their entries the save was started; others made some until its end. The places of a session have these two
+-- more.
+pub record IsSaveMore (session : ℕ) (reply : Reply) (places : List ℕ) (es : List Entry) (places_then : List ℕ)
+    (es_then : List Entry) : Type 0 where
   pub entered : List Entry
   pub between : List Entry
   pub index : ℕ
@@ -49,7 +51,8 @@ fresh_end Fault version seen = tt
 fresh_end Memory version seen = tt
 
 module _ {K : Type 0} where
-  whole_more : (see : K → shelves.Known) (opening : K) (base : Document) (session : ℕ) (reply : Reply) (old new : Known K) → IsWhole see opening base session reply old new
+  whole_more : (see : K → shelves.Known) (opening : K) (base : Document) (session : ℕ) (reply : Reply) (old new : Known K)
+      → IsWhole see opening base session reply old new
       → IsSaveMore session reply old.made (entries_in old.front) new.made (entries_in new.front)
   whole_more see opening base session reply old new whole =
       let es = entries_in whole.entered in
@@ -66,7 +69,8 @@ module _ {K : Type 0} where
         entries_are = ap entries_in whole.front ∙ saved_entries whole.entered whole.between s t whole.shelf;
       }
 
-  pub save_more : (see : K → shelves.Known) (opening : K) (base : Document) (session : ℕ) (reply : Reply) (old new : Known K) → IsSaved see opening base session reply old new → is_unprinted reply ≡ false
+  pub save_more : (see : K → shelves.Known) (opening : K) (base : Document) (session : ℕ) (reply : Reply) (old new : Known K)
+      → IsSaved see opening base session reply old new → is_unprinted reply ≡ false
       → IsSaveMore session reply old.made (entries_in old.front) new.made (entries_in new.front)
   save_more see opening base session reply old new is printed = elim is.is [
     | inl full ↦ absurd (never_both (is_unprinted reply) (unprinted_full reply full.reply_is) printed)
@@ -79,20 +83,24 @@ module _ {session : ℕ} {reply : Reply} {places : List ℕ} {es : List Entry} {
   save_up =
       let s = start_more session more.index more.version in
       let t = end_more session more.index reply in
-      at_both IsCaughtUp (with_save places more.entered s more.between) places_then (before_end more.entered s more.between ++ t ∷ []) es_then more.places_are more.entries_are
+      at_both IsCaughtUp (with_save places more.entered s more.between) places_then
+      (before_end more.entered s more.between ++ t ∷ []) es_then more.places_are more.entries_are
       (caught_up_last (places ++ length more.entered ∷ []) (before_end more.entered s more.between) t)
 
   -- a save uses no filter
-  pub save_filters : (filters : List FilterState) → filters_along filters (picked places_then es_then) ≡ filters_along filters (picked places es)
+  pub save_filters : (filters : List FilterState)
+      → filters_along filters (picked places_then es_then) ≡ filters_along filters (picked places es)
   save_filters filters =
       let s = start_more session more.index more.version in
       let t = end_more session more.index reply in
       let mine = picked places es in
-      ap (filters_along filters) ((λ i. picked (more.places_are i) (more.entries_are i)) ∙ picked_two places es more.entered s more.between t more.begins of.within)
+      ap (filters_along filters) ((λ i. picked (more.places_are i) (more.entries_are i))
+      ∙ picked_two places es more.entered s more.between t more.begins of.within)
       ∙ filters-append filters (mine ++ s ∷ []) (t ∷ []) ∙ filters-append filters mine (s ∷ [])
 
   -- and shows no tile
-  pub save_told : (base : Document) → IsLegal base es → digests_in base es_then (picked places_then es_then) ≡ digests_in base es (picked places es)
+  pub save_told : (base : Document) → IsLegal base es
+      → digests_in base es_then (picked places_then es_then) ≡ digests_in base es (picked places es)
   save_told base legal =
       let s = start_more session more.index more.version in
       let t = end_more session more.index reply in
@@ -100,11 +108,14 @@ module _ {session : ℕ} {reply : Reply} {places : List ℕ} {es : List Entry} {
       ∙ digests_save base places es more.entered s more.between t legal more.begins of.within refl refl
 
 -- it has made a save more
-pub save_made : (session : ℕ) (filters : List FilterState) (lines : List Line) (reply : Reply) (places : List ℕ) (es : List Entry) (places_then : List ℕ) (es_then : List Entry)
+pub save_made : (session : ℕ) (filters : List FilterState) (lines : List Line) (reply : Reply) (places : List ℕ) (es : List Entry)
+    (places_then : List ℕ) (es_then : List Entry)
     → HasMade session filters lines places es → IsSaveMore session reply places es places_then es_then → is_unprinted reply ≡ false
     → HasMade session filters (lines ++ save ∷ []) places_then es_then
 save_made session filters lines reply places es places_then es_then made more printed =
     let s = start_more session more.index more.version in
     let t = end_more session more.index reply in
-    at_both (HasMade session filters (lines ++ save ∷ [])) (with_save places more.entered s more.between) places_then (before_end more.entered s more.between ++ t ∷ []) es_then more.places_are more.entries_are
-    (made_save session filters lines places es more.entered s more.between t made more.begins refl refl refl refl refl refl (printed_memory reply printed) (λ seen. tt) more.fresh)
+    at_both (HasMade session filters (lines ++ save ∷ [])) (with_save places more.entered s more.between) places_then
+    (before_end more.entered s more.between ++ t ∷ []) es_then more.places_are more.entries_are
+    (made_save session filters lines places es more.entered s more.between t made more.begins refl refl refl refl refl refl
+    (printed_memory reply printed) (λ seen. tt) more.fresh)

@@ -24,16 +24,21 @@ use Rattle.xl_sessions.proofs.SaveMore.{save_more, save_up, save_filters, save_t
 use Rattle.xl_sessions.proofs.Chests.{agrees_without}
 
 module _ {K : Type 0} where
-  -- The places of the session are those of the calls of these lines, whatever filters were in its chest. The chest has the filters as they
-  -- are after them, the texts are the digests of what the session was shown, and it has seen the last version that it knows of.
-  pub record IsSoFar (base : Document) (session : ℕ) (start now : List (Option FilterState)) (lines : List Line) (known : Known K) (texts : List (List ℕ)) : Type 0 where
+  -- The places of the session are those of the calls of these lines, whatever filters were in its chest. The chest has the filters
+  -- as they are after them, the texts are the digests of what the session was shown, and it has seen the last version that it knows
+  -- of.
+  pub record IsSoFar (base : Document) (session : ℕ) (start now : List (Option FilterState)) (lines : List Line) (known : Known K)
+      (texts : List (List ℕ)) : Type 0 where
     pub up : IsCaughtUp known.made (entries_in known.front)
-    pub made : (filters : List FilterState) → Agrees start filters → HasMade session filters lines known.made (entries_in known.front)
-    pub agrees : (filters : List FilterState) → Agrees start filters → Agrees now (filters_along filters (picked known.made (entries_in known.front)))
+    pub made : (filters : List FilterState) → Agrees start filters
+        → HasMade session filters lines known.made (entries_in known.front)
+    pub agrees : (filters : List FilterState) → Agrees start filters
+        → Agrees now (filters_along filters (picked known.made (entries_in known.front)))
     pub told : texts ≡ digests_in base (entries_in known.front) (picked known.made (entries_in known.front))
 
   -- no line yet
-  pub so_far_none : (base : Document) (session : ℕ) (start : List (Option FilterState)) (known : Known K) (texts : List (List ℕ)) → known.made ≡ [] → latest_of (entries_in known.front) ≡ 0 → texts ≡ []
+  pub so_far_none : (base : Document) (session : ℕ) (start : List (Option FilterState)) (known : Known K) (texts : List (List ℕ))
+      → known.made ≡ [] → latest_of (entries_in known.front) ≡ 0 → texts ≡ []
       → IsSoFar base session start start [] known texts
   so_far_none base session start known texts none unchanged blank =
       let es = entries_in known.front in
@@ -46,19 +51,26 @@ module _ {K : Type 0} where
       }
 
   -- the entries are the session's
-  pub so_far_of : {base : Document} {session : ℕ} {now : List (Option FilterState)} {lines : List Line} {texts : List (List ℕ)} (start : List (Option FilterState)) (known : Known K)
+  pub so_far_of : {base : Document} {session : ℕ} {now : List (Option FilterState)} {lines : List Line} {texts : List (List ℕ)}
+      (start : List (Option FilterState)) (known : Known K)
       → IsSoFar base session start now lines known texts → IsOf session known.made (entries_in known.front)
   so_far_of start known so_far = let some = some_list start in (so_far.made some.0 some.1).of
 
-  module _ {base : Document} {session : ℕ} {start before : List (Option FilterState)} {lines : List Line} {old : Known K} {texts : List (List ℕ)}
+  module _ {base : Document} {session : ℕ} {start before : List (Option FilterState)} {lines : List Line} {old : Known K}
+      {texts : List (List ℕ)}
       (legal : IsLegal base (entries_in old.front)) (so_far : IsSoFar base session start before lines old texts) where
-    called_more : (c : Call) (after : List (Option FilterState)) (new : Known K) (said : List (List ℕ)) (made : IsCallMade base session c before after old new said) (filters : List FilterState) → Agrees start filters
-        → IsCallMore session c (expected_tables (filters_along filters (picked old.made (entries_in old.front))) (asked c []) made.reply) made.reply old.made (entries_in old.front) new.made (entries_in new.front)
+    called_more : (c : Call) (after : List (Option FilterState)) (new : Known K) (said : List (List ℕ))
+        (made : IsCallMade base session c before after old new said) (filters : List FilterState) → Agrees start filters
+        → IsCallMore session c
+        (expected_tables (filters_along filters (picked old.made (entries_in old.front))) (asked c []) made.reply)
+        made.reply old.made (entries_in old.front) new.made (entries_in new.front)
     called_more c after new said made filters agrees =
         let now = filters_along filters (picked old.made (entries_in old.front)) in
-        call_more base session c (expected_tables now (asked c []) made.reply) made.reply old new (made.called now (so_far.agrees filters agrees)) made.printed
+        call_more base session c (expected_tables now (asked c []) made.reply) made.reply old new
+        (made.called now (so_far.agrees filters agrees)) made.printed
 
-    so_far_call : (c : Call) (after : List (Option FilterState)) (new : Known K) (said : List (List ℕ)) → IsCallMade base session c before after old new said
+    so_far_call : (c : Call) (after : List (Option FilterState)) (new : Known K) (said : List (List ℕ))
+        → IsCallMade base session c before after old new said
         → IsSoFar base session start after (lines ++ call c ∷ []) new (texts ++ said)
     so_far_call c after new said made =
         let es = entries_in old.front in
@@ -70,7 +82,8 @@ module _ {K : Type 0} where
         record {
           up = call_up of more;
           made = λ filters agrees.
-              call_made session filters lines c made.reply old.made es new.made then_es (so_far.made filters agrees) so_far.up (called_more c after new said made filters agrees) made.printed made.fresh;
+              call_made session filters lines c made.reply old.made es new.made then_es (so_far.made filters agrees) so_far.up
+              (called_more c after new said made filters agrees) made.printed made.fresh;
           agrees = λ filters agrees.
               subst (Agrees after) (sym (call_filters of (called_more c after new said made filters agrees) filters))
               (made.used.states (filters_along filters (picked old.made es)) (so_far.agrees filters agrees));
@@ -79,7 +92,8 @@ module _ {K : Type 0} where
               ∙ sym (call_told of more base legal);
         }
 
-    so_far_save : (see : K → shelves.Known) (opening : K) (after : List (Option FilterState)) (new : Known K) (said : List (List ℕ)) → IsSaveMade see opening base session old new → after ≡ before → said ≡ []
+    so_far_save : (see : K → shelves.Known) (opening : K) (after : List (Option FilterState)) (new : Known K) (said : List (List ℕ))
+        → IsSaveMade see opening base session old new → after ≡ before → said ≡ []
         → IsSoFar base session start after (lines ++ save ∷ []) new (texts ++ said)
     so_far_save see opening after new said made same silent =
         let es = entries_in old.front in
@@ -87,13 +101,17 @@ module _ {K : Type 0} where
         let more = save_more see opening base session made.reply old new made.saved made.printed in
         record {
           up = save_up of more;
-          made = λ filters agrees. save_made session filters lines made.reply old.made es new.made (entries_in new.front) (so_far.made filters agrees) more made.printed;
+          made = λ filters agrees. save_made session filters lines made.reply old.made es new.made (entries_in new.front)
+              (so_far.made filters agrees) more made.printed;
           agrees = λ filters agrees.
-              subst (Agrees after) (sym (save_filters of more filters)) (subst (λ chest. Agrees chest (filters_along filters (picked old.made es))) (sym same) (so_far.agrees filters agrees));
+              subst (Agrees after) (sym (save_filters of more filters))
+              (subst (λ chest. Agrees chest (filters_along filters (picked old.made es))) (sym same)
+              (so_far.agrees filters agrees));
           told = ap (λ more. texts ++ more) silent ∙ append-nil texts ∙ so_far.told ∙ sym (save_told of more base legal);
         }
 
-    so_far_forget : (slot : ℕ) (after : List (Option FilterState)) (new : Known K) (said : List (List ℕ)) → new ≡ old → after ≡ slice_set before slot None → said ≡ []
+    so_far_forget : (slot : ℕ) (after : List (Option FilterState)) (new : Known K) (said : List (List ℕ)) → new ≡ old
+        → after ≡ slice_set before slot None → said ≡ []
         → IsSoFar base session start after (lines ++ forget slot ∷ []) new (texts ++ said)
     so_far_forget slot after new said same without silent =
         let es = entries_in old.front in
@@ -108,7 +126,8 @@ module _ {K : Type 0} where
         })
 
     -- one line more
-    pub so_far_line : (see : K → shelves.Known) (opening : K) (line : Line) (after : List (Option FilterState)) (new : Known K) (said : List (List ℕ)) → IsLineMade see opening base session line before after old new said
+    pub so_far_line : (see : K → shelves.Known) (opening : K) (line : Line) (after : List (Option FilterState)) (new : Known K)
+        (said : List (List ℕ)) → IsLineMade see opening base session line before after old new said
         → IsSoFar base session start after (lines ++ line ∷ []) new (texts ++ said)
     so_far_line see opening (call c) after new said made = so_far_call c after new said made
     so_far_line see opening save after new said made = so_far_save see opening after new said made.0 made.1 made.2

@@ -18,9 +18,10 @@ abbrev pub FromFirst : {P : Type 0} → (Q : ℕ → P → Type 0) → (first : 
 FromFirst Q first [] = Unit {0}
 FromFirst Q first (p ∷ ps) = Q first p × FromFirst Q (suc first) ps
 
--- Of the history that the session knows, the entries at these places are its own, and its saves have ended. Where all its lines were
--- played they are those of the lines, and it has the digests of the tiles that it was shown.
-pub record IsOutcome (base : Document) (session : ℕ) (filters : List FilterState) (lines : List Line) (es : List Entry) (places : List ℕ) (shown : List (List ℕ)) (done : Bool) : Type 0 where
+-- Of the history that the session knows, the entries at these places are its own, and its saves have ended. Where all its lines
+-- were played they are those of the lines, and it has the digests of the tiles that it was shown.
+pub record IsOutcome (base : Document) (session : ℕ) (filters : List FilterState) (lines : List Line) (es : List Entry)
+    (places : List ℕ) (shown : List (List ℕ)) (done : Bool) : Type 0 where
   pub of : IsOf session places es
   pub made : done ≡ true → HasMade session filters lines places es
   pub told : done ≡ true → shown ≡ digests_in base es (picked places es)

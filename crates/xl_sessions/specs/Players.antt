@@ -41,14 +41,17 @@ in_slots state s = state (s.filter.vtable, s.filter.value)
 
 module _ {X : Type 0} {H : X → Type 0} where
   -- a session's number, its lines and its filters, all of them in their slots
-  pub record IsBrought (state : Slot X H → FilterState) (session : ℕ) (filters : List FilterState) (lines : List Line) (p : Part X H) : Type 0 where
+  pub record IsBrought (state : Slot X H → FilterState) (session : ℕ) (filters : List FilterState) (lines : List Line)
+      (p : Part X H) : Type 0 where
     pub session_is : p.session ≡ session
     pub lines_are : lines_of p.lines.items ≡ lines
     pub chest_is : states state p.desk.chest ≡ map (λ s. Some s) filters
 
   -- those of all sessions, the first of which has the number `first`
-  abbrev pub AreBrought : (state : Slot X H → FilterState) → (chests : List (List FilterState)) → (lists : List (List Line)) → (first : ℕ) → List (Part X H) → Type 0
-  AreBrought state chests lists first ps = FromFirst (λ session p. IsBrought state session (list_at chests session) (list_at lists session) p) first ps
+  abbrev pub AreBrought : (state : Slot X H → FilterState) → (chests : List (List FilterState)) → (lists : List (List Line))
+      → (first : ℕ) → List (Part X H) → Type 0
+  AreBrought state chests lists first ps =
+      FromFirst (λ session p. IsBrought state session (list_at chests session) (list_at lists session) p) first ps
 
   -- they are those of some script
   abbrev pub AreOfAScript : (state : Slot X H → FilterState) → List (Part X H) → Type 0
@@ -98,15 +101,17 @@ module _ {K : Type 0} {C : Ghosts (State K) (Moment K)} {X : Type 0} {H : X → 
     pub fit : AreFit (length (states state p.part.desk.chest)) [] (lines_of p.part.lines.items)
     pub blank : map string_bytes p.digests.items ≡ []
 
-  -- What the session has made is its own, and its saves have ended. Where it is done, that is what its part says, and it has the digests
-  -- of what it was shown.
-  pub record HasPlayed (state : Slot X H → FilterState) (studio : Studio K) (part : Part X H) (weight : ℕ) (p : Player (Seat K C) X H) : Type 0 where
+  -- What the session has made is its own, and its saves have ended. Where it is done, that is what its part says, and it has the
+  -- digests of what it was shown.
+  pub record HasPlayed (state : Slot X H → FilterState) (studio : Studio K) (part : Part X H) (weight : ℕ)
+      (p : Player (Seat K C) X H) : Type 0 where
     pub seat : IsSeatOf studio p.seat
     pub weight_is : weight_of p.seat ≡ weight
     pub of : IsOf part.session (made_of p.seat) (entries_in (front_of p.seat))
     pub made : p.done ≡ true → (filters : List FilterState) → Agrees (states state part.desk.chest) filters
         → HasMade part.session filters (lines_of part.lines.items) (made_of p.seat) (entries_in (front_of p.seat))
-    pub told : p.done ≡ true → shown_of p ≡ digests_in (base_of studio) (entries_in (front_of p.seat)) (picked (made_of p.seat) (entries_in (front_of p.seat)))
+    pub told : p.done ≡ true → shown_of p ≡ digests_in (base_of studio) (entries_in (front_of p.seat))
+        (picked (made_of p.seat) (entries_in (front_of p.seat)))
 
   -- a player before and after its lines
   abbrev pub Plays : (state : Slot X H → FilterState) → Studio K → (old new : Player (Seat K C) X H) → Type 0
@@ -128,12 +133,16 @@ module _ {K : Type 0} {C : Ghosts (State K) (Moment K)} {X : Type 0} {H : X → 
   AreOfSessions studio players = FromFirst (IsOfSession studio) 0 players
 
   -- what became of the lines of each session
-  abbrev pub HaveOutcomes : Studio K → (chests : List (List FilterState)) → (lists : List (List Line)) → List (Player (Seat K C) X H) → Type 0
+  abbrev pub HaveOutcomes : Studio K → (chests : List (List FilterState)) → (lists : List (List Line))
+      → List (Player (Seat K C) X H) → Type 0
   HaveOutcomes studio chests lists players =
-      FromFirst (λ session p. IsOutcome (base_of studio) session (list_at chests session) (list_at lists session) (entries_in (front_of p.seat)) (made_of p.seat) (shown_of p) p.done) 0 players
+      FromFirst
+      (λ session p. IsOutcome (base_of studio) session (list_at chests session) (list_at lists session)
+      (entries_in (front_of p.seat)) (made_of p.seat) (shown_of p) p.done) 0 players
 
   abbrev pub HaveSomeOutcomes : Studio K → List (Player (Seat K C) X H) → Type 0
-  HaveSomeOutcomes studio players = (chests : List (List FilterState)) × (lists : List (List Line)) × HaveOutcomes studio chests lists players
+  HaveSomeOutcomes studio players =
+      (chests : List (List FilterState)) × (lists : List (List Line)) × HaveOutcomes studio chests lists players
 
   -- ---- joined
 
@@ -172,7 +181,8 @@ module _ {K : Type 0} {C : Ghosts (State K) (Moment K)} where
 -- ---- the memory
 
 -- there is room for the eight players, their digests, and so many workers
-pub record HasRoom {K : Type 0} {C : Ghosts (State K) (Moment K)} {X : Type 0} {H : X → Type 0} (workers : ℕ) (room : Room (Seat K C) X H) : Type 0 where
+pub record HasRoom {K : Type 0} {C : Ghosts (State K) (Moment K)} {X : Type 0} {H : X → Type 0} (workers : ℕ)
+    (room : Room (Seat K C) X H) : Type 0 where
   pub eight : length room.parts.items ≡ 8
   pub none_seated : room.players.items ≡ []
   pub none_working : room.workers.items ≡ []

@@ -62,9 +62,11 @@ is_unprinted machine.history_full = true
 
 module _ {K : Type 0} where
   -- A call was answered, and printably. What is said of it is the digest of the tile that it is shown.
-  pub record IsCallMade (base : Document) (session : ℕ) (c : Call) (before after : List (Option FilterState)) (old new : Known K) (digests : List (List ℕ)) : Type 0 where
+  pub record IsCallMade (base : Document) (session : ℕ) (c : Call) (before after : List (Option FilterState)) (old new : Known K)
+      (digests : List (List ℕ)) : Type 0 where
     pub reply : Reply
-    pub called : (filters : List FilterState) → Agrees before filters → IsCalled base session c (expected_tables filters (asked c []) reply) reply old new
+    pub called : (filters : List FilterState) → Agrees before filters
+        → IsCalled base session c (expected_tables filters (asked c []) reply) reply old new
     pub printed : is_unprinted reply ≡ false
     pub fresh : IsFreshReply (latest_of (entries_in old.front)) reply
     pub used : IsAfter before after c reply
@@ -79,7 +81,10 @@ module _ {K : Type 0} where
     pub printed : is_unprinted reply ≡ false
 
   -- what a line of the script makes, and the digests that are said of it
-  abbrev pub IsLineMade : (see : K → shelves.Known) → (opening : K) → (base : Document) → (session : ℕ) → Line → (before after : List (Option FilterState)) → (old new : Known K) → (digests : List (List ℕ)) → Type 0
+  abbrev pub IsLineMade : (see : K → shelves.Known) → (opening : K) → (base : Document) → (session : ℕ) → Line
+      → (before after : List (Option FilterState)) → (old new : Known K) → (digests : List (List ℕ)) → Type 0
   IsLineMade see opening base session (call c) before after old new digests = IsCallMade base session c before after old new digests
-  IsLineMade see opening base session save before after old new digests = IsSaveMade see opening base session old new × (after ≡ before) × (digests ≡ [])
-  IsLineMade see opening base session (forget slot) before after old new digests = (new ≡ old) × (after ≡ slice_set before slot None) × (digests ≡ [])
+  IsLineMade see opening base session save before after old new digests =
+      IsSaveMade see opening base session old new × (after ≡ before) × (digests ≡ [])
+  IsLineMade see opening base session (forget slot) before after old new digests =
+      (new ≡ old) × (after ≡ slice_set before slot None) × (digests ≡ [])

@@ -38,8 +38,10 @@ first_digest (digest ∷ digests) = digest
 abbrev pub lines_with : (digests : List (List ℕ)) → List Entry → List ℕ
 lines_with digests [] = []
 lines_with digests (e ∷ es) =
-    if shows_tile e.kind e.reply then line_here (first_digest digests) e e.kind ++ lines_with (drop 1 digests) es else line_here [] e e.kind ++ lines_with digests es
+    if shows_tile e.kind e.reply then line_here (first_digest digests) e e.kind ++ lines_with (drop 1 digests) es
+    else line_here [] e e.kind ++ lines_with digests es
 
 -- the lines of the sessions, in the order of the sessions; digests has a list for each
 abbrev pub lines_of_sessions : (digests : List (List (List ℕ))) → List Entry → (sessions : ℕ) → List ℕ
-lines_of_sessions digests es sessions = flat_map (λ session. lines_with (unwrap_or (slice_get digests session) []) (mine es session)) (count_from 0 sessions)
+lines_of_sessions digests es sessions =
+    flat_map (λ session. lines_with (unwrap_or (slice_get digests session) []) (mine es session)) (count_from 0 sessions)

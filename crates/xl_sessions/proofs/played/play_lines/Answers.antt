@@ -9,13 +9,16 @@ pub loop-line-init : goal.loop-line-init
 loop-line-init g c = (
   c.requires.seat,
   refl,
-  under_way_none (base_of c.args.studio.now) c.args.session _ (lines_of c.args.lines.items) (lines_of c.into_iter-line-iterator.result.rest.items) (known_by c.args.seat.now) (map string_bytes c.args.digests.now.items)
-      (ap lines_of c.into_iter-line-iterator.ensures.into_iter_gives.0) c.requires.none c.requires.unchanged c.requires.silent c.requires.filters c.requires.fit,
+  under_way_none (base_of c.args.studio.now) c.args.session _ (lines_of c.args.lines.items)
+      (lines_of c.into_iter-line-iterator.result.rest.items) (known_by c.args.seat.now) (map string_bytes c.args.digests.now.items)
+      (ap lines_of c.into_iter-line-iterator.ensures.into_iter_gives.0)
+      c.requires.none c.requires.unchanged c.requires.silent c.requires.filters c.requires.fit,
 )
 
 pub play_line-requires-clause-fit : goal.play_line-requires-clause-fit
 play_line-requires-clause-fit g c κs within =
-    under_way_fit c.loop-line.invariant.2 (line_of c.in-Some.line) (lines_of c.next.new.self.rest.items) (ap lines_of c.in-Some.ensures.steps.0)
+    under_way_fit c.loop-line.invariant.2 (line_of c.in-Some.line) (lines_of c.next.new.self.rest.items)
+    (ap lines_of c.in-Some.ensures.steps.0)
 
 pub play_line-requires-clause-of : goal.play_line-requires-clause-of
 play_line-requires-clause-of g c κs within = under_way_of c.loop-line.invariant.2
@@ -24,8 +27,11 @@ pub loop-line-preserved : goal.loop-line-preserved
 loop-line-preserved g c = (
   c.play_line.ensures.seat,
   c.play_line.ensures.weight ∙ c.loop-line.invariant.1,
-  under_way_more c.loop-line.invariant.2 (known g.D.Shelf.selected g.D.Shelf.disk g.D.Shelf.reading_faults g.D.Shelf.saving_faults) (opening_shelf c.args.studio.now) (line_of c.in-Some.line) (lines_of c.next.new.self.rest.items) (ap lines_of c.in-Some.ensures.steps.0)
-      _ (known_by c.play_line.new.seat) _ c.loop-line.invariant.0.front.legal c.play_line.ensures.begins c.in_ok-play_line.ensures.made,
+  under_way_more c.loop-line.invariant.2 (known g.D.Shelf.selected g.D.Shelf.disk g.D.Shelf.reading_faults g.D.Shelf.saving_faults)
+      (opening_shelf c.args.studio.now) (line_of c.in-Some.line) (lines_of c.next.new.self.rest.items)
+      (ap lines_of c.in-Some.ensures.steps.0)
+      _ (known_by c.play_line.new.seat) _ c.loop-line.invariant.0.front.legal c.play_line.ensures.begins
+      c.in_ok-play_line.ensures.made,
 )
 
 pub returns-clause-of : goal.returns-clause-of

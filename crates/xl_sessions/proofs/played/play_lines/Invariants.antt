@@ -8,5 +8,7 @@ use Rattle.xl_sessions.proofs.played.play_lines.Given as goal
 abbrev pub invariant-loop-line : goal.invariant-loop-line
 invariant-loop-line g l =
     IsSeatOf l.studio l.seat × (weight_of l.seat ≡ weight_of l.fn.seat)
-    × IsUnderWay (base_of l.fn.studio) l.fn.session (states_in (λ b. (goal.PointFilter-dyn g b).state b.1) l.fn.desk.chest) (states_in (λ b. (goal.PointFilter-dyn g b).state b.1) l.desk.chest)
-    (lines_of l.fn.lines.items) (lines_of l.line-iterator.rest.items) (known_by l.fn.seat) (known_by l.seat) (map string_bytes l.digests.items)
+    × IsUnderWay (base_of l.fn.studio) l.fn.session (states_in (λ b. (goal.PointFilter-dyn g b).state b.1) l.fn.desk.chest)
+    (states_in (λ b. (goal.PointFilter-dyn g b).state b.1) l.desk.chest)
+    (lines_of l.fn.lines.items) (lines_of l.line-iterator.rest.items) (known_by l.fn.seat) (known_by l.seat)
+    (map string_bytes l.digests.items)

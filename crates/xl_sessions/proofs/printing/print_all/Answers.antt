@@ -8,5 +8,7 @@ pub loop-session-preserved : goal.loop-session-preserved
 loop-session-preserved c =
     let es = c.args.entries.now in
     let session = c.loop-session.session in
-    sessions_more (map (λ ds. map string_bytes ds.items) c.args.digests.now) es session (string_bytes c.loop-session.text) (string_bytes c.print_session.new.text) c.loop-session.invariant
-    (c.in_ok-print_session.ensures ∙ ap (λ own. string_bytes c.loop-session.text ++ lines_with own (mine es session)) c.digests_at.ensures)
+    sessions_more (map (λ ds. map string_bytes ds.items) c.args.digests.now) es session (string_bytes c.loop-session.text)
+    (string_bytes c.print_session.new.text) c.loop-session.invariant
+    (c.in_ok-print_session.ensures
+    ∙ ap (λ own. string_bytes c.loop-session.text ++ lines_with own (mine es session)) c.digests_at.ensures)

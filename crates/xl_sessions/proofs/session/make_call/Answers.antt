@@ -9,5 +9,7 @@ use Rattle.xl_sessions.proofs.session.make_call.Goals as goal
 
 pub returns-clause-of : goal.returns-clause-of
 returns-clause-of g c =
-    of_after_call _ reply_of (λ filters reply. expected_tables filters (asked (call_of c.args.call) []) (reply_of reply)) c.call-reply.result (base_of c.args.studio.now) c.args.session (call_of c.args.call)
-    (known_by c.args.seat.now) (known_by c.call-reply.new.seat) _ (λ filters agrees. c.call-reply.ensures.answered filters agrees) c.call-reply.ensures.failed c.requires.of
+    of_after_call _ reply_of (λ filters reply. expected_tables filters (asked (call_of c.args.call) []) (reply_of reply))
+    c.call-reply.result (base_of c.args.studio.now) c.args.session (call_of c.args.call)
+    (known_by c.args.seat.now) (known_by c.call-reply.new.seat) _
+    (λ filters agrees. c.call-reply.ensures.answered filters agrees) c.call-reply.ensures.failed c.requires.of

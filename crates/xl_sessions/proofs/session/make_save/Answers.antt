@@ -6,5 +6,7 @@ use Rattle.xl_sessions.proofs.session.make_save.Goals as goal
 
 pub returns-clause-of : goal.returns-clause-of
 returns-clause-of g c =
-    of_after_save _ reply_of c.save-reply.result (known g.D.Shelf.selected g.D.Shelf.disk g.D.Shelf.reading_faults g.D.Shelf.saving_faults) (opening_shelf c.args.studio.now) (base_of c.args.studio.now) c.args.session (known_by c.args.seat.now) (known_by c.save-reply.new.seat)
+    of_after_save _ reply_of c.save-reply.result
+    (known g.D.Shelf.selected g.D.Shelf.disk g.D.Shelf.reading_faults g.D.Shelf.saving_faults) (opening_shelf c.args.studio.now)
+    (base_of c.args.studio.now) c.args.session (known_by c.args.seat.now) (known_by c.save-reply.new.seat)
     c.save-reply.ensures.saved c.save-reply.ensures.failed c.requires.of

@@ -4,6 +4,8 @@ use Rattle.xl_sessions.proofs.threads.play.Goals as goal
 
 pub returns : goal.returns
 returns g c =
-    has_played (in_slots (λ z. (goal.PointFilter-dyn g z).state z.1)) c.args.studio.now c.args.player.now.part _ _ c.replace-lines.result c.play_session-played.result
-    c.replace-lines.ensures.value c.is_ok-player.ensures.value c.play_session-played.ensures.seat c.play_session-played.ensures.weight c.play_session-played.ensures.of
+    has_played (in_slots (λ b. (goal.PointFilter-dyn g b).state b.1))
+    c.args.studio.now c.args.player.now.part _ _ c.replace-lines.result c.play_session-played.result
+    c.replace-lines.ensures.value c.is_ok-player.ensures.value c.play_session-played.ensures.seat
+    c.play_session-played.ensures.weight c.play_session-played.ensures.of
     c.play_session-played.ensures.made c.play_session-played.ensures.told

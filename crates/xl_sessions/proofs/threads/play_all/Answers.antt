@@ -17,7 +17,8 @@ for_each_mut-requires-send-T g c κs within =
     let D = param 1 g.row.D in
     let own = seat_send D g.D.Shelf c.type_bounds.send-D in
     let boxes = slots g.row.R g.row.D g.row.G in
-    let player = player_send (seat_row D g.D.Shelf) (Vt boxes g.dyn-1.0) (ghosts_of boxes g.dyn-1.0 g.dyn-1.1) g.dyn-1.2 (code_send _ _ _) own in
+    let player = player_send (seat_row D g.D.Shelf) (Vt boxes g.dyn-1.0) (ghosts_of boxes g.dyn-1.0 g.dyn-1.1) g.dyn-1.2
+    (code_send _ _ _) own in
     param_send _ _ (arg_send _ no _ player)
 
 pub for_each_mut-requires-sync-F : goal.for_each_mut-requires-sync-F
@@ -32,7 +33,8 @@ for_each_mut-requires-clause-accepts g c κs within = λ i p lt is. (
   (
     record { shared = c.type_bounds.sync-R.shared },
     record { shared = c.type_bounds.sync-G.shared },
-    each_read (CanPlay (in_slots (λ z. (goal.PointFilter-dyn g z).state z.1)) c.args.studio.now) c.args.players.now c.requires.players i p.now lt is,
+    each_read (CanPlay (in_slots (λ b. (goal.PointFilter-dyn g b).state b.1)) c.args.studio.now)
+        c.args.players.now c.requires.players i p.now lt is,
   ),
   (
     param_send 1 _ (arg_send _ no _ c.type_bounds.send-D),
@@ -42,5 +44,7 @@ for_each_mut-requires-clause-accepts g c κs within = λ i p lt is. (
 )
 
 pub returns-clause-played : goal.returns-clause-played
-returns-clause-played g c = zip_changed (Plays (in_slots (λ z. (goal.PointFilter-dyn g z).state z.1)) c.args.studio.now) c.args.players.now c.for_each_mut.new.s c.for_each_mut.auto.s
+returns-clause-played g c =
+    zip_changed (Plays (in_slots (λ b. (goal.PointFilter-dyn g b).state b.1)) c.args.studio.now)
+    c.args.players.now c.for_each_mut.new.s c.for_each_mut.auto.s
     (λ i d lt. let at = (c.for_each_mut.ensures i d lt).1 in (at.argument.now, at.after_call.now, at.argument_is, at.left, at.call))

@@ -14,6 +14,7 @@ join_mut-requires-send-F g c κs within =
     let own = seat_send D g.D.Shelf c.type_bounds.send-D in
     let studio = studio_sync D g.D.Shelf c.type_bounds.send-D in
     let boxes = slots g.row.R g.row.D g.row.G in
-    let player = player_send (seat_row D g.D.Shelf) (Vt boxes g.dyn-1.0) (ghosts_of boxes g.dyn-1.0 g.dyn-1.1) g.dyn-1.2 (code_send _ _ _) own in
+    let player = player_send (seat_row D g.D.Shelf) (Vt boxes g.dyn-1.0) (ghosts_of boxes g.dyn-1.0 g.dyn-1.1) g.dyn-1.2
+    (code_send _ _ _) own in
     captures_send _ _ _ _ _ _ _ _ _ (shr_send _ _ _ c.type_bounds.sync-R) (shr_send _ _ _ sync) (shr_send _ _ _ studio)
     (shr_send _ _ _ c.type_bounds.sync-G) (mut_send _ _ _ own) (mut_slice_send _ _ _ player)
