@@ -147,8 +147,8 @@ fn hand_in_both<W: Wait, D: Shelf>(
     })
 }
 
-/// A group is made, and each of two workers takes a job of it. One is handed in after the group was deleted, and the other after that
-/// was undone.
+/// A group is made, and each of two workers takes a job of it. One is handed in after the group was deleted, and the other after
+/// that was undone.
 pub fn delete_and_undo<W: Wait>(rt: &W, alloc: Global) -> Result<Undone, AllocError> {
     let (studio, mut seat) = studio_of(alloc)?;
     let mut first = worker_of(&studio, &mut seat);

@@ -57,7 +57,9 @@ fn play_lines<W: Wait, L: Ledger, D: Shelf, G: Gate>(
 
     ensures made { OnOk result ((filters : List FilterState) → Agrees (states_in state desk.old.chest) filters
         → HasMade session filters (lines_of lines.items) (made_of seat.new) (entries_in (front_of seat.new))) }
-    ensures told { OnOk result (map string_bytes digests.new.items ≡ digests_in (base_of studio.now) (entries_in (front_of seat.new)) (picked (made_of seat.new) (entries_in (front_of seat.new)))) }
+    ensures told { OnOk result (map string_bytes digests.new.items
+        ≡ digests_in (base_of studio.now) (entries_in (front_of seat.new))
+        (picked (made_of seat.new) (entries_in (front_of seat.new)))) }
 {
     let mut steps = Steps::<L>::new(blank);
     for line in lines {
@@ -70,11 +72,11 @@ fn play_lines<W: Wait, L: Ledger, D: Shelf, G: Gate>(
 
 /// Makes what the lines of a session say, one after another, and passes the gate before and after each call.
 ///
-/// `digests` becomes the list of the digests of the tiles that the session was shown, in order. It stops where memory runs out, for a line
-/// or for the file of a save, and where the history is full; each save that it started has ended then too.
+/// `digests` becomes the list of the digests of the tiles that the session was shown, in order. It stops where memory runs out, for
+/// a line or for the file of a save, and where the history is full; each save that it started has ended then too.
 ///
-/// What the seat knows may name no change yet: a session is never shown less than what its seat knows, and has seen nothing before its
-/// first call.
+/// What the seat knows may name no change yet: a session is never shown less than what its seat knows, and has seen nothing before
+/// its first call.
 pub fn play_session<W: Wait, D: Shelf, G: Gate>(
     rt: &W,
     alloc: Global,
@@ -101,7 +103,9 @@ pub fn play_session<W: Wait, D: Shelf, G: Gate>(
 
     ensures made { OnOk result ((filters : List FilterState) → Agrees (states_in state desk.old.chest) filters
         → HasMade session filters (lines_of lines.items) (made_of seat.new) (entries_in (front_of seat.new))) }
-    ensures told { OnOk result (map string_bytes digests.new.items ≡ digests_in (base_of studio.now) (entries_in (front_of seat.new)) (picked (made_of seat.new) (entries_in (front_of seat.new)))) }
+    ensures told { OnOk result (map string_bytes digests.new.items
+        ≡ digests_in (base_of studio.now) (entries_in (front_of seat.new))
+        (picked (made_of seat.new) (entries_in (front_of seat.new)))) }
 {
     play_lines::<W, Brand, D, G>(
         rt,

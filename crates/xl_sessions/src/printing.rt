@@ -93,7 +93,8 @@ fn print_own<'a>(
     digests: &'a [String],
 ) -> Result<&'a [String], AllocError>
     requires { IsPrinted entry.now.reply }
-    ensures { IfOk result (λ later. (es : List Plain) → string_bytes text.new ++ lines_with (map string_bytes later.now) es ≡ string_bytes text.old ++ lines_with (map string_bytes digests.now) (entry.now ∷ es)) }
+    ensures { IfOk result (λ later. (es : List Plain) → string_bytes text.new ++ lines_with (map string_bytes later.now) es
+        ≡ string_bytes text.old ++ lines_with (map string_bytes digests.now) (entry.now ∷ es)) }
 {
     if shows_tile(entry) {
         print_entry(alloc, text, entry, first_digest(digests))?;
@@ -112,7 +113,8 @@ fn print_session(
     digests: &[String],
 ) -> Result<(), AllocError>
     requires { AllByRecursion (λ e. IsPrinted e.reply) entries.now }
-    ensures { OnOk result (string_bytes text.new ≡ string_bytes text.old ++ lines_with (map string_bytes digests.now) (mine entries.now session)) }
+    ensures { OnOk result (string_bytes text.new
+        ≡ string_bytes text.old ++ lines_with (map string_bytes digests.now) (mine entries.now session)) }
 {
     let mut rest = entries;
     let mut left = digests;
@@ -163,7 +165,8 @@ fn print_all(
     digests: &[Vec<String>],
 ) -> Result<String, AllocError>
     requires { AllByRecursion (λ e. IsPrinted e.reply) entries.now }
-    ensures { IfOk result (λ text. string_bytes text ≡ lines_of_sessions (map (λ ds. map string_bytes ds.items) digests.now) entries.now 8 ++ order_text entries.now) }
+    ensures { IfOk result (λ text. string_bytes text
+        ≡ lines_of_sessions (map (λ ds. map string_bytes ds.items) digests.now) entries.now 8 ++ order_text entries.now) }
 {
     let mut text = String::new(alloc);
     for session in 0..8u8 {
@@ -180,8 +183,8 @@ fn print_all(
     Ok(text)
 }
 
-/// The printed text of a legal history in which each save has ended. `digests` has a list for each session, of the tiles that it was
-/// shown.
+/// The printed text of a legal history in which each save has ended. `digests` has a list for each session, of the tiles that it
+/// was shown.
 pub fn print_history(
     alloc: Global,
     entries: &[Entry],
@@ -191,7 +194,8 @@ pub fn print_history(
     ensures { (base : Document) → IsLegal base entries.now
         → ((session : ℕ) → session < 8 → AreEnded (mine entries.now session))
         → ((session : ℕ) → session < 8
-        → unwrap_or (slice_get (map (λ ds. map string_bytes ds.items) digests.now) session) [] ≡ digests_in base entries.now (mine entries.now session))
+        → unwrap_or (slice_get (map (λ ds. map string_bytes ds.items) digests.now) session) []
+        ≡ digests_in base entries.now (mine entries.now session))
         → IfOk result (λ text. string_bytes text ≡ printed base entries.now) }
 {
     print_all(alloc, entries, digests)

@@ -49,7 +49,8 @@ fn say(
     desk: &Desk,
     digests: &mut Vec<String>,
 ) -> Result<(), AllocError>
-    ensures { OnOk result (map string_bytes digests.new.items ≡ map string_bytes digests.old.items ++ said asks (reply_of reply.now) desk.now.out) }
+    ensures { OnOk result (map string_bytes digests.new.items
+        ≡ map string_bytes digests.old.items ++ said asks (reply_of reply.now) desk.now.out) }
 {
     if let Reply::Tile { .. } = reply {
         if asks {
@@ -84,10 +85,14 @@ fn make_call<W: Wait, L: Ledger, D: Shelf, G: Gate>(
     ensures of { IsOf session (made_of seat.new) (entries_in (front_of seat.new)) }
 
     ensures answered { (filters : List FilterState) → Agrees (states_in state desk.old.chest) filters
-        → IfOk result (λ reply. IsCalled (base_of studio.now) session (call_of call) (expected_tables filters (asked (call_of call) []) (reply_of reply)) (reply_of reply) (known_by seat.old) (known_by seat.new)) }
+        → IfOk result (λ reply. IsCalled (base_of studio.now) session (call_of call)
+        (expected_tables filters (asked (call_of call) []) (reply_of reply)) (reply_of reply)
+        (known_by seat.old) (known_by seat.new)) }
     ensures fresh { IfOk result (λ reply. IsFreshReply (latest_of (entries_in (front_of seat.old))) (reply_of reply)) }
-    ensures shown { IfOk result (λ reply. Shows (history_of (base_of studio.now) (front_of seat.new)) (call_of call) (reply_of reply) desk.new.out) }
-    ensures chest { IfOk result (λ reply. IsAfter (states_in state desk.old.chest) (states_in state desk.new.chest) (call_of call) (reply_of reply)) }
+    ensures shown { IfOk result (λ reply.
+        Shows (history_of (base_of studio.now) (front_of seat.new)) (call_of call) (reply_of reply) desk.new.out) }
+    ensures chest { IfOk result (λ reply.
+        IsAfter (states_in state desk.old.chest) (states_in state desk.new.chest) (call_of call) (reply_of reply)) }
 {
     gate.pass(Actor::Session(session), Place::BeforeCall);
     let reply = studio.call(rt, alloc, seat, session, call, desk, steps);
@@ -119,8 +124,10 @@ fn play_call<W: Wait, L: Ledger, D: Shelf, G: Gate>(
     ensures begins { IsPrefix (front_of seat.old) (front_of seat.new) }
     ensures of { IsOf session (made_of seat.new) (entries_in (front_of seat.new)) }
 
-    ensures made { OnOk result ((told : List (List ℕ)) × (map string_bytes digests.new.items ≡ map string_bytes digests.old.items ++ told)
-        × IsCallMade (base_of studio.now) session (call_of call) (states_in state desk.old.chest) (states_in state desk.new.chest) (known_by seat.old) (known_by seat.new) told) }
+    ensures made { OnOk result ((told : List (List ℕ))
+        × (map string_bytes digests.new.items ≡ map string_bytes digests.old.items ++ told)
+        × IsCallMade (base_of studio.now) session (call_of call) (states_in state desk.old.chest) (states_in state desk.new.chest)
+        (known_by seat.old) (known_by seat.new) told) }
 {
     let asks = asks_tile(&call);
     let reply = make_call(rt, alloc, studio, gate, session, call, desk, seat, steps)?;
@@ -147,7 +154,9 @@ fn make_save<W: Wait, D: Shelf, G: Gate>(
     ensures weight { weight_of seat.new ≡ weight_of seat.old }
     ensures begins { IsPrefix (front_of seat.old) (front_of seat.new) }
     ensures of { IsOf session (made_of seat.new) (entries_in (front_of seat.new)) }
-    ensures saved { IfOk result (λ reply. IsSaved (known D.selected D.disk D.reading_faults D.saving_faults) (opening_shelf studio.now) (base_of studio.now) session (reply_of reply) (known_by seat.old) (known_by seat.new)) }
+    ensures saved { IfOk result (λ reply.
+        IsSaved (known D.selected D.disk D.reading_faults D.saving_faults) (opening_shelf studio.now) (base_of studio.now) session
+        (reply_of reply) (known_by seat.old) (known_by seat.new)) }
 {
     gate.pass(Actor::Session(session), Place::BeforeCall);
     let mut coder = Greedy;
@@ -173,7 +182,9 @@ fn play_save<W: Wait, D: Shelf, G: Gate>(
     ensures weight { weight_of seat.new ≡ weight_of seat.old }
     ensures begins { IsPrefix (front_of seat.old) (front_of seat.new) }
     ensures of { IsOf session (made_of seat.new) (entries_in (front_of seat.new)) }
-    ensures made { OnOk result (IsSaveMade (known D.selected D.disk D.reading_faults D.saving_faults) (opening_shelf studio.now) (base_of studio.now) session (known_by seat.old) (known_by seat.new)) }
+    ensures made { OnOk result (
+        IsSaveMade (known D.selected D.disk D.reading_faults D.saving_faults) (opening_shelf studio.now) (base_of studio.now)
+        session (known_by seat.old) (known_by seat.new)) }
 {
     let reply = make_save(rt, alloc, studio, gate, session, seat)?;
     if is_unprinted(&reply) {
@@ -205,8 +216,11 @@ pub(crate) fn play_line<W: Wait, L: Ledger, D: Shelf, G: Gate>(
     ensures begins { IsPrefix (front_of seat.old) (front_of seat.new) }
     ensures of { IsOf session (made_of seat.new) (entries_in (front_of seat.new)) }
 
-    ensures made { OnOk result ((told : List (List ℕ)) × (map string_bytes digests.new.items ≡ map string_bytes digests.old.items ++ told)
-        × IsLineMade (known D.selected D.disk D.reading_faults D.saving_faults) (opening_shelf studio.now) (base_of studio.now) session (line_of line) (states_in state desk.old.chest) (states_in state desk.new.chest) (known_by seat.old) (known_by seat.new) told) }
+    ensures made { OnOk result ((told : List (List ℕ))
+        × (map string_bytes digests.new.items ≡ map string_bytes digests.old.items ++ told)
+        × IsLineMade (known D.selected D.disk D.reading_faults D.saving_faults) (opening_shelf studio.now) (base_of studio.now)
+        session (line_of line) (states_in state desk.old.chest) (states_in state desk.new.chest)
+        (known_by seat.old) (known_by seat.new) told) }
 {
     match line {
         Line::Call(call) => play_call(
