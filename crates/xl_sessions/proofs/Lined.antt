@@ -25,7 +25,7 @@ made_lined : (s : State) (old : At) (edits : List Edit) (tables : List (List ℕ
 made_lined s old edits tables (Err r) = tt
 made_lined s old edits tables (Ok new) = tt
 
-after_undo : State → Done → List Done → Answer
+abbrev after_undo : State → Done → List Done → Answer
 after_undo s d ds = record {
   reply = changed (latest s + 1) d.group s.next_id;
   state = record (again s d.before d.after) { undo = ds; redo = d ∷ s.redo };
