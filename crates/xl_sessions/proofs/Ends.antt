@@ -1,7 +1,7 @@
 -- The ends of saves in a history: each start has one behind it, and no other end has its index.
 use Rattle.std.proofs.Common.{◌≡◌, ℕ, ◌+◌, ◌<◌, ◌≤◌, Bool, true, false, cond, List, [], ◌∷◌, ◌++◌, Some, None, refl, ap, sym, ◌∙◌, arith, subst, append-nil, eq-eqb, ne_eqb, ◌==◌, append_assoc}
 use Rattle.std.specs.Prelude.{not, ◌&&◌, Option, IfSome}
-use Rattle.std.proofs.lemmas.Bool.{eqb-true}
+use Rattle.std.proofs.lemmas.Bool.{cond-true, eqb-true}
 use Rattle.std.proofs.Math.Bool.{and-false}
 use Rattle.spec_document.specs.Document.{Document}
 use Rattle.spec_history.specs.Machine.{Reply, State, Saving, initial}
@@ -158,9 +158,6 @@ HasEnd es session index ends = Unit {0}
 abbrev HasEndOf : List Entry → Option Saving → Type 0
 HasEndOf es out = IfSome out (λ o. has_end es o.session o.index ≡ true)
 
-found_here : (b rest : Bool) → b ≡ true → cond b true rest ≡ true
-found_here b rest is = rw is refl
-
 found_later : (b rest : Bool) → rest ≡ true → cond b true rest ≡ true
 found_later true rest is = refl
 found_later false rest is = is
@@ -168,7 +165,7 @@ found_later false rest is = is
 closes : (out : Option Saving) (e : Entry) (es : List Entry) → e.kind ≡ ends → MayEnd out e.session e.index e.reply
     → HasEndOf (e ∷ es) out
 closes None e es is may = absurd may
-closes (Some o) e es is may = found_here (is_end_at o.session o.index e) (has_end es o.session o.index)
+closes (Some o) e es is may = cond-true (is_end_at o.session o.index e) true (has_end es o.session o.index)
     (rw (is, eq-eqb e.session o.session may.0, eq-eqb e.index o.index may.1) refl)
 
 later_end : (out : Option Saving) (e : Entry) (es : List Entry) → HasEndOf es out → HasEndOf (e ∷ es) out

@@ -116,32 +116,32 @@ module _ {P : Type 0} (places_of : P → List ℕ) (shown_of : P → List (List 
         subst (λ (k : ℕ). Q k (slice_index_or places session [])) same
         (at_session places_of Q 0 session ps (omega (arith, lt, eight)) all)
 
-    of : (session : ℕ) → session < 8 → IsOf session (slice_index_or places session []) es
-    of = of_session (λ session own. IsOf session own es) own
+    each_is_of : (session : ℕ) → session < 8 → IsOf session (slice_index_or places session []) es
+    each_is_of = of_session (λ session own. IsOf session own es) own
 
     -- no save is out
     pub none_is_out : (base : Document) → (replay base es).out ≡ None
-    none_is_out base = no_save_out es places eight_lists each_once base of
+    none_is_out base = no_save_out es places eight_lists each_once base each_is_of
 
     pub saves_have_ended : (session : ℕ) → session < 8 → AreEnded (mine es session)
     saves_have_ended session lt =
-        subst AreEnded (sym (mine_picked es places eight_lists each_once of session)) (of session lt).ended
+        subst AreEnded (sym (mine_picked es places eight_lists each_once each_is_of session)) (each_is_of session lt).ended
 
     module _ (base : Document) (chests : List (List FilterState)) (lists : List (List Line))
         (outs : FromFirst (HasOutcome base chests lists) 0 ps) (all : list_all done_of ps ≡ true) where
-      done : FromFirst (λ session p. Made chests lists session p × Told base session p) 0 ps
-      done = where_done base chests lists 0 ps all outs
+      all_done : FromFirst (λ session p. Made chests lists session p × Told base session p) 0 ps
+      all_done = where_done base chests lists 0 ps all outs
 
       -- where all lines were played, the digests are those of what each session was shown
       pub digests_are : (session : ℕ) → session < 8 → list_at (map shown_of ps) session ≡ digests_in base es (mine es session)
       digests_are session lt =
           told_at base 0 session ps (omega (arith, lt, eight))
-          (from_first_map (λ s p. Made chests lists s p × Told base s p) (Told base) 0 ps (λ s p both. both.1) done)
-          ∙ ap (digests_in base es) (sym (mine_picked es places eight_lists each_once of session))
+          (from_first_map (λ s p. Made chests lists s p × Told base s p) (Told base) 0 ps (λ s p both. both.1) all_done)
+          ∙ ap (digests_in base es) (sym (mine_picked es places eight_lists each_once each_is_of session))
 
       -- and the printed lines are a text of the script
       pub makes_a_text : IsLegal base es → IsTextOf (printed base es) base lists chests es
       makes_a_text legal =
           seats_make_text es places eight_lists each_once base lists chests legal
           (of_session (λ session own. HasMade session (list_at chests session) (list_at lists session) own es)
-          (from_first_map (λ s p. Made chests lists s p × Told base s p) (Made chests lists) 0 ps (λ s p both. both.0) done))
+          (from_first_map (λ s p. Made chests lists s p × Told base s p) (Made chests lists) 0 ps (λ s p both. both.0) all_done))

@@ -1,7 +1,7 @@
 -- The lines of the sessions, with the digests of the tiles that they were shown, are the printed text of the history.
 use Rattle.std.proofs.Common.{◌≡◌, ℕ, zero, suc, ◌+◌, ◌<◌, ◌≤◌, ◌==◌, Bool, true, false, cond, List, [], ◌∷◌, ◌++◌, Option, Some, None, refl, ap, sym, ◌∙◌, arith, append_assoc, flat_map, eq-eqb}
 use Rattle.std.specs.Prelude.{◌&&◌, Result, Ok, Err, IfOk, drop, slice_get, unwrap_or}
-use Rattle.std.proofs.lemmas.Bool.{eqb-true}
+use Rattle.std.proofs.lemmas.Bool.{cond-true, eqb-true}
 use Rattle.std.proofs.Math.Bool.{and-false}
 use Rattle.spec_document.specs.Document.{Document}
 use Rattle.spec_grid.specs.Rect.{count_from}
@@ -17,19 +17,19 @@ use Rattle.xl_sessions.specs.Printing.{first_digest, lines_with, lines_of_sessio
 use Rattle.xl_sessions.proofs.Ends.{is_end_at, has_end, end_behind, no_end_more, AreBelow, below_kind}
 
 -- an entry that shows no tile has no digest
-hidden : (base : Document) (es : List Entry) (k : Kind) (r : Reply) → shows_tile k r ≡ false → shown_digest base es k r ≡ []
-hidden base es (asked (machine.tile stack at) tables) (tile_of version) h = let bad : true ≡ false = h in cc
-hidden base es (asked (machine.peek stack at) tables) (tile_of version) h = let bad : true ≡ false = h in cc
-hidden base es k r h = refl
+hidden_digest : (base : Document) (es : List Entry) (k : Kind) (r : Reply) → shows_tile k r ≡ false → shown_digest base es k r ≡ []
+hidden_digest base es (asked (machine.tile stack at) tables) (tile_of version) h = let bad : true ≡ false = h in cc
+hidden_digest base es (asked (machine.peek stack at) tables) (tile_of version) h = let bad : true ≡ false = h in cc
+hidden_digest base es k r h = refl
 
 -- the line of a save that has started, which its end prints
-abbrev owed : List Entry → (start : Option Entry) → List ℕ
-owed es None = []
-owed es (Some start) = line_text start.session start.index [] (end_reply es start.session start.index start.reply)
+abbrev owed_line : List Entry → (start : Option Entry) → List ℕ
+owed_line es None = []
+owed_line es (Some start) = line_text start.session start.index [] (end_reply es start.session start.index start.reply)
 
 -- what is printed along these entries of a session is the line that is owed, and then theirs
 abbrev ArePrinted : Document → (es : List Entry) → (start : Option Entry) → (own : List Entry) → Type 0
-ArePrinted base es start own = lines_with (digests_in base es own) own ≡ owed es start ++ flat_map (entry_line base es) own
+ArePrinted base es start own = lines_with (digests_in base es own) own ≡ owed_line es start ++ flat_map (entry_line base es) own
 
 -- ---- an entry of the session
 
@@ -61,7 +61,7 @@ own_printed : (base : Document) (es : List Entry) (session index : ℕ) (k : Kin
 own_printed base es session index (asked call tables) r None own may is rest =
     let line : List ℕ → List ℕ = λ d. line_text session index d r in
     call_line (asks_tile call && is_tile_reply r) (shown_digest base es (asked call tables) r) (digests_in base es own) line own
-    (hidden base es (asked call tables) r)
+    (hidden_digest base es (asked call tables) r)
     ∙ ap (λ (ls : List ℕ). line (shown_digest base es (asked call tables) r) ++ ls) rest
 own_printed base es session index (asked call tables) r (Some start) own may is rest = absurd may
 own_printed base es session index starts r None own may is rest = rest
@@ -71,7 +71,7 @@ own_printed base es session index ends r (Some start) own may is rest =
     ap (λ (ls : List ℕ). line_text session index [] r ++ ls) rest
     ∙ ap (λ (line : List ℕ). line ++ flat_map (entry_line base es) own) same
   where
-    same : line_text session index [] r ≡ owed es (Some start)
+    same : line_text session index [] r ≡ owed_line es (Some start)
     same = rw (is, may.0, may.1) refl
 
 -- ---- a save that is open
@@ -109,10 +109,6 @@ opens base s session earlier e starts is mine below may =
     (mine, no_end_more earlier e e.session e.index (below.ended e.session e.index at) here)
 opens base s session earlier e ends is mine below may = tt
 
-found : (b : Bool) (x y : Reply) → b ≡ true → cond b x y ≡ x
-found true x y is = refl
-found false x y is = let bad : false ≡ true = is in cc
-
 answers : (es earlier : List Entry) (e : Entry) (later : List Entry) (session : ℕ) (start : Option Entry) (k : Kind) → e.kind ≡ k
     → earlier ++ e ∷ later ≡ es
     → IsOpen session earlier start → MayFollow start e k → Answered es start e.reply k
@@ -124,7 +120,7 @@ answers es earlier e later session (Some start) ends is whole opened may =
     rw (is, eq-eqb e.session start.session may.0, eq-eqb e.index start.index may.1) refl in
     ap (λ (all : List Entry). end_reply all start.session start.index start.reply) (sym whole)
     ∙ end_behind earlier (e ∷ later) start.session start.index start.reply opened.1
-    ∙ found (is_end_at start.session start.index e) e.reply (end_reply later start.session start.index start.reply) here
+    ∙ cond-true (is_end_at start.session start.index e) e.reply (end_reply later start.session start.index start.reply) here
 
 -- ---- along the history
 
