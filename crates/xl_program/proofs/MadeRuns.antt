@@ -6,6 +6,7 @@ use Rattle.std.specs.declared.alloc.Global.{Global}
 use Rattle.std.specs.List.{IsDistinct}
 use Rattle.spec_command.specs.Arguments.{make}
 use Rattle.spec_document.specs.Document.{Document}
+use Rattle.spec_document.specs.Limits.{IsDocument}
 use Rattle.spec_filters.specs.declared.FilterState.{FilterState}
 use Rattle.spec_generated.specs.Generated.{document, script}
 use Rattle.spec_generated.specs.Summary.{outcome, summary_of}
@@ -19,6 +20,7 @@ use Rattle.spec_saves.proofs.Staying.{opened_right}
 use Rattle.spec_merged.specs.Fills.{EndsWithSave}
 use Rattle.spec_merged.proofs.Ends.{last_is_save_of_seed}
 use Rattle.spec_merged.proofs.Generated.{last_is_outcome_of_seed}
+use Rattle.spec_script.specs.Fits.{FitsFilters}
 use Rattle.spec_script.specs.Script.{Line}
 use Rattle.spec_text.specs.Text.{IsTextOf, made_by, printed}
 use Rattle.spec_world.specs.declared.SaveEnd.TheVariants.{Done}
@@ -37,6 +39,8 @@ use Rattle.xl_program.specs.declared.stopped.Stopped.{Stopped}
 use Rattle.xl_program.specs.declared.stopped.Stopped.TheVariants.{SourceFault, BadLine, ShelfFault, Refused, SaveFault, SinkFault, Memory}
 use Rattle.xl_program.proofs.Edited.{none_failed, some_failed}
 use Rattle.xl_program.proofs.MadeFiles.{last_is_saved}
+use Rattle.xl_program.proofs.MadeScripts.{script_fits}
+use Rattle.xl_program.proofs.VersionsWithin.{each_within, small_ids}
 
 -- ---- the document that is made
 
@@ -59,26 +63,55 @@ made_is_numbered seed = record {
       ),
     ),
   );
-  positive = (omega arith, (omega arith, (omega arith, (omega arith, (omega arith, (omega arith, (omega arith, (omega arith, (omega arith, (omega arith, tt))))))))));
-  within = (omega arith, (omega arith, (omega arith, (omega arith, (omega arith, (omega arith, (omega arith, (omega arith, (omega arith, (omega arith, tt))))))))));
+  positive = (
+    omega arith,
+    (
+      omega arith,
+      (
+        omega arith,
+        (omega arith, (omega arith, (omega arith, (omega arith, (omega arith, (omega arith, (omega arith, tt))))))),
+      ),
+    ),
+  );
+  within = (
+    omega arith,
+    (
+      omega arith,
+      (
+        omega arith,
+        (omega arith, (omega arith, (omega arith, (omega arith, (omega arith, (omega arith, (omega arith, tt))))))),
+      ),
+    ),
+  );
   few = omega arith;
 }
 
 -- ---- the run
 
--- What is known of the sessions of what is made: their last document follows from them, and the last of all their calls is a save.
+-- What is known of what is made: its nodes are numbered, its lines name no filter, its last document follows from them, and the
+-- last of all their calls is a save.
 pub record IsMade (d : Document) (lists : List (List Line)) : Type 0 where
-  pub last : (out : List ℕ) (chests : List (List FilterState)) (es : List Entry) → IsTextOf out d lists chests es → document_of d es (latest_of es) ≡ outcome d lists
-  pub ends : (out : List ℕ) (chests : List (List FilterState)) (es : List Entry) → IsTextOf out d lists chests es → EndsWithSave (filter_map (λ (e : Entry). made_by e.kind) es)
+  pub numbered : AreNumbered d.nodes
+  pub fits : FitsFilters [] lists
+  pub last : (out : List ℕ) (chests : List (List FilterState)) (es : List Entry) → IsTextOf out d lists chests es
+      → document_of d es (latest_of es) ≡ outcome d lists
+  pub ends : (out : List ℕ) (chests : List (List FilterState)) (es : List Entry) → IsTextOf out d lists chests es
+      → EndsWithSave (filter_map (λ (e : Entry). made_by e.kind) es)
 
 pub seed_is_made : (seed : ℕ) → IsMade (document seed) (script seed)
-seed_is_made seed = record { last = last_is_outcome_of_seed seed; ends = last_is_save_of_seed seed }
+seed_is_made seed = record {
+  numbered = made_is_numbered seed;
+  fits = script_fits seed;
+  last = last_is_outcome_of_seed seed;
+  ends = last_is_save_of_seed seed;
+}
 
 -- sessions without lists of filters have none
 pub no_states : {B : Type 0} (state : B → FilterState) (lists : List (Vec B Global)) → lists ≡ [] → states_of state lists ≡ []
 no_states state lists none = ap (states_of state) none
 
-run_of : (d : Document) (lists : List (List Line)) (out : List ℕ) (es : List Entry) → IsMade d lists → IsTextOf out d lists [] es → IsRunOf d lists es
+run_of : (d : Document) (lists : List (List Line)) (out : List ℕ) (es : List Entry) → IsMade d lists → IsTextOf out d lists [] es
+    → IsRunOf d lists es
 run_of d lists out es made run = record {
   calls = record {
     legal = run.legal;
@@ -94,26 +127,36 @@ run_of d lists out es made run = record {
 }
 
 -- a run whose text is told is summed up by its last document
-pub summed : (d : Document) (lists : List (List Line)) (chests : List (List FilterState)) (es : List Entry) (text : Result (String Global) AllocError) (told : Result Replies AllocError)
+pub summed : (d : Document) (lists : List (List Line)) (chests : List (List FilterState)) (es : List Entry)
+    (text : Result (String Global) AllocError) (told : Result Replies AllocError)
     → IsMade d lists → chests ≡ [] → IfOk text (λ t. IsTextOf (string_bytes t) d lists chests es) → OnOk told (IsOk text)
-    → IfOk told (λ t. string_bytes t.text ≡ summary_of (document_of d es (latest_of es))) → IfOk told (λ t. WhetherFailed t.save_failed (save_faults es))
+    → IfOk told (λ t. string_bytes t.text ≡ summary_of (document_of d es (latest_of es)))
+    → IfOk told (λ t. WhetherFailed t.save_failed (save_faults es))
     → IfOk told (SumsUp d lists es)
 summed d lists chests es (Ok text) (Ok told) made none is played sum failed =
-    let run = run_of d lists (string_bytes text) es made (subst (λ (cs : List (List FilterState)). IsTextOf (string_bytes text) d lists cs es) none is) in
+    let run =
+    run_of d lists (string_bytes text) es made
+    (subst (λ (cs : List (List FilterState)). IsTextOf (string_bytes text) d lists cs es) none is) in
     record { run = run; text = sum ∙ ap summary_of run.last; failed = failed }
 summed d lists chests es (Err e) (Ok told) made none is played sum failed = let bad : false ≡ true = played in cc
 summed d lists chests es text (Err e) made none is played sum failed = tt
 
 -- without memory for a core nothing was played
-pub nothing_summed : (k now : Known) (d : Document) (lists : List (List Line)) (e : AllocError) → now ≡ k → IsSummedUp k now d lists (Err e)
+pub nothing_summed : (k now : Known) (d : Document) (lists : List (List Line)) (e : AllocError) → now ≡ k
+    → IsSummedUp k now d lists (Err e)
 nothing_summed k now d lists e same =
-    subst (λ (n : Known). IsSummedUp k n d lists (Err e)) (sym same) (record { entries = []; legal = IsLegal-empty d; shelf = opened_right k d; sum = tt })
+    subst (λ (n : Known). IsSummedUp k n d lists (Err e)) (sym same)
+    (record { entries = []; legal = IsLegal-empty d; shelf = opened_right k d; sum = tt })
 
 -- the history of a core that was played on, and the shelf that comes back
-pub summed_on : {D : Type 0} (see : D → Known) (old new : Editing D) (back : D) (lists : List (List Line)) (chests : List (List FilterState)) (text : Result (String Global) AllocError) (told : Result Replies AllocError)
-    → new.history.base ≡ old.history.base → new.opening ≡ old.opening → IsLegal new.history.base new.history.entries → IsRight see new back
-    → IsMade old.history.base lists → chests ≡ [] → IfOk text (λ t. IsTextOf (string_bytes t) old.history.base lists chests new.history.entries) → OnOk told (IsOk text)
-    → IfOk told (λ t. string_bytes t.text ≡ summary_of (last_document new.history)) → IfOk told (λ t. WhetherFailed t.save_failed (save_faults new.history.entries))
+pub summed_on : {D : Type 0} (see : D → Known) (old new : Editing D) (back : D) (lists : List (List Line))
+    (chests : List (List FilterState)) (text : Result (String Global) AllocError) (told : Result Replies AllocError)
+    → new.history.base ≡ old.history.base → new.opening ≡ old.opening → IsLegal new.history.base new.history.entries
+    → IsRight see new back
+    → IsMade old.history.base lists → chests ≡ []
+    → IfOk text (λ t. IsTextOf (string_bytes t) old.history.base lists chests new.history.entries) → OnOk told (IsOk text)
+    → IfOk told (λ t. string_bytes t.text ≡ summary_of (last_document new.history))
+    → IfOk told (λ t. WhetherFailed t.save_failed (save_faults new.history.entries))
     → IsSummedUp (see old.opening) (see back) old.history.base lists told
 summed_on {D} see old new back lists chests text told base opening legal right made none is played sum failed =
     let es = new.history.entries in
@@ -124,37 +167,45 @@ summed_on {D} see old new back lists chests text told base opening legal right m
           subst (λ (o : D). ShelfIsRight (see o) old.history.base es (see back)) opening
           (subst (λ (b : Document). ShelfIsRight (see new.opening) b es (see back)) base right);
       sum = summed old.history.base lists chests es text told made none is played
-          (subst (λ (b : Document). IfOk told (λ t. string_bytes t.text ≡ summary_of (document_of b es (latest_of es)))) base sum) failed;
+          (subst (λ (b : Document). IfOk told (λ t. string_bytes t.text ≡ summary_of (document_of b es (latest_of es)))) base sum)
+          failed;
     }
 
 -- the same of the document, the sessions and the shelf with which the core was opened
-pub same_sum : (k first now : Known) (d base : Document) (lists others : List (List Line)) (told : Result Replies AllocError) → first ≡ k → base ≡ d → others ≡ lists
+pub same_sum : (k first now : Known) (d base : Document) (lists others : List (List Line)) (told : Result Replies AllocError)
+    → first ≡ k → base ≡ d → others ≡ lists
     → (IsMade base others → IsSummedUp first now base others told) → IsMade d lists → IsSummedUp k now d lists told
 same_sum k first now d base lists others told opening same_document same_lists sum made =
     subst (λ (x : Document). IsSummedUp k now x lists told) same_document
     (subst (λ (ls : List (List Line)). IsSummedUp k now base ls told) same_lists
     (subst (λ (o : Known). IsSummedUp o now base others told) opening
-    (sum (subst (λ (x : Document). IsMade x others) (sym same_document) (subst (λ (ls : List (List Line)). IsMade d ls) (sym same_lists) made)))))
+    (sum (subst (λ (x : Document). IsMade x others) (sym same_document)
+    (subst (λ (ls : List (List Line)). IsMade d ls) (sym same_lists) made)))))
 
 -- ---- the file
 
-last_left : (base : Document) (es : List Entry) (v : ℕ) (name : List ℕ) (opened_disk now : Option Disk) → names es ≡ version v ∷ [] → Between opened_disk now (DiskIsRight name base es)
+last_left : (base : Document) (es : List Entry) (v : ℕ) (name : List ℕ) (opened_disk now : Option Disk) → names es ≡ version v ∷ []
+    → Between opened_disk now (DiskIsRight name base es)
     → IfSome now (λ disk. (c : Content) → MayLeave disk name c → IsVersion base es v c)
 last_left base es v name None None is right = tt
 last_left base es v name None (Some now) is right = absurd right
 last_left base es v name (Some old) None is right = tt
-last_left base es v name (Some old) (Some now) is right = λ c may. only c (subst (IsIn base es old name c) is (right.leaves c may)) where
-  only : (c : Content) → IsIn base es old name c (version v ∷ []) → IsVersion base es v c
-  only c (inl this) = this
-  only c (inr bad) = absurd bad
+last_left base es v name (Some old) (Some now) is right =
+    λ c may. only c (subst (IsIn base es old name c) is (right.leaves c may)) where
+      only : (c : Content) → IsIn base es old name c (version v ∷ []) → IsVersion base es v c
+      only c (inl this) = this
+      only c (inr bad) = absurd bad
 
 -- ---- what is written
 
-module _ (d : Document) (lists : List (List Line)) (sessions : IsMade d lists) (opening first now : Known) (saved : IsSavedOn opening d Done first) where
-  made_history : (told : Result Replies AllocError) (summed_up : IsSummedUp first now d lists told) → IsMadeHistory opening now d summed_up.entries
+module _ (d : Document) (lists : List (List Line)) (sessions : IsMade d lists) (within : IsDocument d)
+    (opening first now : Known) (saved : IsSavedOn opening d Done first) where
+  made_history : (told : Result Replies AllocError) (summed_up : IsSummedUp first now d lists told)
+      → IsMadeHistory opening now d summed_up.entries
   made_history told summed_up = record { first = first; saved = saved; legal = summed_up.legal; shelf = summed_up.shelf }
 
-  summary_is : (told : Replies) (P : ℕ → Type 0) (summed_up : IsSummedUp first now d lists (Ok told)) → ((n : ℕ) → WhetherFailed told.save_failed n → P n)
+  summary_is : (told : Replies) (P : ℕ → Type 0) (summed_up : IsSummedUp first now d lists (Ok told))
+      → ((n : ℕ) → WhetherFailed told.save_failed n → P n)
       → IsSummary opening now d lists P (string_bytes told.text)
   summary_is told P summed_up fails =
       let entries = summed_up.entries in
@@ -164,32 +215,42 @@ module _ (d : Document) (lists : List (List Line)) (sessions : IsMade d lists) (
         entries = entries;
         history = made_history (Ok told) summed_up;
         run = summed_up.sum.run;
+        versions = each_within d [] lists [] (printed d entries) entries within (small_ids d sessions.numbered) sessions.fits run;
         text = summed_up.sum.text;
         file = λ none.
-            let last = last_is_saved d entries run.legal run.ended run.printable (sessions.ends (printed d entries) [] entries run) none in
+            let last =
+            last_is_saved d entries run.legal run.ended run.printable (sessions.ends (printed d entries) [] entries run) none in
             last_left d entries (latest_of entries) (file_name opening) first.disk now.disk last
             (subst (λ (n : List ℕ). Between first.disk now.disk (DiskIsRight n d entries)) same summed_up.shelf.contents);
         failed = fails (save_faults entries) summed_up.sum.failed;
       }
 
-  pub made_comes : {K : Type 0} (held : K → Option (List ℕ)) (faults : K → ℕ) (Untouched Failed : Type 0) (old new : K) (told : Result Replies AllocError) (result : Result (Unit {0}) Stopped)
+  pub made_comes : {K : Type 0} (held : K → Option (List ℕ)) (faults : K → ℕ) (Untouched Failed : Type 0) (old new : K)
+      (told : Result Replies AllocError) (result : Result (Unit {0}) Stopped)
       → IsSummedUp first now d lists told → WritesReplies held faults old new told result
-      → Comes held faults (IsSummary opening now d lists) Untouched Failed (Untouched ⊎ ((entries : List Entry) × IsMadeHistory opening now d entries)) old new result
-  made_comes held faults U F old new (Ok told) (Ok x) summed_up writes = (string_bytes told.text, summary_is told NoneFailed summed_up (none_failed told.save_failed writes.1), writes.0)
-  made_comes held faults U F old new (Ok told) (Err SaveFault) summed_up writes = (string_bytes told.text, summary_is told SomeFailed summed_up (some_failed told.save_failed writes.1), writes.0)
-  made_comes held faults U F old new (Ok told) (Err SinkFault) summed_up writes = (string_bytes told.text, summary_is told AnyFailed summed_up (λ n h. tt), writes)
+      → Comes held faults (IsSummary opening now d lists) Untouched Failed
+      (Untouched ⊎ ((entries : List Entry) × IsMadeHistory opening now d entries)) old new result
+  made_comes held faults U F old new (Ok told) (Ok x) summed_up writes =
+      (string_bytes told.text, summary_is told NoneFailed summed_up (none_failed told.save_failed writes.1), writes.0)
+  made_comes held faults U F old new (Ok told) (Err SaveFault) summed_up writes =
+      (string_bytes told.text, summary_is told SomeFailed summed_up (some_failed told.save_failed writes.1), writes.0)
+  made_comes held faults U F old new (Ok told) (Err SinkFault) summed_up writes =
+      (string_bytes told.text, summary_is told AnyFailed summed_up (λ n h. tt), writes)
   made_comes held faults U F old new (Ok told) (Err SourceFault) summed_up writes = absurd writes
   made_comes held faults U F old new (Ok told) (Err (BadLine number)) summed_up writes = absurd writes
   made_comes held faults U F old new (Ok told) (Err ShelfFault) summed_up writes = absurd writes
   made_comes held faults U F old new (Ok told) (Err (Refused refused)) summed_up writes = absurd writes
   made_comes held faults U F old new (Ok told) (Err Memory) summed_up writes = absurd writes
   made_comes held faults U F old new (Err e) result summed_up writes =
-      subst (λ (r : Result (Unit {0}) Stopped). Comes held faults (IsSummary opening now d lists) U F (U ⊎ ((entries : List Entry) × IsMadeHistory opening now d entries)) old new r) (sym writes.0)
+      subst (λ (r : Result (Unit {0}) Stopped).
+      Comes held faults (IsSummary opening now d lists) U F (U ⊎ ((entries : List Entry) × IsMadeHistory opening now d entries))
+      old new r) (sym writes.0)
       ((ap held writes.1, ap faults writes.1), inr (summed_up.entries, made_history (Err e) summed_up))
 
 -- ---- why it stops
 
-pub made_stops : {K : Type 0} (held : K → Option (List ℕ)) (faults : K → ℕ) (old new : K) (told : Result Replies AllocError) (result : Result (Unit {0}) Stopped)
+pub made_stops : {K : Type 0} (held : K → Option (List ℕ)) (faults : K → ℕ) (old new : K) (told : Result Replies AllocError)
+    (result : Result (Unit {0}) Stopped)
     → WritesReplies held faults old new told result → StopsMaking result
 made_stops held faults old new (Ok told) (Ok x) writes = tt
 made_stops held faults old new (Ok told) (Err SourceFault) writes = absurd writes
@@ -201,8 +262,10 @@ made_stops held faults old new (Ok told) (Err SinkFault) writes = tt
 made_stops held faults old new (Ok told) (Err Memory) writes = absurd writes
 made_stops held faults old new (Err e) result writes = subst StopsMaking (sym writes.0) tt
 
-pub made_cause : {K : Type 0} (held : K → Option (List ℕ)) (faults : K → ℕ) (old new : K) (before after : Known) (name : List ℕ) (seed : ℕ) (told : Result Replies AllocError) (result : Result (Unit {0}) Stopped)
-    → after.reading ≡ before.reading → WritesReplies held faults old new told result → ShelfCauseOf before after (make name seed) result
+pub made_cause : {K : Type 0} (held : K → Option (List ℕ)) (faults : K → ℕ) (old new : K) (before after : Known) (name : List ℕ)
+    (seed : ℕ) (told : Result Replies AllocError) (result : Result (Unit {0}) Stopped)
+    → after.reading ≡ before.reading → WritesReplies held faults old new told result
+    → ShelfCauseOf before after (make name seed) result
 made_cause held faults old new before after name seed (Ok told) (Ok x) same writes = same
 made_cause held faults old new before after name seed (Ok told) (Err SourceFault) same writes = absurd writes
 made_cause held faults old new before after name seed (Ok told) (Err (BadLine number)) same writes = absurd writes

@@ -1,6 +1,7 @@
 -- What becomes of a shelf where a document that was made is saved and edited, and what is written then.
 use Rattle.std.specs.Prelude.{◌≡◌, ℕ, List, [], IfSome}
 use Rattle.spec_document.specs.Document.{Document}
+use Rattle.spec_document.specs.Limits.{IsDocument}
 use Rattle.spec_generated.specs.Summary.{outcome, summary_of}
 use Rattle.spec_history.specs.History.{Entry, latest_of, document_of}
 use Rattle.spec_history.specs.Kept.{IsLegal}
@@ -35,13 +36,14 @@ pub record IsRunOf (d : Document) (lists : List (List Line)) (entries : List Ent
 abbrev pub HasLast : (name : List ℕ) → (d : Document) → List Entry → Disk → Type 0
 HasLast name d entries disk = (c : Content) → MayLeave disk name c → IsVersion d entries (latest_of entries) c
 
--- The line that sums up such a history of the calls of these sessions, and the shelf after its saves. The save that starts last
--- comes behind all other calls.
+-- The line that sums up such a history of the calls of these sessions, each version of which is within the limits, and the shelf
+-- after its saves. Where none of these failed, the file is that of the last document.
 pub record IsSummary (opening now : Known) (d : Document) (lists : List (List Line)) (HaveFailed : ℕ → Type 0) (out : List ℕ)
     : Type 0 where
   pub entries : List Entry
   pub history : IsMadeHistory opening now d entries
   pub run : IsRunOf d lists entries
+  pub versions : (version : ℕ) → IsDocument (document_of d entries version)
   pub text : out ≡ summary_of (outcome d lists)
   pub file : save_faults entries ≡ 0 → IfSome now.disk (HasLast (file_name opening) d entries)
   pub failed : HaveFailed (save_faults entries)

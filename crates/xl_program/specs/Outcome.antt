@@ -108,7 +108,7 @@ pub record IsReport (text : Document → List ℕ) (content : Option Content) (o
   pub same : out ≡ text document
 
 -- A legal history of a document within the limits, which the file held, where that is told, and the shelf after its saves.
--- Where none of these failed, the file is that of the last one.
+-- Where none of these failed, the file is that of the last one that was acknowledged, or the old one.
 pub record IsHistory (name : List ℕ) (old new : Shelved) (document : Document) (entries : List Entry) : Type 0 where
   pub held : IfSome (old.content name) (λ c. HoldsDocument c document)
   pub within : IsDocument document

@@ -1,6 +1,5 @@
 -- A history of the sessions' calls and saves, and the lines that are printed for it.
-use Rattle.std.specs.Prelude.{◌≡◌, ℕ, ◌+◌, ◌*◌, ◌<◌, ◌≤◌, ◌==◌, false, if◌then◌else◌, drop, List, [], ◌∷◌, ◌++◌, length, option_map, filter_map, flat_map, slice_set, Option, None, slice_get, unwrap_or, IsSome, Vec}
-use Rattle.std.specs.declared.alloc.Global.{Global}
+use Rattle.std.specs.Prelude.{◌≡◌, ℕ, ◌+◌, ◌*◌, ◌<◌, ◌≤◌, ◌==◌, false, if◌then◌else◌, drop, List, [], ◌∷◌, ◌++◌, length, filter_map, flat_map, slice_set, Option, None, slice_get, unwrap_or, IsSome}
 use Rattle.std.specs.List.{AllByRecursion}
 use Rattle.spec_grid.specs.Rect.{count_from}
 use Rattle.spec_document.specs.Document.{Document}
@@ -93,10 +92,6 @@ abbrev pub IsMade : (old : History) → (session : ℕ) → Line → (before aft
 IsMade old session (call c) before after new = IsCalled old session c before after new
 IsMade old session save before after new = ((reply : Reply) × (new ≡ with_save old session reply)) × (after ≡ before)
 IsMade old session (forget slot) before after new = (new ≡ old) × (after ≡ slice_set before slot None)
-
--- the boxes of a session, none past the last list
-abbrev pub boxes_at : {B : Type 0} → List (Vec B Global) → (session : ℕ) → List B
-boxes_at lists session = unwrap_or (option_map (λ boxes. boxes.items) (slice_get lists session)) []
 
 -- ---- what a session makes, and what all of them make
 

@@ -1,6 +1,7 @@
 use Rattle.std.proofs.Common.{◌≡◌, refl, inl, inr, sym, ◌∙◌, subst}
 use Rattle.std.specs.Prelude.{Option, List, [], ℕ, IsSome}
 use Rattle.spec_document.specs.Document.{Document}
+use Rattle.spec_document.specs.Limits.{IsDocument}
 use Rattle.spec_generated.specs.Generated.{document, script}
 use Rattle.spec_layout.specs.Layout.{Written}
 use Rattle.spec_saves.specs.Shelf.{Known}
@@ -21,49 +22,74 @@ written bytes file d same wrote = subst (λ (b : List ℕ). Written b d) (sym sa
 
 pub run_made-played-requires-clause-selected : goal.run_made-played-requires-clause-selected
 run_made-played-requires-clause-selected g c κs within =
-    subst (λ (o : Option (List ℕ)). IsSome o) (sym (ok_at c.save_first.result (sym c.is_err.ensures.value ∙ c.if-is_err.false) c.save_first.ensures.named)) refl
+    subst (λ (o : Option (List ℕ)). IsSome o)
+    (sym (ok_at c.save_first.result (sym c.is_err.ensures.value ∙ c.if-is_err.false) c.save_first.ensures.named)) refl
 
 pub run_made-played-requires-clause-numbered : goal.run_made-played-requires-clause-numbered
-run_made-played-requires-clause-numbered g c κs within = subst (λ (d : Document). AreNumbered d.nodes) (sym c.in-Ok.ensures.document) (made_is_numbered c.args.seed)
+run_made-played-requires-clause-numbered g c κs within =
+    subst (λ (d : Document). AreNumbered d.nodes) (sym c.in-Ok.ensures.document) (made_is_numbered c.args.seed)
 
 pub run_made-played-requires-clause-fits : goal.run_made-played-requires-clause-fits
-run_made-played-requires-clause-fits g c κs within = subst (λ (lists : List (List Line)). FitsFilters [] lists) (sym c.in-Ok.ensures.script) (script_fits c.args.seed)
+run_made-played-requires-clause-fits g c κs within =
+    subst (λ (lists : List (List Line)). FitsFilters [] lists) (sym c.in-Ok.ensures.script) (script_fits c.args.seed)
 
 pub returns-in_default-clause-comes : goal.returns-in_default-clause-comes
-returns-in_default-clause-comes g c = λ given.
-    ((refl, refl), inl (untouched (shelved g.D.Shelf.content g.D.Shelf.selected g.D.Shelf.disk g.D.Shelf.reading_faults g.D.Shelf.saving_faults c.args.shelf)))
+returns-in_default-clause-comes g c = λ given. (
+  (refl, refl),
+  inl (untouched
+      (shelved g.D.Shelf.content g.D.Shelf.selected g.D.Shelf.disk g.D.Shelf.reading_faults g.D.Shelf.saving_faults
+      c.args.shelf)),
+)
 
 pub returns-then-is_err-clause-comes : goal.returns-then-is_err-clause-comes
-returns-then-is_err-clause-comes g c = λ given.
-    ((refl, refl), (err_at c.save_first.result (sym c.is_err.ensures.value ∙ c.if-is_err.true) c.save_first.ensures.failed c.args.seed (written c.deref.result.now _ (document c.args.seed) c.deref.ensures.value c.in-Ok.ensures.file)).0)
+returns-then-is_err-clause-comes g c = λ given. (
+  (refl, refl),
+  (err_at c.save_first.result (sym c.is_err.ensures.value ∙ c.if-is_err.true) c.save_first.ensures.failed
+      c.args.seed (written c.deref.result.now _ (document c.args.seed) c.deref.ensures.value c.in-Ok.ensures.file)).0,
+)
 
 pub returns-then-is_err-clause-cause : goal.returns-then-is_err-clause-cause
 returns-then-is_err-clause-cause g c =
-    (err_at c.save_first.result (sym c.is_err.ensures.value ∙ c.if-is_err.true) c.save_first.ensures.failed c.args.seed (written c.deref.result.now _ (document c.args.seed) c.deref.ensures.value c.in-Ok.ensures.file)).1
+    (err_at c.save_first.result (sym c.is_err.ensures.value ∙ c.if-is_err.true) c.save_first.ensures.failed c.args.seed
+    (written c.deref.result.now _ (document c.args.seed) c.deref.ensures.value c.in-Ok.ensures.file)).1
 
 pub returns-clause-comes : goal.returns-clause-comes
 returns-clause-comes g c = λ given.
     let see = known g.D.Shelf.selected g.D.Shelf.disk g.D.Shelf.reading_faults g.D.Shelf.saving_faults in
-    let old : Known = opened (shelved g.D.Shelf.content g.D.Shelf.selected g.D.Shelf.disk g.D.Shelf.reading_faults g.D.Shelf.saving_faults c.args.shelf) c.args.name.now in
+    let old : Known =
+    opened (shelved g.D.Shelf.content g.D.Shelf.selected g.D.Shelf.disk g.D.Shelf.reading_faults g.D.Shelf.saving_faults
+    c.args.shelf) c.args.name.now in
     let first : Known = see c.save_first.new.shelf in
     let now : Known = see c.run_made-played.result.shelf in
-    let saved = ok_at c.save_first.result (sym c.is_err.ensures.value ∙ c.if-is_err.false) c.save_first.ensures.saved c.args.seed (written c.deref.result.now _ (document c.args.seed) c.deref.ensures.value c.in-Ok.ensures.file) in
-    made_comes (document c.args.seed) (script c.args.seed) (seed_is_made c.args.seed) old first now saved g.K.Sink.held g.K.Sink.faults _ _ c.args.sink.now c.write_replies.new.sink
+    let saved =
+    ok_at c.save_first.result (sym c.is_err.ensures.value ∙ c.if-is_err.false) c.save_first.ensures.saved c.args.seed
+    (written c.deref.result.now _ (document c.args.seed) c.deref.ensures.value c.in-Ok.ensures.file) in
+    let within : IsDocument (document c.args.seed) =
+    subst (λ (d : Document). IsDocument d) c.in-Ok.ensures.document c.in-Ok.ensures.limits in
+    made_comes (document c.args.seed) (script c.args.seed) (seed_is_made c.args.seed) within old first now saved g.K.Sink.held
+    g.K.Sink.faults _ _ c.args.sink.now c.write_replies.new.sink
     c.run_made-played.result.replies c.write_replies.result
     (c.run_made-played.ensures c.args.seed c.in-Ok.ensures.document c.in-Ok.ensures.script)
     c.write_replies.ensures
 
 pub returns-clause-stops : goal.returns-clause-stops
 returns-clause-stops g c =
-    made_stops g.K.Sink.held g.K.Sink.faults c.args.sink.now c.write_replies.new.sink c.run_made-played.result.replies c.write_replies.result c.write_replies.ensures
+    made_stops g.K.Sink.held g.K.Sink.faults c.args.sink.now c.write_replies.new.sink c.run_made-played.result.replies
+    c.write_replies.result c.write_replies.ensures
 
 pub returns-clause-cause : goal.returns-clause-cause
 returns-clause-cause g c =
     let see = known g.D.Shelf.selected g.D.Shelf.disk g.D.Shelf.reading_faults g.D.Shelf.saving_faults in
-    let saved = ok_at c.save_first.result (sym c.is_err.ensures.value ∙ c.if-is_err.false) c.save_first.ensures.saved c.args.seed (written c.deref.result.now _ (document c.args.seed) c.deref.ensures.value c.in-Ok.ensures.file) in
-    made_cause g.K.Sink.held g.K.Sink.faults c.args.sink.now c.write_replies.new.sink (see c.args.shelf) (see c.run_made-played.result.shelf) c.args.name.now c.args.seed
-    c.run_made-played.result.replies c.write_replies.result ((c.run_made-played.ensures c.args.seed c.in-Ok.ensures.document c.in-Ok.ensures.script).shelf.reading ∙ saved.reading) c.write_replies.ensures
+    let saved =
+    ok_at c.save_first.result (sym c.is_err.ensures.value ∙ c.if-is_err.false) c.save_first.ensures.saved c.args.seed
+    (written c.deref.result.now _ (document c.args.seed) c.deref.ensures.value c.in-Ok.ensures.file) in
+    made_cause g.K.Sink.held g.K.Sink.faults c.args.sink.now c.write_replies.new.sink (see c.args.shelf)
+    (see c.run_made-played.result.shelf) c.args.name.now c.args.seed
+    c.run_made-played.result.replies c.write_replies.result
+    ((c.run_made-played.ensures c.args.seed c.in-Ok.ensures.document c.in-Ok.ensures.script).shelf.reading ∙ saved.reading)
+    c.write_replies.ensures
 
 pub returns-clause-selected : goal.returns-clause-selected
 returns-clause-selected g c =
-    inr ((c.run_made-played.ensures c.args.seed c.in-Ok.ensures.document c.in-Ok.ensures.script).shelf.selected ∙ ok_at c.save_first.result (sym c.is_err.ensures.value ∙ c.if-is_err.false) c.save_first.ensures.named)
+    inr ((c.run_made-played.ensures c.args.seed c.in-Ok.ensures.document c.in-Ok.ensures.script).shelf.selected
+    ∙ ok_at c.save_first.result (sym c.is_err.ensures.value ∙ c.if-is_err.false) c.save_first.ensures.named)

@@ -1,5 +1,5 @@
 -- Each version of a history that a script has made is within the limits.
-use Rattle.std.proofs.Common.{◌≡◌, ℕ, zero, suc, ◌+◌, ◌-◌, ◌*◌, ◌/◌, ◌<◌, ◌≤◌, ◌^◌, Bool, true, false, cond, eqb, ltb, max, min, List, [], ◌∷◌, ◌++◌, length, map, filter, filter_map, refl, ap, sym, ◌∙◌, subst, arith}
+use Rattle.std.proofs.Common.{◌≡◌, ℕ, zero, suc, ◌+◌, ◌-◌, ◌*◌, ◌<◌, ◌≤◌, ◌^◌, Bool, true, false, cond, eqb, ltb, max, min, List, [], ◌∷◌, ◌++◌, length, map, filter, refl, ap, sym, subst, arith}
 use Rattle.std.specs.Prelude.{Option, Some, None, nat_le, slice_get, unwrap_or, option_map, option_to_list}
 use Rattle.std.specs.List.{AllByRecursion, cons_option}
 use Rattle.std.proofs.Math.Nat.{div-lt_iff_lt-mul}
@@ -19,7 +19,7 @@ use Rattle.spec_filters.specs.declared.FilterState.{FilterState}
 use Rattle.spec_forest.specs.Forest.{ids, size}
 use Rattle.spec_grid.specs.Rect.{count_from}
 use Rattle.spec_history.specs.Calls.{IsCall, most_entries}
-use Rattle.spec_history.specs.History.{Entry, Kind, asked, starts, ends, MayBe, MayEnd, after_kind, after_entry, replay_from, RunFrom, document_of, mine}
+use Rattle.spec_history.specs.History.{Entry, Kind, asked, starts, ends, MayBe, MayEnd, after_kind, after_entry, RunFrom, document_of, mine}
 use Rattle.spec_history.specs.Limited.{AsksCall, AreCalls}
 use Rattle.spec_history.specs.Machine as machine
 use Rattle.spec_history.specs.Machine.{Reply, changed, State, Saving, initial}
@@ -27,10 +27,12 @@ use Rattle.spec_history.proofs.CallsHaveEdits.{calls_have_edits, calls_are_short
 use Rattle.spec_history.proofs.Growing.{out-answer}
 use Rattle.spec_history.proofs.VersionsLimited.{short_version}
 use Rattle.spec_script.specs.Fits.{AreFit, EachFit, FitsFilters, count_calls}
-use Rattle.spec_script.specs.Script.{Line, call, save, forget, is_call, most_calls}
+use Rattle.spec_script.specs.Script.{Line, call, save, forget, is_call}
 use Rattle.spec_tables.specs.Tables.{HaveTables, expected_tables, filters_after, table_at, tables_for, tables_in}
 use Rattle.spec_text.specs.Text.{IsTextOf, calls_of, made_by}
 use Rattle.xl_doc.specs.Numbered.{AreNumbered}
+use Rattle.xl_program.specs.Playing.{calls_made}
+use Rattle.xl_sessions.specs.Outcomes.{list_at}
 
 -- ---- tables have bytes
 
@@ -51,9 +53,11 @@ byte_below Threshold amount uses b low = thresholded (nat_le amount b)
 byte_below Posterize amount uses b low = posterized (max 2 amount) b (omega arith) low
 byte_below Fade amount uses b low = let m = mul-le_left b (255 - min 255 (uses * amount)) (omega arith) in omega (arith, m, low)
 
-table_below : (kind : FilterKind) (amount uses first n : ℕ) → first + n ≤ 256 → AreBytes (map (table_byte kind amount uses) (count_from first n))
+table_below : (kind : FilterKind) (amount uses first n : ℕ) → first + n ≤ 256
+    → AreBytes (map (table_byte kind amount uses) (count_from first n))
 table_below kind amount uses first zero within = tt
-table_below kind amount uses first (suc n) within = (byte_below kind amount uses first (omega arith), table_below kind amount uses (suc first) n (omega arith))
+table_below kind amount uses first (suc n) within =
+    (byte_below kind amount uses first (omega arith), table_below kind amount uses (suc first) n (omega arith))
 
 table_bytes : (f : FilterState) → AreBytes (table_of f)
 unfolding table_of
@@ -66,7 +70,8 @@ one_table (Some f) = (table_bytes f, tt)
 tables_bytes : (filters : List FilterState) (es : List Edit) → AllByRecursion AreBytes (tables_for filters es)
 tables_bytes filters [] = tt
 tables_bytes filters (edits.filter id rect slot ∷ rest) =
-    all-append AreBytes (table_at filters slot) (tables_for (changed_at slot after_use filters) rest) (one_table (slice_get filters slot)) (tables_bytes (changed_at slot after_use filters) rest)
+    all-append AreBytes (table_at filters slot) (tables_for (changed_at slot after_use filters) rest)
+    (one_table (slice_get filters slot)) (tables_bytes (changed_at slot after_use filters) rest)
 tables_bytes filters (edit ∷ rest) = tables_bytes filters rest
 
 expected_bytes : (filters : List FilterState) (k : Kind) (r : Reply) → AllByRecursion AreBytes (expected_tables filters k r)
@@ -78,8 +83,10 @@ HasBytes e = AllByRecursion AreBytes (tables_in e.kind)
 
 have_bytes : (filters : List FilterState) (es : List Entry) → HaveTables filters es → AllByRecursion HasBytes es
 have_bytes filters [] have = tt
-have_bytes filters (e ∷ es) have =
-    (subst (AllByRecursion AreBytes) (sym have.0) (expected_bytes filters e.kind e.reply), have_bytes (filters_after filters e.kind e.reply) es have.1)
+have_bytes filters (e ∷ es) have = (
+  subst (AllByRecursion AreBytes) (sym have.0) (expected_bytes filters e.kind e.reply),
+  have_bytes (filters_after filters e.kind e.reply) es have.1,
+)
 
 -- ---- calls are within their types
 
@@ -88,19 +95,14 @@ IsCallOf (call c) = IsCall c
 IsCallOf save = Unit {0}
 IsCallOf (forget slot) = Unit {0}
 
-abbrev lines_in : List Entry → List Line
-lines_in es = filter_map (λ (e : Entry). made_by e.kind) es
-
-abbrev lines_at : List (List Line) → (session : ℕ) → List Line
-lines_at lists session = unwrap_or (slice_get lists session) []
-
 fit_calls : (n : ℕ) (dropped : List ℕ) (lines : List Line) → AreFit n dropped lines → AllByRecursion IsCallOf (calls_of lines)
 fit_calls n dropped [] fit = tt
 fit_calls n dropped (call c ∷ lines) fit = (fit.0.0, fit_calls n dropped lines fit.1)
 fit_calls n dropped (save ∷ lines) fit = (tt, fit_calls n dropped lines fit.1)
 fit_calls n dropped (forget slot ∷ lines) fit = fit_calls n (dropped ++ slot ∷ []) lines fit.1
 
-each_calls : (counts : List ℕ) (first : ℕ) (lists : List (List Line)) (session : ℕ) → EachFit counts first lists → AllByRecursion IsCallOf (calls_of (lines_at lists session))
+each_calls : (counts : List ℕ) (first : ℕ) (lists : List (List Line)) (session : ℕ) → EachFit counts first lists
+    → AllByRecursion IsCallOf (calls_of (list_at lists session))
 each_calls counts first [] session each = tt
 each_calls counts first (lines ∷ lists) zero each = fit_calls (unwrap_or (slice_get counts first) 0) [] lines each.0
 each_calls counts first (lines ∷ lists) (suc session) each = each_calls counts (suc first) lists session each.1
@@ -108,11 +110,11 @@ each_calls counts first (lines ∷ lists) (suc session) each = each_calls counts
 abbrev Asks : Entry → Type 0
 Asks e = AsksCall e.kind
 
-asks_each : (es : List Entry) → AllByRecursion IsCallOf (lines_in es) → AllByRecursion HasBytes es → AllByRecursion Asks es
+asks_each : (es : List Entry) → AllByRecursion IsCallOf (calls_made es) → AllByRecursion HasBytes es → AllByRecursion Asks es
 asks_each [] calls bytes = tt
 asks_each (e ∷ es) calls bytes = go e.kind calls bytes.0 (λ more. asks_each es more bytes.1) where
-  go : (k : Kind) → AllByRecursion IsCallOf (cons_option (made_by k) (lines_in es)) → AllByRecursion AreBytes (tables_in k)
-      → (AllByRecursion IsCallOf (lines_in es) → AllByRecursion Asks es) → AsksCall k × AllByRecursion Asks es
+  go : (k : Kind) → AllByRecursion IsCallOf (cons_option (made_by k) (calls_made es)) → AllByRecursion AreBytes (tables_in k)
+      → (AllByRecursion IsCallOf (calls_made es) → AllByRecursion Asks es) → AsksCall k × AllByRecursion Asks es
   go (asked c tables) calls bytes rest = ((calls.0, bytes), rest calls.1)
   go starts calls bytes rest = (tt, rest calls.1)
   go ends calls bytes rest = (tt, rest calls)
@@ -121,10 +123,12 @@ asks_each (e ∷ es) calls bytes = go e.kind calls bytes.0 (λ more. asks_each e
 of_sessions : (P : Entry → Type 0) (es : List Entry) → ((session : ℕ) → AllByRecursion P (mine es session)) → AllByRecursion P es
 of_sessions P [] each = tt
 of_sessions P (e ∷ es) each = (
-  (subst (λ (b : Bool). AllByRecursion P (cond b (e ∷ mine es e.session) (mine es e.session))) (eq-eqb e.session e.session refl) (each e.session)).0,
+  (subst (λ (b : Bool). AllByRecursion P (cond b (e ∷ mine es e.session) (mine es e.session))) (eq-eqb e.session e.session refl)
+      (each e.session)).0,
   of_sessions P es (λ session. rest (eqb e.session session) session (each session)),
 ) where
-  rest : (b : Bool) (session : ℕ) → AllByRecursion P (cond b (e ∷ mine es session) (mine es session)) → AllByRecursion P (mine es session)
+  rest : (b : Bool) (session : ℕ) → AllByRecursion P (cond b (e ∷ mine es session) (mine es session))
+      → AllByRecursion P (mine es session)
   rest true session h = h.1
   rest false session h = h
 
@@ -138,11 +142,12 @@ ends_once : (out : Option Saving) (e : Entry) → MayEnd out e.session e.index e
 ends_once None e may = absurd may
 ends_once (Some out) e may = refl
 
-run_short : (base : Document) (s : State) (earlier es : List Entry) → RunFrom base s earlier es → length es ≤ 2 * length (lines_in es) + owed s.out
+run_short : (base : Document) (s : State) (earlier es : List Entry) → RunFrom base s earlier es
+    → length es ≤ 2 * length (calls_made es) + owed s.out
 run_short base s earlier [] run = omega arith
 run_short base s earlier (e ∷ es) run = go e.kind run.0 (run_short base (after_entry base s e) (earlier ++ e ∷ []) es run.1) where
-  go : (k : Kind) → MayBe base s earlier e k → length es ≤ 2 * length (lines_in es) + owed (after_kind base s e k).out
-      → length (e ∷ es) ≤ 2 * length (cons_option (made_by k) (lines_in es)) + owed s.out
+  go : (k : Kind) → MayBe base s earlier e k → length es ≤ 2 * length (calls_made es) + owed (after_kind base s e k).out
+      → length (e ∷ es) ≤ 2 * length (cons_option (made_by k) (calls_made es)) + owed s.out
   go (asked c tables) may rest =
       let same : owed (after_kind base s e (asked c tables)).out ≡ owed s.out = ap owed (out-answer base s c tables) in
       omega (arith, rest, same)
@@ -155,11 +160,14 @@ abbrev sum_over : (f : ℕ → ℕ) → (first n : ℕ) → ℕ
 sum_over f first zero = 0
 sum_over f first (suc n) = f first + sum_over f (suc first) n
 
-sum_more : (f g h : ℕ → ℕ) (first n : ℕ) → ((session : ℕ) → f session ≡ g session + h session) → sum_over f first n ≡ sum_over g first n + sum_over h first n
+sum_more : (f g h : ℕ → ℕ) (first n : ℕ) → ((session : ℕ) → f session ≡ g session + h session)
+    → sum_over f first n ≡ sum_over g first n + sum_over h first n
 sum_more f g h first zero each = refl
-sum_more f g h first (suc n) each = let here = each first in let rest = sum_more f g h (suc first) n each in omega (arith, here, rest)
+sum_more f g h first (suc n) each = let here = each first in let rest = sum_more f g h (suc first) n each in
+    omega (arith, here, rest)
 
-sum_same : (f g : ℕ → ℕ) (first n : ℕ) → ((session : ℕ) → session < first + n → f session ≡ g session) → sum_over f first n ≡ sum_over g first n
+sum_same : (f g : ℕ → ℕ) (first n : ℕ) → ((session : ℕ) → session < first + n → f session ≡ g session)
+    → sum_over f first n ≡ sum_over g first n
 sum_same f g first zero each = refl
 sum_same f g first (suc n) each =
     let here = each first (omega arith) in
@@ -198,24 +206,28 @@ made_more None lines = omega arith
 made_more (Some line) lines = omega arith
 
 abbrev made_at : List Entry → (session : ℕ) → ℕ
-made_at es session = length (lines_in (mine es session))
+made_at es session = length (calls_made (mine es session))
 
-made_at_more : (e : Entry) (es : List Entry) (session : ℕ) → made_at (e ∷ es) session ≡ at_session e.session (made_count (made_by e.kind)) session + made_at es session
+made_at_more : (e : Entry) (es : List Entry) (session : ℕ)
+    → made_at (e ∷ es) session ≡ at_session e.session (made_count (made_by e.kind)) session + made_at es session
 made_at_more e es session = go (eqb e.session session) where
-  go : (b : Bool) → length (lines_in (cond b (e ∷ mine es session) (mine es session))) ≡ cond b (made_count (made_by e.kind)) 0 + made_at es session
-  go true = made_more (made_by e.kind) (lines_in (mine es session))
+  go : (b : Bool) → length (calls_made (cond b (e ∷ mine es session) (mine es session))) ≡ cond b (made_count (made_by e.kind))
+      0 + made_at es session
+  go true = made_more (made_by e.kind) (calls_made (mine es session))
   go false = omega arith
 
 abbrev IsNone : List Entry → Type 0
 IsNone [] = Unit {0}
 IsNone (e ∷ es) = ⊥
 
-all_counted : (es : List Entry) → ((session : ℕ) → 8 ≤ session → IsNone (mine es session)) → length (lines_in es) ≤ sum_over (made_at es) 0 8
+all_counted : (es : List Entry) → ((session : ℕ) → 8 ≤ session → IsNone (mine es session))
+    → length (calls_made es) ≤ sum_over (made_at es) 0 8
 all_counted [] others = omega arith
 all_counted (e ∷ es) others =
     let rest = all_counted es (λ session high. none_left (eqb e.session session) session (others session high)) in
-    let here = made_more (made_by e.kind) (lines_in es) in
-    let sums = sum_more (made_at (e ∷ es)) (at_session e.session (made_count (made_by e.kind))) (made_at es) 0 8 (made_at_more e es) in
+    let here = made_more (made_by e.kind) (calls_made es) in
+    let sums =
+    sum_more (made_at (e ∷ es)) (at_session e.session (made_count (made_by e.kind))) (made_at es) 0 8 (made_at_more e es) in
     let one = one_counts e.session (made_count (made_by e.kind)) 0 8 (omega arith) (low (ltb e.session 8) refl) in
     omega (arith, rest, here, sums, one) where
       none_left : (b : Bool) (session : ℕ) → IsNone (cond b (e ∷ mine es session) (mine es session)) → IsNone (mine es session)
@@ -226,23 +238,25 @@ all_counted (e ∷ es) others =
       low true is = ltb-true e.session 8 is
       low false is =
           let high : 8 ≤ e.session = ltb-false e.session 8 is in
-          absurd (subst (λ (b : Bool). IsNone (cond b (e ∷ mine es e.session) (mine es e.session))) (eq-eqb e.session e.session refl) (others e.session high))
+          absurd (subst (λ (b : Bool). IsNone (cond b (e ∷ mine es e.session) (mine es e.session)))
+          (eq-eqb e.session e.session refl) (others e.session high))
 
-calls_count : (lines : List Line) → length (calls_of lines) ≡ length (filter is_call lines)
-calls_count [] = refl
-calls_count (call c ∷ lines) = ap suc (calls_count lines)
-calls_count (save ∷ lines) = ap suc (calls_count lines)
-calls_count (forget slot ∷ lines) = calls_count lines
+pub calls_are : (lines : List Line) → calls_of lines ≡ filter is_call lines
+calls_are [] = refl
+calls_are (call c ∷ lines) = ap (λ rest. call c ∷ rest) (calls_are lines)
+calls_are (save ∷ lines) = ap (λ rest. save ∷ rest) (calls_are lines)
+calls_are (forget slot ∷ lines) = calls_are lines
 
 abbrev calls_at : List (List Line) → (session : ℕ) → ℕ
-calls_at lists session = length (calls_of (lines_at lists session))
+calls_at lists session = length (calls_of (list_at lists session))
 
 lists_counted : (lists : List (List Line)) (n : ℕ) → sum_over (calls_at lists) 0 n ≤ count_calls lists
 lists_counted [] n = let none = sum_none (calls_at []) 0 n (λ session. refl) in omega (arith, none)
 lists_counted (lines ∷ lists) zero = omega arith
 lists_counted (lines ∷ lists) (suc n) =
-    let here = calls_count lines in
-    let shift : sum_over (calls_at (lines ∷ lists)) 1 n ≡ sum_over (calls_at lists) 0 n = sum_shift (calls_at (lines ∷ lists)) 0 n in
+    let here = ap length (calls_are lines) in
+    let shift : sum_over (calls_at (lines ∷ lists)) 1 n ≡ sum_over (calls_at lists) 0 n =
+    sum_shift (calls_at (lines ∷ lists)) 0 n in
     let rest = lists_counted lists n in
     omega (arith, here, shift, rest)
 
@@ -253,13 +267,15 @@ small_ids d numbered =
     let few = numbered.few in
     all-each (λ id. id ≤ size d.nodes) (λ id. id ≤ 2 ^ 31) (ids d.nodes) (λ id le. omega (arith, le, few)) numbered.within
 
-module _ {d : Document} {counts : List ℕ} {lists : List (List Line)} {chests : List (List FilterState)} {out : List ℕ} {es : List Entry} (fits : FitsFilters counts lists) (text : IsTextOf out d lists chests es) where
+module _ {d : Document} {counts : List ℕ} {lists : List (List Line)} {chests : List (List FilterState)} {out : List ℕ}
+    {es : List Entry} (fits : FitsFilters counts lists) (text : IsTextOf out d lists chests es) where
   session_asks : (session : ℕ) → AllByRecursion Asks (mine es session)
   session_asks session = go (ltb session 8) refl where
     go : (b : Bool) → ltb session 8 ≡ b → AllByRecursion Asks (mine es session)
     go true is =
         let low : session < 8 = ltb-true session 8 is in
-        asks_each (mine es session) (subst (AllByRecursion IsCallOf) (sym (text.calls session low)) (each_calls counts 0 lists session fits.each))
+        asks_each (mine es session) (subst (AllByRecursion IsCallOf) (sym (text.calls session low))
+        (each_calls counts 0 lists session fits.each))
         (have_bytes (unwrap_or (slice_get chests session) []) (mine es session) (text.tables session low))
     go false is = subst (AllByRecursion Asks) (sym (text.others session (ltb-false session 8 is))) tt
 
@@ -267,13 +283,16 @@ module _ {d : Document} {counts : List ℕ} {lists : List (List Line)} {chests :
   are_few =
       let run = run_short d (initial d) [] es text.legal.run in
       let all = all_counted es (λ session high. subst IsNone (sym (text.others session high)) tt) in
-      let same : sum_over (made_at es) 0 8 ≡ sum_over (calls_at lists) 0 8 = sum_same (made_at es) (calls_at lists) 0 8 (λ session low. ap length (text.calls session (omega (arith, low)))) in
+      let same : sum_over (made_at es) 0 8 ≡ sum_over (calls_at lists) 0 8 =
+      sum_same (made_at es) (calls_at lists) 0 8 (λ session low. ap length (text.calls session (omega (arith, low)))) in
       let listed = lists_counted lists 8 in
       let few = fits.few in
       omega (arith, run, all, same, listed, few)
 
-pub each_within : (d : Document) (counts : List ℕ) (lists : List (List Line)) (chests : List (List FilterState)) (out : List ℕ) (es : List Entry) → IsDocument d
-    → AllByRecursion (λ id. id ≤ 2 ^ 31) (ids d.nodes) → FitsFilters counts lists → IsTextOf out d lists chests es → (version : ℕ) → IsDocument (document_of d es version)
+pub each_within : (d : Document) (counts : List ℕ) (lists : List (List Line)) (chests : List (List FilterState)) (out : List ℕ)
+    (es : List Entry) → IsDocument d
+    → AllByRecursion (λ id. id ≤ 2 ^ 31) (ids d.nodes) → FitsFilters counts lists → IsTextOf out d lists chests es → (version : ℕ)
+    → IsDocument (document_of d es version)
 each_within d counts lists chests out es within small fits text version =
     let calls : AreCalls es = of_sessions Asks es (session_asks fits text) in
     short_version d es version within small (calls_have_edits es calls) (calls_are_short es calls) (are_few fits text)
