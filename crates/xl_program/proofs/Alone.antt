@@ -24,7 +24,8 @@ ends_later : (start : Reply) (es more : List Entry) → EndsNext start es → En
 ends_later start [] more h = absurd h
 ends_later start (e ∷ es) more h = h
 
-alone_later : (base : Document) (earlier : List Entry) (k : Kind) (r : Reply) (es more : List Entry) → IsAlone base earlier k r es → IsAlone base earlier k r (es ++ more)
+alone_later : (base : Document) (earlier : List Entry) (k : Kind) (r : Reply) (es more : List Entry) → IsAlone base earlier k r es
+    → IsAlone base earlier k r (es ++ more)
 alone_later base earlier (asked (edit guard es') tables) r es more h = tt
 alone_later base earlier (asked (undo named) tables) r es more h = tt
 alone_later base earlier (asked redo tables) r es more h = tt
@@ -34,11 +35,13 @@ alone_later base earlier (asked top tables) r es more h = tt
 alone_later base earlier starts r es more h = ends_later r es more h
 alone_later base earlier ends r es more h = tt
 
-pub alone_append : (base : Document) (earlier es more : List Entry) → AreAlone base earlier es → AreAlone base (earlier ++ es) more → AreAlone base earlier (es ++ more)
+pub alone_append : (base : Document) (earlier es more : List Entry) → AreAlone base earlier es → AreAlone base (earlier ++ es) more
+    → AreAlone base earlier (es ++ more)
 alone_append base earlier [] more first rest = subst (λ l. AreAlone base l more) (append-nil earlier) rest
 alone_append base earlier (e ∷ es) more first rest = (
   alone_later base earlier e.kind e.reply es more first.0,
-  alone_append base (earlier ++ e ∷ []) es more first.1 (subst (λ l. AreAlone base l more) (sym (append_assoc earlier (e ∷ []) es)) rest),
+  alone_append base (earlier ++ e ∷ []) es more first.1
+      (subst (λ l. AreAlone base l more) (sym (append_assoc earlier (e ∷ []) es)) rest),
 )
 
 -- what holds of a history where session 0 is alone and no save failed
@@ -60,7 +63,8 @@ no_fault_last es e none = go (ends_by_fault e.kind e.reply) (save_faults-snoc es
 
 -- ---- a call
 
-pub alone_call : (base : Document) (es : List Entry) (e : Entry) → AloneIf base es → (AreOf 0 es → e.session ≡ 0 → IsAlone base es e.kind e.reply []) → AloneIf base (es ++ e ∷ [])
+pub alone_call : (base : Document) (es : List Entry) (e : Entry) → AloneIf base es
+    → (AreOf 0 es → e.session ≡ 0 → IsAlone base es e.kind e.reply []) → AloneIf base (es ++ e ∷ [])
 alone_call base es e before last all none =
     let parts = front_of es (e ∷ []) all in
     alone_append base [] es (e ∷ []) (before parts.0 (no_fault_before es e none)) (last parts.0 parts.1.0, tt)
@@ -73,12 +77,15 @@ alone_kept (Some k) now = go (k == now) refl where
   go false q = sym (ap (λ b. cond b (tile_of now) (stale (Some k) now)) q)
 
 -- a peek of a world whose pictures are just those that have to be kept, by a session that has seen its last version
-pub alone_peek : (base : Document) (w : World) (stack : ℕ) (at : TileAt) (seen : ℕ) (tables : List (List ℕ)) → IsRight base w → SlotsAreExact base w → seen ≡ latest w.state
+pub alone_peek : (base : Document) (w : World) (stack : ℕ) (at : TileAt) (seen : ℕ) (tables : List (List ℕ)) → IsRight base w
+    → SlotsAreExact base w → seen ≡ latest w.state
     → IsAlonePeek (history.kept base w.entries stack at) (latest w.state) (reply_to base w (peek stack at) seen tables)
 alone_peek base w stack at seen tables right exact last =
     let k = history.kept base w.entries stack at in
-    subst (IsAlonePeek k (latest w.state)) (sym (ap (λ n. reply_to base w (peek stack at) n tables) last ∙ answers-so base w stack at tables right exact))
-    (tile_either (λ (plain : Reply). IsAlonePeek k (latest w.state) (where_tile plain (kept_peek k (latest w.state)))) (document_at base w.state (latest w.state)) stack at (tile_of (latest w.state)) tt tt
+    subst (IsAlonePeek k (latest w.state))
+    (sym (ap (λ n. reply_to base w (peek stack at) n tables) last ∙ answers-so base w stack at tables right exact))
+    (tile_either (λ (plain : Reply). IsAlonePeek k (latest w.state) (where_tile plain (kept_peek k (latest w.state))))
+    (document_at base w.state (latest w.state)) stack at (tile_of (latest w.state)) tt tt
     (alone_kept k (latest w.state)))
 
 -- ---- a save
@@ -90,14 +97,17 @@ same_end now (save_fault v) is printed none = let bad : true ≡ false = none in
 same_end now (save_memory v) is printed none = let bad : true ≡ false = printed in cc
 same_end now r is printed none = absurd is
 
-pub alone_save : (base : Document) (es : List Entry) (start end : Entry) (now : ℕ) → AloneIf base es → start.kind ≡ starts → end.kind ≡ ends → start.reply ≡ saved now → EndsWith now end.reply
+pub alone_save : (base : Document) (es : List Entry) (start end : Entry) (now : ℕ) → AloneIf base es → start.kind ≡ starts
+    → end.kind ≡ ends → start.reply ≡ saved now → EndsWith now end.reply
     → is_save_memory end.reply ≡ false → AloneIf base (es ++ start ∷ end ∷ [])
 alone_save base es start end now before starts_now ends_now first last printed all none =
     let parts = front_of es (start ∷ end ∷ []) all in
-    let faults : save_faults ((es ++ start ∷ []) ++ end ∷ []) ≡ 0 = ap save_faults (append_assoc es (start ∷ []) (end ∷ [])) ∙ none in
+    let faults : save_faults ((es ++ start ∷ []) ++ end ∷ []) ≡ 0 =
+    ap save_faults (append_assoc es (start ∷ []) (end ∷ [])) ∙ none in
     let fault = subst (λ k. ends_by_fault k end.reply ≡ false) ends_now (no_fault_last (es ++ start ∷ []) end faults) in
     let same : end.reply ≡ start.reply = same_end now end.reply last printed fault ∙ sym first in
-    alone_append base [] es (start ∷ end ∷ []) (before parts.0 (no_fault_before es start (no_fault_before (es ++ start ∷ []) end faults))) (
+    alone_append base [] es (start ∷ end ∷ [])
+    (before parts.0 (no_fault_before es start (no_fault_before (es ++ start ∷ []) end faults))) (
       subst (λ k. IsAlone base es k start.reply (end ∷ [])) (sym starts_now) (subst IsEnd (sym ends_now) tt, same),
       (subst (λ k. IsAlone base (es ++ start ∷ []) k end.reply []) (sym ends_now) tt, tt),
     )

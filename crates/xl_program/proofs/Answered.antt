@@ -27,7 +27,8 @@ IsOf now (save_memory version) = ⊥
 IsOf now history_full = ⊥
 IsOf now reply = Unit {0}
 
-made_of : (n : ℕ) (s : State) (old : At) (es : List Edit) (tables : List (List ℕ)) (r : Result At Refused) → IsOf n (made s old es tables r).reply
+made_of : (n : ℕ) (s : State) (old : At) (es : List Edit) (tables : List (List ℕ)) (r : Result At Refused)
+    → IsOf n (made s old es tables r).reply
 made_of n s old es tables (Err r) = tt
 made_of n s old es tables (Ok new) = tt
 
@@ -40,7 +41,8 @@ redo_of n s [] = tt
 redo_of n s (d ∷ ds) = tt
 
 -- of the replies to a tile, whichever is given
-pub tile_either : (P : Reply → Type 0) (d : Document) (stack : ℕ) (at : TileAt) (reply : Reply) → P (no_stack stack) → P outside_tile → P reply → P (tile_reply d stack at reply)
+pub tile_either : (P : Reply → Type 0) (d : Document) (stack : ℕ) (at : TileAt) (reply : Reply) → P (no_stack stack)
+    → P outside_tile → P reply → P (tile_reply d stack at reply)
 tile_either P d stack at reply none outside given =
     cond_both P (not (has_stack d stack)) (no_stack stack) (cond (not (is_on_grid d.width d.height at)) outside_tile reply) none
     (cond_both P (not (is_on_grid d.width d.height at)) outside_tile reply outside given)
@@ -48,12 +50,15 @@ tile_either P d stack at reply none outside given =
 answer_of : (base : Document) (s : State) (c : Call) (tables : List (List ℕ)) → IsOf (latest s) (answer base s c tables).reply
 answer_of base s (edit guard es) tables =
     let old : At = record { document = document_at base s (latest s); next = s.next_id } in
-    cond_both (λ (a : Answer). IsOf (latest s) a.reply) (names guard (latest s)) (made s old es tables (apply_group old es tables)) (stays s (moved (latest s)))
+    cond_both (λ (a : Answer). IsOf (latest s) a.reply) (names guard (latest s)) (made s old es tables (apply_group old es tables))
+    (stays s (moved (latest s)))
     (made_of (latest s) s old es tables (apply_group old es tables)) tt
 answer_of base s (undo named) tables = undo_of (latest s) s named s.undo
 answer_of base s redo tables = redo_of (latest s) s s.redo
-answer_of base s (tile stack at) tables = tile_either (IsOf (latest s)) (document_at base s (latest s)) stack at (tile_of (latest s)) tt tt refl
-answer_of base s (peek stack at) tables = tile_either (IsOf (latest s)) (document_at base s (latest s)) stack at (tile_of (latest s)) tt tt refl
+answer_of base s (tile stack at) tables =
+    tile_either (IsOf (latest s)) (document_at base s (latest s)) stack at (tile_of (latest s)) tt tt refl
+answer_of base s (peek stack at) tables =
+    tile_either (IsOf (latest s)) (document_at base s (latest s)) stack at (tile_of (latest s)) tt tt refl
 answer_of base s top tables = tt
 
 -- ---- to a session that has seen a version
@@ -80,14 +85,18 @@ said_peek (Some k) seen = go (nat_lt k.version seen) refl where
   go true q = refl
   go false q = ltb-false k.version seen q
 
-pub reply_said : (base : Document) (w : World) (c : Call) (seen : ℕ) (tables : List (List ℕ)) → seen ≤ latest w.state → IsSaid seen (reply_to base w c seen tables)
-reply_said base w (edit guard es) seen tables le = said_of seen (latest w.state) _ le (answer_of base w.state (edit guard es) tables)
+pub reply_said : (base : Document) (w : World) (c : Call) (seen : ℕ) (tables : List (List ℕ)) → seen ≤ latest w.state
+    → IsSaid seen (reply_to base w c seen tables)
+reply_said base w (edit guard es) seen tables le =
+    said_of seen (latest w.state) _ le (answer_of base w.state (edit guard es) tables)
 reply_said base w (undo named) seen tables le = said_of seen (latest w.state) _ le (answer_of base w.state (undo named) tables)
 reply_said base w redo seen tables le = said_of seen (latest w.state) _ le (answer_of base w.state redo tables)
-reply_said base w (tile stack at) seen tables le = said_of seen (latest w.state) _ le (answer_of base w.state (tile stack at) tables)
+reply_said base w (tile stack at) seen tables le =
+    said_of seen (latest w.state) _ le (answer_of base w.state (tile stack at) tables)
 reply_said base w (peek stack at) seen tables le =
     let shown = peek_reply (kept w.cache stack at (latest w.state)) seen in
-    tile_either (λ (plain : Reply). IsSaid seen (where_tile plain shown)) (document_at base w.state (latest w.state)) stack at (tile_of (latest w.state)) tt tt
+    tile_either (λ (plain : Reply). IsSaid seen (where_tile plain shown)) (document_at base w.state (latest w.state)) stack
+    at (tile_of (latest w.state)) tt tt
     (said_peek (kept w.cache stack at (latest w.state)) seen)
 reply_said base w top seen tables le = tt
 
@@ -117,12 +126,15 @@ up_to_peek base s stack r h = tt
 up_to_same : (now : ℕ) (r plain : Reply) → r ≡ plain → IsOf now plain → IsUpTo now r
 up_to_same now r plain same h = subst (IsUpTo now) (sym same) (up_to_of now plain h)
 
-pub answers_up_to : (base : Document) (s : State) (c : Call) (tables : List (List ℕ)) (r : Reply) → Answers base s c tables r → IsUpTo (latest s) r
+pub answers_up_to : (base : Document) (s : State) (c : Call) (tables : List (List ℕ)) (r : Reply) → Answers base s c tables r
+    → IsUpTo (latest s) r
 answers_up_to base s (edit guard es) tables r answers = up_to_same (latest s) r _ answers (answer_of base s (edit guard es) tables)
 answers_up_to base s (undo named) tables r answers = up_to_same (latest s) r _ answers (answer_of base s (undo named) tables)
 answers_up_to base s redo tables r answers = up_to_same (latest s) r _ answers (answer_of base s redo tables)
 answers_up_to base s (tile stack at) tables r answers = up_to_same (latest s) r _ answers (answer_of base s (tile stack at) tables)
 answers_up_to base s (peek stack at) tables r answers =
-    tile_either (λ (plain : Reply). PeekAnswers base s stack plain r → IsUpTo (latest s) r) (document_at base s (latest s)) stack at (tile_of (latest s))
-    (λ same. up_to_same (latest s) r (no_stack stack) same tt) (λ same. up_to_same (latest s) r outside_tile same tt) (up_to_peek base s stack r) answers
+    tile_either (λ (plain : Reply). PeekAnswers base s stack plain r → IsUpTo (latest s) r) (document_at base s (latest s)) stack
+    at (tile_of (latest s))
+    (λ same. up_to_same (latest s) r (no_stack stack) same tt) (λ same. up_to_same (latest s) r outside_tile same tt)
+    (up_to_peek base s stack r) answers
 answers_up_to base s top tables r answers = up_to_same (latest s) r _ answers tt

@@ -8,7 +8,8 @@ use Rattle.xl_program.specs.declared.stopped.Stopped.{Stopped}
 use Rattle.xl_program.specs.declared.stopped.Stopped.TheVariants.{SourceFault, BadLine, ShelfFault, Refused, SaveFault, SinkFault, Memory}
 
 -- the cause of a command that a fault of reading stops
-pub cause_of : (before after : Known) (command : Asked) (result : Result (Unit {0}) Stopped) → (Rose before.reading after.reading → FaultsRose before after command)
+pub cause_of : (before after : Known) (command : Asked) (result : Result (Unit {0}) Stopped)
+    → (Rose before.reading after.reading → FaultsRose before after command)
     → ShelfCause before.reading after.reading result → ShelfCauseOf before after command result
 cause_of before after command (Ok x) rises cause = cause
 cause_of before after command (Err SourceFault) rises cause = cause

@@ -18,7 +18,7 @@ use Rattle.xl_doc.specs.Numbered.{AreNumbered}
 use Rattle.xl_program.proofs.Earlier.{right_earlier}
 use Rattle.xl_program.proofs.LastFile.{has_last}
 use Rattle.xl_program.proofs.Taken.{untouched}
-use Rattle.xl_program.proofs.Within.{each_within, small_ids}
+use Rattle.xl_program.proofs.VersionsWithin.{each_within, small_ids}
 
 -- what was known when the script was played
 pub record IsOpened (given : Given) (before mid : Shelved) (name : List ℕ) (d : Document) (lists : List (List Line)) : Type 0 where
@@ -39,10 +39,14 @@ pub some_failed : (b : Bool) → b ≡ true → (n : ℕ) → WhetherFailed b n 
 some_failed true is n h = h
 some_failed false is n h = let bad : false ≡ true = is in cc
 
-module _ {given : Given} {before mid : Shelved} {name : List ℕ} {d : Document} {lists : List (List Line)} (known_then : IsOpened given before mid name d lists) (after : Shelved) (workers : ℕ) where
-  history_of : (replies : Result Replies AllocError) (played : IsPlayed mid.known after.known d lists given.chests workers replies) → IsHistory name before after d played.entries
+module _ {given : Given} {before mid : Shelved} {name : List ℕ} {d : Document} {lists : List (List Line)}
+    (known_then : IsOpened given before mid name d lists) (after : Shelved) (workers : ℕ) where
+  history_of : (replies : Result Replies AllocError) (played : IsPlayed mid.known after.known d lists given.chests workers replies)
+      → IsHistory name before after d played.entries
   history_of replies played =
-      let right = right_earlier (opened before name) mid.known after.known d played.entries (sym known_then.named) (sym known_then.reading) (sym known_then.untouched.saving) known_then.untouched.quiet played.shelf in
+      let right =
+      right_earlier (opened before name) mid.known after.known d played.entries (sym known_then.named) (sym known_then.reading)
+      (sym known_then.untouched.saving) known_then.untouched.quiet played.shelf in
       record {
         held = known_then.holds;
         within = known_then.within;
@@ -51,7 +55,9 @@ module _ {given : Given} {before mid : Shelved} {name : List ℕ} {d : Document}
         file = λ none. has_last d played.entries name before.known.disk after.known.disk none right.contents;
       }
 
-  replies_of : (replies : Replies) (P : ℕ → Type 0) (played : IsPlayed mid.known after.known d lists given.chests workers (Ok replies)) → ((n : ℕ) → WhetherFailed replies.save_failed n → P n)
+  replies_of : (replies : Replies) (P : ℕ → Type 0)
+      (played : IsPlayed mid.known after.known d lists given.chests workers (Ok replies))
+      → ((n : ℕ) → WhetherFailed replies.save_failed n → P n)
       → IsReplies given name before after workers P (string_bytes replies.text)
   replies_of replies P played fails = record {
     document = d;
@@ -59,7 +65,8 @@ module _ {given : Given} {before mid : Shelved} {name : List ℕ} {d : Document}
     entries = played.entries;
     history = history_of (Ok replies) played;
     read = known_then.read;
-    versions = each_within d (map length given.chests) lists given.chests (string_bytes replies.text) played.entries known_then.within
+    versions =
+        each_within d (map length given.chests) lists given.chests (string_bytes replies.text) played.entries known_then.within
         (small_ids d known_then.numbered) known_then.fits played.told.text;
     text = played.told.text;
     alone = played.told.alone;
@@ -67,12 +74,16 @@ module _ {given : Given} {before mid : Shelved} {name : List ℕ} {d : Document}
   }
 
   -- what is written, and the shelf
-  pub played_comes : {K : Type 0} (held : K → Option (List ℕ)) (faults : K → ℕ) (old new : K) (replies : Result Replies AllocError) (result : Result (Unit {0}) Stopped)
+  pub played_comes : {K : Type 0} (held : K → Option (List ℕ)) (faults : K → ℕ) (old new : K) (replies : Result Replies AllocError)
+      (result : Result (Unit {0}) Stopped)
       → IsPlayed mid.known after.known d lists given.chests workers replies → WritesReplies held faults old new replies result
       → ComesTo held faults given before after (edit name workers) old new result
-  played_comes held faults old new (Ok replies) (Ok x) played writes = (string_bytes replies.text, replies_of replies NoneFailed played (none_failed replies.save_failed writes.1), writes.0)
-  played_comes held faults old new (Ok replies) (Err SaveFault) played writes = (string_bytes replies.text, replies_of replies SomeFailed played (some_failed replies.save_failed writes.1), writes.0)
-  played_comes held faults old new (Ok replies) (Err SinkFault) played writes = (string_bytes replies.text, replies_of replies AnyFailed played (λ n h. tt), writes)
+  played_comes held faults old new (Ok replies) (Ok x) played writes =
+      (string_bytes replies.text, replies_of replies NoneFailed played (none_failed replies.save_failed writes.1), writes.0)
+  played_comes held faults old new (Ok replies) (Err SaveFault) played writes =
+      (string_bytes replies.text, replies_of replies SomeFailed played (some_failed replies.save_failed writes.1), writes.0)
+  played_comes held faults old new (Ok replies) (Err SinkFault) played writes =
+      (string_bytes replies.text, replies_of replies AnyFailed played (λ n h. tt), writes)
   played_comes held faults old new (Ok replies) (Err SourceFault) played writes = absurd writes
   played_comes held faults old new (Ok replies) (Err (BadLine number)) played writes = absurd writes
   played_comes held faults old new (Ok replies) (Err ShelfFault) played writes = absurd writes
@@ -85,7 +96,8 @@ module _ {given : Given} {before mid : Shelved} {name : List ℕ} {d : Document}
 -- ---- why an editing stops
 
 -- before the file is read
-pub read_stopped : {K : Type 0} (held : K → Option (List ℕ)) (faults : K → ℕ) (given : Given) (s : Shelved) (name : List ℕ) (sink : K) (why : Stopped) → ReadsScript given (Err why)
+pub read_stopped : {K : Type 0} (held : K → Option (List ℕ)) (faults : K → ℕ) (given : Given) (s : Shelved) (name : List ℕ)
+    (sink : K) (why : Stopped) → ReadsScript given (Err why)
     → (workers : ℕ) → ComesTo held faults given s s (edit name workers) sink sink (Err why)
 read_stopped held faults given s name sink SourceFault reads workers = ((refl, refl), untouched s)
 read_stopped held faults given s name sink (BadLine number) reads workers = ((refl, refl), untouched s)
@@ -96,7 +108,8 @@ read_stopped held faults given s name sink SinkFault reads workers = absurd read
 read_stopped held faults given s name sink Memory reads workers = ((refl, refl), inl (untouched s))
 
 -- by the file
-pub load_stops : (given : Given) (content : Option Content) (lists : List (List Line)) (why : Stopped) → HasLines given lists → Loads content (Err why) → StopsEdit given content (Err why)
+pub load_stops : (given : Given) (content : Option Content) (lists : List (List Line)) (why : Stopped) → HasLines given lists
+    → Loads content (Err why) → StopsEdit given content (Err why)
 load_stops given content lists SourceFault has loads = absurd loads
 load_stops given content lists (BadLine number) has loads = absurd loads
 load_stops given content lists ShelfFault has loads = (lists, has)
@@ -106,7 +119,8 @@ load_stops given content lists SinkFault has loads = absurd loads
 load_stops given content lists Memory has loads = tt
 
 -- after the script was played
-pub play_stops : {K : Type 0} (held : K → Option (List ℕ)) (faults : K → ℕ) (old new : K) (given : Given) (content : Option Content) (lists : List (List Line)) (replies : Result Replies AllocError) (result : Result (Unit {0}) Stopped)
+pub play_stops : {K : Type 0} (held : K → Option (List ℕ)) (faults : K → ℕ) (old new : K) (given : Given) (content : Option Content)
+    (lists : List (List Line)) (replies : Result Replies AllocError) (result : Result (Unit {0}) Stopped)
     → HasLines given lists → WritesReplies held faults old new replies result → StopsEdit given content result
 play_stops held faults old new given content lists (Ok replies) (Ok x) has writes = tt
 play_stops held faults old new given content lists (Ok replies) (Err SourceFault) has writes = absurd writes

@@ -19,23 +19,29 @@ saves_earlier name bytes a b c quiet save =
     let first = quiet.time.later in
     let then = save.later in
     saves name bytes a c (omega arith)
-    (λ since x le left. ⊎_elim (λ was. inl (quiet_left a b name since x quiet le was)) (λ new. inr new) (save.each since x (omega (arith, le, first)) left))
+    (λ since x le left.
+    ⊎_elim (λ was. inl (quiet_left a b name since x quiet le was)) (λ new. inr new)
+    (save.each since x (omega (arith, le, first)) left))
     (λ other since x le left. save.keeps other since x (omega (arith, le, first)) (quiet.time.keeps other since x le left))
     (λ x may. ⊎_elim (λ was. inl (stays_back a b name (quiet.stays name) x was)) (λ new. inr new) (save.now x may))
     (⊎_elim (λ same. inl (same ∙ (quiet.stays name).read)) (λ new. inr new) save.read)
     (λ other not. stays_then other (quiet.stays other) (save.elsewhere other not))
-    (λ other not since x le left. quiet_left a b other since x quiet le (save.elsewhere_each other not since x (omega (arith, le, first)) left))
+    (λ other not since x le left.
+    quiet_left a b other since x quiet le (save.elsewhere_each other not since x (omega (arith, le, first)) left))
 
-done_earlier : (name bytes : List ℕ) (a b c : Disk) → IsQuiet a b → SavesOnly name bytes b c × HasSaved name bytes c → SavesOnly name bytes a c × HasSaved name bytes c
+done_earlier : (name bytes : List ℕ) (a b c : Disk) → IsQuiet a b → SavesOnly name bytes b c × HasSaved name bytes c
+    → SavesOnly name bytes a c × HasSaved name bytes c
 done_earlier name bytes a b c quiet save = (saves_earlier name bytes a b c quiet save.0, save.1)
 
 module _ (d : Document) (opening mid after : Known) where
-  pub saved_first : mid.selected ≡ opening.selected → Between opening.disk mid.disk IsQuiet → mid.reading ≡ opening.reading → mid.saving ≡ opening.saving
+  pub saved_first : mid.selected ≡ opening.selected → Between opening.disk mid.disk IsQuiet → mid.reading ≡ opening.reading
+      → mid.saving ≡ opening.saving
       → IsSavedOn mid d Done after → IsSavedOn opening d Done after
   saved_first selected quiet reading saving save =
       let name : List ℕ = file_name opening in
       let same : file_name mid ≡ name = ap (λ (o : Option (List ℕ)). unwrap_or o []) selected in
-      let puts : Puts Done d name mid.disk after.disk = subst (λ (n : List ℕ). Puts Done d n mid.disk after.disk) same save.contents in
+      let puts : Puts Done d name mid.disk after.disk =
+      subst (λ (n : List ℕ). Puts Done d n mid.disk after.disk) same save.contents in
       record {
         selected = save.selected ∙ selected;
         reading = save.reading ∙ reading;
@@ -43,17 +49,20 @@ module _ (d : Document) (opening mid after : Known) where
         contents = (
           puts.0,
           puts.1,
-          one_then IsQuiet (λ b a. SavesOnly name puts.0 b a × HasSaved name puts.0 a) (λ b a. SavesOnly name puts.0 b a × HasSaved name puts.0 a) (done_earlier name puts.0)
+          one_then IsQuiet (λ b a. SavesOnly name puts.0 b a × HasSaved name puts.0 a)
+              (λ b a. SavesOnly name puts.0 b a × HasSaved name puts.0 a) (done_earlier name puts.0)
               opening.disk mid.disk after.disk quiet puts.2,
         );
       }
 
-  pub failed_first : mid.selected ≡ opening.selected → Between opening.disk mid.disk IsQuiet → mid.reading ≡ opening.reading → mid.saving ≡ opening.saving
+  pub failed_first : mid.selected ≡ opening.selected → Between opening.disk mid.disk IsQuiet → mid.reading ≡ opening.reading
+      → mid.saving ≡ opening.saving
       → IsSavedOn mid d Fault after → IsSavedOn opening d Fault after
   failed_first selected quiet reading saving save =
       let name : List ℕ = file_name opening in
       let same : file_name mid ≡ name = ap (λ (o : Option (List ℕ)). unwrap_or o []) selected in
-      let puts : Puts Fault d name mid.disk after.disk = subst (λ (n : List ℕ). Puts Fault d n mid.disk after.disk) same save.contents in
+      let puts : Puts Fault d name mid.disk after.disk =
+      subst (λ (n : List ℕ). Puts Fault d n mid.disk after.disk) same save.contents in
       record {
         selected = save.selected ∙ selected;
         reading = save.reading ∙ reading;
@@ -61,7 +70,8 @@ module _ (d : Document) (opening mid after : Known) where
         contents = (
           puts.0,
           puts.1,
-          one_then IsQuiet (SavesOnly name puts.0) (SavesOnly name puts.0) (saves_earlier name puts.0) opening.disk mid.disk after.disk quiet puts.2,
+          one_then IsQuiet (SavesOnly name puts.0) (SavesOnly name puts.0) (saves_earlier name puts.0) opening.disk mid.disk
+              after.disk quiet puts.2,
         );
       }
 

@@ -43,8 +43,10 @@ end_unchanged Memory v = refl
 
 module _ {D : Type 0} where
   -- an entry that makes no version and shows no tile leaves the kept pictures as they are
-  entry_kept : (old new : Editing D) (e : Entry) → KeepsExactly old → IsLegal old.history.base old.history.entries → new.history ≡ with_entry old.history e → new.cache ≡ old.cache
-      → IsLegal new.history.base new.history.entries → IsRight new.history.base (world new) → PeekMeetsKept old.history.base old.history.entries e.kind e.reply → is_changed e.reply ≡ false
+  entry_kept : (old new : Editing D) (e : Entry) → KeepsExactly old → IsLegal old.history.base old.history.entries
+      → new.history ≡ with_entry old.history e → new.cache ≡ old.cache
+      → IsLegal new.history.base new.history.entries → IsRight new.history.base (world new)
+      → PeekMeetsKept old.history.base old.history.entries e.kind e.reply → is_changed e.reply ≡ false
       → ((stack : ℕ) (at : TileAt) → shown_version e.kind e.reply stack at ≡ None) → KeepsExactly new
   entry_kept old new e kept legal grown same legal_now right peeks unchanged silent =
       let base = old.history.base in
@@ -56,14 +58,20 @@ module _ {D : Type 0} where
       record {
         within = subst (λ (h : History). IsDocument h.base) (sym grown) kept.within;
         right = right;
-        exact = subst (λ (h : History). P h new.cache) (sym grown) (subst (P (with_entry old.history e)) (sym same) (stays-exact base (world old) e next unchanged silent));
+        exact = subst (λ (h : History). P h new.cache) (sym grown)
+            (subst (P (with_entry old.history e)) (sym same) (stays-exact base (world old) e next unchanged silent));
       }
 
   -- so does a save
-  pub save_kept : (core mid new : Editing D) (session v : ℕ) (d : Document) (k k' : D) (how : SaveEnd) (reply : Reply) → Begins core session (Snapshot v d k) mid → Ends mid session how k' reply new
-      → KeepsExactly core → IsLegal core.history.base core.history.entries → IsLegal mid.history.base mid.history.entries → IsRight mid.history.base (world mid)
+  pub save_kept : (core mid new : Editing D) (session v : ℕ) (d : Document) (k k' : D) (how : SaveEnd) (reply : Reply)
+      → Begins core session (Snapshot v d k) mid → Ends mid session how k' reply new
+      → KeepsExactly core → IsLegal core.history.base core.history.entries → IsLegal mid.history.base mid.history.entries
+      → IsRight mid.history.base (world mid)
       → IsLegal new.history.base new.history.entries → IsRight new.history.base (world new) → KeepsExactly new
   save_kept core mid new session v d k k' how reply begins ended kept legal legal_mid right_mid legal_new right_new =
-      let first = entry_kept core mid (start_of core.history session) kept legal (ap (λ (c : Editing D). c.history) begins.4) (ap (λ (c : Editing D). c.cache) begins.4) legal_mid right_mid tt refl (λ stack at. refl) in
-      entry_kept mid new (end_of mid.history session reply) first legal_mid (ap (λ (c : Editing D). c.history) ended.1) (ap (λ (c : Editing D). c.cache) ended.1) legal_new right_new tt
+      let first =
+      entry_kept core mid (start_of core.history session) kept legal (ap (λ (c : Editing D). c.history) begins.4)
+      (ap (λ (c : Editing D). c.cache) begins.4) legal_mid right_mid tt refl (λ stack at. refl) in
+      entry_kept mid new (end_of mid.history session reply) first legal_mid (ap (λ (c : Editing D). c.history) ended.1)
+      (ap (λ (c : Editing D). c.cache) ended.1) legal_new right_new tt
       (ap is_changed ended.0 ∙ end_unchanged how _) (λ stack at. refl)

@@ -1,5 +1,5 @@
 -- Where no save failed, the file has the version of the last save that was acknowledged.
-use Rattle.std.proofs.Common.{◌≡◌, ℕ, ◌+◌, Bool, true, false, cond, List, [], ◌∷◌, Some, None, inl, inr, refl, ap, sym, ◌∙◌, arith, subst}
+use Rattle.std.proofs.Common.{◌≡◌, ℕ, ◌+◌, Bool, true, false, cond, List, [], ◌∷◌, Some, None, inl, inr, refl, ap, ◌∙◌, arith, subst}
 use Rattle.std.specs.Prelude.{fold, Option}
 use Rattle.std.proofs.lemmas.List.Sums.{sum_by-cons}
 use Rattle.spec_document.specs.Document.{Document}
@@ -9,7 +9,7 @@ use Rattle.spec_history.specs.History.{Entry, Kind, asked, starts, ends}
 use Rattle.spec_saves.specs.Names.{Named, the_old, version, after_kind, after_one, names, ends_by_fault, save_faults}
 use Rattle.spec_saves.specs.Contents.{IsIn, IsVersion}
 use Rattle.spec_saves.specs.Shelf.{DiskIsRight, IsSettled}
-use Rattle.xl_ports.specs.Disk.{Disk, MayLeave, LeavesJust, Between}
+use Rattle.xl_ports.specs.Disk.{Disk, MayLeave, Between}
 use Rattle.xl_ports.specs.Shelf.{Content}
 use Rattle.xl_program.specs.LastSaved.{acknowledged, last_saved, HasVersion, HasLastSaved}
 
@@ -19,7 +19,8 @@ names_of ns None = ns
 names_of ns (Some v) = version v ∷ []
 
 -- what an entry that is no fault makes of the names
-named_once : (ns : List Named) (k : Kind) (r : Reply) → ends_by_fault k r ≡ false → after_kind ns k r ≡ names_of ns (acknowledged k r)
+named_once : (ns : List Named) (k : Kind) (r : Reply) → ends_by_fault k r ≡ false
+    → after_kind ns k r ≡ names_of ns (acknowledged k r)
 named_once ns (asked call tables) r none = refl
 named_once ns starts r none = refl
 named_once ns ends (saved v) none = refl
@@ -46,18 +47,25 @@ later_first ns k r None none = named_once ns k r none
 names_are : (ns : List Named) (es : List Entry) → save_faults es ≡ 0 → fold after_one ns es ≡ names_of ns (last_saved es)
 names_are ns [] none = refl
 names_are ns (e ∷ es) none = go (ends_by_fault e.kind e.reply) refl (names_are (after_one ns e) es) where
-  go : (b : Bool) → ends_by_fault e.kind e.reply ≡ b → (save_faults es ≡ 0 → fold after_one (after_one ns e) es ≡ names_of (after_one ns e) (last_saved es))
+  go : (b : Bool) → ends_by_fault e.kind e.reply ≡ b
+      → (save_faults es ≡ 0 → fold after_one (after_one ns e) es ≡ names_of (after_one ns e) (last_saved es))
       → fold after_one ns (e ∷ es) ≡ names_of ns (last_saved (e ∷ es))
   go true is rest =
-      let here : save_faults (e ∷ es) ≡ 1 + save_faults es = sum_by-cons (λ (x : Entry). cond (ends_by_fault x.kind x.reply) 1 0) e es ∙ ap (λ (b : Bool). cond b 1 0 + save_faults es) is in
+      let here : save_faults (e ∷ es) ≡ 1 + save_faults es =
+      sum_by-cons (λ (x : Entry). cond (ends_by_fault x.kind x.reply) 1 0) e es
+      ∙ ap (λ (b : Bool). cond b 1 0 + save_faults es) is in
       absurd (omega (arith, here, none))
   go false is rest =
-      let here : save_faults (e ∷ es) ≡ 0 + save_faults es = sum_by-cons (λ (x : Entry). cond (ends_by_fault x.kind x.reply) 1 0) e es ∙ ap (λ (b : Bool). cond b 1 0 + save_faults es) is in
+      let here : save_faults (e ∷ es) ≡ 0 + save_faults es =
+      sum_by-cons (λ (x : Entry). cond (ends_by_fault x.kind x.reply) 1 0) e es
+      ∙ ap (λ (b : Bool). cond b 1 0 + save_faults es) is in
       rest (omega (arith, here, none)) ∙ later_first ns e.kind e.reply (last_saved es) is
 
 -- what is left under one name
-one_name : (base : Document) (es : List Entry) (name : List ℕ) (was now : Disk) (last : Option ℕ) → IsSettled (names_of (the_old ∷ []) last) name was now
-    → ((c : Content) → MayLeave now name c → IsIn base es was name c (names_of (the_old ∷ []) last)) → HasVersion name base es last was now
+one_name : (base : Document) (es : List Entry) (name : List ℕ) (was now : Disk) (last : Option ℕ)
+    → IsSettled (names_of (the_old ∷ []) last) name was now
+    → ((c : Content) → MayLeave now name c → IsIn base es was name c (names_of (the_old ∷ []) last))
+    → HasVersion name base es last was now
 one_name base es name was now (Some v) settled leaves = (is_first (leaves (now.read name) (inl refl)), settled) where
   is_first : IsIn base es was name (now.read name) (version v ∷ []) → IsVersion base es v (now.read name)
   is_first (inl is) = is
@@ -67,13 +75,15 @@ one_name base es name was now None settled leaves = (settled, λ c may. is_old c
   is_old c (inl is) = is
   is_old c (inr more) = absurd more
 
-disk_has_last : (base : Document) (es : List Entry) (name : List ℕ) (was now : Disk) → save_faults es ≡ 0 → DiskIsRight name base es was now → HasLastSaved name base es was now
+disk_has_last : (base : Document) (es : List Entry) (name : List ℕ) (was now : Disk) → save_faults es ≡ 0
+    → DiskIsRight name base es was now → HasLastSaved name base es was now
 disk_has_last base es name was now none right =
     let same : names es ≡ names_of (the_old ∷ []) (last_saved es) = names_are (the_old ∷ []) es none in
     one_name base es name was now (last_saved es) (subst (λ (ns : List Named). IsSettled ns name was now) same right.settled)
     (λ c may. subst (IsIn base es was name c) same (right.leaves c may))
 
-pub has_last : (base : Document) (es : List Entry) (name : List ℕ) (was now : Option Disk) → save_faults es ≡ 0 → Between was now (DiskIsRight name base es) → Between was now (HasLastSaved name base es)
+pub has_last : (base : Document) (es : List Entry) (name : List ℕ) (was now : Option Disk) → save_faults es ≡ 0
+    → Between was now (DiskIsRight name base es) → Between was now (HasLastSaved name base es)
 has_last base es name None None none right = tt
 has_last base es name None (Some now) none right = absurd right
 has_last base es name (Some was) None none right = absurd right

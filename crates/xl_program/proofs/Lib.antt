@@ -7,7 +7,6 @@ mod Causes
 mod Chests
 mod Earlier
 mod Edited
-mod Ends
 mod Keeping
 mod LastFile
 mod FirstSaves
@@ -24,9 +23,9 @@ mod Sessions
 mod Stays
 mod Submitted
 mod Taken
-mod ToEnd
+mod ScriptEnded
 mod UnderWay
 mod UpTo
-mod Within
+mod VersionsWithin
 mod OfFirst
 mod Reported

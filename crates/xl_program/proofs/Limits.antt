@@ -31,7 +31,8 @@ front_reads all bytes front = elim (cases_lt (length all) (2 ^ 31)) [
 ]
 
 -- the document that the front of a file holds
-pub front_holds : (content : Option Content) (bytes : List ℕ) (d : Document) → IfSome content (λ c. GivesFront c (2 ^ 31) bytes) → Holds bytes d → IfSome content (λ c. HoldsDocument c d)
+pub front_holds : (content : Option Content) (bytes : List ℕ) (d : Document) → IfSome content (λ c. GivesFront c (2 ^ 31) bytes)
+    → Holds bytes d → IfSome content (λ c. HoldsDocument c d)
 front_holds None bytes d front holds = tt
 front_holds (Some absent) bytes d front holds = absurd front
 front_holds (Some (file all)) bytes d front holds =
@@ -40,7 +41,8 @@ front_holds (Some (file all)) bytes d front holds =
     subst (λ (l : List ℕ). Holds l d) whole holds
 
 -- the first fault of the front of a file
-pub front_faults : (content : Option Content) (bytes : List ℕ) (refused : ReadRefused) → IfSome content (λ c. GivesFront c (2 ^ 31) bytes) → reading bytes ≡ Err refused → IfSome content (λ c. HasFault c refused)
+pub front_faults : (content : Option Content) (bytes : List ℕ) (refused : ReadRefused)
+    → IfSome content (λ c. GivesFront c (2 ^ 31) bytes) → reading bytes ≡ Err refused → IfSome content (λ c. HasFault c refused)
 front_faults None bytes refused front fails = tt
 front_faults (Some absent) bytes refused front fails = absurd front
 front_faults (Some (file all)) bytes refused front fails = ap fault_in (sym (front_reads all bytes front) ∙ fails)

@@ -1,5 +1,5 @@
 -- The file after a history whose last call is a save: that of the last document, where no save failed.
-use Rattle.std.proofs.Common.{◌≡◌, ℕ, ◌+◌, Bool, true, false, cond, List, [], ◌∷◌, ◌++◌, Some, None, refl, ap, sym, ◌∙◌, arith, subst, filter_map}
+use Rattle.std.proofs.Common.{◌≡◌, ℕ, ◌+◌, Bool, true, false, cond, List, [], ◌∷◌, ◌++◌, Some, None, refl, ap, sym, ◌∙◌, arith, subst}
 use Rattle.std.specs.Prelude.{fold, drop, is_some, Option}
 use Rattle.std.specs.List.{AllByRecursion, cons_option}
 use Rattle.std.proofs.lemmas.List.Sums.{sum_by-cons}
@@ -12,6 +12,7 @@ use Rattle.spec_saves.specs.Names.{Named, version, the_old, after_end, after_kin
 use Rattle.spec_merged.specs.Fills.{EndsWithSave}
 use Rattle.spec_script.specs.Script.{Line, call, save, forget}
 use Rattle.spec_text.specs.Text.{made_by, is_save_memory}
+use Rattle.xl_program.specs.Playing.{calls_made}
 
 -- ---- the entries behind the start of the last save
 
@@ -20,44 +21,48 @@ record IsWell (e : Entry) : Type 0 where
   memory : is_save_memory e.reply ≡ false
   fault : ends_by_fault e.kind e.reply ≡ false
 
-abbrev lines_of : List Entry → List Line
-lines_of es = filter_map (λ (e : Entry). made_by e.kind) es
-
-no_lines : (o : Option Line) (line : Line) (lines : List Line) → o ≡ Some line → cons_option o lines ≡ [] → ⊥
-no_lines None line lines is none = let bad : false ≡ true = ap is_some is in cc
-no_lines (Some x) line lines is none = let bad : x ∷ lines ≡ [] = none in cc
+line_is_there : (o : Option Line) (line : Line) (lines : List Line) → o ≡ Some line → cons_option o lines ≡ [] → ⊥
+line_is_there None line lines is none = let bad : false ≡ true = ap is_some is in cc
+line_is_there (Some x) line lines is none = let bad : x ∷ lines ≡ [] = none in cc
 
 -- nothing can end where no save is out
-nothing_more : (base : Document) (s : State) (earlier es : List Entry) → s.out ≡ None → RunFrom base s earlier es → lines_of es ≡ [] → es ≡ []
+nothing_more : (base : Document) (s : State) (earlier es : List Entry) → s.out ≡ None → RunFrom base s earlier es
+    → calls_made es ≡ [] → es ≡ []
 nothing_more base s earlier [] out run none = refl
 nothing_more base s earlier (e ∷ es) out run none = go e.kind refl run.0 where
   go : (k : Kind) → e.kind ≡ k → MayBe base s earlier e k → e ∷ es ≡ []
-  go (asked c tables) is may = absurd (no_lines (made_by e.kind) (call c) (lines_of es) (ap made_by is) none)
-  go starts is may = absurd (no_lines (made_by e.kind) save (lines_of es) (ap made_by is) none)
+  go (asked c tables) is may = absurd (line_is_there (made_by e.kind) (call c) (calls_made es) (ap made_by is) none)
+  go starts is may = absurd (line_is_there (made_by e.kind) save (calls_made es) (ap made_by is) none)
   go ends is may = absurd (subst (λ (o : Option Saving). MayEnd o e.session e.index e.reply) out may)
 
-well_end : (v : ℕ) (ns : List Named) (r : Reply) → EndsWith v r → is_save_memory r ≡ false → is_fault r ≡ false → after_end ns r ≡ version v ∷ []
+well_end : (v : ℕ) (ns : List Named) (r : Reply) → EndsWith v r → is_save_memory r ≡ false → is_fault r ≡ false
+    → after_end ns r ≡ version v ∷ []
 well_end v ns (saved w) same memory fault = ap (λ (n : ℕ). version n ∷ []) same
 well_end v ns (save_fault w) same memory fault = let bad : true ≡ false = fault in cc
 well_end v ns (save_memory w) same memory fault = let bad : true ≡ false = memory in cc
 well_end v ns r same memory fault = absurd same
 
 -- the end of the save that is out is the last entry
-ends_well : (base : Document) (s : State) (earlier es : List Entry) (ns : List Named) (o : Saving) → s.out ≡ Some o → o.version ≡ latest s → RunFrom base s earlier es → (replay_from base s es).out ≡ None
-    → lines_of es ≡ [] → AllByRecursion IsWell es → fold after_one ns es ≡ version (latest (replay_from base s es)) ∷ []
+ends_well : (base : Document) (s : State) (earlier es : List Entry) (ns : List Named) (o : Saving) → s.out ≡ Some o
+    → o.version ≡ latest s → RunFrom base s earlier es → (replay_from base s es).out ≡ None
+    → calls_made es ≡ [] → AllByRecursion IsWell es → fold after_one ns es ≡ version (latest (replay_from base s es)) ∷ []
 ends_well base s earlier [] ns o out at run last none well = let bad : false ≡ true = ap is_some (sym last ∙ out) in cc
 ends_well base s earlier (e ∷ es) ns o out at run last none well = go e.kind refl run.0 where
-  go : (k : Kind) → e.kind ≡ k → MayBe base s earlier e k → fold after_one ns (e ∷ es) ≡ version (latest (replay_from base s (e ∷ es))) ∷ []
-  go (asked c tables) is may = absurd (no_lines (made_by e.kind) (call c) (lines_of es) (ap made_by is) none)
-  go starts is may = absurd (no_lines (made_by e.kind) save (lines_of es) (ap made_by is) none)
+  go : (k : Kind) → e.kind ≡ k → MayBe base s earlier e k
+      → fold after_one ns (e ∷ es) ≡ version (latest (replay_from base s (e ∷ es))) ∷ []
+  go (asked c tables) is may = absurd (line_is_there (made_by e.kind) (call c) (calls_made es) (ap made_by is) none)
+  go starts is may = absurd (line_is_there (made_by e.kind) save (calls_made es) (ap made_by is) none)
   go ends is may =
-      let with : MayEnd (Some o) e.session e.index e.reply = subst (λ (x : Option Saving). MayEnd x e.session e.index e.reply) out may in
+      let with : MayEnd (Some o) e.session e.index e.reply =
+      subst (λ (x : Option Saving). MayEnd x e.session e.index e.reply) out may in
       let fault : is_fault e.reply ≡ false = subst (λ (k : Kind). ends_by_fault k e.reply ≡ false) is well.0.fault in
       let state : after_entry base s e ≡ record s { out = None } = ap (after_kind base s e) is in
-      let rest : lines_of es ≡ [] = subst (λ (k : Kind). cons_option (made_by k) (lines_of es) ≡ []) is none in
-      let over : es ≡ [] = nothing_more base (after_entry base s e) (earlier ++ e ∷ []) es (ap (λ (t : State). t.out) state) run.1 rest in
+      let rest : calls_made es ≡ [] = subst (λ (k : Kind). cons_option (made_by k) (calls_made es) ≡ []) is none in
+      let over : es ≡ [] =
+      nothing_more base (after_entry base s e) (earlier ++ e ∷ []) es (ap (λ (t : State). t.out) state) run.1 rest in
       let first : after_one ns e ≡ version (latest s) ∷ [] =
-      ap (λ (k : Kind). named_after ns k e.reply) is ∙ well_end o.version ns e.reply with.2 well.0.memory fault ∙ ap (λ (n : ℕ). version n ∷ []) at in
+      ap (λ (k : Kind). named_after ns k e.reply) is ∙ well_end o.version ns e.reply with.2 well.0.memory fault
+      ∙ ap (λ (n : ℕ). version n ∷ []) at in
       subst (λ (more : List Entry). fold after_one ns (e ∷ more) ≡ version (latest (replay_from base s (e ∷ more))) ∷ []) (sym over)
       (first ∙ ap (λ (t : State). version (latest t) ∷ []) (sym state))
 
@@ -76,46 +81,63 @@ first_of [] = save
 first_of (x ∷ xs) = x
 
 module _ (base : Document) where
-  saved_last : (s : State) (earlier es : List Entry) (ns : List Named) → RunFrom base s earlier es → (replay_from base s es).out ≡ None → EndsWithSave (lines_of es) → AllByRecursion IsWell es
+  saved_last : (s : State) (earlier es : List Entry) (ns : List Named) → RunFrom base s earlier es
+      → (replay_from base s es).out ≡ None → EndsWithSave (calls_made es) → AllByRecursion IsWell es
       → fold after_one ns es ≡ version (latest (replay_from base s es)) ∷ []
   saved_last s earlier [] ns run last ([], is) well = let bad : [] ≡ save ∷ [] = is in cc
   saved_last s earlier [] ns run last (x ∷ front, is) well = let bad : [] ≡ x ∷ (front ++ save ∷ []) = is in cc
   saved_last s earlier (e ∷ es) ns run last (front, is) well =
-      by_kind e.kind refl run.0 front is (λ f same. saved_last (after_entry base s e) (earlier ++ e ∷ []) es (after_one ns e) run.1 last (f, same) well.1) where
-        by_kind : (k : Kind) → e.kind ≡ k → MayBe base s earlier e k → (f : List Line) → cons_option (made_by e.kind) (lines_of es) ≡ f ++ save ∷ []
-            → ((f : List Line) → lines_of es ≡ f ++ save ∷ [] → fold after_one (after_one ns e) es ≡ version (latest (replay_from base (after_entry base s e) es)) ∷ [])
+      by_kind e.kind refl run.0 front is
+      (λ f same. saved_last (after_entry base s e) (earlier ++ e ∷ []) es (after_one ns e) run.1 last (f, same) well.1) where
+        by_kind : (k : Kind) → e.kind ≡ k → MayBe base s earlier e k → (f : List Line)
+            → cons_option (made_by e.kind) (calls_made es) ≡ f ++ save ∷ []
+            → ((f : List Line) → calls_made es ≡ f ++ save ∷ []
+            → fold after_one (after_one ns e) es ≡ version (latest (replay_from base (after_entry base s e) es)) ∷ [])
             → fold after_one ns (e ∷ es) ≡ version (latest (replay_from base s (e ∷ es))) ∷ []
         by_kind (asked c tables) kind may [] same rest =
-            let here : call c ∷ lines_of es ≡ save ∷ [] = ap (λ (k : Kind). cons_option (made_by k) (lines_of es)) (sym kind) ∙ same in
+            let here : call c ∷ calls_made es ≡ save ∷ [] =
+            ap (λ (k : Kind). cons_option (made_by k) (calls_made es)) (sym kind) ∙ same in
             let bad : false ≡ true = ap (λ (ls : List Line). is_save (first_of ls)) here in cc
         by_kind (asked c tables) kind may (x ∷ f) same rest =
-            rest f (tail_of (call c) x (lines_of es) (f ++ save ∷ []) (ap (λ (k : Kind). cons_option (made_by k) (lines_of es)) (sym kind) ∙ same))
+            rest f (tail_of (call c) x (calls_made es) (f ++ save ∷ [])
+            (ap (λ (k : Kind). cons_option (made_by k) (calls_made es)) (sym kind) ∙ same))
         by_kind starts kind may [] same rest =
-            let none : lines_of es ≡ [] = tail_of save save (lines_of es) [] (ap (λ (k : Kind). cons_option (made_by k) (lines_of es)) (sym kind) ∙ same) in
+            let none : calls_made es ≡ [] =
+            tail_of save save (calls_made es) []
+            (ap (λ (k : Kind). cons_option (made_by k) (calls_made es)) (sym kind) ∙ same) in
             let o : Saving = record { session = e.session; index = e.index; version = latest s } in
             let state : after_entry base s e ≡ record s { out = Some o } = ap (after_kind base s e) kind in
-            ends_well base (after_entry base s e) (earlier ++ e ∷ []) es (after_one ns e) o (ap (λ (t : State). t.out) state) (ap latest (sym state)) run.1 last none well.1
+            ends_well base (after_entry base s e) (earlier ++ e ∷ []) es (after_one ns e) o (ap (λ (t : State). t.out) state)
+            (ap latest (sym state)) run.1 last none well.1
         by_kind starts kind may (x ∷ f) same rest =
-            rest f (tail_of save x (lines_of es) (f ++ save ∷ []) (ap (λ (k : Kind). cons_option (made_by k) (lines_of es)) (sym kind) ∙ same))
-        by_kind ends kind may f same rest = rest f (ap (λ (k : Kind). cons_option (made_by k) (lines_of es)) (sym kind) ∙ same)
+            rest f (tail_of save x (calls_made es) (f ++ save ∷ [])
+            (ap (λ (k : Kind). cons_option (made_by k) (calls_made es)) (sym kind) ∙ same))
+        by_kind ends kind may f same rest = rest f (ap (λ (k : Kind). cons_option (made_by k) (calls_made es)) (sym kind) ∙ same)
 
 -- ---- a whole history
 
-none_failed : (es : List Entry) → save_faults es ≡ 0 → AllByRecursion (λ e. is_save_memory e.reply ≡ false) es → AllByRecursion IsWell es
-none_failed [] none printable = tt
-none_failed (e ∷ es) none printable =
-    go (ends_by_fault e.kind e.reply) refl (λ rest. none_failed es rest printable.1) where
-      go : (b : Bool) → ends_by_fault e.kind e.reply ≡ b → (save_faults es ≡ 0 → AllByRecursion IsWell es) → AllByRecursion IsWell (e ∷ es)
+each_is_well : (es : List Entry) → save_faults es ≡ 0 → AllByRecursion (λ e. is_save_memory e.reply ≡ false) es
+    → AllByRecursion IsWell es
+each_is_well [] none printable = tt
+each_is_well (e ∷ es) none printable =
+    go (ends_by_fault e.kind e.reply) refl (λ rest. each_is_well es rest printable.1) where
+      go : (b : Bool) → ends_by_fault e.kind e.reply ≡ b → (save_faults es ≡ 0 → AllByRecursion IsWell es)
+          → AllByRecursion IsWell (e ∷ es)
       go true is rest =
-          let here : save_faults (e ∷ es) ≡ 1 + save_faults es = sum_by-cons (λ (x : Entry). cond (ends_by_fault x.kind x.reply) 1 0) e es ∙ ap (λ (b : Bool). cond b 1 0 + save_faults es) is in
+          let here : save_faults (e ∷ es) ≡ 1 + save_faults es =
+          sum_by-cons (λ (x : Entry). cond (ends_by_fault x.kind x.reply) 1 0) e es
+          ∙ ap (λ (b : Bool). cond b 1 0 + save_faults es) is in
           absurd (omega (arith, here, none))
       go false is rest =
-          let here : save_faults (e ∷ es) ≡ 0 + save_faults es = sum_by-cons (λ (x : Entry). cond (ends_by_fault x.kind x.reply) 1 0) e es ∙ ap (λ (b : Bool). cond b 1 0 + save_faults es) is in
+          let here : save_faults (e ∷ es) ≡ 0 + save_faults es =
+          sum_by-cons (λ (x : Entry). cond (ends_by_fault x.kind x.reply) 1 0) e es
+          ∙ ap (λ (b : Bool). cond b 1 0 + save_faults es) is in
           (record { memory = printable.0; fault = is }, rest (omega (arith, here, none)))
 
 -- where the last of all calls is a save and no save failed, the file has the last version
-pub last_is_saved : (base : Document) (es : List Entry) → IsLegal base es → (replay base es).out ≡ None → AllByRecursion (λ e. is_save_memory e.reply ≡ false) es
-    → EndsWithSave (lines_of es) → save_faults es ≡ 0 → names es ≡ version (latest_of es) ∷ []
+pub last_is_saved : (base : Document) (es : List Entry) → IsLegal base es → (replay base es).out ≡ None
+    → AllByRecursion (λ e. is_save_memory e.reply ≡ false) es
+    → EndsWithSave (calls_made es) → save_faults es ≡ 0 → names es ≡ version (latest_of es) ∷ []
 last_is_saved base es legal ended printable last none =
-    saved_last base (initial base) [] es (the_old ∷ []) legal.run ended last (none_failed es none printable)
+    saved_last base (initial base) [] es (the_old ∷ []) legal.run ended last (each_is_well es none printable)
     ∙ ap (λ (v : ℕ). version v ∷ []) (sym (latest_of-legal base es legal))

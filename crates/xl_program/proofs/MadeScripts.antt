@@ -11,7 +11,8 @@ use Rattle.spec_generated.specs.Generated.{pixel, look, fill, tile, fills_and_ti
 
 -- ---- what is drawn, one after another
 
-all_times : {A : Type 0} (P : A → Type 0) (draws : Draws A) → ((s : ℕ) → P (draws s).what) → (n s : ℕ) → AllByRecursion P (times n draws s).what
+all_times : {A : Type 0} (P : A → Type 0) (draws : Draws A) → ((s : ℕ) → P (draws s).what) → (n s : ℕ)
+    → AllByRecursion P (times n draws s).what
 all_times P draws each zero s = tt
 all_times P draws each (suc n) s = (each s, all_times P draws each n (draws s).state)
 
@@ -19,7 +20,8 @@ length_times : {A : Type 0} (draws : Draws A) (n s : ℕ) → length (times n dr
 length_times draws zero s = refl
 length_times draws (suc n) s = ap suc (length_times draws n (draws s).state)
 
-all_behind : {A : Type 0} (P : A → Type 0) (xs ys : List A) → AllByRecursion P xs → AllByRecursion P ys → AllByRecursion P (xs ++ ys)
+all_behind : {A : Type 0} (P : A → Type 0) (xs ys : List A) → AllByRecursion P xs → AllByRecursion P ys
+    → AllByRecursion P (xs ++ ys)
 all_behind P [] ys front back = back
 all_behind P (x ∷ xs) ys front back = (front.0, all_behind P xs ys front.1 back)
 
@@ -59,7 +61,8 @@ part layer s =
       count = length-append fills ((tile then).what ∷ []) ∙ omega (arith, many);
     }
 
-joined : (parts : List (List Line)) → AllByRecursion (IsPart 33) parts → IsPart (33 * length parts) (flat_map (λ (p : List Line). p) parts)
+joined : (parts : List (List Line)) → AllByRecursion (IsPart 33) parts
+    → IsPart (33 * length parts) (flat_map (λ (p : List Line). p) parts)
 joined [] each = record { plain = tt; count = refl }
 joined (p ∷ ps) each =
     let rest = joined ps each.1 in
@@ -67,7 +70,8 @@ joined (p ∷ ps) each =
     let here = each.0.count in
     let more = rest.count in
     record {
-      plain = subst (AllByRecursion IsPlain) (sym cons) (all_behind IsPlain p (flat_map (λ (x : List Line). x) ps) each.0.plain rest.plain);
+      plain = subst (AllByRecursion IsPlain) (sym cons)
+          (all_behind IsPlain p (flat_map (λ (x : List Line). x) ps) each.0.plain rest.plain);
       count = ap length cons ∙ length-append p (flat_map (λ (x : List Line). x) ps) ∙ omega (arith, here, more);
     }
 
@@ -87,12 +91,14 @@ session n s =
 
 fit_lines : (lines : List Line) → AllByRecursion IsPlain lines → AreFit 0 [] lines
 fit_lines [] each = tt
-fit_lines (line ∷ lines) each = (each.0.fit, subst (λ (dropped : List ℕ). AreFit 0 dropped lines) (sym each.0.drops) (fit_lines lines each.1))
+fit_lines (line ∷ lines) each =
+    (each.0.fit, subst (λ (dropped : List ℕ). AreFit 0 dropped lines) (sym each.0.drops) (fit_lines lines each.1))
 
 few_calls : (lines : List Line) → length (filter is_call lines) ≤ length lines
 few_calls [] = omega arith
 few_calls (line ∷ lines) = let rest = few_calls lines in go (is_call line) rest where
-  go : (b : Bool) → length (filter is_call lines) ≤ length lines → length (cond b (line ∷ filter is_call lines) (filter is_call lines)) ≤ suc (length lines)
+  go : (b : Bool) → length (filter is_call lines) ≤ length lines
+      → length (cond b (line ∷ filter is_call lines) (filter is_call lines)) ≤ suc (length lines)
   go true rest = omega (arith, rest)
   go false rest = omega (arith, rest)
 

@@ -1,5 +1,5 @@
 -- Scripts whose lines are all of session 0.
-use Rattle.std.proofs.Common.{◌≡◌, ℕ, zero, suc, ◌<◌, ◌≤◌, List, [], ◌∷◌, length, ap, refl, arith}
+use Rattle.std.proofs.Common.{◌≡◌, ℕ, suc, ◌<◌, ◌≤◌, List, [], ◌∷◌, length, ap, arith}
 use Rattle.std.specs.Prelude.{slice_index_or}
 use Rattle.std.specs.List.{AllByRecursion}
 use Rattle.std.proofs.lemmas.List.{length-map}
@@ -13,25 +13,13 @@ AreBlank lists = AllByRecursion (λ lines. lines ≡ []) lists
 
 all_blank : (lists : List (List Line)) → ((n : ℕ) → n < length lists → slice_index_or lists n [] ≡ []) → AreBlank (lists_of lists)
 all_blank [] each = tt
-all_blank (lines ∷ lists) each = (ap lines_of (each 0 (omega arith)), all_blank lists (λ n below. each (suc n) (omega (arith, below))))
-
-no_lines : (lines : List Line) → lines_of lines ≡ [] → lines ≡ []
-no_lines [] none = refl
-no_lines (line ∷ lines) none = let longer = ap length none in absurd (omega (arith, longer))
-
-each_blank : (lists : List (List Line)) → AreBlank (lists_of lists) → (n : ℕ) → slice_index_or lists n [] ≡ []
-each_blank [] all n = refl
-each_blank (lines ∷ lists) all zero = no_lines lines all.0
-each_blank (lines ∷ lists) all (suc n) = each_blank lists all.1 n
+all_blank (lines ∷ lists) each =
+    (ap lines_of (each 0 (omega arith)), all_blank lists (λ n below. each (suc n) (omega (arith, below))))
 
 -- the sessions from 1 to 7 have none
-pub all_of_first : (lists : List (List Line)) → length (lists_of lists) ≡ 8 → ((n : ℕ) → 1 ≤ n → n < 8 → slice_index_or lists n [] ≡ []) → AreOfFirst (lists_of lists)
+pub all_of_first : (lists : List (List Line)) → length (lists_of lists) ≡ 8
+    → ((n : ℕ) → 1 ≤ n → n < 8 → slice_index_or lists n [] ≡ []) → AreOfFirst (lists_of lists)
 all_of_first [] eight each = tt
 all_of_first (lines ∷ lists) eight each = all_blank lists (λ n below. each (suc n) (omega arith) (go n below)) where
   go : (n : ℕ) → n < length lists → suc n < 8
   go n below = let same = length-map lists lines_of in omega (arith, below, same, eight)
-
-pub later_blank : (lists : List (List Line)) → AreOfFirst (lists_of lists) → (n : ℕ) → 1 ≤ n → slice_index_or lists n [] ≡ []
-later_blank [] first n later = refl
-later_blank (lines ∷ lists) first zero later = absurd (omega (arith, later))
-later_blank (lines ∷ lists) first (suc n) later = each_blank lists first n

@@ -5,7 +5,7 @@ use Rattle.std.proofs.lemmas.List.Concat.{flat_map-append}
 use Rattle.std.proofs.lemmas.List.Elements.{filter_map-append}
 use Rattle.spec_document.specs.Document.{Document}
 use Rattle.spec_history.specs.Machine.{Call, Reply, tile_of, stale, saved, State, initial, latest}
-use Rattle.spec_history.specs.History.{Entry, asked, starts, ends, next_index, after_entry, replay_from, replay, EndsWith, RunFrom}
+use Rattle.spec_history.specs.History.{Entry, Kind, asked, starts, ends, next_index, after_entry, replay_from, replay, EndsWith, RunFrom}
 use Rattle.spec_history.specs.Kept.{IsFreshReply, IsFresh, IsLegal}
 use Rattle.spec_text.specs.Printed.{line_text}
 use Rattle.spec_text.specs.Text.{entry_line, end_reply, is_save_memory, shown_digest, made_by, IsAlone}
@@ -13,16 +13,18 @@ use Rattle.xl_program.specs.Playing.{AreOf, IsPrintable, ArePlayed, lines_in, ca
 use Rattle.spec_history.proofs.Growing.{replay-snoc, replay-append, IsLegal-empty, out-answer}
 use Rattle.xl_program.proofs.Alone.{alone_call, alone_save}
 use Rattle.xl_program.proofs.Answered.{IsSaid, said_fresh, said_printable}
-use Rattle.xl_program.proofs.Ends.{no_end_at_next, end_behind}
+use Rattle.xl_sessions.proofs.Ends.{no_end_at_next, end_behind}
 use Rattle.xl_program.proofs.Seen.{fresh_more}
 use Rattle.xl_program.proofs.Stays.{lines_stay}
 
 -- ---- one more
 
 pub played_none : (base : Document) → ArePlayed base [] []
-played_none base = record { legal = IsLegal-empty base; ended = refl; printable = tt; fresh = λ session. tt; alone = λ own none. tt; text = refl }
+played_none base =
+    record { legal = IsLegal-empty base; ended = refl; printable = tt; fresh = λ session. tt; alone = λ own none. tt; text = refl }
 
-printable_more : (es more : List Entry) → AllByRecursion IsPrintable es → AllByRecursion IsPrintable more → AllByRecursion IsPrintable (es ++ more)
+printable_more : (es more : List Entry) → AllByRecursion IsPrintable es → AllByRecursion IsPrintable more
+    → AllByRecursion IsPrintable (es ++ more)
 printable_more [] more first also = also
 printable_more (x ∷ es) more first also = (first.0, printable_more es more first.1 also)
 
@@ -30,36 +32,47 @@ lines_more : (base : Document) (es more : List Entry) (out : List ℕ) → ArePl
     → lines_in base (es ++ more) ≡ out ++ flat_map (entry_line base (es ++ more)) more
 lines_more base es more out played =
     flat_map-append (entry_line base (es ++ more)) es more
-    ∙ ap (λ (front : List ℕ). front ++ flat_map (entry_line base (es ++ more)) more) (lines_stay base es more played.legal played.ended ∙ sym played.text)
+    ∙ ap (λ (front : List ℕ). front ++ flat_map (entry_line base (es ++ more)) more)
+    (lines_stay base es more played.legal played.ended ∙ sym played.text)
+
+-- the entry of a session's next call, and both of its next save
+abbrev pub next_entry : List Entry → (session : ℕ) → Kind → Reply → Entry
+next_entry es session kind reply = record { session = session; index = next_index es session; kind = kind; reply = reply }
+
+abbrev pub next_save : List Entry → (session : ℕ) → (started ended : Reply) → List Entry
+next_save es session started ended = next_entry es session starts started ∷ next_entry es session ends ended ∷ []
 
 -- the text with the line of a call behind it
-pub played_call : (base : Document) (es : List Entry) (out : List ℕ) (session : ℕ) (c : Call) (seen : ℕ) (tables : List (List ℕ)) (reply : Reply) → ArePlayed base es out
+pub played_call : (base : Document) (es : List Entry) (out : List ℕ) (session : ℕ) (c : Call) (seen : ℕ) (tables : List (List ℕ))
+    (reply : Reply) → ArePlayed base es out
     → seen_by es session ≡ seen → IsSaid seen reply → (AreOf 0 es → session ≡ 0 → IsAlone base es (asked c tables) reply [])
-    → IsLegal base (es ++ record { session = session; index = next_index es session; kind = asked c tables; reply = reply } ∷ [])
-    → ArePlayed base (es ++ record { session = session; index = next_index es session; kind = asked c tables; reply = reply } ∷ [])
-    (out ++ line_text session (next_index es session) (shown_digest base (es ++ record { session = session; index = next_index es session; kind = asked c tables; reply = reply } ∷ []) (asked c tables) reply) reply)
+    → IsLegal base (es ++ next_entry es session (asked c tables) reply ∷ [])
+    → ArePlayed base (es ++ next_entry es session (asked c tables) reply ∷ [])
+    (out ++ line_text session (next_index es session)
+    (shown_digest base (es ++ next_entry es session (asked c tables) reply ∷ []) (asked c tables) reply) reply)
 played_call base es out session c seen tables reply played has_seen said alone legal =
-    let e : Entry = record { session = session; index = next_index es session; kind = asked c tables; reply = reply } in
+    let e : Entry = next_entry es session (asked c tables) reply in
     record {
       legal = legal;
       ended = ap (λ (s : State). s.out) (replay-snoc base es e) ∙ out-answer base (replay base es) c tables ∙ played.ended;
       printable = printable_more es (e ∷ []) played.printable (said_printable seen reply said, tt);
       fresh = fresh_more es e seen played.fresh has_seen (said_fresh seen reply said);
       alone = alone_call base es e played.alone alone;
-      text = sym (lines_more base es (e ∷ []) out played ∙ ap (λ (line : List ℕ). out ++ line) (append-nil (entry_line base (es ++ e ∷ []) e)));
+      text = sym (lines_more base es (e ∷ []) out played
+          ∙ ap (λ (line : List ℕ). out ++ line) (append-nil (entry_line base (es ++ e ∷ []) e)));
     }
 
 -- the line of a save is that of its end
 saved_line : (base : Document) (es : List Entry) (session : ℕ) (started ended : Reply) → IsLegal base es
-    → end_reply (es ++ record { session = session; index = next_index es session; kind = starts; reply = started } ∷ record { session = session; index = next_index es session; kind = ends; reply = ended } ∷ []) session (next_index es session) started
-    ≡ ended
+    → end_reply (es ++ next_save es session started ended) session (next_index es session) started ≡ ended
 saved_line base es session started ended legal =
     let index = next_index es session in
-    end_behind es (record { session = session; index = index; kind = starts; reply = started } ∷ record { session = session; index = index; kind = ends; reply = ended } ∷ []) session index started (no_end_at_next base es session legal.run)
+    end_behind es (next_save es session started ended) session index started (no_end_at_next base es session legal.run)
     ∙ rw (eq-eqb session session refl, eq-eqb index index refl) refl
 
 -- the entries behind others are a run from where these end
-pub run_behind : (base : Document) (s : State) (earlier es more : List Entry) → RunFrom base s earlier (es ++ more) → RunFrom base (replay_from base s es) (earlier ++ es) more
+pub run_behind : (base : Document) (s : State) (earlier es more : List Entry) → RunFrom base s earlier (es ++ more)
+    → RunFrom base (replay_from base s es) (earlier ++ es) more
 run_behind base s earlier [] more run = subst (λ (l : List Entry). RunFrom base s l more) (sym (append-nil earlier)) run
 run_behind base s earlier (e ∷ es) more run =
     subst (λ (l : List Entry). RunFrom base (replay_from base s (e ∷ es)) l more) (append_assoc earlier (e ∷ []) es)
@@ -72,14 +85,12 @@ fresh_end seen now r is = tt
 
 -- the text with the line of a save behind it
 pub played_save : (base : Document) (es : List Entry) (out : List ℕ) (session : ℕ) (started ended : Reply) → ArePlayed base es out
-    → is_save_memory started ≡ false → is_save_memory ended ≡ false
-    → IsLegal base (es ++ record { session = session; index = next_index es session; kind = starts; reply = started } ∷ record { session = session; index = next_index es session; kind = ends; reply = ended } ∷ [])
-    → ArePlayed base (es ++ record { session = session; index = next_index es session; kind = starts; reply = started } ∷ record { session = session; index = next_index es session; kind = ends; reply = ended } ∷ [])
-    (out ++ line_text session (next_index es session) [] ended)
+    → is_save_memory started ≡ false → is_save_memory ended ≡ false → IsLegal base (es ++ next_save es session started ended)
+    → ArePlayed base (es ++ next_save es session started ended) (out ++ line_text session (next_index es session) [] ended)
 played_save base es out session started ended played start_printed end_printed legal =
     let index = next_index es session in
-    let s : Entry = record { session = session; index = index; kind = starts; reply = started } in
-    let e : Entry = record { session = session; index = index; kind = ends; reply = ended } in
+    let s : Entry = next_entry es session starts started in
+    let e : Entry = next_entry es session ends ended in
     let more : List Entry = s ∷ e ∷ [] in
     let run = run_behind base (initial base) [] es more legal.run in
     let started_at : started ≡ saved (latest (replay base es)) = run.0.2 in

@@ -6,7 +6,8 @@ use Rattle.xl_ports.specs.Shelf.{Content}
 use Rattle.xl_ports.proofs.Moments.{quiet_quiet}
 use Rattle.xl_program.specs.Outcome.{shelved, IsUntouched}
 
-module _ {D : Type 0} (content : D → List ℕ → Option Content) (selected : D → Option (List ℕ)) (disk : D → Option Disk) (reading saving : D → ℕ) where
+module _ {D : Type 0} (content : D → List ℕ → Option Content) (selected : D → Option (List ℕ)) (disk : D → Option Disk)
+    (reading saving : D → ℕ) where
   -- two calls that save nothing
   pub two_quiet : (a b c : D) → content b ≡ content a → Between (disk a) (disk b) IsQuiet → saving b ≡ saving a
       → content c ≡ content b → Between (disk b) (disk c) IsQuiet → saving c ≡ saving b

@@ -1,5 +1,5 @@
 -- A script that is read up to one byte more than it may have is read as a whole.
-use Rattle.std.proofs.Common.{◌≡◌, inl, inr, ℕ, ◌+◌, ◌^◌, ◌≤◌, false, List, [], ◌++◌, length, take, Option, Some, None, Ok, Err, refl, sym, subst, ◌∙◌, ap, arith, length-append, ◌⊎◌}
+use Rattle.std.proofs.Common.{◌≡◌, inl, inr, ℕ, ◌+◌, ◌^◌, ◌≤◌, false, List, [], ◌++◌, length, take, Option, Some, None, Err, refl, sym, subst, ◌∙◌, ap, arith, length-append, ◌⊎◌}
 use Rattle.std.specs.Prelude.{IfSome, Result, nat_le}
 use Rattle.std.proofs.lemmas.Bool.Decides.{nat_tests}
 use Rattle.std.proofs.lemmas.List.{append-nil, take-append-le}
@@ -22,7 +22,8 @@ same_line front more full =
     let cut : take (2 ^ 24) (front ++ more) ≡ take (2 ^ 24) front = take-append-le (2 ^ 24) front more (omega arith) in
     rw cut refl
 
-front_reads : (front more chests : List ℕ) → (length front ≡ 2 ^ 24 + 1) ⊎ (more ≡ []) → script front chests ≡ script (front ++ more) chests
+front_reads : (front more chests : List ℕ) → (length front ≡ 2 ^ 24 + 1) ⊎ (more ≡ [])
+    → script front chests ≡ script (front ++ more) chests
 front_reads front more chests (inl full) =
     too_long front chests (omega arith)
     ∙ ap refused_at (same_line front more full)
@@ -30,31 +31,21 @@ front_reads front more chests (inl full) =
 front_reads front more chests (inr ended) = rw (ended, append-nil front) refl
 
 -- what is read of a source tells what all that it had left comes to
-pub read_of_source : (before after : Option (List ℕ)) (front chests : List ℕ) (r : Result (List (List Line)) ℕ) → before ≡ led_by front after
+pub read_of_source : (before after : Option (List ℕ)) (front chests : List ℕ) (r : Result (List (List Line)) ℕ)
+    → before ≡ led_by front after
     → (length front ≡ 2 ^ 24 + 1) ⊎ IsEnded after → script front chests ≡ r → IfSome before (λ text. script text chests ≡ r)
 read_of_source before None front chests r led how reads = rw led tt
 read_of_source before (Some more) front chests r led how reads = rw led (sym (front_reads front more chests how) ∙ reads)
 
-abbrev IsRead : Result (List (List Line)) ℕ → Type 0
-IsRead (Ok lists) = Unit {0}
-IsRead (Err number) = ⊥
-
--- a script that is in the grammar was read to the end of its source
-pub ended_of_source : (front chests : List ℕ) (lists : List (List Line)) (after : Option (List ℕ)) → (length front ≡ 2 ^ 24 + 1) ⊎ IsEnded after
-    → script front chests ≡ Ok lists → IsEnded after
-ended_of_source front chests lists after (inl full) reads = absurd (subst IsRead (sym reads ∙ too_long front chests (omega (arith, full))) tt)
-ended_of_source front chests lists after (inr ended) reads = ended
-
--- the same text and the same numbers of filters
-pub same_script : (text front counts chests : List ℕ) (r : Result (List (List Line)) ℕ) → text ≡ front → counts ≡ chests → script text counts ≡ r → script front chests ≡ r
-same_script text front counts chests r one two reads = ap (λ (t : List ℕ). script t chests) (sym one) ∙ ap (script text) (sym two) ∙ reads
-
-pub same_fits : (counts chests : List ℕ) (lists : List (List Line)) → counts ≡ chests → FitsFilters counts lists → FitsFilters chests lists
+pub same_fits : (counts chests : List ℕ) (lists : List (List Line)) → counts ≡ chests → FitsFilters counts lists
+    → FitsFilters chests lists
 same_fits counts chests lists same fits = subst (λ (ns : List ℕ). FitsFilters ns lists) same fits
 
 -- what is read of a source tells what all that it had left comes to, with the same numbers of filters
-pub read_with : (before after : Option (List ℕ)) (front text counts chests : List ℕ) (r : Result (List (List Line)) ℕ) → before ≡ led_by front after
-    → (length front ≡ 2 ^ 24 + 1) ⊎ IsEnded after → text ≡ front → counts ≡ chests → script text counts ≡ r → IfSome before (λ all. script all chests ≡ r)
+pub read_with : (before after : Option (List ℕ)) (front text counts chests : List ℕ) (r : Result (List (List Line)) ℕ)
+    → before ≡ led_by front after
+    → (length front ≡ 2 ^ 24 + 1) ⊎ IsEnded after → text ≡ front → counts ≡ chests → script text counts ≡ r
+    → IfSome before (λ all. script all chests ≡ r)
 read_with before after front text counts chests r led how one two reads =
     subst (λ (ns : List ℕ). IfSome before (λ all. script all ns ≡ r)) two
     (read_of_source before after front counts r led how (ap (λ (t : List ℕ). script t counts) (sym one) ∙ reads))

@@ -30,12 +30,14 @@ mine_last es more session before own =
     mine_behind es more session ∙ rw (none, all) refl
 
 -- those of an earlier one stay
-mine_stays : (es more : List Entry) (session earlier : ℕ) → AreOf session more → earlier < session → mine (es ++ more) earlier ≡ mine es earlier
+mine_stays : (es more : List Entry) (session earlier : ℕ) → AreOf session more → earlier < session
+    → mine (es ++ more) earlier ≡ mine es earlier
 mine_stays es more session earlier own lt =
     let none = mine_other more session earlier own (λ q. omega arith) in
     mine_behind es more earlier ∙ rw none (append-nil (mine es earlier))
 
-mine_none : (es more : List Entry) (session later : ℕ) → AreBefore session es → AreOf session more → session < later → mine (es ++ more) later ≡ []
+mine_none : (es more : List Entry) (session later : ℕ) → AreBefore session es → AreOf session more → session < later
+    → mine (es ++ more) later ≡ []
 mine_none es more session later before own lt =
     let first = mine_later es session later before (omega arith) in
     let second = mine_other more session later own (λ q. omega arith) in
@@ -50,7 +52,8 @@ none_from f first (suc n) none =
     let rest = none_from f (suc first) n (λ k le. none k (omega arith)) in
     flat_map-cons f first (count_from (suc first) n) ∙ rw (here, rest) refl
 
-order_from : (es more : List Entry) (session first n : ℕ) → AreBefore session es → AreOf session more → first ≤ session → session < first + n
+order_from : (es more : List Entry) (session first n : ℕ) → AreBefore session es → AreOf session more → first ≤ session
+    → session < first + n
     → flat_map (mine (es ++ more)) (count_from first n) ≡ flat_map (mine es) (count_from first n) ++ more
 order_from es more session first zero before own le lt = absurd (omega arith)
 order_from es more session first (suc n) before own le lt =
@@ -60,21 +63,27 @@ order_from es more session first (suc n) before own le lt =
       | inl earlier ↦
           let here = mine_stays es more session first own earlier in
           let rest = order_from es more session (suc first) n before own (omega arith) (omega arith) in
-          let step : mine (es ++ more) first ++ flat_map (mine (es ++ more)) (count_from (suc first) n) ≡ (mine es first ++ flat_map (mine es) (count_from (suc first) n)) ++ more =
+          let step : mine (es ++ more) first ++ flat_map (mine (es ++ more))
+          (count_from (suc first) n) ≡ (mine es first ++ flat_map (mine es) (count_from (suc first) n)) ++ more =
           rw (here, rest) (sym (append_assoc (mine es first) (flat_map (mine es) (count_from (suc first) n)) more)) in
           new ∙ step ∙ ap (λ (front : List Entry). front ++ more) (sym old)
       | inr not ↦
           let same : first ≡ session = omega arith in
-          let here : mine (es ++ more) first ≡ more = mine_last es more first (subst (λ (k : ℕ). AreBefore k es) (sym same) before) (subst (λ (k : ℕ). AreOf k more) (sym same) own) in
+          let here : mine (es ++ more) first ≡ more =
+          mine_last es more first (subst (λ (k : ℕ). AreBefore k es) (sym same) before)
+          (subst (λ (k : ℕ). AreOf k more) (sym same) own) in
           let none : mine es first ≡ [] = mine_later es session first before not in
-          let rest = none_from (mine (es ++ more)) (suc first) n (λ k above. mine_none es more session k before own (omega arith)) in
+          let rest =
+          none_from (mine (es ++ more)) (suc first) n (λ k above. mine_none es more session k before own (omega arith)) in
           let before_rest = none_from (mine es) (suc first) n (λ k above. mine_later es session k before (omega arith)) in
-          let step : mine (es ++ more) first ++ flat_map (mine (es ++ more)) (count_from (suc first) n) ≡ more = rw (here, rest) (append-nil more) in
+          let step : mine (es ++ more) first ++ flat_map (mine (es ++ more)) (count_from (suc first) n) ≡ more =
+          rw (here, rest) (append-nil more) in
           let nothing : mine es first ++ flat_map (mine es) (count_from (suc first) n) ≡ [] = rw (none, before_rest) refl in
           new ∙ step ∙ sym (ap (λ (front : List Entry). front ++ more) (old ∙ nothing))
     ]
 
-order_more : (es more : List Entry) (session : ℕ) → AreInOrder es → AreBefore session es → AreOf session more → session < 8 → AreInOrder (es ++ more)
+order_more : (es more : List Entry) (session : ℕ) → AreInOrder es → AreBefore session es → AreOf session more → session < 8
+    → AreInOrder (es ++ more)
 order_more es more session order before own lt =
     order_from es more session 0 8 before own (omega arith) (omega (arith, lt)) ∙ ap (λ (front : List Entry). front ++ more) order
 
@@ -93,8 +102,10 @@ sessions_none lists chests = record {
   tables = λ n below. absurd (omega arith);
 }
 
-pub sessions_more : (session : ℕ) (lists : List (List Line)) (chests : List (List FilterState)) (old new : List Entry) → session < 8 → AreSessions session lists chests old
-    → IsAdded session (unwrap_or (slice_get chests session) []) (unwrap_or (slice_get lists session) []) old new → AreSessions (session + 1) lists chests new
+pub sessions_more : (session : ℕ) (lists : List (List Line)) (chests : List (List FilterState)) (old new : List Entry) → session < 8
+    → AreSessions session lists chests old
+    → IsAdded session (unwrap_or (slice_get chests session) []) (unwrap_or (slice_get lists session) []) old new
+    → AreSessions (session + 1) lists chests new
 sessions_more session lists chests old new lt so added =
     let more = added.more in
     subst (λ (es : List Entry). AreSessions (session + 1) lists chests es) (sym added.entries) (record {
@@ -106,28 +117,38 @@ sessions_more session lists chests old new lt so added =
             let same : n ≡ session = omega arith in
             let few = added.few in
             let longer = ap length added.entries ∙ length-append old more in
-            let calls : length (calls_of (unwrap_or (slice_get lists session) [])) ≡ 0 = ap (λ (k : ℕ). length (calls_of (unwrap_or (slice_get lists k) []))) (sym same) ∙ ap (λ (ls : List Line). length (calls_of ls)) blank in
-            subst (λ (k : ℕ). mine (old ++ more) k ≡ []) (sym same) (mine_last old more session so.before added.own ∙ no_more more (omega (arith, few, longer, calls)))
+            let calls : length (calls_of (unwrap_or (slice_get lists session) [])) ≡ 0 =
+            ap (λ (k : ℕ). length (calls_of (unwrap_or (slice_get lists k) []))) (sym same)
+            ∙ ap (λ (ls : List Line). length (calls_of ls)) blank in
+            subst (λ (k : ℕ). mine (old ++ more) k ≡ []) (sym same)
+            (mine_last old more session so.before added.own ∙ no_more more (omega (arith, few, longer, calls)))
       ];
       calls = λ n below. elim (cases_lt n session) [
-        | inl earlier ↦ ap (λ (es : List Entry). filter_map (λ (e : Entry). made_by e.kind) es) (mine_stays old more session n added.own earlier) ∙ so.calls n earlier
+        | inl earlier ↦
+            ap (λ (es : List Entry). filter_map (λ (e : Entry). made_by e.kind) es)
+            (mine_stays old more session n added.own earlier) ∙ so.calls n earlier
         | inr not ↦
             let same : n ≡ session = omega arith in
             subst (λ (k : ℕ). calls_in (old ++ more) k ≡ calls_of (unwrap_or (slice_get lists k) [])) (sym same)
-            (ap (λ (es : List Entry). filter_map (λ (e : Entry). made_by e.kind) es) (mine_last old more session so.before added.own) ∙ added.calls)
+            (ap (λ (es : List Entry). filter_map (λ (e : Entry). made_by e.kind) es)
+            (mine_last old more session so.before added.own) ∙ added.calls)
       ];
       tables = λ n below. elim (cases_lt n session) [
-        | inl earlier ↦ subst (HaveTables (unwrap_or (slice_get chests n) [])) (sym (mine_stays old more session n added.own earlier)) (so.tables n earlier)
+        | inl earlier ↦
+            subst (HaveTables (unwrap_or (slice_get chests n) [])) (sym (mine_stays old more session n added.own earlier))
+            (so.tables n earlier)
         | inr not ↦
             let same : n ≡ session = omega arith in
             subst (λ (k : ℕ). HaveTables (unwrap_or (slice_get chests k) []) (mine (old ++ more) k)) (sym same)
-            (subst (HaveTables (unwrap_or (slice_get chests session) [])) (sym (mine_last old more session so.before added.own)) added.tables)
+            (subst (HaveTables (unwrap_or (slice_get chests session) [])) (sym (mine_last old more session so.before added.own))
+            added.tables)
       ];
     })
 
 -- ---- the whole text
 
-lines_of_each : (f : Entry → List ℕ) (es : List Entry) (sessions : List ℕ) → flat_map (λ (session : ℕ). flat_map f (mine es session)) sessions ≡ flat_map f (flat_map (mine es) sessions)
+lines_of_each : (f : Entry → List ℕ) (es : List Entry) (sessions : List ℕ)
+    → flat_map (λ (session : ℕ). flat_map f (mine es session)) sessions ≡ flat_map f (flat_map (mine es) sessions)
 lines_of_each f es [] = refl
 lines_of_each f es (session ∷ sessions) =
     flat_map-cons (λ (k : ℕ). flat_map f (mine es k)) session sessions
@@ -137,10 +158,12 @@ lines_of_each f es (session ∷ sessions) =
 
 text_of_all : (base : Document) (es : List Entry) → AreInOrder es → lines_in base es ++ order_text es ≡ printed base es
 text_of_all base es order =
-    ap (λ (out : List ℕ). out ++ order_text es) (sym (lines_of_each (entry_line base es) es (count_from 0 8) ∙ ap (flat_map (entry_line base es)) order))
+    ap (λ (out : List ℕ). out ++ order_text es)
+    (sym (lines_of_each (entry_line base es) es (count_from 0 8) ∙ ap (flat_map (entry_line base es)) order))
 
 -- the text and the order line are a text of these entries
-pub sessions_text : (base : Document) (lists : List (List Line)) (chests : List (List FilterState)) (es : List Entry) (out : List ℕ) → ArePlayed base es out → AreSessions 8 lists chests es
+pub sessions_text : (base : Document) (lists : List (List Line)) (chests : List (List FilterState)) (es : List Entry) (out : List ℕ)
+    → ArePlayed base es out → AreSessions 8 lists chests es
     → IsTextOf (out ++ order_text es) base lists chests es
 sessions_text base lists chests es out played all = record {
   legal = played.legal;
@@ -154,11 +177,13 @@ sessions_text base lists chests es out played all = record {
 }
 
 -- the text of all of them, with the order line
-pub sessions_told : (base opened : Document) (lists : List (List Line)) (chests : List (List FilterState)) (es : List Entry) (front out : List ℕ) → out ≡ front ++ order_text es → base ≡ opened
+pub sessions_told : (base opened : Document) (lists : List (List Line)) (chests : List (List FilterState)) (es : List Entry)
+    (front out : List ℕ) → out ≡ front ++ order_text es → base ≡ opened
     → ArePlayed base es front → AreSessions 8 lists chests es → IsTextOf out opened lists chests es
 sessions_told base opened lists chests es front out printed same played sessions =
     subst (λ (o : List ℕ). IsTextOf o opened lists chests es) (sym printed)
-    (subst (λ (d : Document). IsTextOf (front ++ order_text es) d lists chests es) same (sessions_text base lists chests es front played sessions))
+    (subst (λ (d : Document). IsTextOf (front ++ order_text es) d lists chests es) same
+    (sessions_text base lists chests es front played sessions))
 
 -- ---- session 0 alone
 
@@ -174,27 +199,34 @@ blank_later (lines ∷ lists) n first = blank_at lists n first
 mine_of : (es : List Entry) (session : ℕ) → AreOf session (mine es session)
 mine_of [] session = tt
 mine_of (e ∷ es) session = go (e.session == session) refl (mine_of es session) where
-  go : (b : Bool) → (e.session == session) ≡ b → AreOf session (mine es session) → AreOf session (cond b (e ∷ mine es session) (mine es session))
+  go : (b : Bool) → (e.session == session) ≡ b → AreOf session (mine es session)
+      → AreOf session (cond b (e ∷ mine es session) (mine es session))
   go true q rest = (eqb-true e.session session q, rest)
   go false q rest = rest
 
-all_silent : (lists : List (List Line)) (chests : List (List FilterState)) (es : List Entry) (first n : ℕ) → AreOfFirst lists → AreSessions 8 lists chests es → 1 ≤ first → first + n ≤ 8
+all_silent : (lists : List (List Line)) (chests : List (List FilterState)) (es : List Entry) (first n : ℕ) → AreOfFirst lists
+    → AreSessions 8 lists chests es → 1 ≤ first → first + n ≤ 8
     → flat_map (mine es) (count_from first n) ≡ []
 all_silent lists chests es first zero only so some within = refl
 all_silent lists chests es zero (suc n) only so some within = absurd (omega (arith, some))
 all_silent lists chests es (suc k) (suc n) only so some within =
     flat_map-cons (mine es) (suc k) (count_from (suc (suc k)) n)
-    ∙ rw (so.silent (suc k) (omega arith) (blank_later lists k only)) (all_silent lists chests es (suc (suc k)) n only so (omega arith) (omega arith))
+    ∙ rw (so.silent (suc k) (omega arith) (blank_later lists k only))
+    (all_silent lists chests es (suc (suc k)) n only so (omega arith) (omega arith))
 
 -- where all lines are of session 0, so are all entries
-pub only_first : (lists : List (List Line)) (chests : List (List FilterState)) (es : List Entry) → AreOfFirst lists → AreSessions 8 lists chests es → AreOf 0 es
+pub only_first : (lists : List (List Line)) (chests : List (List FilterState)) (es : List Entry) → AreOfFirst lists
+    → AreSessions 8 lists chests es → AreOf 0 es
 only_first lists chests es only so =
     let first : flat_map (mine es) (count_from 0 8) ≡ mine es 0 =
-    flat_map-cons (mine es) 0 (count_from 1 7) ∙ ap (λ (rest : List Entry). mine es 0 ++ rest) (all_silent lists chests es 1 7 only so (omega arith) (omega arith)) ∙ append-nil (mine es 0) in
+    flat_map-cons (mine es) 0 (count_from 1 7)
+    ∙ ap (λ (rest : List Entry). mine es 0 ++ rest) (all_silent lists chests es 1 7 only so (omega arith) (omega arith))
+    ∙ append-nil (mine es 0) in
     subst (AreOf 0) (sym first ∙ so.order) (mine_of es 0)
 
 -- the text of session 0 alone is the one that follows from the document, its calls and its filters, where no save failed
-pub sessions_alone : (base opened : Document) (lists : List (List Line)) (chests : List (List FilterState)) (es : List Entry) (front out : List ℕ) → base ≡ opened → ArePlayed base es front → AreSessions 8 lists chests es
+pub sessions_alone : (base opened : Document) (lists : List (List Line)) (chests : List (List FilterState)) (es : List Entry)
+    (front out : List ℕ) → base ≡ opened → ArePlayed base es front → AreSessions 8 lists chests es
     → IsTextOf out opened lists chests es → AreOfFirst lists → save_faults es ≡ 0 → Alone out opened lists chests
 sessions_alone base opened lists chests es front out same played sessions text only none =
     let own = only_first lists chests es only sessions in

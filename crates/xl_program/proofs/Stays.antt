@@ -13,7 +13,7 @@ use Rattle.spec_history.proofs.Versions.{IsSound, sound-initial, goes-step, ends
 use Rattle.spec_text.specs.Printed.{line_text}
 use Rattle.spec_text.specs.Text.{digest_of, entry_line, shown_digest, printed_reply}
 use Rattle.xl_program.specs.Playing.{lines_in}
-use Rattle.xl_program.proofs.Ends.{HasEnd, has_end, has_end_behind, first_ends, end_stays}
+use Rattle.xl_sessions.proofs.Ends.{HasEnd, has_end, has_end_behind, first_ends, end_stays}
 use Rattle.xl_program.proofs.Answered.{IsUpTo, answers_up_to}
 
 -- all that the line of an entry tells is there
@@ -34,18 +34,22 @@ up_to_ends now None session index r may = absurd may
 up_to_ends now (Some o) session index r may = up_to_end now o.version r may.2
 
 -- what an entry that may come now shows is there
-step_up_to : (base : Document) (s : State) (earlier : List Entry) (e : Entry) (k : Kind) → MayBe base s earlier e k → IsUpTo (latest s) e.reply
+step_up_to : (base : Document) (s : State) (earlier : List Entry) (e : Entry) (k : Kind) → MayBe base s earlier e k
+    → IsUpTo (latest s) e.reply
 step_up_to base s earlier e (asked c tables) may = answers_up_to base s c tables e.reply may.1
 step_up_to base s earlier e starts may = subst (IsUpTo (latest s)) (sym may.2) tt
 step_up_to base s earlier e ends may = up_to_ends (latest s) s.out e.session e.index e.reply may
 
-end_in_all : (earlier es : List Entry) (e : Entry) (k : Kind) → HasEnd es e.session e.index k → HasEnd (earlier ++ e ∷ es) e.session e.index k
+end_in_all : (earlier es : List Entry) (e : Entry) (k : Kind) → HasEnd es e.session e.index k
+    → HasEnd (earlier ++ e ∷ es) e.session e.index k
 end_in_all earlier es e (asked c tables) h = tt
 end_in_all earlier es e starts h =
-    subst (λ (all : List Entry). has_end all e.session e.index ≡ true) (append_assoc earlier (e ∷ []) es) (has_end_behind (earlier ++ e ∷ []) es e.session e.index h)
+    subst (λ (all : List Entry). has_end all e.session e.index ≡ true) (append_assoc earlier (e ∷ []) es)
+    (has_end_behind (earlier ++ e ∷ []) es e.session e.index h)
 end_in_all earlier es e ends h = tt
 
-all_told : (base : Document) (s : State) (earlier es : List Entry) → replay_from base s es ≡ replay base (earlier ++ es) → IsSound s → RunFrom base s earlier es
+all_told : (base : Document) (s : State) (earlier es : List Entry) → replay_from base s es ≡ replay base (earlier ++ es) → IsSound s
+    → RunFrom base s earlier es
     → (replay_from base s es).out ≡ None → AllByRecursion (IsTold base (earlier ++ es)) es
 all_told base s earlier [] here h run none = tt
 all_told base s earlier (e ∷ es) here h run none =
@@ -73,17 +77,23 @@ digest_stays base all more (asked c tables) r up = refl
 digest_stays base all more starts r up = refl
 digest_stays base all more ends r up = refl
 
-reply_stays : (all more : List Entry) (e : Entry) (k : Kind) → HasEnd all e.session e.index k → printed_reply (all ++ more) e k ≡ printed_reply all e k
+reply_stays : (all more : List Entry) (e : Entry) (k : Kind) → HasEnd all e.session e.index k
+    → printed_reply (all ++ more) e k ≡ printed_reply all e k
 reply_stays all more e (asked c tables) h = refl
 reply_stays all more e starts h = end_stays all more e.session e.index e.reply h
 reply_stays all more e ends h = refl
 
-line_stays : (base : Document) (all more : List Entry) (e : Entry) → IsTold base all e → entry_line base (all ++ more) e ≡ entry_line base all e
+line_stays : (base : Document) (all more : List Entry) (e : Entry) → IsTold base all e
+    → entry_line base (all ++ more) e ≡ entry_line base all e
 line_stays base all more e told =
-    ap (λ (digest : List ℕ). cond (is_end_kind e.kind) [] (line_text e.session e.index digest (printed_reply (all ++ more) e e.kind))) (digest_stays base all more e.kind e.reply told.shown)
-    ∙ ap (λ (r : Reply). cond (is_end_kind e.kind) [] (line_text e.session e.index (shown_digest base all e.kind e.reply) r)) (reply_stays all more e e.kind told.ended)
+    ap (λ (digest : List ℕ).
+    cond (is_end_kind e.kind) [] (line_text e.session e.index digest (printed_reply (all ++ more) e e.kind)))
+    (digest_stays base all more e.kind e.reply told.shown)
+    ∙ ap (λ (r : Reply). cond (is_end_kind e.kind) [] (line_text e.session e.index (shown_digest base all e.kind e.reply) r))
+    (reply_stays all more e e.kind told.ended)
 
-each_stays : (base : Document) (all more es : List Entry) → AllByRecursion (IsTold base all) es → flat_map (entry_line base (all ++ more)) es ≡ flat_map (entry_line base all) es
+each_stays : (base : Document) (all more es : List Entry) → AllByRecursion (IsTold base all) es
+    → flat_map (entry_line base (all ++ more)) es ≡ flat_map (entry_line base all) es
 each_stays base all more [] told = refl
 each_stays base all more (e ∷ es) told =
     flat_map-cons (entry_line base (all ++ more)) e es

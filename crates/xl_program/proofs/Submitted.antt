@@ -38,7 +38,8 @@ use Rattle.xl_program.proofs.Seen.{seen_own}
 
 -- ---- what is shown
 
-made_shown : (s : State) (old : At) (es : List Edit) (tables : List (List ℕ)) (r : Result At Refused) (bytes : List ℕ) → shown_of (made s old es tables r).reply bytes ≡ []
+made_shown : (s : State) (old : At) (es : List Edit) (tables : List (List ℕ)) (r : Result At Refused) (bytes : List ℕ)
+    → shown_of (made s old es tables r).reply bytes ≡ []
 made_shown s old es tables (Err r) bytes = refl
 made_shown s old es tables (Ok new) bytes = refl
 
@@ -50,28 +51,35 @@ redo_shown : (s : State) (ds : List Done) (bytes : List ℕ) → shown_of (redo_
 redo_shown s [] bytes = refl
 redo_shown s (d ∷ ds) bytes = refl
 
-by_tile : (h : History) (stack : ℕ) (at : TileAt) (tables : List (List ℕ)) (r : Reply) (bytes : List ℕ) → Shows h (tile stack at) r bytes
+by_tile : (h : History) (stack : ℕ) (at : TileAt) (tables : List (List ℕ)) (r : Reply) (bytes : List ℕ)
+    → Shows h (tile stack at) r bytes
     → shown_of r bytes ≡ shown_digest h.base h.entries (asked (tile stack at) tables) r
 by_tile h stack at tables (tile_of v) bytes shows = ap digest_of shows
 by_tile h stack at tables r bytes shows = refl
 
-by_peek : (h : History) (stack : ℕ) (at : TileAt) (tables : List (List ℕ)) (r : Reply) (bytes : List ℕ) → Shows h (peek stack at) r bytes
+by_peek : (h : History) (stack : ℕ) (at : TileAt) (tables : List (List ℕ)) (r : Reply) (bytes : List ℕ)
+    → Shows h (peek stack at) r bytes
     → shown_of r bytes ≡ shown_digest h.base h.entries (asked (peek stack at) tables) r
 by_peek h stack at tables (tile_of v) bytes shows = ap digest_of shows
 by_peek h stack at tables r bytes shows = refl
 
 -- the digest of the line is that of the tile in the desk
-reply_shown : (h : History) (base : Document) (w : World) (c : Call) (seen : ℕ) (tables : List (List ℕ)) (bytes : List ℕ) → Shows h c (reply_to base w c seen tables) bytes
-    → shown_of (reply_to base w c seen tables) bytes ≡ shown_digest h.base h.entries (asked c tables) (reply_to base w c seen tables)
+reply_shown : (h : History) (base : Document) (w : World) (c : Call) (seen : ℕ) (tables : List (List ℕ)) (bytes : List ℕ)
+    → Shows h c (reply_to base w c seen tables) bytes
+    → shown_of (reply_to base w c seen tables) bytes ≡ shown_digest h.base h.entries (asked c tables)
+    (reply_to base w c seen tables)
 reply_shown h base w (edit guard es) seen tables bytes shows =
     let s = w.state in
     let old : At = record { document = document_at base s (latest s); next = s.next_id } in
-    cond_both (λ (a : Answer). shown_of a.reply bytes ≡ []) (names guard (latest s)) (made s old es tables (apply_group old es tables)) (stays s (moved (latest s)))
+    cond_both (λ (a : Answer). shown_of a.reply bytes ≡ []) (names guard (latest s))
+    (made s old es tables (apply_group old es tables)) (stays s (moved (latest s)))
     (made_shown s old es tables (apply_group old es tables) bytes) refl
 reply_shown h base w (undo named) seen tables bytes shows = undo_shown w.state named w.state.undo bytes
 reply_shown h base w redo seen tables bytes shows = redo_shown w.state w.state.redo bytes
-reply_shown h base w (tile stack at) seen tables bytes shows = by_tile h stack at tables (reply_to base w (tile stack at) seen tables) bytes shows
-reply_shown h base w (peek stack at) seen tables bytes shows = by_peek h stack at tables (reply_to base w (peek stack at) seen tables) bytes shows
+reply_shown h base w (tile stack at) seen tables bytes shows =
+    by_tile h stack at tables (reply_to base w (tile stack at) seen tables) bytes shows
+reply_shown h base w (peek stack at) seen tables bytes shows =
+    by_peek h stack at tables (reply_to base w (peek stack at) seen tables) bytes shows
 reply_shown h base w top seen tables bytes shows = refl
 
 -- ---- the call is taken
@@ -94,11 +102,13 @@ module _ {D : Type 0} where
       ne_eqb (free_entries (world c)) 0 (λ q. omega (arith, none, free, q))
 
   -- a history with room takes the call
-  record IsTaken (old : Editing D) (session : ℕ) (c : Call) (seen : ℕ) (tables : List (List ℕ)) (reply : Reply) (new : Editing D) : Type 0 where
+  record IsTaken (old : Editing D) (session : ℕ) (c : Call) (seen : ℕ) (tables : List (List ℕ)) (reply : Reply)
+      (new : Editing D) : Type 0 where
     replied : reply ≡ reply_to old.history.base (world old) c seen tables
     grown : new.history ≡ core.with_call old.history session c tables reply
 
-  taken : (old : Editing D) (session : ℕ) (c : Call) (seen : ℕ) (tables : List (List ℕ)) (reply : Reply) (new : Editing D) → HasRoom old.history → IsSubmitted old session c seen tables reply new
+  taken : (old : Editing D) (session : ℕ) (c : Call) (seen : ℕ) (tables : List (List ℕ)) (reply : Reply) (new : Editing D)
+      → HasRoom old.history → IsSubmitted old session c seen tables reply new
       → IsTaken old session c seen tables reply new
   taken old session c seen tables reply new room submitted =
       let b = old.history.base in
@@ -108,8 +118,10 @@ module _ {D : Type 0} where
       let done : Outcome = record { reply = given; world = with_call b w session c tables given } in
       let free = not_full old room in
       let replied : reply ≡ given = submitted.1 ∙ ap (λ (t : Bool). (cond t full done).reply) free in
-      let worlds : world new ≡ with_call b w session c tables given = submitted.2 ∙ ap (λ (t : Bool). (cond t full done).world) free in
-      let entry : Reply → Entry = λ r. record { session = session; index = next_index old.history.entries session; kind = asked c tables; reply = r } in
+      let worlds : world new ≡ with_call b w session c tables given =
+      submitted.2 ∙ ap (λ (t : Bool). (cond t full done).world) free in
+      let entry : Reply → Entry =
+      λ r. record { session = session; index = next_index old.history.entries session; kind = asked c tables; reply = r } in
       let entries : new.history.entries ≡ old.history.entries ++ entry reply ∷ [] =
       ap (λ (v : World). v.entries) worlds ∙ ap (λ (r : Reply). old.history.entries ++ entry r ∷ []) (sym replied) in
       record { replied = replied; grown = λ i. record { base = submitted.0 i; entries = entries i } }
@@ -118,7 +130,8 @@ module _ {D : Type 0} where
   now_is : (c : Editing D) → IsLegal c.history.base c.history.entries → latest (world c).state ≡ version c.history
   now_is c legal = sym (latest_of-legal c.history.base c.history.entries legal)
 
-  said : (old : Editing D) (session : ℕ) (c : Call) (seen : ℕ) (tables : List (List ℕ)) (reply : Reply) (new : Editing D) → HasRoom old.history → IsLegal old.history.base old.history.entries
+  said : (old : Editing D) (session : ℕ) (c : Call) (seen : ℕ) (tables : List (List ℕ)) (reply : Reply) (new : Editing D)
+      → HasRoom old.history → IsLegal old.history.base old.history.entries
       → seen ≤ version old.history → IsSubmitted old session c seen tables reply new → IsSaid seen reply
   said old session c seen tables reply new room legal le submitted =
       subst (IsSaid seen) (sym (taken old session c seen tables reply new room submitted).replied)
@@ -127,18 +140,22 @@ module _ {D : Type 0} where
   -- ---- what it leaves
 
   -- the kept pictures are just those that have to be kept still
-  keeps : (old : Editing D) (session : ℕ) (c : Call) (seen : ℕ) (tables : List (List ℕ)) (reply : Reply) (new : Editing D) → KeepsExactly old → IsLegal old.history.base old.history.entries
-      → seen ≤ version old.history → IsSubmitted old session c seen tables reply new → IsRight new.history.base (world new) → KeepsExactly new
+  keeps : (old : Editing D) (session : ℕ) (c : Call) (seen : ℕ) (tables : List (List ℕ)) (reply : Reply) (new : Editing D)
+      → KeepsExactly old → IsLegal old.history.base old.history.entries
+      → seen ≤ version old.history → IsSubmitted old session c seen tables reply new → IsRight new.history.base (world new)
+      → KeepsExactly new
   keeps old session c seen tables reply new exactly legal le submitted right = record {
     within = subst IsDocument (sym submitted.0) exactly.within;
     right = right;
     exact = subst (λ (b : Document). SlotsAreExact b (world new)) (sym submitted.0)
         (subst (SlotsAreExact old.history.base) (sym submitted.2)
-        (stays-so old.history.base exactly.within (world old) (submits session c seen tables) exactly.right exactly.exact (subst (λ (n : ℕ). seen ≤ n) (sym (now_is old legal)) le) tt));
+        (stays-so old.history.base exactly.within (world old) (submits session c seen tables) exactly.right exactly.exact
+        (subst (λ (n : ℕ). seen ≤ n) (sym (now_is old legal)) le) tt));
   }
 
   -- what a peek of session 0 alone is answered follows from the entries
-  alone : (old : Editing D) (session : ℕ) (c : Call) (seen : ℕ) (tables : List (List ℕ)) → KeepsExactly old → IsLegal old.history.base old.history.entries
+  alone : (old : Editing D) (session : ℕ) (c : Call) (seen : ℕ) (tables : List (List ℕ)) → KeepsExactly old
+      → IsLegal old.history.base old.history.entries
       → seen_by old.history.entries session ≡ seen → AreOf 0 old.history.entries → session ≡ 0
       → IsAlone old.history.base old.history.entries (asked c tables) (reply_to old.history.base (world old) c seen tables) []
   alone old session (edit guard es) seen tables exactly legal has own first = tt
@@ -153,64 +170,94 @@ module _ {D : Type 0} where
       subst (λ (n : ℕ). IsAlonePeek (kept b es stack at) n (reply_to b (world old) (peek stack at) seen tables)) (now_is old legal)
       (alone_peek b (world old) stack at seen tables exactly.right exactly.exact is)
 
-  submitted_played : (old : Editing D) (session : ℕ) (c : Call) (seen : ℕ) (tables : List (List ℕ)) (reply : Reply) (new : Editing D) (bytes out : List ℕ) → HasRoom old.history → KeepsExactly old
-      → seen ≤ version old.history → seen_by old.history.entries session ≡ seen → ArePlayed old.history.base old.history.entries out → IsSubmitted old session c seen tables reply new
+  submitted_played : (old : Editing D) (session : ℕ) (c : Call) (seen : ℕ) (tables : List (List ℕ)) (reply : Reply)
+      (new : Editing D) (bytes out : List ℕ) → HasRoom old.history → KeepsExactly old
+      → seen ≤ version old.history → seen_by old.history.entries session ≡ seen → ArePlayed old.history.base old.history.entries out
+      → IsSubmitted old session c seen tables reply new
       → IsLegal new.history.base new.history.entries → Shows new.history c reply bytes
-      → ArePlayed new.history.base new.history.entries (out ++ line_text session (next_index old.history.entries session) (shown_of reply bytes) reply)
+      → ArePlayed new.history.base new.history.entries
+      (out ++ line_text session (next_index old.history.entries session) (shown_of reply bytes) reply)
   submitted_played old session c seen tables reply new bytes out room exactly le has played submitted legal shows =
       let is = taken old session c seen tables reply new room submitted in
       let h = old.history in
       let whole = core.with_call h session c tables reply in
       let shown : shown_of reply bytes ≡ shown_digest whole.base whole.entries (asked c tables) reply =
-      subst (λ (r : Reply). Shows whole c r bytes → shown_of r bytes ≡ shown_digest whole.base whole.entries (asked c tables) r) (sym is.replied)
+      subst (λ (r : Reply). Shows whole c r bytes → shown_of r bytes ≡ shown_digest whole.base whole.entries (asked c tables) r)
+      (sym is.replied)
       (reply_shown whole h.base (world old) c seen tables bytes)
       (subst (λ (g : History). Shows g c reply bytes) is.grown shows) in
-      let more = played_call h.base h.entries out session c seen tables reply played has (said old session c seen tables reply new room played.legal le submitted)
-      (λ own first. subst (λ (r : Reply). IsAlone h.base h.entries (asked c tables) r []) (sym is.replied) (alone old session c seen tables exactly played.legal has own first))
+      let more =
+      played_call h.base h.entries out session c seen tables reply played has
+      (said old session c seen tables reply new room played.legal le submitted)
+      (λ own first.
+      subst (λ (r : Reply). IsAlone h.base h.entries (asked c tables) r []) (sym is.replied)
+      (alone old session c seen tables exactly played.legal has own first))
       (subst (λ (g : History). IsLegal g.base g.entries) is.grown legal) in
-      subst (λ (g : History). ArePlayed g.base g.entries (out ++ line_text session (next_index h.entries session) (shown_of reply bytes) reply)) (sym is.grown)
-      (subst (λ (digest : List ℕ). ArePlayed whole.base whole.entries (out ++ line_text session (next_index h.entries session) digest reply)) (sym shown) more)
+      subst (λ (g : History).
+      ArePlayed g.base g.entries (out ++ line_text session (next_index h.entries session) (shown_of reply bytes) reply))
+      (sym is.grown)
+      (subst (λ (digest : List ℕ).
+      ArePlayed whole.base whole.entries (out ++ line_text session (next_index h.entries session) digest reply)) (sym shown)
+      more)
 
   -- ---- with the tables that the chest's filters answer
 
   -- the answer, for each list of filters with which the chest agrees
-  abbrev pub AnswersBy : (chest : List (Option FilterState)) (old : Editing D) (session : ℕ) → Call → (seen : ℕ) → Reply → (new : Editing D) → Type 0
-  AnswersBy chest old session c seen reply new = (filters : List FilterState) → Agrees chest filters → IsSubmitted old session c seen (expected_tables filters (asked c []) reply) reply new
+  abbrev pub AnswersBy : (chest : List (Option FilterState)) (old : Editing D) (session : ℕ) → Call → (seen : ℕ) → Reply
+      → (new : Editing D) → Type 0
+  AnswersBy chest old session c seen reply new =
+      (filters : List FilterState) → Agrees chest filters
+      → IsSubmitted old session c seen (expected_tables filters (asked c []) reply) reply new
 
-  pub chest_called : (before after : List (Option FilterState)) (old : Editing D) (session : ℕ) (c : Call) (seen : ℕ) (reply : Reply) (new : Editing D) → HasRoom old.history
-      → AnswersBy before old session c seen reply new → IsAfter before after c reply → IsCalled old.history session c before after new.history
+  pub chest_called : (before after : List (Option FilterState)) (old : Editing D) (session : ℕ) (c : Call) (seen : ℕ)
+      (reply : Reply) (new : Editing D) → HasRoom old.history
+      → AnswersBy before old session c seen reply new → IsAfter before after c reply
+      → IsCalled old.history session c before after new.history
   chest_called before after old session c seen reply new room answers used = record {
     reply = reply;
-    grown = λ filters agrees. (taken old session c seen (expected_tables filters (asked c []) reply) reply new room (answers filters agrees)).grown;
+    grown = λ filters agrees.
+        (taken old session c seen (expected_tables filters (asked c []) reply) reply new room (answers filters agrees)).grown;
     used = used;
   }
 
-  pub chest_base : (chest : List (Option FilterState)) (old : Editing D) (session : ℕ) (c : Call) (seen : ℕ) (reply : Reply) (new : Editing D)
+  pub chest_base : (chest : List (Option FilterState)) (old : Editing D) (session : ℕ) (c : Call) (seen : ℕ) (reply : Reply)
+      (new : Editing D)
       → AnswersBy chest old session c seen reply new → new.history.base ≡ old.history.base
   chest_base chest old session c seen reply new answers = let some = some_list chest in (answers some.0 some.1).0
 
-  pub chest_keeps : (chest : List (Option FilterState)) (old : Editing D) (session : ℕ) (c : Call) (seen : ℕ) (reply : Reply) (new : Editing D) → KeepsExactly old
-      → IsLegal old.history.base old.history.entries → seen ≤ version old.history → AnswersBy chest old session c seen reply new → IsRight new.history.base (world new) → KeepsExactly new
+  pub chest_keeps : (chest : List (Option FilterState)) (old : Editing D) (session : ℕ) (c : Call) (seen : ℕ) (reply : Reply)
+      (new : Editing D) → KeepsExactly old
+      → IsLegal old.history.base old.history.entries → seen ≤ version old.history → AnswersBy chest old session c seen reply new
+      → IsRight new.history.base (world new) → KeepsExactly new
   chest_keeps chest old session c seen reply new exactly legal le answers right =
       let some = some_list chest in
       keeps old session c seen (expected_tables some.0 (asked c []) reply) reply new exactly legal le (answers some.0 some.1) right
 
-  pub chest_text : (chest : List (Option FilterState)) (old : Editing D) (session : ℕ) (c : Call) (seen : ℕ) (reply : code.Reply) (new : Editing D) → HasRoom old.history
-      → IsLegal old.history.base old.history.entries → seen ≤ version old.history → AnswersBy chest old session c seen (reply_of reply) new → HasText reply
+  pub chest_text : (chest : List (Option FilterState)) (old : Editing D) (session : ℕ) (c : Call) (seen : ℕ) (reply : code.Reply)
+      (new : Editing D) → HasRoom old.history
+      → IsLegal old.history.base old.history.entries → seen ≤ version old.history
+      → AnswersBy chest old session c seen (reply_of reply) new → HasText reply
   chest_text chest old session c seen reply new room legal le answers =
       let some = some_list chest in
-      text_of seen reply (said old session c seen (expected_tables some.0 (asked c []) (reply_of reply)) (reply_of reply) new room legal le (answers some.0 some.1))
+      text_of seen reply (said old session c seen (expected_tables some.0 (asked c []) (reply_of reply)) (reply_of reply) new room
+      legal le (answers some.0 some.1))
 
   -- the line that is printed is that of the call
-  pub chest_printed : (chest : List (Option FilterState)) (old : Editing D) (session : ℕ) (c : Call) (seen : ℕ) (reply : Reply) (new : Editing D) (bytes out : List ℕ) (index : ℕ) (digest text : List ℕ)
+  pub chest_printed : (chest : List (Option FilterState)) (old : Editing D) (session : ℕ) (c : Call) (seen : ℕ) (reply : Reply)
+      (new : Editing D) (bytes out : List ℕ) (index : ℕ) (digest text : List ℕ)
       → HasRoom old.history → KeepsExactly old → seen ≤ version old.history → seen_by old.history.entries session ≡ seen
-      → ArePlayed old.history.base old.history.entries out → AnswersBy chest old session c seen reply new → IsLegal new.history.base new.history.entries → Shows new.history c reply bytes
-      → index ≡ next_index old.history.entries session → digest ≡ shown_of reply bytes → text ≡ out ++ line_text session index digest reply
+      → ArePlayed old.history.base old.history.entries out → AnswersBy chest old session c seen reply new
+      → IsLegal new.history.base new.history.entries → Shows new.history c reply bytes
+      → index ≡ next_index old.history.entries session → digest ≡ shown_of reply bytes
+      → text ≡ out ++ line_text session index digest reply
       → ArePlayed new.history.base new.history.entries text
-  chest_printed chest old session c seen reply new bytes out index digest text room exactly le has played answers legal shows at is printed =
+  chest_printed chest old session c seen reply new bytes out index digest text room exactly le has played answers legal shows at is
+      printed =
       let some = some_list chest in
       let next = next_index old.history.entries session in
       let whole : text ≡ out ++ line_text session next (shown_of reply bytes) reply =
-      printed ∙ ap (λ (n : ℕ). out ++ line_text session n digest reply) at ∙ ap (λ (d : List ℕ). out ++ line_text session next d reply) is in
+      printed ∙ ap (λ (n : ℕ). out ++ line_text session n digest reply) at
+      ∙ ap (λ (d : List ℕ). out ++ line_text session next d reply) is in
       subst (ArePlayed new.history.base new.history.entries) (sym whole)
-      (submitted_played old session c seen (expected_tables some.0 (asked c []) reply) reply new bytes out room exactly le has played (answers some.0 some.1) legal shows)
+      (submitted_played old session c seen (expected_tables some.0 (asked c []) reply) reply new bytes out room exactly le has
+      played (answers some.0 some.1) legal shows)

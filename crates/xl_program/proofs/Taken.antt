@@ -10,7 +10,8 @@ led_by_nothing None = refl
 led_by_nothing (Some more) = refl
 
 -- whatever was asked for
-pub nothing_taken : {S : Type 0} (left : S → Option (List ℕ)) (faults : S → ℕ) (s : S) (asked : Option Asked) → Takes left faults s s asked
+pub nothing_taken : {S : Type 0} (left : S → Option (List ℕ)) (faults : S → ℕ) (s : S) (asked : Option Asked)
+    → Takes left faults s s asked
 nothing_taken left faults s None = (refl, refl)
 nothing_taken left faults s (Some (edit name workers)) = ([], led_by_nothing (left s))
 nothing_taken left faults s (Some (render name)) = (refl, refl)

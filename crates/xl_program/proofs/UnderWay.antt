@@ -19,20 +19,24 @@ use Rattle.xl_core.specs.History.{History, with_call}
 use Rattle.xl_script.specs.Lines.{line_of, lines_of}
 use Rattle.xl_script.specs.declared.script.Line.{Line}
 use Rattle.xl_sessions.specs.Playing.{FitsChest}
-use Rattle.xl_program.specs.Playing.{AreOf, AreBefore, HasTurn, ArePlayed, IsCalled, IsBetweenLines, IsMade, IsAdded, KeepsExactly, calls_made}
+use Rattle.xl_program.specs.Playing.{AreOf, AreBefore, HasTurn, ArePlayed, IsCalled, IsBetweenLines, IsMade, KeepsExactly, calls_made}
 use Rattle.xl_program.proofs.Plain.{filters_now, filters_more, tables_more}
 use Rattle.xl_program.proofs.Seen.{no_call_yet, turn_none, turn_own}
-use Rattle.xl_program.proofs.Chests.{IsStocked, full_agrees, full_stocked, line_fits, stocked_after, agrees_without, stocked_without}
+use Rattle.xl_program.proofs.Chests.{full_stocked}
+use Rattle.xl_sessions.proofs.Brought.{full_agrees}
+use Rattle.xl_sessions.proofs.Chests.{IsStocked, line_fits, stocked_after, agrees_without, stocked_without}
 use Rattle.xl_program.proofs.Played.{calls_behind}
 
 -- ---- indices
 
-pub one_index : (es : List Entry) (e : Entry) → is_end_kind e.kind ≡ false → next_index (es ++ e ∷ []) e.session ≡ next_index es e.session + 1
+pub one_index : (es : List Entry) (e : Entry) → is_end_kind e.kind ≡ false
+    → next_index (es ++ e ∷ []) e.session ≡ next_index es e.session + 1
 one_index es e is =
     let counts : (e.session == e.session && not (is_end_kind e.kind)) ≡ true = rw (is, eq-eqb e.session e.session refl) refl in
     next_index-snoc es e e.session ∙ ap (λ (b : Bool). next_index es e.session + cond b 1 0) counts
 
-no_index : (es : List Entry) (e : Entry) (session : ℕ) → is_end_kind e.kind ≡ true → next_index (es ++ e ∷ []) session ≡ next_index es session
+no_index : (es : List Entry) (e : Entry) (session : ℕ) → is_end_kind e.kind ≡ true
+    → next_index (es ++ e ∷ []) session ≡ next_index es session
 no_index es e session is =
     let counts : (e.session == session && not (is_end_kind e.kind)) ≡ false = rw is (never (e.session == session)) in
     next_index-snoc es e session ∙ ap (λ (b : Bool). next_index es session + cond b 1 0) counts ∙ omega arith where
@@ -42,16 +46,19 @@ no_index es e session is =
 
 -- ---- one line more
 
--- What a line adds where the chest agrees with these filters: entries of the session, two at most, for its call if it is one; and what
--- it leaves of the chest.
-pub record IsOneMore (session : ℕ) (now : List FilterState) (old new : History) (before after : List (Option FilterState)) (line : script.Line) : Type 0 where
+-- What a line adds where the chest agrees with these filters: entries of the session, two at most, for its call if it is one; and
+-- what it leaves of the chest.
+pub record IsOneMore (session : ℕ) (now : List FilterState) (old new : History) (before after : List (Option FilterState))
+    (line : script.Line) : Type 0 where
   pub base_is : new.base ≡ old.base
   pub more : List Entry
   pub entries : new.entries ≡ old.entries ++ more
   pub own : AreOf session more
   pub calls : calls_made more ≡ calls_of (line ∷ [])
-  pub tables : (filters : List FilterState) (earlier : List Entry) → now ≡ filters_now filters earlier → HaveTables filters earlier → HaveTables filters (earlier ++ more)
-  pub agrees : (filters : List FilterState) (earlier : List Entry) → now ≡ filters_now filters earlier → Agrees after (filters_now filters (earlier ++ more))
+  pub tables : (filters : List FilterState) (earlier : List Entry) → now ≡ filters_now filters earlier → HaveTables filters earlier
+      → HaveTables filters (earlier ++ more)
+  pub agrees : (filters : List FilterState) (earlier : List Entry) → now ≡ filters_now filters earlier
+      → Agrees after (filters_now filters (earlier ++ more))
   pub stocked : (given : ℕ) (dropped : List ℕ) → IsStocked given dropped before → IsStocked given (dropped_by dropped line) after
   pub index : next_index new.entries session ≡ next_index old.entries session + length (calls_of (line ∷ []))
   pub turn : HasTurn old.entries session → HasTurn new.entries session
@@ -63,15 +70,18 @@ no_tables : (filters : List FilterState) (earlier : List Entry) (e : Entry) → 
 no_tables filters earlier e have none expected = tables_more filters earlier e have (none ∙ sym expected)
 
 -- which tables are expected is not asked of the tables
-same_tables : (filters : List FilterState) (c : Call) (tables others : List (List ℕ)) (reply : Reply) → expected_tables filters (asked c tables) reply ≡ expected_tables filters (asked c others) reply
+same_tables : (filters : List FilterState) (c : Call) (tables others : List (List ℕ)) (reply : Reply)
+    → expected_tables filters (asked c tables) reply ≡ expected_tables filters (asked c others) reply
 same_tables filters c tables others reply = tables_made filters c tables reply ∙ sym (tables_made filters c others reply)
 
-pub made_one : (session : ℕ) (now : List FilterState) (old new : History) (before after : List (Option FilterState)) (line : script.Line) → Agrees before now → IsMade old session line before after new
+pub made_one : (session : ℕ) (now : List FilterState) (old new : History) (before after : List (Option FilterState))
+    (line : script.Line) → Agrees before now → IsMade old session line before after new
     → IsOneMore session now old new before after line
 made_one session now old new before after (script.call c) agrees made =
     let tables : List (List ℕ) = expected_tables now (asked c []) made.reply in
     let grown : new ≡ with_call old session c tables made.reply = made.grown now agrees in
-    let e : Entry = record { session = session; index = next_index old.entries session; kind = asked c tables; reply = made.reply } in
+    let e : Entry =
+    record { session = session; index = next_index old.entries session; kind = asked c tables; reply = made.reply } in
     let es : new.entries ≡ old.entries ++ e ∷ [] = ap (λ (h : History). h.entries) grown in
     let longer = ap length es ∙ length-append old.entries (e ∷ []) in
     record {
@@ -81,14 +91,18 @@ made_one session now old new before after (script.call c) agrees made =
       own = (refl, tt);
       calls = refl;
       tables = λ filters earlier is have.
-          tables_more filters earlier e have (same_tables now c [] tables made.reply ∙ ap (λ fs. expected_tables fs (asked c tables) made.reply) is);
+          tables_more filters earlier e have
+          (same_tables now c [] tables made.reply ∙ ap (λ fs. expected_tables fs (asked c tables) made.reply) is);
       agrees = λ filters earlier is.
           subst (Agrees after)
-          (sym (filters_made now c tables made.reply) ∙ ap (λ fs. filters_after fs (asked c tables) made.reply) is ∙ sym (filters_more filters earlier (e ∷ [])))
+          (sym (filters_made now c tables made.reply) ∙ ap (λ fs. filters_after fs (asked c tables) made.reply) is
+          ∙ sym (filters_more filters earlier (e ∷ [])))
           (made.used.states now agrees);
       stocked = λ given dropped stocked. stocked_after given dropped before after made.used.slots stocked;
       index = ap (λ (l : List Entry). next_index l session) es ∙ one_index old.entries e refl;
-      turn = λ had. subst (λ (l : List Entry). HasTurn l session) (sym es) (turn_own old.entries e (next_index old.entries session) (one_index old.entries e refl));
+      turn = λ had.
+          subst (λ (l : List Entry). HasTurn l session) (sym es)
+          (turn_own old.entries e (next_index old.entries session) (one_index old.entries e refl));
       few = omega (arith, longer);
     }
 made_one session now old new before after script.save agrees (made, same) =
@@ -106,20 +120,23 @@ made_one session now old new before after script.save agrees (made, same) =
           subst (HaveTables filters) (append_assoc earlier (s ∷ []) (e ∷ []))
           (no_tables filters (earlier ++ s ∷ []) e (no_tables filters earlier s have refl refl) refl refl);
       agrees = λ filters earlier is.
-          subst (Agrees after) (is ∙ sym (filters_more filters earlier (s ∷ e ∷ []))) (subst (λ chest. Agrees chest now) (sym same) agrees);
+          subst (Agrees after) (is ∙ sym (filters_more filters earlier (s ∷ e ∷ [])))
+          (subst (λ chest. Agrees chest now) (sym same) agrees);
       stocked = λ given dropped stocked. subst (IsStocked given dropped) (sym same) stocked;
       index =
           ap (λ (l : List Entry). next_index l session) (es ∙ sym (append_assoc old.entries (s ∷ []) (e ∷ [])))
           ∙ no_index (old.entries ++ s ∷ []) e session refl
           ∙ one_index old.entries s refl;
       turn = λ had. subst (λ (l : List Entry). HasTurn l session) (append_assoc old.entries (s ∷ []) (e ∷ []) ∙ sym es)
-          (turn_own (old.entries ++ s ∷ []) e (next_index old.entries session) (no_index (old.entries ++ s ∷ []) e session refl ∙ one_index old.entries s refl));
+          (turn_own (old.entries ++ s ∷ []) e (next_index old.entries session)
+          (no_index (old.entries ++ s ∷ []) e session refl ∙ one_index old.entries s refl));
       few = omega (arith, longer);
     }
 made_one session now old new before after (script.forget slot) agrees (same, without) =
     let es : new.entries ≡ old.entries = ap (λ (h : History). h.entries) same in
     let longer = ap length es in
-    let index : next_index new.entries session ≡ next_index old.entries session = ap (λ (l : List Entry). next_index l session) es in
+    let index : next_index new.entries session ≡ next_index old.entries session =
+    ap (λ (l : List Entry). next_index l session) es in
     record {
       base_is = ap (λ (h : History). h.base) same;
       more = [];
@@ -130,14 +147,17 @@ made_one session now old new before after (script.forget slot) agrees (same, wit
       agrees = λ filters earlier is.
           subst (Agrees after) (is ∙ ap (filters_now filters) (sym (append-nil earlier)))
           (subst (λ chest. Agrees chest now) (sym without) (agrees_without before now slot agrees));
-      stocked = λ given dropped stocked. subst (IsStocked given (dropped ++ slot ∷ [])) (sym without) (stocked_without given dropped before slot stocked);
+      stocked =
+          λ given dropped stocked.
+          subst (IsStocked given (dropped ++ slot ∷ [])) (sym without) (stocked_without given dropped before slot stocked);
       index = omega (arith, index);
       turn = λ had. subst (λ (l : List Entry). HasTurn l session) (sym es) had;
       few = omega (arith, longer);
     }
 
 -- the index of the next call
-pub called_next : (session : ℕ) (old new : History) (before after : List (Option FilterState)) (c : Call) → IsCalled old session c before after new
+pub called_next : (session : ℕ) (old new : History) (before after : List (Option FilterState)) (c : Call)
+    → IsCalled old session c before after new
     → next_index new.entries session ≡ next_index old.entries session + 1
 called_next session old new before after c called =
     let some = some_list before in
@@ -151,7 +171,8 @@ calls_split script.save lines = refl
 calls_split (script.forget slot) lines = refl
 
 -- the entries so far are those of the lines so far, and the lines that are left may be played
-pub record IsUnderWay {D : Type 0} (session : ℕ) (filters : List FilterState) (start : Editing D) (all left : List Line) (index : ℕ) (chest : List (Option FilterState)) (core : Editing D) (out : List ℕ) : Type 0 where
+pub record IsUnderWay {D : Type 0} (session : ℕ) (filters : List FilterState) (start : Editing D) (all left : List Line) (index : ℕ)
+    (chest : List (Option FilterState)) (core : Editing D) (out : List ℕ) : Type 0 where
   pub index_is : index ≡ next_index core.history.entries session
   pub between : IsBetweenLines start.history.base start.opening core
   pub more : List Entry
@@ -160,7 +181,8 @@ pub record IsUnderWay {D : Type 0} (session : ℕ) (filters : List FilterState) 
   pub calls : calls_made more ++ calls_of (lines_of left) ≡ calls_of (lines_of all)
   pub tables : HaveTables filters more
   pub agrees : Agrees chest (filters_now filters more)
-  pub few : length core.history.entries + 2 * length (calls_of (lines_of left)) ≤ length start.history.entries + 2 * length (calls_of (lines_of all))
+  pub few : length core.history.entries + 2 * length (calls_of (lines_of left)) ≤ length start.history.entries + 2 * length
+      (calls_of (lines_of all))
   pub dropped : List ℕ
   pub stocked : IsStocked (length filters) dropped chest
   pub fit : AreFit (length filters) dropped (lines_of left)
@@ -169,8 +191,11 @@ pub record IsUnderWay {D : Type 0} (session : ℕ) (filters : List FilterState) 
   pub played : ArePlayed core.history.base core.history.entries out
 
 module _ {D : Type 0} where
-  pub under_way_none : (session : ℕ) (filters : List FilterState) (core : Editing D) (all left : List Line) (index : ℕ) (chest : List (Option FilterState)) (out : List ℕ) → chest ≡ map (λ s. Some s) filters → AreBefore session core.history.entries → index ≡ 0 → IsSome core.shelf → KeepsExactly core
-      → ArePlayed core.history.base core.history.entries out → AreFit (length filters) [] (lines_of all) → left ≡ all → IsUnderWay session filters core all left index chest core out
+  pub under_way_none : (session : ℕ) (filters : List FilterState) (core : Editing D) (all left : List Line) (index : ℕ)
+      (chest : List (Option FilterState)) (out : List ℕ) → chest ≡ map (λ s. Some s) filters
+      → AreBefore session core.history.entries → index ≡ 0 → IsSome core.shelf → KeepsExactly core
+      → ArePlayed core.history.base core.history.entries out → AreFit (length filters) [] (lines_of all) → left ≡ all
+      → IsUnderWay session filters core all left index chest core out
   under_way_none session filters core all left index chest out full before zero inside kept played fit whole =
       subst (λ (ls : List Line). IsUnderWay session filters core all ls index chest core out) (sym whole)
       (record {
@@ -192,7 +217,8 @@ module _ {D : Type 0} where
       })
 
   -- one line more is still between lines
-  pub still_between : {base : Document} {opening : D} {old : Editing D} (new : Editing D) → IsBetweenLines base opening old → IsBetweenLines old.history.base old.opening new → IsBetweenLines base opening new
+  pub still_between : {base : Document} {opening : D} {old : Editing D} (new : Editing D) → IsBetweenLines base opening old
+      → IsBetweenLines old.history.base old.opening new → IsBetweenLines base opening new
   still_between new before after = record {
     base_is = after.base_is ∙ before.base_is;
     opening_is = after.opening_is ∙ before.opening_is;
@@ -200,36 +226,50 @@ module _ {D : Type 0} where
     legal = after.legal;
   }
 
-  module _ {session : ℕ} {filters : List FilterState} {start : Editing D} {all left : List Line} {index : ℕ} {chest : List (Option FilterState)} {old : Editing D} {out : List ℕ} (line : Line) (rest : List Line) (way : IsUnderWay session filters start all left index chest old out)
+  module _ {session : ℕ} {filters : List FilterState} {start : Editing D} {all left : List Line} {index : ℕ}
+      {chest : List (Option FilterState)} {old : Editing D} {out : List ℕ} (line : Line) (rest : List Line)
+      (way : IsUnderWay session filters start all left index chest old out)
       (turn : left ≡ line ∷ rest) where
     pub under_way_fit : FitsChest chest (line_of line)
-    under_way_fit = line_fits (length filters) way.dropped chest (line_of line) way.stocked (subst (λ (ls : List Line). AreFit (length filters) way.dropped (lines_of ls)) turn way.fit).0
+    under_way_fit =
+        line_fits (length filters) way.dropped chest (line_of line) way.stocked
+        (subst (λ (ls : List Line). AreFit (length filters) way.dropped (lines_of ls)) turn way.fit).0
 
     -- there is room for the entries of a line
     pub under_way_free : length start.history.entries + 2 * length (calls_of (lines_of all)) ≤ most_entries
         → length old.history.entries + 2 * length (calls_of (line_of line ∷ [])) ≤ most_entries
     under_way_free room =
         let few = way.few in
-        let split = ap (λ (ls : List Line). length (calls_of (lines_of ls))) turn ∙ ap length (calls_split (line_of line) (lines_of rest))
+        let split =
+        ap (λ (ls : List Line). length (calls_of (lines_of ls))) turn ∙ ap length (calls_split (line_of line) (lines_of rest))
         ∙ length-append (calls_of (line_of line ∷ [])) (calls_of (lines_of rest)) in
         omega arith
 
-    pub under_way_more : (after_chest : List (Option FilterState)) (new : Editing D) (next : ℕ) (more : List ℕ) → IsBetweenLines old.history.base old.opening new → IsMade old.history session (line_of line) chest after_chest new.history
-        → next ≡ next_index new.history.entries session → KeepsExactly new → ArePlayed new.history.base new.history.entries more → IsUnderWay session filters start all rest next after_chest new more
+    pub under_way_more : (after_chest : List (Option FilterState)) (new : Editing D) (next : ℕ) (more : List ℕ)
+        → IsBetweenLines old.history.base old.opening new → IsMade old.history session (line_of line) chest after_chest new.history
+        → next ≡ next_index new.history.entries session → KeepsExactly new → ArePlayed new.history.base new.history.entries more
+        → IsUnderWay session filters start all rest next after_chest new more
     under_way_more after_chest new next more after made next_is kept played =
-        let one = made_one session (filters_now filters way.more) old.history new.history chest after_chest (line_of line) way.agrees made in
+        let one =
+        made_one session (filters_now filters way.more) old.history new.history chest after_chest (line_of line) way.agrees
+        made in
         let split = calls_split (line_of line) (lines_of rest) in
-        let counts = ap (λ (ls : List Line). length (calls_of (lines_of ls))) turn ∙ ap length split ∙ length-append (calls_of (line_of line ∷ [])) (calls_of (lines_of rest)) in
+        let counts =
+        ap (λ (ls : List Line). length (calls_of (lines_of ls))) turn ∙ ap length split
+        ∙ length-append (calls_of (line_of line ∷ [])) (calls_of (lines_of rest)) in
         let so_far = way.few in
         let longer = one.few in
         record {
           index_is = next_is;
           between = still_between new way.between after;
           more = way.more ++ one.more;
-          entries = one.entries ∙ ap (λ (es : List Entry). es ++ one.more) way.entries ∙ append_assoc start.history.entries way.more one.more;
+          entries =
+              one.entries ∙ ap (λ (es : List Entry). es ++ one.more) way.entries
+              ∙ append_assoc start.history.entries way.more one.more;
           own = both_own way.more one.more way.own one.own;
           calls =
-              ap (λ (ls : List script.Line). ls ++ calls_of (lines_of rest)) (calls_behind way.more one.more ∙ ap (λ (ls : List script.Line). calls_made way.more ++ ls) one.calls)
+              ap (λ (ls : List script.Line). ls ++ calls_of (lines_of rest))
+              (calls_behind way.more one.more ∙ ap (λ (ls : List script.Line). calls_made way.more ++ ls) one.calls)
               ∙ append_assoc (calls_made way.more) (calls_of (line_of line ∷ [])) (calls_of (lines_of rest))
               ∙ ap (λ (ls : List script.Line). calls_made way.more ++ ls) (sym split)
               ∙ ap (λ (ls : List Line). calls_made way.more ++ calls_of (lines_of ls)) (sym turn)
@@ -247,17 +287,3 @@ module _ {D : Type 0} where
           both_own : (xs ys : List Entry) → AreOf session xs → AreOf session ys → AreOf session (xs ++ ys)
           both_own [] ys own also = also
           both_own (x ∷ xs) ys own also = (own.0, both_own xs ys own.1 also)
-
-  pub under_way_all : {session : ℕ} {filters : List FilterState} {start : Editing D} {all left : List Line} {index : ℕ} {chest : List (Option FilterState)} {core : Editing D} {out : List ℕ}
-      → IsUnderWay session filters start all left index chest core out → left ≡ [] → IsAdded session filters (lines_of all) start.history.entries core.history.entries
-  under_way_all {all = all} {left = left} way done =
-      let few = way.few in
-      let none = ap (λ (ls : List Line). length (calls_of (lines_of ls))) done in
-      record {
-        more = way.more;
-        entries = way.entries;
-        own = way.own;
-        calls = sym (append-nil (calls_made way.more)) ∙ ap (λ (ls : List Line). calls_made way.more ++ calls_of (lines_of ls)) (sym done) ∙ way.calls;
-        tables = way.tables;
-        few = omega arith;
-      }

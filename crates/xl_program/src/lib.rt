@@ -3,8 +3,9 @@
 //! `render FILE` writes the picture of a file to the sink, and `info FILE` its document as a line of JSON. `edit FILE` reads a
 //! script from the source, makes its calls and saves on the document of a file and writes the replies to the sink; the file
 //! changes by its saves alone. `make FILE --seed N` saves the document of a seed, makes the calls and saves of the seed's script
-//! and writes a line that sums them up. The sessions of a script are played beside each other, and beside workers. What else a
-//! command comes to is told by one line there and by the status. Each command is a module of its own.
+//! and writes a line that sums them up. The sessions of a script are played beside each other, and beside workers; session 0
+//! alone, where an edit asks for no worker, without threads. What else a command comes to is told by one line there and by the
+//! status. Each command is a module of its own.
 #![tactic(auto)]
 
 mod describing;
@@ -14,6 +15,7 @@ mod line;
 mod loading;
 mod making;
 mod obeying;
+mod opening;
 mod playing;
 mod rendering;
 mod running;

@@ -1,4 +1,4 @@
-ghost use Rattle.std.specs.Prelude.{◌≡◌, string_bytes, IfOk, MatchResult};
+ghost use Rattle.std.specs.Prelude.{◌≡◌, string_bytes, IfOk};
 ghost use Rattle.spec_command.specs.Ends.{stop_line, bad_line, refused};
 ghost use Rattle.xl_program.specs.Lines.{Tells};
 

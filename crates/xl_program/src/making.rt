@@ -1,4 +1,4 @@
-ghost use Rattle.std.specs.Prelude.{◌≡◌, ◌⊎◌, ℕ, [], length, map, pos, Some, IfOk, OnOk, OnErr, IsOk, IsSome, string_bytes};
+ghost use Rattle.std.specs.Prelude.{◌≡◌, ◌⊎◌, ℕ, [], length, pos, Some, IfOk, OnOk, OnErr, IsOk, IsSome, string_bytes};
 ghost use Rattle.spec_command.specs.Arguments.{make as make_of};
 ghost use Rattle.spec_document.specs.Limits.{IsDocument};
 ghost use Rattle.spec_generated.specs.Generated.{document, script};
@@ -19,12 +19,14 @@ ghost use Rattle.xl_script.specs.Lines.{lists_of};
 
 use crate::editing::write_replies;
 use crate::ended::Done;
+use crate::opening::open_core;
 use crate::playing::{Replies, has_save_fault};
 use crate::script_runs::Played;
 use crate::stopped::Stopped;
 use std::alloc::{AllocError, Global};
 use std::sync::Wait;
 use std::thread::Threads;
+use xl_checks::know_limits;
 use xl_compose::Recompose;
 use xl_core::Core;
 use xl_doc::{Document, NodeId, Pictures, Rect};
@@ -90,13 +92,6 @@ fn made_with_file(alloc: Global, seed: u32) -> Result<(Made, Vec<u8>), AllocErro
     Ok((made, file))
 }
 
-// Tells contracts that a document is within its limits, as its type keeps it.
-fn know_limits(doc: &Document)
-    ensures { IsDocument doc.now }
-{
-    let _width = doc.width;
-}
-
 // Saves the file of a document that is made, before its script is played.
 fn save_first<D: Shelf>(name: &str, file: &[u8], shelf: &mut D) -> Result<(), Failed>
     ensures saved { OnOk result ((seed : ℕ) → Written file.now (document seed) → IsSavedOn
@@ -132,15 +127,12 @@ fn run_made<R: Threads + Wait + Sync, D: Shelf, G: Gate>(
         → IsSummedUp (known D.selected D.disk D.reading_faults D.saving_faults shelf)
         (known D.selected D.disk D.reading_faults D.saving_faults result.shelf) (document seed) (script seed) result.replies }
 {
-    let core = match Core::open(alloc, made.document, shelf) {
+    let core = match open_core(alloc, made.document, shelf) {
         Ok(core) => core,
-        Err(failed) => {
-            let (_document, shelf) = failed.value;
-            return Played {
-                replies: Err(AllocError),
-                shelf,
-            };
-        }
+        Err(shelf) => return Played {
+            replies: Err(AllocError),
+            shelf,
+        },
     };
     let PlayedBeside { core, text } = play_beside(
         rt,

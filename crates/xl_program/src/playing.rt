@@ -5,16 +5,15 @@ ghost use Rattle.spec_history.specs.Limited.{edits_of};
 ghost use Rattle.spec_saves.specs.Names.{ends_by_fault, save_faults};
 ghost use Rattle.spec_script.specs.Fits.{AreFit, FitsFilters};
 ghost use Rattle.spec_tables.specs.Agrees.{AreThere};
-ghost use Rattle.spec_text.specs.Printed.{word_of_entry};
 ghost use Rattle.spec_text.specs.Text.{calls_of};
 ghost use Rattle.std.specs.List.{AllByRecursion};
-ghost use Rattle.std.specs.Prelude.{◌≡◌, ◌+◌, ◌*◌, ◌<◌, ◌≤◌, ◌^◌, ◌==◌, if◌then◌else◌, [], ◌∷◌, length, map, drop, Some, IfOk, OnOk, IsSome, string_bytes};
+ghost use Rattle.std.specs.Prelude.{◌≡◌, ◌+◌, ◌*◌, ◌<◌, ◌≤◌, ◌^◌, ◌==◌, if◌then◌else◌, [], ◌∷◌, length, map, IfOk, OnOk, IsSome, string_bytes};
 ghost use Rattle.xl_core.specs.History.{version};
 ghost use Rattle.xl_edit.specs.Calls.{call_of};
 ghost use Rattle.xl_edit.specs.Replies.{reply_of};
 ghost use Rattle.xl_filters.specs.Chests.{states_in};
 ghost use Rattle.xl_program.specs.Parts.{WhetherFailed, IsToldOf};
-ghost use Rattle.xl_program.specs.Playing.{AreBefore, ArePlayed, AreSessions, boxes_at, HasTurn, IsAdded, IsBetweenLines, IsCalled, IsMade, KeepsExactly, shown_of, with_save};
+ghost use Rattle.xl_program.specs.Playing.{AreBefore, ArePlayed, AreSessions, HasTurn, IsAdded, IsBetweenLines, IsCalled, IsMade, KeepsExactly, shown_of, with_save};
 ghost use Rattle.xl_script.specs.Lines.{line_of, lines_of, lists_of};
 ghost use Rattle.xl_sessions.specs.Outcomes.{states_of};
 ghost use Rattle.xl_sessions.specs.Playing.{FitsChest};
@@ -29,8 +28,8 @@ use xl_edit::{Call, Reply};
 use xl_filters::PointFilter;
 use xl_ports::{Actor, Gate, Place, Shelf};
 use xl_report::digest;
-use xl_script::{Line, OrderWord, Script, print_order, print_reply};
-use xl_sessions::desk_of;
+use xl_script::{Line, Script, print_order, print_reply};
+use xl_sessions::{desk_of, first_boxes, order_words};
 
 /// The text of a run, and whether one of its saves failed.
 #[derive(Drop)]
@@ -199,23 +198,6 @@ fn play_lines<L: Ledger, D: Shelf, G: Gate>(
     Ok(())
 }
 
-// Takes the first list of boxes, if there is one.
-fn first_boxes(
-    alloc: Global,
-    chest: &mut Vec<Vec<Box<dyn PointFilter + Send>>>,
-) -> Vec<Box<dyn PointFilter + Send>>
-    requires { AllByRecursion (λ boxes. length boxes.items < 2 ^ 32) chest.old.items }
-    ensures first { result.items ≡ boxes_at chest.old.items 0 }
-    ensures others { chest.new.items ≡ drop 1 chest.old.items }
-    ensures short { length result.items < 2 ^ 32 }
-    ensures others_short { AllByRecursion (λ boxes. length boxes.items < 2 ^ 32) chest.new.items }
-{
-    if chest.is_empty() {
-        return Vec::new(alloc);
-    }
-    chest.remove(0)
-}
-
 // Makes the calls and saves of the sessions, one session after another, and answers their lines.
 fn play_sessions<L: Ledger, D: Shelf, G: Gate>(
     alloc: Global,
@@ -259,27 +241,6 @@ fn play_sessions<L: Ledger, D: Shelf, G: Gate>(
     Ok(text)
 }
 
-fn order_word(entry: &Entry) -> OrderWord
-    ensures { result ≡ word_of_entry entry.now }
-{
-    OrderWord {
-        session: entry.session,
-        index: entry.index,
-        end: matches!(entry.kind, EntryKind::End),
-    }
-}
-
-// The words of the order line.
-fn order_words(alloc: Global, entries: &[Entry]) -> Result<Vec<OrderWord>, AllocError>
-    ensures { IfOk result (λ words. words.items ≡ map word_of_entry entries.now) }
-{
-    let mut words = Vec::with_capacity(alloc, entries.len())?;
-    for entry in entries {
-        words.push(order_word(entry))?;
-    }
-    Ok(words)
-}
-
 // Whether an entry is the end of a save that failed.
 fn ends_by_fault(entry: &Entry) -> bool
     ensures { result ≡ ends_by_fault entry.now.kind entry.now.reply }
@@ -302,8 +263,8 @@ pub fn has_save_fault(entries: &[Entry]) -> bool
     false
 }
 
-/// Makes the calls and saves of the sessions, one session after another, without threads or workers. Answers the text of the run:
-/// a line for each reply, and the order line.
+/// Makes the calls and saves of the sessions, one session after another, without threads or workers. Answers the text of the run,
+/// which has a line for each call and save and the order line, and whether a save failed.
 pub fn play<D: Shelf, G: Gate>(
     alloc: Global,
     core: &mut Core<D>,

@@ -11,6 +11,7 @@ ghost use Rattle.xl_program.specs.Playing.{AreOfFirst, KeepsExactly};
 ghost use Rattle.xl_script.specs.Lines.{lists_of};
 ghost use Rattle.xl_sessions.specs.Outcomes.{states_of};
 
+use crate::opening::open_core;
 use crate::playing::{Replies, has_save_fault, play};
 use std::alloc::{AllocError, Global};
 use std::sync::Wait;
@@ -147,15 +148,12 @@ pub fn run_script<R: Threads + Wait + Sync, D: Shelf, G: Gate>(
         (known D.selected D.disk D.reading_faults D.saving_faults result.shelf)
         document (lists_of script) (states_of (λ b. state b) chest.items) workers result.replies }
 {
-    let core = match Core::open(alloc, document, shelf) {
+    let core = match open_core(alloc, document, shelf) {
         Ok(core) => core,
-        Err(failed) => {
-            let (_document, shelf) = failed.value;
-            return Played {
-                replies: Err(AllocError),
-                shelf,
-            };
-        }
+        Err(shelf) => return Played {
+            replies: Err(AllocError),
+            shelf,
+        },
     };
     let script = know_eight(script);
     if is_alone(&script, workers) {

@@ -16,7 +16,8 @@ returns-then-is_err-clause-comes g c = λ given. (
     c.in_ok-document.ensures.untouched,
     tt,
   ),
-  wrote_part g.K.Sink.held g.K.Sink.faults c.args.sink.now c.write_all.new.sink c.as_bytes.result.now c.write_all.result (sym c.is_err.ensures.value ∙ c.if-is_err.true) c.write_all.ensures,
+  wrote_part g.K.Sink.held g.K.Sink.faults c.args.sink.now c.write_all.new.sink c.as_bytes.result.now c.write_all.result
+      (sym c.is_err.ensures.value ∙ c.if-is_err.true) c.write_all.ensures,
 )
 
 pub returns-clause-comes : goal.returns-clause-comes
@@ -32,5 +33,6 @@ returns-clause-comes g c = λ given. (
     c.in_ok-document.ensures.untouched,
     refl,
   ),
-  wrote_all g.K.Sink.held g.K.Sink.faults c.args.sink.now c.write_all.new.sink c.as_bytes.result.now c.write_all.result (sym c.is_err.ensures.value ∙ c.if-is_err.false) c.write_all.ensures,
+  wrote_all g.K.Sink.held g.K.Sink.faults c.args.sink.now c.write_all.new.sink c.as_bytes.result.now c.write_all.result
+      (sym c.is_err.ensures.value ∙ c.if-is_err.false) c.write_all.ensures,
 )

@@ -2,14 +2,19 @@ use Rattle.std.specs.Prelude.{Err}
 use Rattle.xl_script.specs.Lines.{lists_of}
 use Rattle.xl_program.specs.Outcome.{Shelved, shelved}
 use Rattle.xl_program.proofs.Edited.{IsOpened, played_comes, read_stopped, load_stops, play_stops}
-use Rattle.xl_program.proofs.ToEnd.{ended_anyhow, unread}
+use Rattle.xl_program.proofs.ScriptEnded.{ended_anyhow, unread}
 use Rattle.xl_program.proofs.editing.edit.Goals as goal
 
 pub returns-clause-comes : goal.returns-clause-comes
 returns-clause-comes g c =
-    let before : Shelved = shelved g.D.Shelf.content g.D.Shelf.selected g.D.Shelf.disk g.D.Shelf.reading_faults g.D.Shelf.saving_faults c.args.shelf in
-    let mid : Shelved = shelved g.D.Shelf.content g.D.Shelf.selected g.D.Shelf.disk g.D.Shelf.reading_faults g.D.Shelf.saving_faults c.read_document.new.shelf in
-    let after : Shelved = shelved g.D.Shelf.content g.D.Shelf.selected g.D.Shelf.disk g.D.Shelf.reading_faults g.D.Shelf.saving_faults c.run_script-played.result.shelf in
+    let before : Shelved =
+    shelved g.D.Shelf.content g.D.Shelf.selected g.D.Shelf.disk g.D.Shelf.reading_faults g.D.Shelf.saving_faults c.args.shelf in
+    let mid : Shelved =
+    shelved g.D.Shelf.content g.D.Shelf.selected g.D.Shelf.disk g.D.Shelf.reading_faults g.D.Shelf.saving_faults
+    c.read_document.new.shelf in
+    let after : Shelved =
+    shelved g.D.Shelf.content g.D.Shelf.selected g.D.Shelf.disk g.D.Shelf.reading_faults g.D.Shelf.saving_faults
+    c.run_script-played.result.shelf in
     let loaded = c.in-Ok-read_document.ensures in
     let then : IsOpened _ before mid c.args.name.now c.in-Ok-read_document.document (lists_of c.in-Ok.script) = record {
       holds = loaded.loads;
@@ -21,21 +26,26 @@ returns-clause-comes g c =
       named = loaded.named;
       reading = loaded.cause;
     } in
-    played_comes then after c.args.workers g.K.Sink.held g.K.Sink.faults c.args.sink.now c.write_replies.new.sink c.run_script-played.result.replies c.write_replies.result
+    played_comes then after c.args.workers g.K.Sink.held g.K.Sink.faults c.args.sink.now c.write_replies.new.sink
+    c.run_script-played.result.replies c.write_replies.result
     c.run_script-played.ensures c.write_replies.ensures
 
 pub returns-in-Err-clause-comes : goal.returns-in-Err-clause-comes
 returns-in-Err-clause-comes g c =
-    let before : Shelved = shelved g.D.Shelf.content g.D.Shelf.selected g.D.Shelf.disk g.D.Shelf.reading_faults g.D.Shelf.saving_faults c.args.shelf in
-    read_stopped g.K.Sink.held g.K.Sink.faults _ before c.args.name.now c.args.sink.now c.in-Err.stopped c.in-Err.ensures.reads c.args.workers
+    let before : Shelved =
+    shelved g.D.Shelf.content g.D.Shelf.selected g.D.Shelf.disk g.D.Shelf.reading_faults g.D.Shelf.saving_faults c.args.shelf in
+    read_stopped g.K.Sink.held g.K.Sink.faults _ before c.args.name.now c.args.sink.now c.in-Err.stopped c.in-Err.ensures.reads
+    c.args.workers
 
 pub returns-in-Err-read_document-clause-stops : goal.returns-in-Err-read_document-clause-stops
 returns-in-Err-read_document-clause-stops g c =
-    load_stops _ (g.D.Shelf.content c.args.shelf c.args.name.now) (lists_of c.in-Ok.script) c.in-Err-read_document.stopped c.in-Ok.ensures.reads c.in-Err-read_document.ensures.loads
+    load_stops _ (g.D.Shelf.content c.args.shelf c.args.name.now) (lists_of c.in-Ok.script) c.in-Err-read_document.stopped
+    c.in-Ok.ensures.reads c.in-Err-read_document.ensures.loads
 
 pub returns-clause-stops : goal.returns-clause-stops
 returns-clause-stops g c =
-    play_stops g.K.Sink.held g.K.Sink.faults c.args.sink.now c.write_replies.new.sink _ (g.D.Shelf.content c.args.shelf c.args.name.now) (lists_of c.in-Ok.script)
+    play_stops g.K.Sink.held g.K.Sink.faults c.args.sink.now c.write_replies.new.sink _
+    (g.D.Shelf.content c.args.shelf c.args.name.now) (lists_of c.in-Ok.script)
     c.run_script-played.result.replies c.write_replies.result c.in-Ok.ensures.reads c.write_replies.ensures
 
 pub returns-in-Err-clause-ended : goal.returns-in-Err-clause-ended

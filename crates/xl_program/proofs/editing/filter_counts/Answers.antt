@@ -6,4 +6,5 @@ use Rattle.xl_program.proofs.editing.filter_counts.Goals as goal
 
 pub returns : goal.returns
 returns g c =
-    c.loop-boxes.invariant ∙ (ap (map (λ (b : Vec _ Global). length b.items)) (take_all c.loop-boxes.boxes-index c.args.chest.now c.loop-boxes-test.false) ∙ counts_are _ c.args.chest.now)
+    c.loop-boxes.invariant ∙ (ap (map (λ (b : Vec _ Global). length b.items))
+    (take_all c.loop-boxes.boxes-index c.args.chest.now c.loop-boxes-test.false) ∙ counts_are _ c.args.chest.now)

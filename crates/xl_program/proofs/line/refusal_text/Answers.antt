@@ -16,4 +16,6 @@ is_line (Ok s) n k at e written = written ∙ ap (λ (m : ℕ). in_pieces m at) 
 is_line (Err x) n k at e written = tt
 
 pub returns : goal.returns
-returns c = is_line c.format.result c.number_of-kind.result (kind_number c.args.why.kind) c.args.why.at c.number_of-kind.ensures c.format.ensures.ok
+returns c =
+    is_line c.format.result c.number_of-kind.result (kind_number c.args.why.kind) c.args.why.at c.number_of-kind.ensures
+    c.format.ensures.ok

@@ -9,8 +9,10 @@ use Rattle.xl_program.proofs.Quiet.{two_quiet}
 use Rattle.xl_program.proofs.loading.read_document.Goals as goal
 
 -- what was loaded is the front of the named file
-of_name : (s : Option (List ℕ)) (name : List ℕ) (c d : List ℕ → Option Content) (bytes : List ℕ) → s ≡ Some name → c ≡ d → IfSome (selected_content s c) (λ x. GivesFront x (2 ^ 31) bytes) → IfSome (d name) (λ x. GivesFront x (2 ^ 31) bytes)
-of_name s name c d bytes e f front = subst (λ (o : Option Content). IfSome o (λ x. GivesFront x (2 ^ 31) bytes)) (same_content s (Some name) c d e f) front
+of_name : (s : Option (List ℕ)) (name : List ℕ) (c d : List ℕ → Option Content) (bytes : List ℕ) → s ≡ Some name → c ≡ d
+    → IfSome (selected_content s c) (λ x. GivesFront x (2 ^ 31) bytes) → IfSome (d name) (λ x. GivesFront x (2 ^ 31) bytes)
+of_name s name c d bytes e f front =
+    subst (λ (o : Option Content). IfSome o (λ x. GivesFront x (2 ^ 31) bytes)) (same_content s (Some name) c d e f) front
 
 pub returns-in-Ok-decode-clause-loads : goal.returns-in-Ok-decode-clause-loads
 returns-in-Ok-decode-clause-loads g c =
@@ -19,7 +21,8 @@ returns-in-Ok-decode-clause-loads g c =
     let bytes : List ℕ = c.in-Ok-load_all.bytes.items in
     let front = of_name _ _ _ _ bytes selected.selected selected.contents loaded.front in
     let file = ap (λ v. v.items) c.in-Ok-new.ensures.ok in
-    front_holds _ bytes c.in-Ok-decode.document front (subst (λ (l : List ℕ). Holds l c.in-Ok-decode.document) file c.in-Ok-decode.ensures.held)
+    front_holds _ bytes c.in-Ok-decode.document front
+    (subst (λ (l : List ℕ). Holds l c.in-Ok-decode.document) file c.in-Ok-decode.ensures.held)
 
 pub returns-in-Err-Refused-clause-loads : goal.returns-in-Err-Refused-clause-loads
 returns-in-Err-Refused-clause-loads g c =
@@ -33,30 +36,42 @@ returns-in-Err-Refused-clause-loads g c =
 
 pub returns-in-Err-Failed-clause-untouched : goal.returns-in-Err-Failed-clause-untouched
 returns-in-Err-Failed-clause-untouched g c =
-    two_quiet g.D.Shelf.content g.D.Shelf.selected g.D.Shelf.disk g.D.Shelf.reading_faults g.D.Shelf.saving_faults c.args.shelf.now c.select.new.self c.load_all.new.shelf
-    c.select.ensures.contents c.select.ensures.quiet c.select.ensures.saving c.load_all.ensures.contents c.load_all.ensures.quiet c.load_all.ensures.saving
+    two_quiet g.D.Shelf.content g.D.Shelf.selected g.D.Shelf.disk g.D.Shelf.reading_faults g.D.Shelf.saving_faults c.args.shelf.now
+    c.select.new.self c.load_all.new.shelf
+    c.select.ensures.contents c.select.ensures.quiet c.select.ensures.saving c.load_all.ensures.contents c.load_all.ensures.quiet
+    c.load_all.ensures.saving
 
 pub returns-in-Err-Memory-clause-untouched : goal.returns-in-Err-Memory-clause-untouched
 returns-in-Err-Memory-clause-untouched g c =
-    two_quiet g.D.Shelf.content g.D.Shelf.selected g.D.Shelf.disk g.D.Shelf.reading_faults g.D.Shelf.saving_faults c.args.shelf.now c.select.new.self c.load_all.new.shelf
-    c.select.ensures.contents c.select.ensures.quiet c.select.ensures.saving c.load_all.ensures.contents c.load_all.ensures.quiet c.load_all.ensures.saving
+    two_quiet g.D.Shelf.content g.D.Shelf.selected g.D.Shelf.disk g.D.Shelf.reading_faults g.D.Shelf.saving_faults c.args.shelf.now
+    c.select.new.self c.load_all.new.shelf
+    c.select.ensures.contents c.select.ensures.quiet c.select.ensures.saving c.load_all.ensures.contents c.load_all.ensures.quiet
+    c.load_all.ensures.saving
 
 pub returns-in_default-clause-untouched : goal.returns-in_default-clause-untouched
 returns-in_default-clause-untouched g c =
-    two_quiet g.D.Shelf.content g.D.Shelf.selected g.D.Shelf.disk g.D.Shelf.reading_faults g.D.Shelf.saving_faults c.args.shelf.now c.select.new.self c.load_all.new.shelf
-    c.select.ensures.contents c.select.ensures.quiet c.select.ensures.saving c.load_all.ensures.contents c.load_all.ensures.quiet c.load_all.ensures.saving
+    two_quiet g.D.Shelf.content g.D.Shelf.selected g.D.Shelf.disk g.D.Shelf.reading_faults g.D.Shelf.saving_faults c.args.shelf.now
+    c.select.new.self c.load_all.new.shelf
+    c.select.ensures.contents c.select.ensures.quiet c.select.ensures.saving c.load_all.ensures.contents c.load_all.ensures.quiet
+    c.load_all.ensures.saving
 
 pub returns-in-Ok-decode-clause-untouched : goal.returns-in-Ok-decode-clause-untouched
 returns-in-Ok-decode-clause-untouched g c =
-    two_quiet g.D.Shelf.content g.D.Shelf.selected g.D.Shelf.disk g.D.Shelf.reading_faults g.D.Shelf.saving_faults c.args.shelf.now c.select.new.self c.load_all.new.shelf
-    c.select.ensures.contents c.select.ensures.quiet c.select.ensures.saving c.load_all.ensures.contents c.load_all.ensures.quiet c.load_all.ensures.saving
+    two_quiet g.D.Shelf.content g.D.Shelf.selected g.D.Shelf.disk g.D.Shelf.reading_faults g.D.Shelf.saving_faults c.args.shelf.now
+    c.select.new.self c.load_all.new.shelf
+    c.select.ensures.contents c.select.ensures.quiet c.select.ensures.saving c.load_all.ensures.contents c.load_all.ensures.quiet
+    c.load_all.ensures.saving
 
 pub returns-in-Err-Refused-clause-untouched : goal.returns-in-Err-Refused-clause-untouched
 returns-in-Err-Refused-clause-untouched g c =
-    two_quiet g.D.Shelf.content g.D.Shelf.selected g.D.Shelf.disk g.D.Shelf.reading_faults g.D.Shelf.saving_faults c.args.shelf.now c.select.new.self c.load_all.new.shelf
-    c.select.ensures.contents c.select.ensures.quiet c.select.ensures.saving c.load_all.ensures.contents c.load_all.ensures.quiet c.load_all.ensures.saving
+    two_quiet g.D.Shelf.content g.D.Shelf.selected g.D.Shelf.disk g.D.Shelf.reading_faults g.D.Shelf.saving_faults c.args.shelf.now
+    c.select.new.self c.load_all.new.shelf
+    c.select.ensures.contents c.select.ensures.quiet c.select.ensures.saving c.load_all.ensures.contents c.load_all.ensures.quiet
+    c.load_all.ensures.saving
 
 pub returns-clause-untouched : goal.returns-clause-untouched
 returns-clause-untouched g c =
-    two_quiet g.D.Shelf.content g.D.Shelf.selected g.D.Shelf.disk g.D.Shelf.reading_faults g.D.Shelf.saving_faults c.args.shelf.now c.select.new.self c.load_all.new.shelf
-    c.select.ensures.contents c.select.ensures.quiet c.select.ensures.saving c.load_all.ensures.contents c.load_all.ensures.quiet c.load_all.ensures.saving
+    two_quiet g.D.Shelf.content g.D.Shelf.selected g.D.Shelf.disk g.D.Shelf.reading_faults g.D.Shelf.saving_faults c.args.shelf.now
+    c.select.new.self c.load_all.new.shelf
+    c.select.ensures.contents c.select.ensures.quiet c.select.ensures.saving c.load_all.ensures.contents c.load_all.ensures.quiet
+    c.load_all.ensures.saving

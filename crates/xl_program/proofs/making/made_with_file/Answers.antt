@@ -4,4 +4,5 @@ use Rattle.spec_layout.specs.Layout.{Written}
 use Rattle.xl_program.proofs.making.made_with_file.Goals as goal
 
 pub returns-clause-file : goal.returns-clause-file
-returns-clause-file c = subst (λ (d : Document). Written c.in_ok-file.file.items d) c.in_ok-made.ensures.document c.in_ok-file.ensures
+returns-clause-file c =
+    subst (λ (d : Document). Written c.in_ok-file.file.items d) c.in_ok-made.ensures.document c.in_ok-file.ensures

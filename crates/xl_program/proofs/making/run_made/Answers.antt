@@ -8,7 +8,7 @@ use Rattle.xl_program.proofs.making.run_made.Goals as goal
 pub returns-in-Err : goal.returns-in-Err
 returns-in-Err g c = λ seed same_document same_lists.
     let see = known g.D.Shelf.selected g.D.Shelf.disk g.D.Shelf.reading_faults g.D.Shelf.saving_faults in
-    nothing_summed (see c.args.shelf) _ (document seed) (script seed) record {} (ap (λ kept. see kept.1) c.in-Err.ensures.back)
+    nothing_summed (see c.args.shelf) _ (document seed) (script seed) record {} (ap see c.in-Err.ensures.back)
 
 pub returns : goal.returns
 returns g c = λ seed same_document same_lists.
@@ -17,8 +17,11 @@ returns g c = λ seed same_document same_lists.
     let played = c.play_beside-core.ensures in
     let new = c.play_beside-core.result.core in
     let none = no_states _ c.new.result.items c.new.ensures.items in
-    same_sum (see c.args.shelf) (see core.opening) (see c.into_shelf.result) (document seed) core.history.base (script seed) (lists_of c.args.made.script) c.sum_up-replies.result
-    (ap (λ k. see k.opening) c.in-Ok.ensures.ok) (ap (λ k. k.history.base) c.in-Ok.ensures.ok ∙ same_document) same_lists
-    (λ made. summed_on see core new c.into_shelf.result (lists_of c.args.made.script) _ c.play_beside-core.result.text c.sum_up-replies.result played.base played.opening played.legal c.into_shelf.ensures.right
+    same_sum (see c.args.shelf) (see core.opening) (see c.into_shelf.result) (document seed) core.history.base (script seed)
+    (lists_of c.args.made.script) c.sum_up-replies.result
+    (ap see c.in-Ok.ensures.opening) (c.in-Ok.ensures.base ∙ same_document) same_lists
+    (λ made.
+    summed_on see core new c.into_shelf.result (lists_of c.args.made.script) _ c.play_beside-core.result.text
+    c.sum_up-replies.result played.base played.opening played.legal c.into_shelf.ensures.right
     made none played.text c.sum_up-replies.ensures.played c.sum_up-replies.ensures.text c.sum_up-replies.ensures.failed)
     (seed_is_made seed)

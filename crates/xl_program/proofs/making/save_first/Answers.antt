@@ -10,24 +10,33 @@ use Rattle.xl_program.proofs.making.save_first.Goals as goal
 pub returns-in_err-select-clause-failed : goal.returns-in_err-select-clause-failed
 returns-in_err-select-clause-failed g c =
     let e = c.in_err-select.ensures in
-    err_any c.from_residual.result (λ seed wrote. (inl (record { contents = e.contents; quiet = e.quiet; saving = e.saving }), inl e.cause))
+    err_any c.from_residual.result
+    (λ seed wrote. (inl (record { contents = e.contents; quiet = e.quiet; saving = e.saving }), inl e.cause))
 
 pub returns-clause-saved : goal.returns-clause-saved
 returns-clause-saved g c =
     let see = known g.D.Shelf.selected g.D.Shelf.disk g.D.Shelf.reading_faults g.D.Shelf.saving_faults in
-    let old : Known = opened (shelved g.D.Shelf.content g.D.Shelf.selected g.D.Shelf.disk g.D.Shelf.reading_faults g.D.Shelf.saving_faults c.args.shelf.now) c.args.name.now in
+    let old : Known =
+    opened (shelved g.D.Shelf.content g.D.Shelf.selected g.D.Shelf.disk g.D.Shelf.reading_faults g.D.Shelf.saving_faults
+    c.args.shelf.now) c.args.name.now in
     let e = c.in_ok-select.ensures in
     on_ok_weaker c.save_file.result
-    (λ saves seed wrote. saved_first (document seed) old (see c.select.new.self) (see c.save_file.new.shelf) e.selected e.quiet e.cause e.saving (saves (document seed) wrote)) c.save_file.ensures.saved
+    (λ saves seed wrote.
+    saved_first (document seed) old (see c.select.new.self) (see c.save_file.new.shelf) e.selected e.quiet e.cause e.saving
+    (saves (document seed) wrote)) c.save_file.ensures.saved
 
 pub returns-clause-failed : goal.returns-clause-failed
 returns-clause-failed g c =
     let see = known g.D.Shelf.selected g.D.Shelf.disk g.D.Shelf.reading_faults g.D.Shelf.saving_faults in
-    let old : Known = opened (shelved g.D.Shelf.content g.D.Shelf.selected g.D.Shelf.disk g.D.Shelf.reading_faults g.D.Shelf.saving_faults c.args.shelf.now) c.args.name.now in
+    let old : Known =
+    opened (shelved g.D.Shelf.content g.D.Shelf.selected g.D.Shelf.disk g.D.Shelf.reading_faults g.D.Shelf.saving_faults
+    c.args.shelf.now) c.args.name.now in
     let e = c.in_ok-select.ensures in
     on_err_weaker c.save_file.result
     (λ saves seed wrote.
-    let fails = failed_first (document seed) old (see c.select.new.self) (see c.save_file.new.shelf) e.selected e.quiet e.cause e.saving (saves (document seed) wrote) in
+    let fails =
+    failed_first (document seed) old (see c.select.new.self) (see c.save_file.new.shelf) e.selected e.quiet e.cause e.saving
+    (saves (document seed) wrote) in
     (inr fails, inr fails.saving))
     c.save_file.ensures.failed
 

@@ -6,12 +6,16 @@ use Rattle.xl_program.proofs.obeying.obey.Goals as goal
 
 pub returns-in-Render-clause-comes : goal.returns-in-Render-clause-comes
 returns-in-Render-clause-comes g c =
-    let given : Given = given_of (g.S.Source.left c.args.source.now) (λ b. (goal.PointFilter-dyn g (b.vtable, b.value)).state b.value) c.args.chest.items in
+    let given : Given =
+    given_of (g.S.Source.left c.args.source.now) (λ b. (goal.PointFilter-dyn g (b.vtable, b.value)).state b.value)
+    c.args.chest.items in
     rw c.in-Render.is (c.render-result.ensures.comes given)
 
 pub returns-in-Info-clause-comes : goal.returns-in-Info-clause-comes
 returns-in-Info-clause-comes g c =
-    let given : Given = given_of (g.S.Source.left c.args.source.now) (λ b. (goal.PointFilter-dyn g (b.vtable, b.value)).state b.value) c.args.chest.items in
+    let given : Given =
+    given_of (g.S.Source.left c.args.source.now) (λ b. (goal.PointFilter-dyn g (b.vtable, b.value)).state b.value)
+    c.args.chest.items in
     rw c.in-Info.is (c.describe-result.ensures.comes given)
 
 pub returns-in-Edit-clause-comes : goal.returns-in-Edit-clause-comes
@@ -19,23 +23,28 @@ returns-in-Edit-clause-comes g c = rw c.in-Edit.is c.edit.ensures.comes
 
 pub returns-in-Make-clause-comes : goal.returns-in-Make-clause-comes
 returns-in-Make-clause-comes g c =
-    let given : Given = given_of (g.S.Source.left c.args.source.now) (λ b. (goal.PointFilter-dyn g (b.vtable, b.value)).state b.value) c.args.chest.items in
+    let given : Given =
+    given_of (g.S.Source.left c.args.source.now) (λ b. (goal.PointFilter-dyn g (b.vtable, b.value)).state b.value)
+    c.args.chest.items in
     rw c.in-Make.is (c.make.ensures.comes given)
 
 pub returns-in-Render-clause-shelf_cause : goal.returns-in-Render-clause-shelf_cause
 returns-in-Render-clause-shelf_cause g c =
     let see = known g.D.Shelf.selected g.D.Shelf.disk g.D.Shelf.reading_faults g.D.Shelf.saving_faults in
-    rw c.in-Render.is (cause_of (see c.args.shelf) (see c.render-result.new.shelf) (render c.in-Render.name.now) c.render-result.result (λ rose. rose) c.render-result.ensures.cause)
+    rw c.in-Render.is (cause_of (see c.args.shelf) (see c.render-result.new.shelf) (render c.in-Render.name.now)
+    c.render-result.result (λ rose. rose) c.render-result.ensures.cause)
 
 pub returns-in-Info-clause-shelf_cause : goal.returns-in-Info-clause-shelf_cause
 returns-in-Info-clause-shelf_cause g c =
     let see = known g.D.Shelf.selected g.D.Shelf.disk g.D.Shelf.reading_faults g.D.Shelf.saving_faults in
-    rw c.in-Info.is (cause_of (see c.args.shelf) (see c.describe-result.new.shelf) (info c.in-Info.name.now) c.describe-result.result (λ rose. rose) c.describe-result.ensures.cause)
+    rw c.in-Info.is (cause_of (see c.args.shelf) (see c.describe-result.new.shelf) (info c.in-Info.name.now)
+    c.describe-result.result (λ rose. rose) c.describe-result.ensures.cause)
 
 pub returns-in-Edit-clause-shelf_cause : goal.returns-in-Edit-clause-shelf_cause
 returns-in-Edit-clause-shelf_cause g c =
     let see = known g.D.Shelf.selected g.D.Shelf.disk g.D.Shelf.reading_faults g.D.Shelf.saving_faults in
-    rw c.in-Edit.is (cause_of (see c.args.shelf) (see c.edit.result.shelf) (edit c.in-Edit.name.now c.in-Edit.workers) c.edit.result.result (λ rose. rose) c.edit.ensures.shelf_cause)
+    rw c.in-Edit.is (cause_of (see c.args.shelf) (see c.edit.result.shelf) (edit c.in-Edit.name.now c.in-Edit.workers)
+    c.edit.result.result (λ rose. rose) c.edit.ensures.shelf_cause)
 
 pub edit-requires-clause-workers : goal.edit-requires-clause-workers
 edit-requires-clause-workers g c κs within = rw c.in-Edit.is at c.requires.few

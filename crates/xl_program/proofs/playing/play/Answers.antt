@@ -12,9 +12,13 @@ returns-clause-told g c =
     let made = c.in_ok-text.ensures in
     let words = c.as_slice.ensures.value ∙ c.in_ok-words.ensures ∙ ap (map word_of_entry) c.entries.ensures in
     let text = c.in_ok-print_order.ensures.ok ∙ ap (λ ws. string_bytes c.in_ok-text.text ++ order_line ws) words in
-    let told = sessions_told core.history.base opened lists _ core.history.entries (string_bytes c.in_ok-text.text) _ text made.between.base_is made.played made.sessions in
+    let told =
+    sessions_told core.history.base opened lists _ core.history.entries (string_bytes c.in_ok-text.text) _ text
+    made.between.base_is made.played made.sessions in
     record {
       text = told;
-      alone = λ none. sessions_alone core.history.base opened lists _ core.history.entries (string_bytes c.in_ok-text.text) _ made.between.base_is made.played made.sessions told;
+      alone = λ none.
+          sessions_alone core.history.base opened lists _ core.history.entries (string_bytes c.in_ok-text.text) _
+          made.between.base_is made.played made.sessions told;
       failed = rw c.entries-2.ensures at c.has_save_fault-save_failed.ensures;
     }

@@ -11,32 +11,39 @@ use Rattle.xl_program.proofs.playing.play_call.Goals as goal
 
 pub returns-clause-between : goal.returns-clause-between
 returns-clause-between g c =
-    call_between _ c.args.core.now c.submit.new.self c.args.session (call_of c.args.call) c.seen_so_far-seen.result (reply_of c.in_ok-reply.reply)
-    (λ filters agrees. c.in_ok-reply.ensures.answered filters agrees) c.in_ok-reply.ensures.shelf c.requires.inside c.in_ok-reply.ensures.legal
+    call_between _ c.args.core.now c.submit.new.self c.args.session (call_of c.args.call) c.seen_so_far-seen.result
+    (reply_of c.in_ok-reply.reply)
+    (λ filters agrees. c.in_ok-reply.ensures.answered filters agrees) c.in_ok-reply.ensures.shelf c.requires.inside
+    c.in_ok-reply.ensures.legal
 
 pub returns-in_err-digest-clause-between : goal.returns-in_err-digest-clause-between
 returns-in_err-digest-clause-between g c =
-    call_between _ c.args.core.now c.submit.new.self c.args.session (call_of c.args.call) c.seen_so_far-seen.result (reply_of c.in_ok-reply.reply)
-    (λ filters agrees. c.in_ok-reply.ensures.answered filters agrees) c.in_ok-reply.ensures.shelf c.requires.inside c.in_ok-reply.ensures.legal
+    call_between _ c.args.core.now c.submit.new.self c.args.session (call_of c.args.call) c.seen_so_far-seen.result
+    (reply_of c.in_ok-reply.reply)
+    (λ filters agrees. c.in_ok-reply.ensures.answered filters agrees) c.in_ok-reply.ensures.shelf c.requires.inside
+    c.in_ok-reply.ensures.legal
 
 pub print_reply-requires : goal.print_reply-requires
 print_reply-requires g c =
     let room : HasRoom c.args.core.now.history = record { free = c.requires.few; ended = c.requires.played.ended } in
-    chest_text _ c.args.core.now c.args.session (call_of c.args.call) c.seen_so_far-seen.result c.in_ok-reply.reply c.submit.new.self room c.requires.played.legal c.seen_so_far-seen.ensures.there
+    chest_text _ c.args.core.now c.args.session (call_of c.args.call) c.seen_so_far-seen.result c.in_ok-reply.reply
+    c.submit.new.self room c.requires.played.legal c.seen_so_far-seen.ensures.there
     (λ filters agrees. c.in_ok-reply.ensures.answered filters agrees)
 
 pub returns-clause-called : goal.returns-clause-called
 returns-clause-called g c =
     let room : HasRoom c.args.core.now.history = record { free = c.requires.few; ended = c.requires.played.ended } in
     on_ok_weaker c.print_reply.result
-    (λ e. chest_called _ _ c.args.core.now c.args.session (call_of c.args.call) c.seen_so_far-seen.result (reply_of c.in_ok-reply.reply) c.submit.new.self room
+    (λ e. chest_called _ _ c.args.core.now c.args.session (call_of c.args.call) c.seen_so_far-seen.result
+    (reply_of c.in_ok-reply.reply) c.submit.new.self room
     (λ filters agrees. c.in_ok-reply.ensures.answered filters agrees) c.in_ok-reply.ensures.chest)
     c.print_reply.ensures.ok
 
 pub returns-clause-kept : goal.returns-clause-kept
 returns-clause-kept g c =
     on_ok_weaker c.print_reply.result
-    (λ e. chest_keeps _ c.args.core.now c.args.session (call_of c.args.call) c.seen_so_far-seen.result (reply_of c.in_ok-reply.reply) c.submit.new.self c.requires.kept c.requires.played.legal
+    (λ e. chest_keeps _ c.args.core.now c.args.session (call_of c.args.call) c.seen_so_far-seen.result
+    (reply_of c.in_ok-reply.reply) c.submit.new.self c.requires.kept c.requires.played.legal
     c.seen_so_far-seen.ensures.there (λ filters agrees. c.in_ok-reply.ensures.answered filters agrees) c.in_ok-reply.ensures.right)
     c.print_reply.ensures.ok
 
@@ -44,9 +51,13 @@ pub returns-clause-played : goal.returns-clause-played
 returns-clause-played g c =
     let room : HasRoom c.args.core.now.history = record { free = c.requires.few; ended = c.requires.played.ended } in
     let seen : seen_by c.args.core.now.history.entries c.args.session ≡ c.seen_so_far-seen.result =
-    c.requires.turn ∙ sym (c.seen_so_far-seen.ensures.seen ∙ ap (λ (n : ℕ). cond (n == 0) 0 (version c.args.core.now.history)) c.requires.index) in
+    c.requires.turn ∙ sym (c.seen_so_far-seen.ensures.seen
+    ∙ ap (λ (n : ℕ). cond (n == 0) 0 (version c.args.core.now.history)) c.requires.index) in
     on_ok_weaker c.print_reply.result
-    (λ e. chest_printed _ c.args.core.now c.args.session (call_of c.args.call) c.seen_so_far-seen.result (reply_of c.in_ok-reply.reply) c.submit.new.self c.submit.new.desk.out (string_bytes c.args.text.now)
-    c.args.index c.as_str.result.now (string_bytes c.print_reply.new.out) room c.requires.kept c.seen_so_far-seen.ensures.there seen c.requires.played
-    (λ filters agrees. c.in_ok-reply.ensures.answered filters agrees) c.in_ok-reply.ensures.legal c.in_ok-reply.ensures.shown c.requires.index (c.as_str.ensures.value ∙ c.in_ok-digest.ensures) e)
+    (λ e. chest_printed _ c.args.core.now c.args.session (call_of c.args.call) c.seen_so_far-seen.result
+    (reply_of c.in_ok-reply.reply) c.submit.new.self c.submit.new.desk.out (string_bytes c.args.text.now)
+    c.args.index c.as_str.result.now (string_bytes c.print_reply.new.out) room c.requires.kept c.seen_so_far-seen.ensures.there seen
+    c.requires.played
+    (λ filters agrees. c.in_ok-reply.ensures.answered filters agrees) c.in_ok-reply.ensures.legal c.in_ok-reply.ensures.shown
+    c.requires.index (c.as_str.ensures.value ∙ c.in_ok-digest.ensures) e)
     c.print_reply.ensures.ok

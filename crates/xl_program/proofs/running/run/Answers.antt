@@ -9,17 +9,19 @@ use Rattle.xl_program.specs.Command.{IsEdit, ReadsFile}
 use Rattle.xl_program.specs.Lines.{Tells}
 use Rattle.xl_program.specs.Outcome.{Given, given_of, HasFault, InGrammar, Shelved, shelved}
 use Rattle.xl_program.proofs.Taken.{nothing_taken, nothing_saved}
-use Rattle.xl_program.proofs.ToEnd.{ended_told}
+use Rattle.xl_program.proofs.ScriptEnded.{ended_told}
 use Rattle.xl_program.proofs.Told.{bad_line_told, refusal_told, script_first_told, shelf_fault_asked, source_fault_told}
 use Rattle.xl_program.proofs.running.run.Goals as goal
 use Rattle.xl_program.proofs.running.run.Goals.{in-Ok-result, in-Err}
 
 pub returns-in_default-clause-source_taken : goal.returns-in_default-clause-source_taken
-returns-in_default-clause-source_taken g c = nothing_taken g.S.Source.left g.S.Source.faults c.args.source.now (asked_in (arguments_of c.args.words.now))
+returns-in_default-clause-source_taken g c =
+    nothing_taken g.S.Source.left g.S.Source.faults c.args.source.now (asked_in (arguments_of c.args.words.now))
 
 pub returns-in_default-clause-memory : goal.returns-in_default-clause-memory
 returns-in_default-clause-memory g c = λ eight.
-    let kept : Shelved = shelved g.D.Shelf.content g.D.Shelf.selected g.D.Shelf.disk g.D.Shelf.reading_faults g.D.Shelf.saving_faults c.args.shelf in
+    let kept : Shelved =
+    shelved g.D.Shelf.content g.D.Shelf.selected g.D.Shelf.disk g.D.Shelf.reading_faults g.D.Shelf.saving_faults c.args.shelf in
     ((refl, refl), nothing_saved kept (asked_in (arguments_of c.args.words.now)))
 
 pub returns-clause-shelf_fault : goal.returns-clause-shelf_fault
@@ -27,9 +29,15 @@ returns-clause-shelf_fault g c = λ six. elim c.match-done.branch [
   | in-Ok-result w ↦ absurd (omega arith)
   | in-Err w ↦
       let content = g.D.Shelf.content c.args.shelf in
-      let before : Shelved = shelved g.D.Shelf.content g.D.Shelf.selected g.D.Shelf.disk g.D.Shelf.reading_faults g.D.Shelf.saving_faults c.args.shelf in
-      let after : Shelved = shelved g.D.Shelf.content g.D.Shelf.selected g.D.Shelf.disk g.D.Shelf.reading_faults g.D.Shelf.saving_faults c.obey-done.result.shelf in
-      shelf_fault_asked g.K.Sink.held g.K.Sink.faults _ content before after (asked_of c.in-Some.command) w.in-Err.stopped _ _ _ _ (sym w.status-is ∙ six) (rw w.in-Err.is at c.obey-done.ensures.comes) (rw w.in-Err.is at c.obey-done.ensures.shelf_cause) w.tell_stop-status.ensures (rw c.in-Some.is at c.in-Ok.ensures.asked) (sym w.sink-is)
+      let before : Shelved =
+      shelved g.D.Shelf.content g.D.Shelf.selected g.D.Shelf.disk g.D.Shelf.reading_faults g.D.Shelf.saving_faults
+      c.args.shelf in
+      let after : Shelved =
+      shelved g.D.Shelf.content g.D.Shelf.selected g.D.Shelf.disk g.D.Shelf.reading_faults g.D.Shelf.saving_faults
+      c.obey-done.result.shelf in
+      shelf_fault_asked g.K.Sink.held g.K.Sink.faults _ content before after (asked_of c.in-Some.command) w.in-Err.stopped _ _ _ _
+      (sym w.status-is ∙ six) (rw w.in-Err.is at c.obey-done.ensures.comes) (rw w.in-Err.is at c.obey-done.ensures.shelf_cause)
+      w.tell_stop-status.ensures (rw c.in-Some.is at c.in-Ok.ensures.asked) (sym w.sink-is)
 ]
 
 pub returns-clause-source_fault_told : goal.returns-clause-source_fault_told
@@ -39,7 +47,10 @@ returns-clause-source_fault_told g c = λ five. elim c.match-done.branch [
       let content = g.D.Shelf.content c.args.shelf in
       let command = asked_of c.in-Some.command in
       let is : Some command ≡ asked_in (arguments_of c.args.words.now) = rw c.in-Some.is at c.in-Ok.ensures.asked in
-      let told = source_fault_told g.K.Sink.held g.K.Sink.faults _ content _ _ command w.in-Err.stopped _ _ _ _ (sym w.status-is ∙ five) (rw w.in-Err.is at c.obey-done.ensures.comes) (rw w.in-Err.is at c.obey-done.ensures.stops) w.tell_stop-status.ensures in (
+      let told =
+      source_fault_told g.K.Sink.held g.K.Sink.faults _ content _ _ command w.in-Err.stopped _ _ _ _ (sym w.status-is ∙ five)
+      (rw w.in-Err.is at c.obey-done.ensures.comes) (rw w.in-Err.is at c.obey-done.ensures.stops)
+      w.tell_stop-status.ensures in (
         subst (λ (o : Option Asked). IsEdit o) is told.0,
         subst (λ k. Tells g.K.Sink.held g.K.Sink.faults c.args.sink.now k (stop_line source_fault)) (sym w.sink-is) told.1,
       )
@@ -52,7 +63,10 @@ returns-clause-bad_line g c = λ three. elim c.match-done.branch [
       let content = g.D.Shelf.content c.args.shelf in
       let command = asked_of c.in-Some.command in
       let is : Some command ≡ asked_in (arguments_of c.args.words.now) = rw c.in-Some.is at c.in-Ok.ensures.asked in
-      let told = bad_line_told g.K.Sink.held g.K.Sink.faults _ content _ _ command w.in-Err.stopped _ _ _ _ (sym w.status-is ∙ three) (rw w.in-Err.is at c.obey-done.ensures.comes) (rw w.in-Err.is at c.obey-done.ensures.stops) w.tell_stop-status.ensures in (
+      let told =
+      bad_line_told g.K.Sink.held g.K.Sink.faults _ content _ _ command w.in-Err.stopped _ _ _ _ (sym w.status-is ∙ three)
+      (rw w.in-Err.is at c.obey-done.ensures.comes) (rw w.in-Err.is at c.obey-done.ensures.stops)
+      w.tell_stop-status.ensures in (
         told.0,
         subst (λ (o : Option Asked). IsEdit o) is told.1,
         told.2,
@@ -67,10 +81,14 @@ returns-clause-refused g c = λ four. elim c.match-done.branch [
       let content = g.D.Shelf.content c.args.shelf in
       let command = asked_of c.in-Some.command in
       let is : Some command ≡ asked_in (arguments_of c.args.words.now) = rw c.in-Some.is at c.in-Ok.ensures.asked in
-      let told = refusal_told g.K.Sink.held g.K.Sink.faults _ content _ _ command w.in-Err.stopped _ _ _ _ (sym w.status-is ∙ four) (rw w.in-Err.is at c.obey-done.ensures.comes) (rw w.in-Err.is at c.obey-done.ensures.stops) w.tell_stop-status.ensures in (
+      let told =
+      refusal_told g.K.Sink.held g.K.Sink.faults _ content _ _ command w.in-Err.stopped _ _ _ _ (sym w.status-is ∙ four)
+      (rw w.in-Err.is at c.obey-done.ensures.comes) (rw w.in-Err.is at c.obey-done.ensures.stops)
+      w.tell_stop-status.ensures in (
         told.0,
         subst (λ (o : Option Asked). ReadsFile o) is told.1,
-        subst (λ (o : Option Content). IfSome o (λ x. HasFault x told.0)) (ap (λ (o : Option Asked). selected_content (option_map name_of o) content) is) told.2,
+        subst (λ (o : Option Content). IfSome o (λ x. HasFault x told.0))
+            (ap (λ (o : Option Asked). selected_content (option_map name_of o) content) is) told.2,
         subst (λ k. Tells g.K.Sink.held g.K.Sink.faults c.args.sink.now k (stop_line (refused told.0))) (sym w.sink-is) told.3,
       )
 ]
@@ -82,22 +100,27 @@ returns-clause-script_first g c = λ which. elim c.match-done.branch [
     | inr six ↦ absurd (omega arith)
   ]
   | in-Err w ↦
-      let given : Given = given_of (g.S.Source.left c.args.source.now) (λ b. (goal.PointFilter-dyn g (b.vtable, b.value)).state b.value) c.args.chest.items in
+      let given : Given =
+      given_of (g.S.Source.left c.args.source.now) (λ b. (goal.PointFilter-dyn g (b.vtable, b.value)).state b.value)
+      c.args.chest.items in
       let content = g.D.Shelf.content c.args.shelf in
       let command = asked_of c.in-Some.command in
       let is : Some command ≡ asked_in (arguments_of c.args.words.now) = rw c.in-Some.is at c.in-Ok.ensures.asked in
       subst (λ (o : Option Asked). InGrammar given o) is
-      (script_first_told g.K.Sink.held g.K.Sink.faults given content command w.in-Err.stopped _ _ _ _ (sym w.status-is) which (rw w.in-Err.is at c.obey-done.ensures.stops) w.tell_stop-status.ensures)
+      (script_first_told g.K.Sink.held g.K.Sink.faults given content command w.in-Err.stopped _ _ _ _ (sym w.status-is) which
+      (rw w.in-Err.is at c.obey-done.ensures.stops) w.tell_stop-status.ensures)
 ]
 
 pub returns-clause-source_ended : goal.returns-clause-source_ended
 returns-clause-source_ended g c = λ after asked.
-    let is : Some (asked_of c.in-Some.command) ≡ asked_in (arguments_of c.args.words.now) = rw c.in-Some.is at c.in-Ok.ensures.asked in
+    let is : Some (asked_of c.in-Some.command) ≡ asked_in (arguments_of c.args.words.now) =
+    rw c.in-Some.is at c.in-Ok.ensures.asked in
     let edits = subst (λ (o : Option Asked). IsEdit o) (sym is) asked in
     elim c.match-done.branch [
       | in-Ok-result w ↦ (rw w.in-Ok-result.is at c.obey-done.ensures.ended) edits
       | in-Err w ↦
-          ended_told g.K.Sink.held g.K.Sink.faults (g.S.Source.left c.obey-done.new.source) w.in-Err.stopped _ _ _ _ (sym w.status-is) after w.tell_stop-status.ensures
+          ended_told g.K.Sink.held g.K.Sink.faults (g.S.Source.left c.obey-done.new.source) w.in-Err.stopped _ _ _ _
+          (sym w.status-is) after w.tell_stop-status.ensures
           ((rw w.in-Err.is at c.obey-done.ensures.ended) edits)
     ]
 

@@ -6,4 +6,8 @@ pub returns-clause-alone : goal.returns-clause-alone
 returns-clause-alone c =
     let none = c.if-workers-gt0.false in
     let over = c.loop-session-test.false in
-    λ yes. (omega (arith, none), all_of_first c.args.script.now c.requires (λ n above below. c.loop-session.invariant n above (omega (arith, below, over))))
+    λ yes. (
+      omega (arith, none),
+      all_of_first c.args.script.now c.requires
+          (λ n above below. c.loop-session.invariant n above (omega (arith, below, over))),
+    )

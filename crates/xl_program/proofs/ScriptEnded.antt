@@ -29,13 +29,18 @@ unread given left SinkFault reads = absurd reads
 unread given left Memory reads = tt
 
 -- so it was at each status that comes behind it
-pub ended_told : {K : Type 0} (held : K → Option (List ℕ)) (faults : K → ℕ) (left : Option (List ℕ)) (stopped : Stopped) (status last : ℕ) (old new : K) → status ≡ last
+pub ended_told : {K : Type 0} (held : K → Option (List ℕ)) (faults : K → ℕ) (left : Option (List ℕ)) (stopped : Stopped)
+    (status last : ℕ) (old new : K) → status ≡ last
     → ComesAfterScript last → TellsStop held faults old new stopped status → ReadsToEnd left (Err stopped) → IsEnded left
-ended_told held faults left SourceFault status last old new same after told reads = let bad : false ≡ true = subst ComesAfterScript (sym same ∙ told.0) after in cc
-ended_told held faults left (BadLine number) status last old new same after (inl told) reads = let bad : false ≡ true = subst ComesAfterScript (sym same ∙ told.0) after in cc
-ended_told held faults left (BadLine number) status last old new same after (inr told) reads = let bad : false ≡ true = subst ComesAfterScript (sym same ∙ told.0) after in cc
+ended_told held faults left SourceFault status last old new same after told reads =
+    let bad : false ≡ true = subst ComesAfterScript (sym same ∙ told.0) after in cc
+ended_told held faults left (BadLine number) status last old new same after (inl told) reads =
+    let bad : false ≡ true = subst ComesAfterScript (sym same ∙ told.0) after in cc
+ended_told held faults left (BadLine number) status last old new same after (inr told) reads =
+    let bad : false ≡ true = subst ComesAfterScript (sym same ∙ told.0) after in cc
 ended_told held faults left ShelfFault status last old new same after told reads = reads
 ended_told held faults left (Refused why) status last old new same after told reads = reads
 ended_told held faults left SaveFault status last old new same after told reads = reads
 ended_told held faults left SinkFault status last old new same after told reads = reads
-ended_told held faults left Memory status last old new same after told reads = let bad : false ≡ true = subst ComesAfterScript (sym same ∙ told.0) after in cc
+ended_told held faults left Memory status last old new same after told reads =
+    let bad : false ≡ true = subst ComesAfterScript (sym same ∙ told.0) after in cc
