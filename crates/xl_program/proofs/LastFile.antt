@@ -11,7 +11,8 @@ use Rattle.spec_saves.specs.Contents.{IsIn, IsVersion}
 use Rattle.spec_saves.specs.Shelf.{DiskIsRight, IsSettled}
 use Rattle.xl_ports.specs.Disk.{Disk, MayLeave, Between}
 use Rattle.xl_ports.specs.Shelf.{Content}
-use Rattle.xl_program.specs.LastSaved.{acknowledged, last_saved, HasVersion, HasLastSaved}
+use Rattle.spec_saves.specs.Acknowledged.{acknowledged}
+use Rattle.xl_program.specs.LastSaved.{last_saved, HasVersion, HasLastSaved}
 
 -- the name of this version alone, and without one the names from before
 abbrev names_of : List Named → Option ℕ → List Named
