@@ -69,7 +69,7 @@ module _ (D : RattleType) (g : Shelf.Ghosts D.Denot) where
   shared_send : IsSend D → IsSend (Shared.the_row D g)
   shared_send d =
       let T = Inside.the_type D g in
-      view_send (Inside.the_row D g) _ _ _ _ (recorded_send (Struct (shape T)) _ _ T.to_one (struct_send (shape T) (core_send d, (search sendable, (search sendable, tt)))))
+      view_send (Inside.the_row D g) _ _ _ _ (parts_send T (core_send d, (search sendable, (search sendable, tt))))
 
   -- ---- a studio and its seats
 
@@ -84,10 +84,10 @@ module _ (D : RattleType) (g : Shelf.Ghosts D.Denot) where
       let c = chronicle.ghosts D g chronicle.no_dict chronicle.no_dict in
       let T = Seat.the_type D c g in
       let front = turns.the_field_send (Shared.the_row D g) (Moment.the_row D) c (shared_send d) in
-      recorded_send (Struct (shape T)) _ _ T.to_one (struct_send (shape T) (front, (search sendable, (search sendable, (search (crosses, sendable) depth 20, (tally.the_field_send, tt))))))
+      parts_send T (front, (search sendable, (search sendable, (search (crosses, sendable) depth 20, (tally.the_field_send, tt)))))
 
   pub studio_sync : IsSend D → IsSync studio_row
   studio_sync d =
       let c = chronicle.ghosts D g chronicle.no_dict chronicle.no_dict in
       let T = Studio.the_type D g c in
-      recorded_sync (Struct (shape T)) _ _ T.to_one (struct_sync (shape T) (lock.the_field_sync (Shared.the_row D g) (Moment.the_row D) c (shared_send d), tt))
+      parts_sync T (lock.the_field_sync (Shared.the_row D g) (Moment.the_row D) c (shared_send d), tt)

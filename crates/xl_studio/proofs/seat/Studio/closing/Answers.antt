@@ -5,7 +5,6 @@ use Rattle.xl_turn.specs.Seats.{opened_with, start_of}
 use Rattle.xl_studio.specs.Seats.{front_of}
 use Rattle.xl_studio.proofs.Seated.{base_entered, front_after}
 use Rattle.xl_studio.proofs.Quiet.{stays_may_leave, begins_stayed}
-use Rattle.xl_studio.proofs.seat.Studio.closing.Given as given
 use Rattle.xl_studio.proofs.seat.Studio.closing.Goals as goal
 
 pub leave-requires-clause-may : goal.leave-requires-clause-may
