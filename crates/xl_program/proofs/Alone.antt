@@ -15,7 +15,6 @@ use Rattle.spec_world.specs.Events.{where_tile, reply_to}
 use Rattle.spec_world.specs.Right.{IsRight}
 use Rattle.spec_world.specs.Exact.{SlotsAreExact}
 use Rattle.spec_world.proofs.StaysExact.{answers-so}
-use Rattle.xl_program.specs.Playing.{AreOf}
 use Rattle.xl_program.proofs.Answered.{tile_either}
 
 -- ---- entries behind others
@@ -44,13 +43,9 @@ alone_append base earlier (e ∷ es) more first rest = (
       (subst (λ l. AreAlone base l more) (sym (append_assoc earlier (e ∷ []) es)) rest),
 )
 
--- what holds of a history where session 0 is alone and no save failed
+-- what holds of a history of session 0 where no save failed
 abbrev pub AloneIf : Document → List Entry → Type 0
-AloneIf base es = AreOf 0 es → save_faults es ≡ 0 → AreAlone base [] es
-
-front_of : (es more : List Entry) → AreOf 0 (es ++ more) → AreOf 0 es × AreOf 0 more
-front_of [] more all = (tt, all)
-front_of (e ∷ es) more all = let rest = front_of es more all.1 in ((all.0, rest.0), rest.1)
+AloneIf base es = save_faults es ≡ 0 → AreAlone base [] es
 
 no_fault_before : (es : List Entry) (e : Entry) → save_faults (es ++ e ∷ []) ≡ 0 → save_faults es ≡ 0
 no_fault_before es e none = let more = save_faults-snoc es e in omega (arith, none, more)
@@ -63,11 +58,9 @@ no_fault_last es e none = go (ends_by_fault e.kind e.reply) (save_faults-snoc es
 
 -- ---- a call
 
-pub alone_call : (base : Document) (es : List Entry) (e : Entry) → AloneIf base es
-    → (AreOf 0 es → e.session ≡ 0 → IsAlone base es e.kind e.reply []) → AloneIf base (es ++ e ∷ [])
-alone_call base es e before last all none =
-    let parts = front_of es (e ∷ []) all in
-    alone_append base [] es (e ∷ []) (before parts.0 (no_fault_before es e none)) (last parts.0 parts.1.0, tt)
+pub alone_call : (base : Document) (es : List Entry) (e : Entry) → AloneIf base es → IsAlone base es e.kind e.reply []
+    → AloneIf base (es ++ e ∷ [])
+alone_call base es e before last none = alone_append base [] es (e ∷ []) (before (no_fault_before es e none)) (last, tt)
 
 alone_kept : (k : Option ℕ) (now : ℕ) → IsAlonePeek k now (kept_peek k now)
 alone_kept None now = refl
@@ -100,14 +93,13 @@ same_end now r is printed none = absurd is
 pub alone_save : (base : Document) (es : List Entry) (start end : Entry) (now : ℕ) → AloneIf base es → start.kind ≡ starts
     → end.kind ≡ ends → start.reply ≡ saved now → EndsWith now end.reply
     → is_save_memory end.reply ≡ false → AloneIf base (es ++ start ∷ end ∷ [])
-alone_save base es start end now before starts_now ends_now first last printed all none =
-    let parts = front_of es (start ∷ end ∷ []) all in
+alone_save base es start end now before starts_now ends_now first last printed none =
     let faults : save_faults ((es ++ start ∷ []) ++ end ∷ []) ≡ 0 =
     ap save_faults (append_assoc es (start ∷ []) (end ∷ [])) ∙ none in
     let fault = subst (λ k. ends_by_fault k end.reply ≡ false) ends_now (no_fault_last (es ++ start ∷ []) end faults) in
     let same : end.reply ≡ start.reply = same_end now end.reply last printed fault ∙ sym first in
     alone_append base [] es (start ∷ end ∷ [])
-    (before parts.0 (no_fault_before es start (no_fault_before (es ++ start ∷ []) end faults))) (
+    (before (no_fault_before es start (no_fault_before (es ++ start ∷ []) end faults))) (
       subst (λ k. IsAlone base es k start.reply (end ∷ [])) (sym starts_now) (subst IsEnd (sym ends_now) tt, same),
       (subst (λ k. IsAlone base (es ++ start ∷ []) k end.reply []) (sym ends_now) tt, tt),
     )

@@ -19,13 +19,12 @@ mod Quiet
 mod Saved
 mod Seen
 mod ScriptPlayed
-mod Sessions
+mod WholeText
 mod Stays
 mod Submitted
 mod Taken
 mod ScriptEnded
 mod UnderWay
-mod UpTo
 mod VersionsWithin
 mod OfFirst
 mod Reported

@@ -1,10 +1,10 @@
 -- Whose entries they are, and the tables along them.
-use Rattle.std.proofs.Common.{◌≡◌, ℕ, ◌<◌, ◌≤◌, List, [], ◌∷◌, ◌++◌, refl, ap, sym, ◌∙◌, arith, eq-eqb, ne_eqb}
+use Rattle.std.proofs.Common.{◌≡◌, ℕ, List, [], ◌∷◌, ◌++◌, refl, ap, sym, ◌∙◌, arith, eq-eqb, ne_eqb}
 use Rattle.std.specs.Prelude.{◌≢◌}
 use Rattle.spec_history.specs.History.{Entry, mine}
 use Rattle.spec_filters.specs.declared.FilterState.{FilterState}
 use Rattle.spec_tables.specs.Tables.{HaveTables, expected_tables, filters_after, tables_in}
-use Rattle.xl_program.specs.Playing.{AreOf, AreBefore}
+use Rattle.xl_program.specs.Playing.{AreOf}
 
 -- ---- whose entries they are
 
@@ -18,19 +18,10 @@ mine_other [] session other own apart = refl
 mine_other (e ∷ es) session other own apart =
     rw (ne_eqb e.session other (λ q. apart (sym own.0 ∙ q))) (mine_other es session other own.1 apart)
 
-pub mine_later : (es : List Entry) (session later : ℕ) → AreBefore session es → session ≤ later → mine es later ≡ []
-mine_later [] session later before le = refl
-mine_later (e ∷ es) session later before le =
-    let here = before.0 in
-    rw (ne_eqb e.session later (λ q. omega arith)) (mine_later es session later before.1 le)
-
-pub before_more : (es more : List Entry) (session next : ℕ) → session < next → AreBefore session es → AreOf session more
-    → AreBefore next (es ++ more)
-before_more [] [] session next lt before own = tt
-before_more [] (e ∷ more) session next lt before own = let here = own.0 in
-    (omega arith, before_more [] more session next lt before own.1)
-before_more (e ∷ es) more session next lt before own = let here = before.0 in
-    (omega arith, before_more es more session next lt before.1 own)
+-- those of a session and others of it
+pub both_own : (es more : List Entry) (session : ℕ) → AreOf session es → AreOf session more → AreOf session (es ++ more)
+both_own [] more session own also = also
+both_own (e ∷ es) more session own also = (own.0, both_own es more session own.1 also)
 
 -- ---- tables along the entries
 

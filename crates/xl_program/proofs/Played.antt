@@ -5,15 +5,16 @@ use Rattle.std.proofs.lemmas.List.Concat.{flat_map-append}
 use Rattle.std.proofs.lemmas.List.Elements.{filter_map-append}
 use Rattle.spec_document.specs.Document.{Document}
 use Rattle.spec_history.specs.Machine.{Call, Reply, tile_of, stale, saved, State, initial, latest}
-use Rattle.spec_history.specs.History.{Entry, Kind, asked, starts, ends, next_index, after_entry, replay_from, replay, EndsWith, RunFrom}
+use Rattle.spec_history.specs.History.{Entry, Kind, asked, starts, ends, next_index, latest_of, after_entry, replay_from, replay, EndsWith, RunFrom}
 use Rattle.spec_history.specs.Kept.{IsFreshReply, IsFresh, IsLegal}
 use Rattle.spec_text.specs.Printed.{line_text}
 use Rattle.spec_text.specs.Text.{entry_line, end_reply, is_save_memory, shown_digest, made_by, IsAlone}
-use Rattle.xl_program.specs.Playing.{AreOf, IsPrintable, ArePlayed, lines_in, calls_made, seen_by}
+use Rattle.xl_program.specs.Playing.{AreOf, IsPrintable, ArePlayed, lines_in, calls_made}
 use Rattle.spec_history.proofs.Growing.{replay-snoc, replay-append, IsLegal-empty, out-answer}
 use Rattle.xl_program.proofs.Alone.{alone_call, alone_save}
 use Rattle.xl_program.proofs.Answered.{IsSaid, said_fresh, said_printable}
 use Rattle.xl_sessions.proofs.Ends.{no_end_at_next, end_behind}
+use Rattle.xl_program.proofs.Plain.{both_own}
 use Rattle.xl_program.proofs.Seen.{fresh_more}
 use Rattle.xl_program.proofs.Stays.{lines_stay}
 
@@ -21,7 +22,7 @@ use Rattle.xl_program.proofs.Stays.{lines_stay}
 
 pub played_none : (base : Document) → ArePlayed base [] []
 played_none base =
-    record { legal = IsLegal-empty base; ended = refl; printable = tt; fresh = λ session. tt; alone = λ own none. tt; text = refl }
+    record { legal = IsLegal-empty base; ended = refl; own = tt; printable = tt; fresh = tt; alone = λ none. tt; text = refl }
 
 printable_more : (es more : List Entry) → AllByRecursion IsPrintable es → AllByRecursion IsPrintable more
     → AllByRecursion IsPrintable (es ++ more)
@@ -43,20 +44,20 @@ abbrev pub next_save : List Entry → (session : ℕ) → (started ended : Reply
 next_save es session started ended = next_entry es session starts started ∷ next_entry es session ends ended ∷ []
 
 -- the text with the line of a call behind it
-pub played_call : (base : Document) (es : List Entry) (out : List ℕ) (session : ℕ) (c : Call) (seen : ℕ) (tables : List (List ℕ))
-    (reply : Reply) → ArePlayed base es out
-    → seen_by es session ≡ seen → IsSaid seen reply → (AreOf 0 es → session ≡ 0 → IsAlone base es (asked c tables) reply [])
-    → IsLegal base (es ++ next_entry es session (asked c tables) reply ∷ [])
-    → ArePlayed base (es ++ next_entry es session (asked c tables) reply ∷ [])
-    (out ++ line_text session (next_index es session)
-    (shown_digest base (es ++ next_entry es session (asked c tables) reply ∷ []) (asked c tables) reply) reply)
-played_call base es out session c seen tables reply played has_seen said alone legal =
-    let e : Entry = next_entry es session (asked c tables) reply in
+pub played_call : (base : Document) (es : List Entry) (out : List ℕ) (c : Call) (tables : List (List ℕ)) (reply : Reply)
+    → ArePlayed base es out → IsSaid (latest_of es) reply → IsAlone base es (asked c tables) reply []
+    → IsLegal base (es ++ next_entry es 0 (asked c tables) reply ∷ [])
+    → ArePlayed base (es ++ next_entry es 0 (asked c tables) reply ∷ [])
+    (out ++ line_text 0 (next_index es 0)
+    (shown_digest base (es ++ next_entry es 0 (asked c tables) reply ∷ []) (asked c tables) reply) reply)
+played_call base es out c tables reply played said alone legal =
+    let e : Entry = next_entry es 0 (asked c tables) reply in
     record {
       legal = legal;
       ended = ap (λ (s : State). s.out) (replay-snoc base es e) ∙ out-answer base (replay base es) c tables ∙ played.ended;
-      printable = printable_more es (e ∷ []) played.printable (said_printable seen reply said, tt);
-      fresh = fresh_more es e seen played.fresh has_seen (said_fresh seen reply said);
+      own = both_own es (e ∷ []) 0 played.own (refl, tt);
+      printable = printable_more es (e ∷ []) played.printable (said_printable (latest_of es) reply said, tt);
+      fresh = fresh_more es e played.own refl played.fresh (said_fresh (latest_of es) reply said);
       alone = alone_call base es e played.alone alone;
       text = sym (lines_more base es (e ∷ []) out played
           ∙ ap (λ (line : List ℕ). out ++ line) (append-nil (entry_line base (es ++ e ∷ []) e)));
@@ -84,31 +85,32 @@ fresh_end seen now (stale have said) is = absurd is
 fresh_end seen now r is = tt
 
 -- the text with the line of a save behind it
-pub played_save : (base : Document) (es : List Entry) (out : List ℕ) (session : ℕ) (started ended : Reply) → ArePlayed base es out
-    → is_save_memory started ≡ false → is_save_memory ended ≡ false → IsLegal base (es ++ next_save es session started ended)
-    → ArePlayed base (es ++ next_save es session started ended) (out ++ line_text session (next_index es session) [] ended)
-played_save base es out session started ended played start_printed end_printed legal =
-    let index = next_index es session in
-    let s : Entry = next_entry es session starts started in
-    let e : Entry = next_entry es session ends ended in
+pub played_save : (base : Document) (es : List Entry) (out : List ℕ) (started ended : Reply) → ArePlayed base es out
+    → is_save_memory started ≡ false → is_save_memory ended ≡ false → IsLegal base (es ++ next_save es 0 started ended)
+    → ArePlayed base (es ++ next_save es 0 started ended) (out ++ line_text 0 (next_index es 0) [] ended)
+played_save base es out started ended played start_printed end_printed legal =
+    let s : Entry = next_entry es 0 starts started in
+    let e : Entry = next_entry es 0 ends ended in
     let more : List Entry = s ∷ e ∷ [] in
     let run = run_behind base (initial base) [] es more legal.run in
     let started_at : started ≡ saved (latest (replay base es)) = run.0.2 in
     let ended_as : EndsWith (latest (replay base es)) ended = run.1.0.2 in
-    let last = seen_by (es ++ s ∷ []) session in
+    let first_own : AreOf 0 (es ++ s ∷ []) = both_own es (s ∷ []) 0 played.own (refl, tt) in
+    let first_fresh : IsFresh (es ++ s ∷ []) 0 =
+    fresh_more es s played.own refl played.fresh (subst (IsFreshReply (latest_of es)) (sym started_at) tt) in
     record {
       legal = legal;
       ended = ap (λ (t : State). t.out) (replay-append base es more);
+      own = both_own es more 0 played.own (refl, (refl, tt));
       printable = printable_more es more played.printable (start_printed, (end_printed, tt));
-      fresh = λ (k : ℕ). subst (λ (l : List Entry). IsFresh l k) (append_assoc es (s ∷ []) (e ∷ []))
-          (fresh_more (es ++ s ∷ []) e last
-          (fresh_more es s (seen_by es session) played.fresh refl (subst (IsFreshReply (seen_by es session)) (sym started_at) tt))
-          refl (fresh_end last (latest (replay base es)) ended ended_as) k);
+      fresh = subst (λ (l : List Entry). IsFresh l 0) (append_assoc es (s ∷ []) (e ∷ []))
+          (fresh_more (es ++ s ∷ []) e first_own refl first_fresh
+          (fresh_end (latest_of (es ++ s ∷ [])) (latest (replay base es)) ended ended_as));
       alone = alone_save base es s e (latest (replay base es)) played.alone refl refl started_at ended_as end_printed;
       text = sym (
           lines_more base es more out played
           ∙ ap (λ (line : List ℕ). out ++ line) (append-nil (entry_line base (es ++ more) s))
-          ∙ ap (λ (r : Reply). out ++ line_text session index [] r) (saved_line base es session started ended played.legal)
+          ∙ ap (λ (r : Reply). out ++ line_text 0 (next_index es 0) [] r) (saved_line base es 0 started ended played.legal)
           );
     }
 

@@ -52,21 +52,20 @@ printable (SaveMemory v) h = absurd h
 printable reply h = refl
 
 -- the line that is printed is that of the save
-pub saved_printed : (old new : History) (session : ℕ) (reply : code.Reply) (out : List ℕ) (index : ℕ) (digest text : List ℕ)
-    → ArePlayed old.base old.entries out → HasText reply → new ≡ with_save old session (reply_of reply)
-    → IsLegal new.base new.entries
-    → index ≡ next_index old.entries session → digest ≡ [] → text ≡ out ++ line_text session index digest (reply_of reply)
+pub saved_printed : (old new : History) (reply : code.Reply) (out : List ℕ) (index : ℕ) (digest text : List ℕ)
+    → ArePlayed old.base old.entries out → HasText reply → new ≡ with_save old 0 (reply_of reply) → IsLegal new.base new.entries
+    → index ≡ next_index old.entries 0 → digest ≡ [] → text ≡ out ++ line_text 0 index digest (reply_of reply)
     → ArePlayed new.base new.entries text
-saved_printed old new session reply out index digest text played has is legal at blank printed =
-    let whole : text ≡ out ++ line_text session (next_index old.entries session) [] (reply_of reply) =
-    printed ∙ ap (λ (n : ℕ). out ++ line_text session n digest (reply_of reply)) at
-    ∙ ap (λ (d : List ℕ). out ++ line_text session (next_index old.entries session) d (reply_of reply)) blank in
+saved_printed old new reply out index digest text played has is legal at blank printed =
+    let whole : text ≡ out ++ line_text 0 (next_index old.entries 0) [] (reply_of reply) =
+    printed ∙ ap (λ (n : ℕ). out ++ line_text 0 n digest (reply_of reply)) at
+    ∙ ap (λ (d : List ℕ). out ++ line_text 0 (next_index old.entries 0) d (reply_of reply)) blank in
     let more =
-    played_save old.base old.entries out session (saved (version old)) (reply_of reply) played refl (printable reply has)
+    played_save old.base old.entries out (saved (version old)) (reply_of reply) played refl (printable reply has)
     (subst (λ (h : History). IsLegal h.base h.entries) is legal) in
     subst (ArePlayed new.base new.entries) (sym whole)
     (subst (λ (h : History).
-    ArePlayed h.base h.entries (out ++ line_text session (next_index old.entries session) [] (reply_of reply))) (sym is) more)
+    ArePlayed h.base h.entries (out ++ line_text 0 (next_index old.entries 0) [] (reply_of reply))) (sym is) more)
 
 -- ---- a save of the code
 

@@ -30,11 +30,10 @@ use Rattle.xl_edit.specs.declared.reply.Reply as code
 use Rattle.xl_edit.specs.declared.reply.Reply.TheVariants.{SaveMemory, HistoryFull}
 use Rattle.xl_edit.specs.Replies.{reply_of}
 use Rattle.xl_script.specs.Printed.{HasText}
-use Rattle.xl_program.specs.Playing.{AreOf, seen_by, ArePlayed, IsCalled, KeepsExactly, shown_of}
+use Rattle.xl_program.specs.Playing.{ArePlayed, IsCalled, KeepsExactly, shown_of}
 use Rattle.xl_program.proofs.Alone.{alone_peek}
 use Rattle.xl_program.proofs.Answered.{IsSaid, reply_said}
 use Rattle.xl_program.proofs.Played.{played_call}
-use Rattle.xl_program.proofs.Seen.{seen_own}
 
 -- ---- what is shown
 
@@ -130,74 +129,76 @@ module _ {D : Type 0} where
   now_is : (c : Editing D) → IsLegal c.history.base c.history.entries → latest (world c).state ≡ version c.history
   now_is c legal = sym (latest_of-legal c.history.base c.history.entries legal)
 
+  no_later : (c : Editing D) (seen : ℕ) → IsLegal c.history.base c.history.entries → seen ≡ version c.history
+      → seen ≤ latest (world c).state
+  no_later c seen legal last = let now = last ∙ sym (now_is c legal) in omega (arith, now)
+
   said : (old : Editing D) (session : ℕ) (c : Call) (seen : ℕ) (tables : List (List ℕ)) (reply : Reply) (new : Editing D)
       → HasRoom old.history → IsLegal old.history.base old.history.entries
-      → seen ≤ version old.history → IsSubmitted old session c seen tables reply new → IsSaid seen reply
-  said old session c seen tables reply new room legal le submitted =
+      → seen ≡ version old.history → IsSubmitted old session c seen tables reply new → IsSaid seen reply
+  said old session c seen tables reply new room legal last submitted =
       subst (IsSaid seen) (sym (taken old session c seen tables reply new room submitted).replied)
-      (reply_said old.history.base (world old) c seen tables (subst (λ (n : ℕ). seen ≤ n) (sym (now_is old legal)) le))
+      (reply_said old.history.base (world old) c seen tables (no_later old seen legal last))
 
   -- ---- what it leaves
 
   -- the kept pictures are just those that have to be kept still
   keeps : (old : Editing D) (session : ℕ) (c : Call) (seen : ℕ) (tables : List (List ℕ)) (reply : Reply) (new : Editing D)
       → KeepsExactly old → IsLegal old.history.base old.history.entries
-      → seen ≤ version old.history → IsSubmitted old session c seen tables reply new → IsRight new.history.base (world new)
+      → seen ≡ version old.history → IsSubmitted old session c seen tables reply new → IsRight new.history.base (world new)
       → KeepsExactly new
-  keeps old session c seen tables reply new exactly legal le submitted right = record {
+  keeps old session c seen tables reply new exactly legal last submitted right = record {
     within = subst IsDocument (sym submitted.0) exactly.within;
     right = right;
     exact = subst (λ (b : Document). SlotsAreExact b (world new)) (sym submitted.0)
         (subst (SlotsAreExact old.history.base) (sym submitted.2)
         (stays-so old.history.base exactly.within (world old) (submits session c seen tables) exactly.right exactly.exact
-        (subst (λ (n : ℕ). seen ≤ n) (sym (now_is old legal)) le) tt));
+        (no_later old seen legal last) tt));
   }
 
   -- what a peek of session 0 alone is answered follows from the entries
-  alone : (old : Editing D) (session : ℕ) (c : Call) (seen : ℕ) (tables : List (List ℕ)) → KeepsExactly old
-      → IsLegal old.history.base old.history.entries
-      → seen_by old.history.entries session ≡ seen → AreOf 0 old.history.entries → session ≡ 0
+  alone : (old : Editing D) (c : Call) (seen : ℕ) (tables : List (List ℕ)) → KeepsExactly old
+      → IsLegal old.history.base old.history.entries → seen ≡ version old.history
       → IsAlone old.history.base old.history.entries (asked c tables) (reply_to old.history.base (world old) c seen tables) []
-  alone old session (edit guard es) seen tables exactly legal has own first = tt
-  alone old session (undo named) seen tables exactly legal has own first = tt
-  alone old session redo seen tables exactly legal has own first = tt
-  alone old session (tile stack at) seen tables exactly legal has own first = tt
-  alone old session top seen tables exactly legal has own first = tt
-  alone old session (peek stack at) seen tables exactly legal has own first =
+  alone old (edit guard es) seen tables exactly legal last = tt
+  alone old (undo named) seen tables exactly legal last = tt
+  alone old redo seen tables exactly legal last = tt
+  alone old (tile stack at) seen tables exactly legal last = tt
+  alone old top seen tables exactly legal last = tt
+  alone old (peek stack at) seen tables exactly legal last =
       let b = old.history.base in
       let es = old.history.entries in
-      let is : seen ≡ latest (world old).state = sym has ∙ ap (seen_by es) first ∙ seen_own es 0 own ∙ sym (now_is old legal) in
+      let is : seen ≡ latest (world old).state = last ∙ sym (now_is old legal) in
       subst (λ (n : ℕ). IsAlonePeek (kept b es stack at) n (reply_to b (world old) (peek stack at) seen tables)) (now_is old legal)
       (alone_peek b (world old) stack at seen tables exactly.right exactly.exact is)
 
-  submitted_played : (old : Editing D) (session : ℕ) (c : Call) (seen : ℕ) (tables : List (List ℕ)) (reply : Reply)
+  submitted_played : (old : Editing D) (c : Call) (seen : ℕ) (tables : List (List ℕ)) (reply : Reply)
       (new : Editing D) (bytes out : List ℕ) → HasRoom old.history → KeepsExactly old
-      → seen ≤ version old.history → seen_by old.history.entries session ≡ seen → ArePlayed old.history.base old.history.entries out
-      → IsSubmitted old session c seen tables reply new
+      → seen ≡ version old.history → ArePlayed old.history.base old.history.entries out
+      → IsSubmitted old 0 c seen tables reply new
       → IsLegal new.history.base new.history.entries → Shows new.history c reply bytes
       → ArePlayed new.history.base new.history.entries
-      (out ++ line_text session (next_index old.history.entries session) (shown_of reply bytes) reply)
-  submitted_played old session c seen tables reply new bytes out room exactly le has played submitted legal shows =
-      let is = taken old session c seen tables reply new room submitted in
+      (out ++ line_text 0 (next_index old.history.entries 0) (shown_of reply bytes) reply)
+  submitted_played old c seen tables reply new bytes out room exactly last played submitted legal shows =
+      let is = taken old 0 c seen tables reply new room submitted in
       let h = old.history in
-      let whole = core.with_call h session c tables reply in
+      let whole = core.with_call h 0 c tables reply in
       let shown : shown_of reply bytes ≡ shown_digest whole.base whole.entries (asked c tables) reply =
       subst (λ (r : Reply). Shows whole c r bytes → shown_of r bytes ≡ shown_digest whole.base whole.entries (asked c tables) r)
       (sym is.replied)
       (reply_shown whole h.base (world old) c seen tables bytes)
       (subst (λ (g : History). Shows g c reply bytes) is.grown shows) in
       let more =
-      played_call h.base h.entries out session c seen tables reply played has
-      (said old session c seen tables reply new room played.legal le submitted)
-      (λ own first.
-      subst (λ (r : Reply). IsAlone h.base h.entries (asked c tables) r []) (sym is.replied)
-      (alone old session c seen tables exactly played.legal has own first))
+      played_call h.base h.entries out c tables reply played
+      (subst (λ (n : ℕ). IsSaid n reply) last (said old 0 c seen tables reply new room played.legal last submitted))
+      (subst (λ (r : Reply). IsAlone h.base h.entries (asked c tables) r []) (sym is.replied)
+      (alone old c seen tables exactly played.legal last))
       (subst (λ (g : History). IsLegal g.base g.entries) is.grown legal) in
       subst (λ (g : History).
-      ArePlayed g.base g.entries (out ++ line_text session (next_index h.entries session) (shown_of reply bytes) reply))
+      ArePlayed g.base g.entries (out ++ line_text 0 (next_index h.entries 0) (shown_of reply bytes) reply))
       (sym is.grown)
       (subst (λ (digest : List ℕ).
-      ArePlayed whole.base whole.entries (out ++ line_text session (next_index h.entries session) digest reply)) (sym shown)
+      ArePlayed whole.base whole.entries (out ++ line_text 0 (next_index h.entries 0) digest reply)) (sym shown)
       more)
 
   -- ---- with the tables that the chest's filters answer
@@ -227,37 +228,37 @@ module _ {D : Type 0} where
 
   pub chest_keeps : (chest : List (Option FilterState)) (old : Editing D) (session : ℕ) (c : Call) (seen : ℕ) (reply : Reply)
       (new : Editing D) → KeepsExactly old
-      → IsLegal old.history.base old.history.entries → seen ≤ version old.history → AnswersBy chest old session c seen reply new
+      → IsLegal old.history.base old.history.entries → seen ≡ version old.history → AnswersBy chest old session c seen reply new
       → IsRight new.history.base (world new) → KeepsExactly new
-  chest_keeps chest old session c seen reply new exactly legal le answers right =
+  chest_keeps chest old session c seen reply new exactly legal last answers right =
       let some = some_list chest in
-      keeps old session c seen (expected_tables some.0 (asked c []) reply) reply new exactly legal le (answers some.0 some.1) right
+      keeps old session c seen (expected_tables some.0 (asked c []) reply) reply new exactly legal last (answers some.0 some.1)
+      right
 
   pub chest_text : (chest : List (Option FilterState)) (old : Editing D) (session : ℕ) (c : Call) (seen : ℕ) (reply : code.Reply)
       (new : Editing D) → HasRoom old.history
-      → IsLegal old.history.base old.history.entries → seen ≤ version old.history
+      → IsLegal old.history.base old.history.entries → seen ≡ version old.history
       → AnswersBy chest old session c seen (reply_of reply) new → HasText reply
-  chest_text chest old session c seen reply new room legal le answers =
+  chest_text chest old session c seen reply new room legal last answers =
       let some = some_list chest in
       text_of seen reply (said old session c seen (expected_tables some.0 (asked c []) (reply_of reply)) (reply_of reply) new room
-      legal le (answers some.0 some.1))
+      legal last (answers some.0 some.1))
 
   -- the line that is printed is that of the call
-  pub chest_printed : (chest : List (Option FilterState)) (old : Editing D) (session : ℕ) (c : Call) (seen : ℕ) (reply : Reply)
+  pub chest_printed : (chest : List (Option FilterState)) (old : Editing D) (c : Call) (seen : ℕ) (reply : Reply)
       (new : Editing D) (bytes out : List ℕ) (index : ℕ) (digest text : List ℕ)
-      → HasRoom old.history → KeepsExactly old → seen ≤ version old.history → seen_by old.history.entries session ≡ seen
-      → ArePlayed old.history.base old.history.entries out → AnswersBy chest old session c seen reply new
+      → HasRoom old.history → KeepsExactly old → seen ≡ version old.history
+      → ArePlayed old.history.base old.history.entries out → AnswersBy chest old 0 c seen reply new
       → IsLegal new.history.base new.history.entries → Shows new.history c reply bytes
-      → index ≡ next_index old.history.entries session → digest ≡ shown_of reply bytes
-      → text ≡ out ++ line_text session index digest reply
+      → index ≡ next_index old.history.entries 0 → digest ≡ shown_of reply bytes
+      → text ≡ out ++ line_text 0 index digest reply
       → ArePlayed new.history.base new.history.entries text
-  chest_printed chest old session c seen reply new bytes out index digest text room exactly le has played answers legal shows at is
-      printed =
+  chest_printed chest old c seen reply new bytes out index digest text room exactly last played answers legal shows at is printed =
       let some = some_list chest in
-      let next = next_index old.history.entries session in
-      let whole : text ≡ out ++ line_text session next (shown_of reply bytes) reply =
-      printed ∙ ap (λ (n : ℕ). out ++ line_text session n digest reply) at
-      ∙ ap (λ (d : List ℕ). out ++ line_text session next d reply) is in
+      let next = next_index old.history.entries 0 in
+      let whole : text ≡ out ++ line_text 0 next (shown_of reply bytes) reply =
+      printed ∙ ap (λ (n : ℕ). out ++ line_text 0 n digest reply) at
+      ∙ ap (λ (d : List ℕ). out ++ line_text 0 next d reply) is in
       subst (ArePlayed new.history.base new.history.entries) (sym whole)
-      (submitted_played old session c seen (expected_tables some.0 (asked c []) reply) reply new bytes out room exactly le has
+      (submitted_played old c seen (expected_tables some.0 (asked c []) reply) reply new bytes out room exactly last
       played (answers some.0 some.1) legal shows)

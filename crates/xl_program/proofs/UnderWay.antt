@@ -1,4 +1,4 @@
--- The lines of a session, of which some were played and some are left.
+-- The lines of session 0, of which some were played and some are left.
 use Rattle.spec_history.specs.Calls.{most_entries}
 use Rattle.std.proofs.Common.{◌≡◌, ℕ, ◌+◌, ◌*◌, ◌≤◌, List, [], ◌∷◌, ◌++◌, length, refl, ap, sym, ◌∙◌, subst, arith, append_assoc, append-nil, length-append, eq-eqb, cond, map}
 use Rattle.std.specs.Prelude.{IsSome, Bool, true, false, ◌==◌, ◌&&◌, not, Option, Some}
@@ -19,13 +19,12 @@ use Rattle.xl_core.specs.History.{History, with_call}
 use Rattle.xl_script.specs.Lines.{line_of, lines_of}
 use Rattle.xl_script.specs.declared.script.Line.{Line}
 use Rattle.xl_sessions.specs.Playing.{FitsChest}
-use Rattle.xl_program.specs.Playing.{AreOf, AreBefore, HasTurn, ArePlayed, IsCalled, IsBetweenLines, IsMade, KeepsExactly, calls_made}
+use Rattle.xl_program.specs.Playing.{AreMade, ArePlayed, IsCalled, IsBetweenLines, IsMade, KeepsExactly, calls_made}
 use Rattle.xl_program.proofs.Plain.{filters_now, filters_more, tables_more}
-use Rattle.xl_program.proofs.Seen.{no_call_yet, turn_none, turn_own}
 use Rattle.xl_program.proofs.Chests.{full_stocked}
 use Rattle.xl_sessions.proofs.Brought.{full_agrees}
 use Rattle.xl_sessions.proofs.Chests.{IsStocked, line_fits, stocked_after, agrees_without, stocked_without}
-use Rattle.xl_program.proofs.Played.{calls_behind}
+use Rattle.xl_program.proofs.Played.{calls_behind, played_none}
 
 -- ---- indices
 
@@ -46,14 +45,13 @@ no_index es e session is =
 
 -- ---- one line more
 
--- What a line adds where the chest agrees with these filters: entries of the session, two at most, for its call if it is one; and
--- what it leaves of the chest.
+-- What a line adds where the chest agrees with these filters: two entries at most, for its call if it is one; and what it leaves of
+-- the chest.
 pub record IsOneMore (session : ℕ) (now : List FilterState) (old new : History) (before after : List (Option FilterState))
     (line : script.Line) : Type 0 where
   pub base_is : new.base ≡ old.base
   pub more : List Entry
   pub entries : new.entries ≡ old.entries ++ more
-  pub own : AreOf session more
   pub calls : calls_made more ≡ calls_of (line ∷ [])
   pub tables : (filters : List FilterState) (earlier : List Entry) → now ≡ filters_now filters earlier → HaveTables filters earlier
       → HaveTables filters (earlier ++ more)
@@ -61,7 +59,6 @@ pub record IsOneMore (session : ℕ) (now : List FilterState) (old new : History
       → Agrees after (filters_now filters (earlier ++ more))
   pub stocked : (given : ℕ) (dropped : List ℕ) → IsStocked given dropped before → IsStocked given (dropped_by dropped line) after
   pub index : next_index new.entries session ≡ next_index old.entries session + length (calls_of (line ∷ []))
-  pub turn : HasTurn old.entries session → HasTurn new.entries session
   pub few : length new.entries ≤ length old.entries + 2 * length (calls_of (line ∷ []))
 
 -- an entry without tables, which leaves the filters as they are
@@ -88,7 +85,6 @@ made_one session now old new before after (script.call c) agrees made =
       base_is = ap (λ (h : History). h.base) grown;
       more = e ∷ [];
       entries = es;
-      own = (refl, tt);
       calls = refl;
       tables = λ filters earlier is have.
           tables_more filters earlier e have
@@ -100,9 +96,6 @@ made_one session now old new before after (script.call c) agrees made =
           (made.used.states now agrees);
       stocked = λ given dropped stocked. stocked_after given dropped before after made.used.slots stocked;
       index = ap (λ (l : List Entry). next_index l session) es ∙ one_index old.entries e refl;
-      turn = λ had.
-          subst (λ (l : List Entry). HasTurn l session) (sym es)
-          (turn_own old.entries e (next_index old.entries session) (one_index old.entries e refl));
       few = omega (arith, longer);
     }
 made_one session now old new before after script.save agrees (made, same) =
@@ -114,7 +107,6 @@ made_one session now old new before after script.save agrees (made, same) =
       base_is = ap (λ (h : History). h.base) made.1;
       more = s ∷ e ∷ [];
       entries = es;
-      own = (refl, (refl, tt));
       calls = refl;
       tables = λ filters earlier is have.
           subst (HaveTables filters) (append_assoc earlier (s ∷ []) (e ∷ []))
@@ -127,9 +119,6 @@ made_one session now old new before after script.save agrees (made, same) =
           ap (λ (l : List Entry). next_index l session) (es ∙ sym (append_assoc old.entries (s ∷ []) (e ∷ [])))
           ∙ no_index (old.entries ++ s ∷ []) e session refl
           ∙ one_index old.entries s refl;
-      turn = λ had. subst (λ (l : List Entry). HasTurn l session) (append_assoc old.entries (s ∷ []) (e ∷ []) ∙ sym es)
-          (turn_own (old.entries ++ s ∷ []) e (next_index old.entries session)
-          (no_index (old.entries ++ s ∷ []) e session refl ∙ one_index old.entries s refl));
       few = omega (arith, longer);
     }
 made_one session now old new before after (script.forget slot) agrees (same, without) =
@@ -141,7 +130,6 @@ made_one session now old new before after (script.forget slot) agrees (same, wit
       base_is = ap (λ (h : History). h.base) same;
       more = [];
       entries = es ∙ sym (append-nil old.entries);
-      own = tt;
       calls = refl;
       tables = λ filters earlier is have. subst (HaveTables filters) (sym (append-nil earlier)) have;
       agrees = λ filters earlier is.
@@ -151,7 +139,6 @@ made_one session now old new before after (script.forget slot) agrees (same, wit
           λ given dropped stocked.
           subst (IsStocked given (dropped ++ slot ∷ [])) (sym without) (stocked_without given dropped before slot stocked);
       index = omega (arith, index);
-      turn = λ had. subst (λ (l : List Entry). HasTurn l session) (sym es) had;
       few = omega (arith, longer);
     }
 
@@ -171,53 +158,52 @@ calls_split script.save lines = refl
 calls_split (script.forget slot) lines = refl
 
 -- the entries so far are those of the lines so far, and the lines that are left may be played
-pub record IsUnderWay {D : Type 0} (session : ℕ) (filters : List FilterState) (start : Editing D) (all left : List Line) (index : ℕ)
+pub record IsUnderWay {D : Type 0} (filters : List FilterState) (start : Editing D) (all left : List Line) (index : ℕ)
     (chest : List (Option FilterState)) (core : Editing D) (out : List ℕ) : Type 0 where
-  pub index_is : index ≡ next_index core.history.entries session
+  pub index_is : index ≡ next_index core.history.entries 0
   pub between : IsBetweenLines start.history.base start.opening core
-  pub more : List Entry
-  pub entries : core.history.entries ≡ start.history.entries ++ more
-  pub own : AreOf session more
-  pub calls : calls_made more ++ calls_of (lines_of left) ≡ calls_of (lines_of all)
-  pub tables : HaveTables filters more
-  pub agrees : Agrees chest (filters_now filters more)
-  pub few : length core.history.entries + 2 * length (calls_of (lines_of left)) ≤ length start.history.entries + 2 * length
-      (calls_of (lines_of all))
+  pub calls : calls_made core.history.entries ++ calls_of (lines_of left) ≡ calls_of (lines_of all)
+  pub tables : HaveTables filters core.history.entries
+  pub agrees : Agrees chest (filters_now filters core.history.entries)
+  pub few : length core.history.entries + 2 * length (calls_of (lines_of left)) ≤ 2 * length (calls_of (lines_of all))
   pub dropped : List ℕ
   pub stocked : IsStocked (length filters) dropped chest
   pub fit : AreFit (length filters) dropped (lines_of left)
-  pub turn : HasTurn core.history.entries session
   pub kept : KeepsExactly core
   pub played : ArePlayed core.history.base core.history.entries out
 
+no_more : (lines : List Line) → length lines ≡ 0 → lines ≡ []
+no_more [] none = refl
+no_more (line ∷ lines) none = absurd (omega (arith, none))
+
 module _ {D : Type 0} where
-  pub under_way_none : (session : ℕ) (filters : List FilterState) (core : Editing D) (all left : List Line) (index : ℕ)
+  pub under_way_none : (filters : List FilterState) (core : Editing D) (all left : List Line) (index : ℕ)
       (chest : List (Option FilterState)) (out : List ℕ) → chest ≡ map (λ s. Some s) filters
-      → AreBefore session core.history.entries → index ≡ 0 → IsSome core.shelf → KeepsExactly core
-      → ArePlayed core.history.base core.history.entries out → AreFit (length filters) [] (lines_of all) → left ≡ all
-      → IsUnderWay session filters core all left index chest core out
-  under_way_none session filters core all left index chest out full before zero inside kept played fit whole =
-      subst (λ (ls : List Line). IsUnderWay session filters core all ls index chest core out) (sym whole)
+      → core.history.entries ≡ [] → index ≡ 0 → IsSome core.shelf → KeepsExactly core → out ≡ []
+      → AreFit (length filters) [] (lines_of all) → left ≡ all → IsUnderWay filters core all left index chest core out
+  under_way_none filters core all left index chest out full fresh zero inside kept blank fit whole =
+      let base = core.history.base in
+      let none : length core.history.entries ≡ 0 = ap length fresh in
+      let played : ArePlayed base core.history.entries out =
+      subst (λ (es : List Entry). ArePlayed base es out) (sym fresh) (subst (ArePlayed base []) (sym blank) (played_none base)) in
+      subst (λ (ls : List Line). IsUnderWay filters core all ls index chest core out) (sym whole)
       (record {
-        index_is = zero ∙ sym (no_call_yet core.history.entries session before);
+        index_is = zero ∙ sym (ap (λ (es : List Entry). next_index es 0) fresh);
         between = record { base_is = refl; opening_is = refl; inside = inside; legal = played.legal };
-        more = [];
-        entries = sym (append-nil core.history.entries);
-        own = tt;
-        calls = refl;
-        tables = tt;
-        agrees = subst (λ slots. Agrees slots filters) (sym full) (full_agrees filters);
-        few = omega arith;
+        calls = ap (λ (es : List Entry). calls_made es ++ calls_of (lines_of all)) fresh;
+        tables = subst (HaveTables filters) (sym fresh) tt;
+        agrees = subst (λ (es : List Entry). Agrees chest (filters_now filters es)) (sym fresh)
+            (subst (λ slots. Agrees slots filters) (sym full) (full_agrees filters));
+        few = omega (arith, none);
         dropped = [];
         stocked = subst (IsStocked (length filters) []) (sym full) (full_stocked filters);
         fit = fit;
-        turn = turn_none core.history.entries session before;
         kept = kept;
         played = played;
       })
 
   -- one line more is still between lines
-  pub still_between : {base : Document} {opening : D} {old : Editing D} (new : Editing D) → IsBetweenLines base opening old
+  still_between : {base : Document} {opening : D} {old : Editing D} (new : Editing D) → IsBetweenLines base opening old
       → IsBetweenLines old.history.base old.opening new → IsBetweenLines base opening new
   still_between new before after = record {
     base_is = after.base_is ∙ before.base_is;
@@ -226,9 +212,9 @@ module _ {D : Type 0} where
     legal = after.legal;
   }
 
-  module _ {session : ℕ} {filters : List FilterState} {start : Editing D} {all left : List Line} {index : ℕ}
+  module _ {filters : List FilterState} {start : Editing D} {all left : List Line} {index : ℕ}
       {chest : List (Option FilterState)} {old : Editing D} {out : List ℕ} (line : Line) (rest : List Line)
-      (way : IsUnderWay session filters start all left index chest old out)
+      (way : IsUnderWay filters start all left index chest old out)
       (turn : left ≡ line ∷ rest) where
     pub under_way_fit : FitsChest chest (line_of line)
     under_way_fit =
@@ -236,7 +222,7 @@ module _ {D : Type 0} where
         (subst (λ (ls : List Line). AreFit (length filters) way.dropped (lines_of ls)) turn way.fit).0
 
     -- there is room for the entries of a line
-    pub under_way_free : length start.history.entries + 2 * length (calls_of (lines_of all)) ≤ most_entries
+    pub under_way_free : 2 * length (calls_of (lines_of all)) ≤ most_entries
         → length old.history.entries + 2 * length (calls_of (line_of line ∷ [])) ≤ most_entries
     under_way_free room =
         let few = way.few in
@@ -246,13 +232,12 @@ module _ {D : Type 0} where
         omega arith
 
     pub under_way_more : (after_chest : List (Option FilterState)) (new : Editing D) (next : ℕ) (more : List ℕ)
-        → IsBetweenLines old.history.base old.opening new → IsMade old.history session (line_of line) chest after_chest new.history
-        → next ≡ next_index new.history.entries session → KeepsExactly new → ArePlayed new.history.base new.history.entries more
-        → IsUnderWay session filters start all rest next after_chest new more
+        → IsBetweenLines old.history.base old.opening new → IsMade old.history 0 (line_of line) chest after_chest new.history
+        → next ≡ next_index new.history.entries 0 → KeepsExactly new → ArePlayed new.history.base new.history.entries more
+        → IsUnderWay filters start all rest next after_chest new more
     under_way_more after_chest new next more after made next_is kept played =
-        let one =
-        made_one session (filters_now filters way.more) old.history new.history chest after_chest (line_of line) way.agrees
-        made in
+        let es = old.history.entries in
+        let one = made_one 0 (filters_now filters es) old.history new.history chest after_chest (line_of line) way.agrees made in
         let split = calls_split (line_of line) (lines_of rest) in
         let counts =
         ap (λ (ls : List Line). length (calls_of (lines_of ls))) turn ∙ ap length split
@@ -262,28 +247,32 @@ module _ {D : Type 0} where
         record {
           index_is = next_is;
           between = still_between new way.between after;
-          more = way.more ++ one.more;
-          entries =
-              one.entries ∙ ap (λ (es : List Entry). es ++ one.more) way.entries
-              ∙ append_assoc start.history.entries way.more one.more;
-          own = both_own way.more one.more way.own one.own;
           calls =
               ap (λ (ls : List script.Line). ls ++ calls_of (lines_of rest))
-              (calls_behind way.more one.more ∙ ap (λ (ls : List script.Line). calls_made way.more ++ ls) one.calls)
-              ∙ append_assoc (calls_made way.more) (calls_of (line_of line ∷ [])) (calls_of (lines_of rest))
-              ∙ ap (λ (ls : List script.Line). calls_made way.more ++ ls) (sym split)
-              ∙ ap (λ (ls : List Line). calls_made way.more ++ calls_of (lines_of ls)) (sym turn)
+              (ap (λ (l : List Entry). calls_made l) one.entries ∙ calls_behind es one.more
+              ∙ ap (λ (ls : List script.Line). calls_made es ++ ls) one.calls)
+              ∙ append_assoc (calls_made es) (calls_of (line_of line ∷ [])) (calls_of (lines_of rest))
+              ∙ ap (λ (ls : List script.Line). calls_made es ++ ls) (sym split)
+              ∙ ap (λ (ls : List Line). calls_made es ++ calls_of (lines_of ls)) (sym turn)
               ∙ way.calls;
-          tables = one.tables filters way.more refl way.tables;
-          agrees = one.agrees filters way.more refl;
+          tables = subst (HaveTables filters) (sym one.entries) (one.tables filters es refl way.tables);
+          agrees = subst (λ (l : List Entry). Agrees after_chest (filters_now filters l)) (sym one.entries)
+              (one.agrees filters es refl);
           few = omega arith;
           dropped = dropped_by way.dropped (line_of line);
           stocked = one.stocked (length filters) way.dropped way.stocked;
           fit = (subst (λ (ls : List Line). AreFit (length filters) way.dropped (lines_of ls)) turn way.fit).1;
-          turn = one.turn way.turn;
           kept = kept;
           played = played;
-        } where
-          both_own : (xs ys : List Entry) → AreOf session xs → AreOf session ys → AreOf session (xs ++ ys)
-          both_own [] ys own also = also
-          both_own (x ∷ xs) ys own also = (own.0, both_own xs ys own.1 also)
+        }
+
+  pub under_way_all : {filters : List FilterState} {start : Editing D} {all left : List Line} {index : ℕ}
+      {chest : List (Option FilterState)} {core : Editing D} {out : List ℕ}
+      → IsUnderWay filters start all left index chest core out → length left ≡ 0
+      → AreMade filters (lines_of all) core.history.entries
+  under_way_all {left = left} {core = core} way none = record {
+    calls =
+        sym (append-nil (calls_made core.history.entries))
+        ∙ ap (λ (ls : List Line). calls_made core.history.entries ++ calls_of (lines_of ls)) (sym (no_more left none)) ∙ way.calls;
+    tables = way.tables;
+  }

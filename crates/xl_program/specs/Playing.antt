@@ -1,11 +1,10 @@
--- A history of the sessions' calls and saves, and the lines that are printed for it.
-use Rattle.std.specs.Prelude.{◌≡◌, ℕ, ◌+◌, ◌*◌, ◌<◌, ◌≤◌, ◌==◌, false, if◌then◌else◌, drop, List, [], ◌∷◌, ◌++◌, length, filter_map, flat_map, slice_set, Option, None, slice_get, unwrap_or, IsSome}
+-- A history of the calls and saves of session 0, which is alone, and the lines that are printed for it.
+use Rattle.std.specs.Prelude.{◌≡◌, ℕ, ◌+◌, false, drop, List, [], ◌∷◌, ◌++◌, filter_map, flat_map, slice_set, Option, None, IsSome}
 use Rattle.std.specs.List.{AllByRecursion}
-use Rattle.spec_grid.specs.Rect.{count_from}
 use Rattle.spec_document.specs.Document.{Document}
 use Rattle.spec_history.specs.Machine.{Call, Reply, tile_of}
 use Rattle.spec_document.specs.Limits.{IsDocument}
-use Rattle.spec_history.specs.History.{Entry, asked, ends, replay, next_index, is_changed, latest_of, mine}
+use Rattle.spec_history.specs.History.{Entry, asked, ends, replay, next_index}
 use Rattle.spec_history.specs.Kept.{IsFresh, IsLegal}
 use Rattle.spec_saves.specs.Names.{save_faults}
 use Rattle.spec_world.specs.Right as worlds
@@ -14,32 +13,18 @@ use Rattle.spec_filters.specs.declared.FilterState.{FilterState}
 use Rattle.spec_script.specs.Script.{Line, call, save, forget}
 use Rattle.spec_tables.specs.Tables.{HaveTables, expected_tables}
 use Rattle.spec_tables.specs.Agrees.{Agrees, IsAfter}
-use Rattle.spec_text.specs.Text.{AreAlone, calls_in, calls_of, digest_of, entry_line, is_save_memory, made_by}
+use Rattle.spec_text.specs.Text.{AreAlone, calls_of, digest_of, entry_line, is_save_memory, made_by}
 use Rattle.xl_core.specs.Editing.{Editing, start_of, world}
 use Rattle.xl_core.specs.History.{History, with_call}
 
--- ---- whose entries they are, and what a session has seen
+-- ---- whose entries they are
 
 abbrev pub AreOf : (session : ℕ) → List Entry → Type 0
 AreOf session es = AllByRecursion (λ e. e.session ≡ session) es
 
--- the entries of earlier sessions
-abbrev pub AreBefore : (session : ℕ) → List Entry → Type 0
-AreBefore session es = AllByRecursion (λ e. e.session < session) es
-
-abbrev pub seen_from : (session now seen : ℕ) → List Entry → ℕ
-seen_from session now seen [] = seen
-seen_from session now seen (e ∷ es) =
-    let then_is = if is_changed e.reply then now + 1 else now in
-    seen_from session then_is (if e.session == session then then_is else seen) es
-
--- the version that stood right after the session's last entry, and 0 before its first
-abbrev pub seen_by : List Entry → (session : ℕ) → ℕ
-seen_by es session = seen_from session 0 0 es
-
--- no other session came in between: it has seen the last version, or makes its first call
-abbrev pub HasTurn : List Entry → (session : ℕ) → Type 0
-HasTurn es session = seen_by es session ≡ (if next_index es session == 0 then 0 else latest_of es)
+-- all lines are of session 0
+abbrev pub AreOfFirst : List (List Line) → Type 0
+AreOfFirst lists = AllByRecursion (λ lines. lines ≡ []) (drop 1 lists)
 
 -- ---- the printed lines
 
@@ -54,15 +39,15 @@ lines_in base es = flat_map (entry_line base es) es
 abbrev pub calls_made : List Entry → List Line
 calls_made es = filter_map (λ e. made_by e.kind) es
 
--- The entries are a legal history of calls and saves, no save is out, and the text is their lines. What each session is shown is
--- no older than what it has seen; and where session 0 is alone, and no save failed, what its peeks are answered follows from the
--- entries.
+-- The entries are a legal history of calls and saves of session 0, no save is out, and the text is their lines. What the session is
+-- shown is no older than what it has seen; and where no save failed, what its peeks are answered follows from the entries.
 pub record ArePlayed (base : Document) (es : List Entry) (out : List ℕ) : Type 0 where
   pub legal : IsLegal base es
   pub ended : (replay base es).out ≡ None
+  pub own : AreOf 0 es
   pub printable : AllByRecursion IsPrintable es
-  pub fresh : (session : ℕ) → IsFresh es session
-  pub alone : AreOf 0 es → save_faults es ≡ 0 → AreAlone base [] es
+  pub fresh : IsFresh es 0
+  pub alone : save_faults es ≡ 0 → AreAlone base [] es
   pub text : out ≡ lines_in base es
 
 -- the digest that the line of a reply has: that of the bytes, where the reply is a tile
@@ -93,34 +78,12 @@ IsMade old session (call c) before after new = IsCalled old session c before aft
 IsMade old session save before after new = ((reply : Reply) × (new ≡ with_save old session reply)) × (after ≡ before)
 IsMade old session (forget slot) before after new = (new ≡ old) × (after ≡ slice_set before slot None)
 
--- ---- what a session makes, and what all of them make
+-- ---- what all lines make
 
--- The entries of a session are behind the old ones: each call of its lines is made once, in their order, with the tables of its
--- filters, and is two entries at most.
-pub record IsAdded (session : ℕ) (filters : List FilterState) (lines : List Line) (old new : List Entry) : Type 0 where
-  pub more : List Entry
-  pub entries : new ≡ old ++ more
-  pub own : AreOf session more
-  pub calls : calls_made more ≡ calls_of lines
-  pub tables : HaveTables filters more
-  pub few : length new ≤ length old + 2 * length (calls_of lines)
-
--- the entries of session 0, then those of session 1, and so on to session 7, are all entries
-abbrev pub AreInOrder : List Entry → Type 0
-AreInOrder es = flat_map (mine es) (count_from 0 8) ≡ es
-
--- all lines are of session 0
-abbrev pub AreOfFirst : List (List Line) → Type 0
-AreOfFirst lists = AllByRecursion (λ lines. lines ≡ []) (drop 1 lists)
-
--- The sessions below a number have made their calls, one session after another, each with the tables of its filters. A session
--- without calls made no entry.
-pub record AreSessions (session : ℕ) (lists : List (List Line)) (chests : List (List FilterState)) (es : List Entry) : Type 0 where
-  pub before : AreBefore session es
-  pub order : AreInOrder es
-  pub silent : (n : ℕ) → n < session → unwrap_or (slice_get lists n) [] ≡ [] → mine es n ≡ []
-  pub calls : (n : ℕ) → n < session → calls_in es n ≡ calls_of (unwrap_or (slice_get lists n) [])
-  pub tables : (n : ℕ) → n < session → HaveTables (unwrap_or (slice_get chests n) []) (mine es n)
+-- each call of the lines is made once, in their order, with the tables of these filters
+pub record AreMade (filters : List FilterState) (lines : List Line) (es : List Entry) : Type 0 where
+  pub calls : calls_made es ≡ calls_of lines
+  pub tables : HaveTables filters es
 
 -- the kept pictures of a document within its limits are right, and are just those that have to be kept, as no job brought any
 pub record KeepsExactly {D : Type 0} (core : Editing D) : Type 0 where

@@ -1,5 +1,7 @@
 ghost use Rattle.std.specs.Prelude.{◌≡◌, [], IfOk, IfErr, IsSome};
 ghost use Rattle.spec_document.specs.Limits.{IsDocument};
+ghost use Rattle.spec_world.specs.Right.{IsRight};
+ghost use Rattle.xl_core.specs.Editing.{world};
 ghost use Rattle.xl_doc.specs.Numbered.{AreNumbered};
 ghost use Rattle.xl_program.specs.Playing.{KeepsExactly};
 
@@ -18,6 +20,8 @@ pub fn open_core<D: Shelf>(alloc: Global, document: Document, shelf: D) -> Resul
     ensures opening { IfOk result (λ core. core.opening ≡ shelf) }
     ensures handed { IfOk result (λ core. core.handed ≡ []) }
     ensures inside { IfOk result (λ core. IsSome core.shelf) }
+    ensures selected { IfOk result (λ core. IsSome (D.selected core.opening)) }
+    ensures right { IfOk result (λ core. IsRight core.history.base (world core)) }
     ensures kept { IfOk result (λ core. KeepsExactly core) }
     ensures back { IfErr result (λ back. back ≡ shelf) }
 {

@@ -63,6 +63,7 @@ fn play_alone<D: Shelf, G: Gate>(
     chest: Vec<Vec<Box<dyn PointFilter + Send>>>,
     gate: &G,
 ) -> Played<D>
+    requires first { AreOfFirst (lists_of script) }
     requires fresh { core.history.entries ≡ [] }
     requires kept { KeepsExactly core }
     requires inside { IsSome core.shelf }

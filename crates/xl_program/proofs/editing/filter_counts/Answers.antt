@@ -1,7 +1,7 @@
 use Rattle.std.proofs.Common.{◌∙◌, ap, length, map, take_all}
 use Rattle.std.specs.Prelude.{Vec}
 use Rattle.std.specs.declared.alloc.Global.{Global}
-use Rattle.xl_program.proofs.UpTo.{counts_are}
+use Rattle.xl_program.proofs.Scripts.{counts_are}
 use Rattle.xl_program.proofs.editing.filter_counts.Goals as goal
 
 pub returns : goal.returns

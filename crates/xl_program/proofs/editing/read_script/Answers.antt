@@ -1,6 +1,5 @@
 use Rattle.std.proofs.Common.{◌∙◌}
-use Rattle.xl_program.proofs.Scripts.{read_with, same_fits}
-use Rattle.xl_program.proofs.UpTo.{counts_same}
+use Rattle.xl_program.proofs.Scripts.{counts_same, read_with, same_fits}
 use Rattle.xl_program.proofs.editing.read_script.Goals as goal
 
 pub returns-in-Ok-parse-clause-reads : goal.returns-in-Ok-parse-clause-reads

@@ -1,16 +1,16 @@
-use Rattle.std.proofs.Common.{refl, ◌∙◌, string_bytes}
+use Rattle.std.proofs.Common.{refl, ◌∙◌, string_bytes, arith}
 use Rattle.xl_script.specs.Lines.{lines_of}
 use Rattle.xl_sessions.proofs.Brought.{full_states}
 use Rattle.xl_program.proofs.Chests.{states_fit}
-use Rattle.xl_program.proofs.UnderWay.{under_way_none, under_way_fit, under_way_free, under_way_more}
+use Rattle.xl_program.proofs.UnderWay.{under_way_none, under_way_fit, under_way_free, under_way_more, under_way_all}
 use Rattle.xl_program.proofs.playing.play_lines.Goals as goal
 
 pub loop-line-init : goal.loop-line-init
 loop-line-init g c =
-    under_way_none c.args.session _ c.args.core.now c.args.lines.items c.into_iter-line-iterator.result.rest.items 0 _
-    (string_bytes c.args.text.now)
-    (c.in_ok-desk.ensures ∙ full_states _ c.args.boxes.items) c.requires.before refl c.requires.inside c.requires.kept
-    c.requires.played (states_fit _ c.args.boxes.items (lines_of c.args.lines.items) c.requires.fit)
+    under_way_none _ c.args.core.now c.args.lines.items c.into_iter-line-iterator.result.rest.items 0 _
+    (string_bytes c.new-text.result)
+    (c.in_ok-desk.ensures ∙ full_states _ c.args.boxes.items) c.requires.fresh refl c.requires.inside c.requires.kept
+    c.new-text.ensures.bytes (states_fit _ c.args.boxes.items (lines_of c.args.lines.items) c.requires.fit)
     c.into_iter-line-iterator.ensures.into_iter_gives.0
 
 pub play_line-requires-clause-few : goal.play_line-requires-clause-few
@@ -26,3 +26,7 @@ loop-line-preserved g c =
     under_way_more c.in-Some.line c.next.new.self.rest.items c.loop-line.invariant c.in-Some.ensures.steps.0
     _ c.play_line.new.core _ (string_bytes c.play_line.new.text) c.play_line.ensures.between c.in_ok-index.ensures.made
     c.in_ok-index.ensures.next c.in_ok-index.ensures.kept c.in_ok-index.ensures.played
+
+pub returns-clause-made : goal.returns-clause-made
+returns-clause-made g c =
+    under_way_all c.loop-line.invariant (omega (arith, c.in-None.ensures.steps.0, c.loop-line.line-iterator.rest.ok))
