@@ -1,5 +1,5 @@
 -- A history of the calls and saves of session 0, which is alone, and the lines that are printed for it.
-use Rattle.std.specs.Prelude.{◌≡◌, ℕ, ◌+◌, false, drop, List, [], ◌∷◌, ◌++◌, filter_map, flat_map, slice_set, Option, None, IsSome}
+use Rattle.std.specs.Prelude.{◌≡◌, ℕ, false, drop, List, [], ◌∷◌, ◌++◌, filter_map, flat_map, slice_set, Option, None, IsSome}
 use Rattle.std.specs.List.{AllByRecursion}
 use Rattle.spec_document.specs.Document.{Document}
 use Rattle.spec_history.specs.Machine.{Call, Reply, tile_of}

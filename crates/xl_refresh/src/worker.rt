@@ -74,7 +74,8 @@ fn do_job<J: JobDesk, G: Gate, W: Wait, L: Ledger>(
     desk.finish(rt, seat, done)
 }
 
-/// Takes jobs and hands their pictures in until the desk is closing, or a job finds no memory. Where there is no job it looks again.
+/// Takes jobs and hands their pictures in until the desk is closing, or a job finds no memory. Where there is no job it looks
+/// again.
 ///
 /// It ends with no job out, so each job that it took was handed in, composed.
 pub fn work<J: JobDesk, G: Gate, W: Wait, L: Ledger>(

@@ -1,4 +1,4 @@
-use Rattle.std.proofs.Common.{◌≡◌, ◌≤◌, ap, pos, w32, to_z, of_z, rules, arith}
+use Rattle.std.proofs.Common.{◌≡◌, ap, pos, w32, to_z, of_z, rules, arith}
 use Rattle.std.proofs.lemmas.Int.{ints}
 use Rattle.std.specs.Prelude.{◌≤ℤ◌}
 use Rattle.spec_document.specs.declared.TheConstants.{MAX_OFFSET}
