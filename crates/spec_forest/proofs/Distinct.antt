@@ -1,9 +1,9 @@
 -- Where ids are distinct, a node with an id stands in one place, and changes by id change nothing else.
-use Rattle.std.proofs.Common.{◌≡◌, ℕ, ◌+◌, Bool, true, false, cond, eqb, nat_eq, List, [], ◌∷◌, ◌++◌, ◌⊎◌, inl, inr, refl, sym, ◌∙◌, subst, ap, eq-eqb, arith}
+use Rattle.std.proofs.Common.{◌≡◌, ℕ, ◌+◌, false, cond, eqb, nat_eq, List, [], ◌∷◌, ◌++◌, ◌⊎◌, inl, inr, refl, sym, ◌∙◌, subst, ap, eq-eqb, arith}
 use Rattle.std.specs.List.{AllByRecursion, IsDistinct}
 use Rattle.std.proofs.lemmas.Map.Keys.{IsDistinct-head, IsDistinct-tail, IsDistinct-cons}
 use Rattle.std.proofs.lemmas.List.{append_assoc}
-use Rattle.spec_forest.specs.Forest.{Forest, none, leaf, group, size, levels, ids, Found, nothing, a_leaf, a_group, or_else, find}
+use Rattle.spec_forest.specs.Forest.{Forest, none, leaf, group, ids, nothing, a_leaf, a_group, or_else, find}
 use Rattle.spec_forest.specs.Changes.{above, with_leaf, with_group, with_children, without, branch_of}
 use Rattle.spec_forest.specs.Holes.{Hole, here, under_leaf, under_group, in_group, plug}
 use Rattle.spec_forest.proofs.Holes.{above-none}

@@ -1,7 +1,7 @@
 -- A forest with a hole: where a node stands, and where one may be put.
-use Rattle.std.proofs.Common.{◌≡◌, ℕ, zero, suc, ◌+◌, ◌<◌, ◌≤◌, max, Bool, true, false, cond, eqb, List, [], ◌∷◌, ◌++◌, length, refl, sym, ◌∙◌, ap, arith}
+use Rattle.std.proofs.Common.{◌≡◌, ℕ, zero, suc, ◌+◌, ◌≤◌, max, List, [], ◌∷◌, length, refl, sym, ◌∙◌, ap, arith}
 use Rattle.std.specs.Prelude.{Option, Some, None, option_map}
-use Rattle.spec_forest.specs.Forest.{Forest, none, leaf, group, size, levels, ids, Found, nothing, a_leaf, a_group, or_else, find}
+use Rattle.spec_forest.specs.Forest.{Forest, none, leaf, group, size, levels}
 use Rattle.spec_forest.specs.Changes.{above, put_at, put_last}
 use Rattle.spec_forest.specs.Holes.{from_place, Hole, here, under_leaf, under_group, in_group, plug, depth, passed}
 

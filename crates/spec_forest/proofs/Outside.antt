@@ -5,7 +5,7 @@ use Rattle.std.proofs.lemmas.List.{append_assoc, append-nil}
 use Rattle.std.proofs.lemmas.Map.Keys.{IsDistinct-head, IsDistinct-tail}
 use Rattle.std.specs.Prelude.{Some, unwrap_or, ◌||◌}
 use Rattle.std.specs.List.{AllByRecursion, IsDistinct, list_any}
-use Rattle.spec_forest.specs.Forest.{Forest, none, leaf, group, ids, Found, nothing, a_leaf, a_group, or_else, find, ancestors}
+use Rattle.spec_forest.specs.Forest.{Forest, leaf, group, ids, Found, nothing, a_leaf, a_group, or_else, find, ancestors}
 use Rattle.spec_forest.specs.Holes.{Hole, here, under_leaf, under_group, in_group, plug}
 use Rattle.spec_forest.proofs.Holes.{into, plug-into}
 use Rattle.spec_forest.proofs.Standing.{Fresh, Standing, nowhere, at_leaf, at_group, standing, groups, ancestors-plug, ancestors-of_leaf, ancestors-of_group}
