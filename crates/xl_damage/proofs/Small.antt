@@ -11,7 +11,7 @@ use Rattle.spec_document.specs.Document.{Document, Nodes, Layer, Group, layer_re
 use Rattle.spec_document.specs.Limits.{IsDocument, AreNodes, IsLayer, IsOffset}
 use Rattle.spec_picture.specs.Picture.{hull_of, rect_found, extent}
 use Rattle.xl_grid.specs.Small.{IsNear, IsSmall}
-use Rattle.xl_doc.specs.Extents.{IsReach}
+use Rattle.xl_doc.specs.Extents.{last_end, IsReach}
 use Rattle.xl_doc.proofs.Hulls.{hull_reach}
 use Rattle.spec_grid.specs.declared.TheConstants.{MAX_SIDE}
 
@@ -87,13 +87,13 @@ lies w h r e =
     record { left = le_from (pos 0) r.x across.0; right = le_from (right r) (pos w) across.1; top = le_from (pos 0) r.y down.0; bottom = le_from (bottom r) (pos h) down.1 }
 
 -- the sides of a layer
-far : (a : ℤ) (w : ℕ) → IsOffset a → (a +ℤ pos w) ≤ℤ pos 270336 → w ≤ 2 ^ 20
+far : (a : ℤ) (w : ℕ) → IsOffset a → (a +ℤ pos w) ≤ℤ last_end → w ≤ 2 ^ 20
 far a w h k = omega (arith, ints, h.0, k)
 
 near_place : (b : ℤ) (n w : ℕ) → pos 0 ≤ℤ b → (b +ℤ pos n) ≤ℤ pos w → w ≤ 2 ^ 20 → IsNear b
 near_place b n w k l m = (omega (arith, ints, k), omega (arith, ints, l, m))
 
-near_sum : (a b : ℤ) (n w : ℕ) → IsOffset a → (a +ℤ pos w) ≤ℤ pos 270336 → pos 0 ≤ℤ b → (b +ℤ pos n) ≤ℤ pos w → IsNear (a +ℤ b)
+near_sum : (a b : ℤ) (n w : ℕ) → IsOffset a → (a +ℤ pos w) ≤ℤ last_end → pos 0 ≤ℤ b → (b +ℤ pos n) ≤ℤ pos w → IsNear (a +ℤ b)
 near_sum a b n w h i k l = (omega (arith, ints, h.0, k), omega (arith, ints, i, l))
 
 short_side : (b : ℤ) (n w : ℕ) → pos 0 ≤ℤ b → (b +ℤ pos n) ≤ℤ pos w → w ≤ 2 ^ 20 → n ≤ 2 ^ 20
