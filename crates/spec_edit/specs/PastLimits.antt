@@ -1,5 +1,5 @@
 -- What a refusal for a limit says of the document that the edit would make.
-use Rattle.std.specs.Prelude.{◌≡◌, ℕ, ◌^◌, ◌<◌, length}
+use Rattle.std.specs.Prelude.{◌≡◌, ℕ, ◌<◌, length}
 use Rattle.spec_forest.specs.Forest.{size, levels}
 use Rattle.spec_document.specs.Document.{Document, area}
 use Rattle.spec_document.specs.Limits.{IsDocument}
@@ -7,6 +7,7 @@ use Rattle.spec_edit.specs.declared.EditRefused.{EditRefused}
 use Rattle.spec_edit.specs.declared.EditRefused.TheVariants.{NoNode, IsGroup, NotGroup, Inside, BadPlace, OutsideLayer, OtherType, NoMask, HasMask, NoChannel, NotIndexed, ModeRefused, TooMany, TooLarge, OffsetRange, BadName, GroupInIndexed, TooDeep}
 use Rattle.spec_edit.specs.Edit.{Edit, add_channel}
 use Rattle.spec_forest.specs.declared.TheConstants.{MAX_NODES}
+use Rattle.spec_document.specs.declared.TheConstants.{MAX_DEPTH, MAX_AREA}
 
 -- how many there would be, of channels or of nodes, and that these are too many
 abbrev pub IsTooMany : Edit → Document → (count : ℕ) → Type 0
@@ -17,8 +18,8 @@ IsTooMany edit new count = (size new.nodes ≡ count) × (MAX_NODES < count)
 -- that is refused it would be no document. The other refusals are for no limit.
 abbrev pub IsPastLimit : EditRefused → Edit → (new : Document) → Type 0
 IsPastLimit (TooMany count) edit new = IsTooMany edit new count
-IsPastLimit (TooLarge pixels) edit new = (area new ≡ pixels) × (2 ^ 28 < pixels)
-IsPastLimit (TooDeep depth) edit new = (levels new.nodes ≡ depth) × (8 < depth)
+IsPastLimit (TooLarge pixels) edit new = (area new ≡ pixels) × (MAX_AREA < pixels)
+IsPastLimit (TooDeep depth) edit new = (levels new.nodes ≡ depth) × (MAX_DEPTH < depth)
 IsPastLimit OffsetRange edit new = ¬ IsDocument new
 IsPastLimit BadName edit new = ¬ IsDocument new
 IsPastLimit (NoNode id) edit new = Unit {0}
