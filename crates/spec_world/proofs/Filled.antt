@@ -15,7 +15,7 @@ use Rattle.spec_cache.proofs.Order.{is_cache-changed}
 use Rattle.spec_history.specs.Machine.{State, latest, document_at, has_stack, tile, tile_of}
 use Rattle.spec_history.specs.History.{Entry, asked}
 use Rattle.spec_history.specs.Kept as history
-use Rattle.spec_history.specs.Kept.{last_tile, or_earlier, shown_version}
+use Rattle.spec_history.specs.Kept.{last_tile, or_earlier}
 use Rattle.spec_history.proofs.Bounds.{last_tile-snoc}
 use Rattle.spec_world.specs.World.{World, Job, document_now, result_of}
 use Rattle.spec_world.specs.Events.{with_entry, show_slot, place_of, cache_with_result, finish_job}

@@ -7,7 +7,7 @@ use Rattle.spec_grid.specs.Grid.{is_on_grid}
 use Rattle.spec_document.specs.Document.{Document}
 use Rattle.spec_cache.specs.Slots.{Slot, Slots, Shown, AreOfCanvas, blank_slots, slot_at, mark_slot, mark_slots}
 use Rattle.spec_cache.specs.Cache as cache
-use Rattle.spec_cache.specs.Cache.{Cache, slots_of, has_slots, slot_of}
+use Rattle.spec_cache.specs.Cache.{slots_of, slot_of}
 use Rattle.spec_cache.proofs.Found.{slot_at-changed, slot_at-blank, canvas-found}
 use Rattle.spec_history.specs.Machine.{Call, edit, undo, redo, tile, peek, top, Reply, changed, stale, tile_of, no_stack, outside_tile, history_full, tile_reply, State, Cause, latest, document_at, has_stack, answer}
 use Rattle.spec_history.specs.History.{Entry, asked, next_index, after_entry, is_changed, IsStep}

@@ -9,7 +9,7 @@ use Rattle.spec_document.specs.Limits.{IsDocument}
 use Rattle.spec_picture.specs.Picture.{project}
 use Rattle.spec_cache.specs.Slots.{Slot, Slots, slot_at, change_slot, fill_slot, shown_as, shown_by, same_tile}
 use Rattle.spec_cache.specs.Cache as cache
-use Rattle.spec_cache.specs.Cache.{Cache, Place, slots_of, slot_of, change_stack, next_place, with_last}
+use Rattle.spec_cache.specs.Cache.{Place, slots_of, slot_of, change_stack, next_place, with_last}
 use Rattle.spec_cache.proofs.Found.{canvas-found, slot-there}
 use Rattle.spec_history.specs.Machine.{Call, edit, undo, redo, tile, peek, top, Reply, changed, tile_of, no_stack, outside_tile, saved, save_fault, save_memory, history_full, tile_reply, State, Saving, latest, document_at, answer, has_stack}
 use Rattle.spec_history.specs.History.{Entry, asked, starts, ends, next_index, after_entry, is_changed, IsStep, PeekAnswers}

@@ -10,12 +10,12 @@ use Rattle.spec_document.specs.Document.{Document}
 use Rattle.spec_edit.specs.Edit.{Edit}
 use Rattle.spec_cache.specs.Slots.{Slot, Slots, Shown, slot_at, shown_by}
 use Rattle.spec_cache.specs.Cache as cache
-use Rattle.spec_cache.specs.Cache.{Cache, slots_of, has_slots, slot_of}
+use Rattle.spec_cache.specs.Cache.{Cache, slots_of, slot_of}
 use Rattle.spec_cache.proofs.Found.{canvas-found, slot-there}
 use Rattle.spec_history.specs.Machine.{Call, edit, undo, redo, tile, peek, top, Reply, changed, tile_of, stale, no_stack, outside_tile, history_full, State, latest, document_at, answer, has_stack, tile_reply}
 use Rattle.spec_history.specs.History.{Entry, asked, next_index, after_entry, is_changed, IsStep, MayPeek, PeekAnswers}
 use Rattle.spec_history.specs.Kept as history
-use Rattle.spec_history.specs.Kept.{last_tile, shown_version, kept_from, kept_in, MeetsKept, PeekMeetsKept}
+use Rattle.spec_history.specs.Kept.{last_tile, shown_version, kept_in, MeetsKept, PeekMeetsKept}
 use Rattle.spec_history.proofs.Canvas.{canvas-document}
 use Rattle.spec_world.specs.World.{World, document_now, free_entries, cache_after}
 use Rattle.spec_world.specs.Events.{peek_reply, where_tile, reply_to, cache_of, with_entry, with_call, Outcome, submit}

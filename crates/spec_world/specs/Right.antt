@@ -8,7 +8,7 @@ use Rattle.spec_picture.specs.Picture.{project}
 use Rattle.spec_cache.specs.declared.Finished.TheVariants.{Installed}
 use Rattle.spec_cache.specs.Slots.{Slot, mark_slot, blank_slot}
 use Rattle.spec_cache.specs.Cache as cache
-use Rattle.spec_cache.specs.Cache.{IsCache, slots_of, has_slots, slot_of, finish}
+use Rattle.spec_cache.specs.Cache.{IsCache, has_slots, slot_of, finish}
 use Rattle.spec_history.specs.Machine.{Call, State, latest, document_at, has_stack}
 use Rattle.spec_history.specs.History.{replay, is_changed}
 use Rattle.spec_history.specs.Kept as history

@@ -5,7 +5,7 @@ use Rattle.std.specs.List.{IsDistinct, list_any}
 use Rattle.spec_forest.specs.Forest.{Forest, none, leaf, group, ids, count, levels, Found, nothing, a_leaf, a_group, find, stack_at, ancestors}
 use Rattle.spec_forest.specs.Changes.{above, put_into, without, branch_of}
 use Rattle.spec_document.specs.Document as doc
-use Rattle.spec_document.specs.Document.{Document, Nodes}
+use Rattle.spec_document.specs.Document.{Document}
 use Rattle.spec_edit.specs.declared.EditRefused.TheVariants as refused
 use Rattle.spec_edit.specs.Edit.{restack}
 use Rattle.spec_edit.specs.Refusal as rules
