@@ -1,6 +1,7 @@
 //! The pieces of a stack.
 ghost use Rattle.std.specs.Prelude.{◌≡◌, ◌+◌, ◌≤◌, ◌++◌, ◌∷◌, ℕ, [], List, IfOk, OnOk, OnErr};
 ghost use Rattle.spec_forest.specs.Forest.{levels};
+ghost use Rattle.spec_document.specs.declared.TheConstants.{MAX_DEPTH};
 ghost use Rattle.spec_picture.specs.Picture.{any_visible};
 ghost use Rattle.xl_doc.specs.Nodes.{IsLeaf, MarksAgree, nodes_of};
 ghost use Rattle.xl_compose.specs.declared.span.Band.{Band};
@@ -97,7 +98,7 @@ pub fn add_stack<K: CleanTiles>(
     pieces: &mut Vec<Piece>,
 ) -> Result<bool, AllocError>
     requires agree { MarksAgree nodes }
-    requires low { level + levels nodes ≤ 8 }
+    requires low { level + levels nodes ≤ MAX_DEPTH }
     ensures any { IfOk result (λ some. some ≡ any_visible (nodes_of nodes.entry)) }
     ensures cost { OnOk result (weights pieces.new.items ≡ weights pieces.old.items + laid_in (λ id. K.clean_tile clean.now id at) (nodes_of nodes.entry)) }
     ensures added { OnOk result ((deep : ℕ) (colours : List (List ℕ)) (band : Band) → level + levels nodes.entry + 2 ≤ deep

@@ -1,6 +1,7 @@
 //! The picture of a stack over a rectangle of the canvas.
 ghost use Rattle.std.specs.Prelude.{◌≡◌, ◌+◌, ◌*◌, ◌<◌, ◌≤◌, ◌≤ℤ◌, pos, ℕ, length, IfOk, OnOk, OnErr, IsSome};
 ghost use Rattle.spec_forest.specs.Forest.{levels, stack_at};
+ghost use Rattle.spec_document.specs.declared.TheConstants.{MAX_DEPTH};
 ghost use Rattle.spec_grid.specs.Rect.{part_above_0};
 ghost use Rattle.spec_picture.specs.Picture.{picture as pixel_of_picture, picture_bytes};
 ghost use Rattle.xl_doc.specs.Canvas.{IsInside};
@@ -43,7 +44,7 @@ fn compose_band<L: Ledger>(
     requires below { band.y + band.h ≤ MAX_SIDE }
     requires high { band.h ≤ 64 }
     requires some { 1 ≤ band.h }
-    requires levels { levels nodes ≤ 8 }
+    requires levels { levels nodes ≤ MAX_DEPTH }
     requires picture { 64 * band.w ≤ length picture.old }
     requires room { 512 * band.w ≤ length room.old }
     requires bytes { 32768 + 320 * band.w ≤ length bytes.old }

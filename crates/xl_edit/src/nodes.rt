@@ -3,6 +3,7 @@ ghost use Rattle.std.specs.Prelude.{◌≡◌, ℕ, ◌<◌, ◌≤◌, List, No
 ghost use Rattle.std.specs.List.{IsDistinct};
 ghost use Rattle.spec_forest.specs.Forest.{ids, find, levels, size};
 ghost use Rattle.spec_forest.specs.Changes.{put_into, without};
+ghost use Rattle.spec_document.specs.declared.TheConstants.{MAX_DEPTH};
 ghost use Rattle.spec_document.specs.Limits.{AreBytes, IsSide};
 ghost use Rattle.spec_edit.specs.Edit as edits;
 ghost use Rattle.spec_edit.specs.Refusal.{no_node_found, too_deep};
@@ -128,7 +129,7 @@ fn put_node_in(tree: &mut Tree<Node>, parent: NodeId, place: u32, id: NodeId, no
 
 // Tells contracts how many levels a tree has at most.
 fn told(tree: &Tree<Node>)
-    ensures { levels tree.now ≤ 8 }
+    ensures { levels tree.now ≤ MAX_DEPTH }
 {
     let _top = tree.top();
 }

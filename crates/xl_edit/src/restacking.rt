@@ -2,6 +2,7 @@
 ghost use Rattle.std.specs.Prelude.{◌≡◌, ◌≤◌, None, Some, IfErr, OnOk};
 ghost use Rattle.spec_forest.specs.Forest.{levels, stack_at};
 ghost use Rattle.spec_forest.specs.Changes.{branch_of, put_into, without};
+ghost use Rattle.spec_document.specs.declared.TheConstants.{MAX_DEPTH};
 ghost use Rattle.spec_edit.specs.Edit as edits;
 ghost use Rattle.spec_edit.specs.Refusal.{bad_place, children, inside, no_node, refusal, stands_in};
 ghost use Rattle.xl_doc.specs.Nodes.{nodes_of, MarksAgree};
@@ -34,7 +35,7 @@ pub(crate) fn restack(
 fn move_node(tree: &mut Tree<Node>, id: NodeId, parent: NodeId, place: u32)
     requires marks { MarksAgree tree.old }
     requires free { restack_refusal id.0 parent.0 place (nodes_of tree.old) ≡ None }
-    requires low { levels (put_into parent.0 place (branch_of id.0 (nodes_of tree.old)) (without id.0 (nodes_of tree.old))) ≤ 8 }
+    requires low { levels (put_into parent.0 place (branch_of id.0 (nodes_of tree.old)) (without id.0 (nodes_of tree.old))) ≤ MAX_DEPTH }
     ensures done { nodes_of tree.new ≡ put_into parent.0 place (branch_of id.0 (nodes_of tree.old)) (without id.0 (nodes_of tree.old)) }
     ensures marks { MarksAgree tree.new }
 {
@@ -138,7 +139,7 @@ fn levels_from(doc: &Document, id: NodeId) -> u32
     requires there { no_node doc.now id.0 ≡ None }
     ensures value { result ≡ levels (branch_of id.0 doc.now.nodes) }
     ensures some { 1 ≤ result }
-    ensures few { result ≤ 8 }
+    ensures few { result ≤ MAX_DEPTH }
 {
     know_limits(doc);
     doc.tree.levels(id)

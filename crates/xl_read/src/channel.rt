@@ -32,7 +32,7 @@ fn has_place(draft: &Draft, selection: bool) -> bool
 fn put(draft: &mut Draft, selection: bool, channel: Channel)
     requires first { IsTrue (not selection || is_none draft.old.selection) }
     requires few { IsTrue (selection || nat_lt (length draft.old.channels) 64) }
-    requires area { area draft.old + draft.old.width * draft.old.height ≤ 2 ^ 28 }
+    requires area { area draft.old + draft.old.width * draft.old.height ≤ MAX_AREA }
     requires kept { all_kept draft.old + kept_bytes channel.kept ≤ 2 ^ 28 }
     ensures { draft.new ≡ with_channel draft.old selection channel }
 {

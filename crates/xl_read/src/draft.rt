@@ -5,6 +5,7 @@ ghost use Rattle.spec_forest.specs.Forest.{none, size};
 ghost use Rattle.spec_forest.specs.Changes.{put_last};
 ghost use Rattle.xl_read.specs.Draft.{body_area, node_kept, Places};
 ghost use Rattle.spec_forest.specs.declared.TheConstants.{MAX_NODES};
+ghost use Rattle.spec_document.specs.declared.TheConstants.{MAX_DEPTH, MAX_AREA};
 
 use crate::header::Header;
 use crate::kept::payload_bytes;
@@ -120,7 +121,7 @@ impl Draft {
     /// The pixels of all planes, and a canvas for each group.
     pub fn area(&self) -> u64
         ensures value { result ≡ area self.now }
-        ensures limit { result ≤ 2 ^ 28 }
+        ensures limit { result ≤ MAX_AREA }
     {
         self.area
     }
@@ -144,9 +145,9 @@ impl Draft {
     #[tactic(auto, using(crate::proofs::Drafts::size_placed))]
     pub fn place(&mut self, path: &[u32], node: Node)
         requires leads { IsSome (put_last path.now none self.old.nodes) }
-        requires short { length path.now < 8 }
+        requires short { length path.now < MAX_DEPTH }
         requires few { size self.old.nodes < MAX_NODES }
-        requires area { area self.old + body_area (self.old.width * self.old.height) node.body ≤ 2 ^ 28 }
+        requires area { area self.old + body_area (self.old.width * self.old.height) node.body ≤ MAX_AREA }
         requires kept { all_kept self.old + node_kept node ≤ 2 ^ 28 }
         ensures placed { Places path.now node self.old self.new }
         ensures size { size self.new.nodes ≡ 1 + size self.old.nodes }
@@ -168,7 +169,7 @@ impl Draft {
     /// Puts a channel last.
     pub fn push_channel(&mut self, channel: Channel)
         requires few { length self.old.channels < 64 }
-        requires area { area self.old + self.old.width * self.old.height ≤ 2 ^ 28 }
+        requires area { area self.old + self.old.width * self.old.height ≤ MAX_AREA }
         requires kept { all_kept self.old + kept_bytes channel.kept ≤ 2 ^ 28 }
         ensures { self.new ≡ record self.old { channels = self.old.channels ++ channel ∷ [] } }
     {
@@ -188,7 +189,7 @@ impl Draft {
     /// Makes a channel the selection.
     pub fn set_selection(&mut self, channel: Channel)
         requires first { self.old.selection ≡ None }
-        requires area { area self.old + self.old.width * self.old.height ≤ 2 ^ 28 }
+        requires area { area self.old + self.old.width * self.old.height ≤ MAX_AREA }
         requires kept { all_kept self.old + kept_bytes channel.kept ≤ 2 ^ 28 }
         ensures { self.new ≡ record self.old { selection = Some channel } }
     {

@@ -5,6 +5,7 @@ ghost use Rattle.xl_tree.specs.Places.{alone};
 ghost use Rattle.xl_doc.specs.Nodes.{nodes_of, is_group_body};
 ghost use Rattle.xl_read.specs.Parts.{AreParts};
 ghost use Rattle.spec_forest.specs.declared.TheConstants.{MAX_NODES};
+ghost use Rattle.spec_document.specs.declared.TheConstants.{MAX_DEPTH};
 
 use xl_doc::{Node, NodeId, Tree};
 
@@ -19,7 +20,7 @@ pub fn leads(tree: &Tree<Node>, path: &[u32]) -> bool
 /// Puts a node last under the group that a path names. Its id is the number of nodes with it.
 pub fn put_last(tree: &mut Tree<Node>, path: &[u32], node: Node)
     requires leads { IsSome (put_last path.now none (nodes_of tree.old)) }
-    requires short { length path.now < 8 }
+    requires short { length path.now < MAX_DEPTH }
     requires few { size (nodes_of tree.old) < MAX_NODES }
     requires parts { AreParts tree.old }
     ensures put { put_last path.now (nodes_of (alone (is_group_body node.body) (1 + size (nodes_of tree.old)) node)) (nodes_of tree.old) ≡ Some (nodes_of tree.new) }
