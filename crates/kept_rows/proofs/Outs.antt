@@ -1,5 +1,6 @@
 -- The jobs that are out stay right as the history goes on.
-use Rattle.std.proofs.Common.{◌≡◌, ℕ, zero, suc, ◌+◌, ◌≤◌, Bool, true, false, cond, ◌==◌, List, [], ◌∷◌, ◌++◌, length, refl, sym, ◌∙◌, ap, subst, arith}
+use Rattle.std.proofs.Common.{◌≡◌, ℕ, zero, suc, ◌+◌, ◌≤◌, Bool, true, false, cond, ◌==◌, List, [], ◌∷◌, ◌++◌, length}
+use Rattle.std.proofs.Common.{refl, sym, ◌∙◌, ap, subst, arith}
 use Rattle.std.specs.Prelude.{Option, Some, None, Result, Ok, Err, IfOk, IfSome, OnErr, option_to_list, count_by}
 use Rattle.std.specs.List.{AllByRecursion}
 use Rattle.std.proofs.lemmas.List.{append-nil}
@@ -32,7 +33,8 @@ pub record Grows (old new : History) : Type 0 where
 -- ---- a history goes on
 
 grows_same : (old new : History) → new ≡ old → Grows old new
-grows_same old new same = record { base = ap (λ h. h.base) same; more = []; entries = ap (λ h. h.entries) same ∙ sym (append-nil old.entries) }
+grows_same old new same =
+    record { base = ap (λ h. h.base) same; more = []; entries = ap (λ h. h.entries) same ∙ sym (append-nil old.entries) }
 
 grows_submitted : {K : Type 0} (old new : Editing K) (session : ℕ) (call : Call) (seen : ℕ) (tables : List (List ℕ)) (reply : Reply)
     → IsSubmitted old session call seen tables reply new → Grows old.history new.history
@@ -57,7 +59,8 @@ grows_submitted old new session call seen tables reply is = go (free == 0) is.2
     go true same = record { base = is.0; more = []; entries = ap (λ x. x.entries) same ∙ sym (append-nil old.history.entries) }
     go false same = record {
       base = is.0;
-      more = record { session = session; index = next_index old.history.entries session; kind = asked call tables; reply = said } ∷ [];
+      more =
+          record { session = session; index = next_index old.history.entries session; kind = asked call tables; reply = said } ∷ [];
       entries = ap (λ x. x.entries) same;
     }
 
@@ -69,7 +72,8 @@ latest_more (e ∷ es) more =
     let rest = latest_more es more in
     rw (latest_of-cons e es) (rw (latest_of-cons e (es ++ more)) (omega (arith, rest)))
 
-picture_more : (base : Document) (es more : List Entry) (done : Done) → IsLegal base es → IsPictureOf (record { base = base; entries = es }) done
+picture_more : (base : Document) (es more : List Entry) (done : Done) → IsLegal base es
+    → IsPictureOf (record { base = base; entries = es }) done
     → IsPictureOf (record { base = base; entries = es ++ more }) done
 picture_more base es more done legal is =
     let last = latest_of-legal base es legal in
@@ -89,37 +93,46 @@ stay_grown old new legal grows = λ done is.
     (picture_more old.base old.entries grows.more done legal is)
 
 -- whether a call was answered or memory ran out
-pub stay_asked : {K E X : Type 0} (old new : Editing K) (r : Result X E) (session : ℕ) (call : Call) (seen : ℕ) (tables : X → List (List ℕ)) (reply : X → Reply)
-    → worlds.IsRight old.history.base (world old) → IfOk r (λ x. IsSubmitted old session call seen (tables x) (reply x) new) → OnErr r (IsAsBefore old new)
+pub stay_asked : {K E X : Type 0} (old new : Editing K) (r : Result X E) (session : ℕ) (call : Call) (seen : ℕ) (tables : X
+    → List (List ℕ)) (reply : X → Reply)
+    → worlds.IsRight old.history.base (world old) → IfOk r (λ x. IsSubmitted old session call seen (tables x) (reply x) new)
+    → OnErr r (IsAsBefore old new)
     → PicturesStay old.history new.history
 stay_asked old new (Ok x) session call seen tables reply right is before =
     stay_grown old.history new.history right.legal (grows_submitted old new session call seen (tables x) (reply x) is)
-stay_asked old new (Err e) session call seen tables reply right is before = stay_grown old.history new.history right.legal (grows_same old.history new.history before.history)
+stay_asked old new (Err e) session call seen tables reply right is before =
+    stay_grown old.history new.history right.legal (grows_same old.history new.history before.history)
 
-pub all_stay : (old new : History) (outs : List Done) → PicturesStay old new → AllByRecursion (IsPictureOf old) outs → AllByRecursion (IsPictureOf new) outs
+pub all_stay : (old new : History) (outs : List Done) → PicturesStay old new → AllByRecursion (IsPictureOf old) outs
+    → AllByRecursion (IsPictureOf new) outs
 all_stay old new [] stay all = tt
 all_stay old new (d ∷ ds) stay all = (stay d all.0, all_stay old new ds stay all.1)
 
 -- ---- one job more, or one less
 
-pub all_with : (h : History) (outs : List Done) (done : Done) → AllByRecursion (IsPictureOf h) outs → IsPictureOf h done → AllByRecursion (IsPictureOf h) (outs ++ done ∷ [])
+pub all_with : (h : History) (outs : List Done) (done : Done) → AllByRecursion (IsPictureOf h) outs → IsPictureOf h done
+    → AllByRecursion (IsPictureOf h) (outs ++ done ∷ [])
 all_with h outs done all is = all-behind (IsPictureOf h) outs (done ∷ []) all (is, tt)
 
 all_front : {A : Type 0} (P : A → Type 0) (xs ys : List A) → AllByRecursion P (xs ++ ys) → AllByRecursion P xs × AllByRecursion P ys
 all_front P [] ys all = (tt, all)
 all_front P (x ∷ xs) ys all = let rest = all_front P xs ys all.1 in ((all.0, rest.0), rest.1)
 
-pub all_parted : (h : History) (outs rest : List Done) (last : Option Done) → outs ≡ rest ++ option_to_list last → AllByRecursion (IsPictureOf h) outs
+pub all_parted : (h : History) (outs rest : List Done) (last : Option Done) → outs ≡ rest ++ option_to_list last
+    → AllByRecursion (IsPictureOf h) outs
     → AllByRecursion (IsPictureOf h) rest × IfSome last (IsPictureOf h)
-all_parted h outs rest last is all = go last (all_front (IsPictureOf h) rest (option_to_list last) (subst (AllByRecursion (IsPictureOf h)) is all))
+all_parted h outs rest last is all =
+    go last (all_front (IsPictureOf h) rest (option_to_list last) (subst (AllByRecursion (IsPictureOf h)) is all))
   where
-    go : (o : Option Done) → AllByRecursion (IsPictureOf h) rest × AllByRecursion (IsPictureOf h) (option_to_list o) → AllByRecursion (IsPictureOf h) rest × IfSome o (IsPictureOf h)
+    go : (o : Option Done) → AllByRecursion (IsPictureOf h) rest × AllByRecursion (IsPictureOf h) (option_to_list o)
+        → AllByRecursion (IsPictureOf h) rest × IfSome o (IsPictureOf h)
     go None both = (both.0, tt)
     go (Some d) both = (both.0, both.1.0)
 
 -- ---- a job that was taken and composed
 
-pub of_last : (h : History) (job : Job) (done : Done) → StandsFor (document h) job.stack job.at (version h) job → IsDone job done → IsOfLast h done
+pub of_last : (h : History) (job : Job) (done : Done) → StandsFor (document h) job.stack job.at (version h) job → IsDone job done
+    → IsOfLast h done
 of_last h job done stands is = record {
   version_is = is.version_is ∙ stands.version_is;
   picture_is = is.picture_is ∙ (stands.picture_is ∙ (λ i. project (document h) (sym is.node_is i) (sym is.at_is i)));

@@ -5,7 +5,8 @@ use Rattle.std.specs.List.{AllByRecursion, cons_option}
 use Rattle.spec_document.specs.Document.{Document}
 use Rattle.spec_filters.specs.declared.FilterState.{FilterState}
 use Rattle.spec_history.specs.Machine.{Call, Reply, saved, State, Saving, answer}
-use Rattle.spec_history.specs.History.{Kind, asked, starts, ends, Entry, next_index, after_kind, after_entry, MayEnd, MayBe, RunFrom, mine}
+use Rattle.spec_history.specs.History.{Kind, asked, starts, ends, Entry, next_index, after_kind, after_entry, MayEnd}
+use Rattle.spec_history.specs.History.{MayBe, RunFrom, mine}
 use Rattle.spec_history.proofs.Growing.{out-answer}
 use Rattle.spec_script.specs.Script.{Line, call, save, forget}
 use Rattle.spec_tables.specs.Tables.{HaveTables, tables_in, expected_tables, filters_after}
@@ -32,7 +33,8 @@ owes (Some out) e es owed = owed
 -- ---- one entry
 
 -- what is known of the first entry of a list, of this kind
-record IsNext (base : Document) (s : State) (earlier : List Entry) (filters : List FilterState) (e : Entry) (kind : Kind) (later : List Entry) : Type 0 where
+record IsNext (base : Document) (s : State) (earlier : List Entry) (filters : List FilterState) (e : Entry) (kind : Kind)
+    (later : List Entry) : Type 0 where
   first : e.session ≡ 0
   step : MayBe base s earlier e kind
   tables : tables_in kind ≡ expected_tables filters kind e.reply
@@ -81,7 +83,8 @@ same_call : (base : Document) (s : State) (earlier : List Entry) (filters : List
 same_call base s earlier filters e f c d tables others later after same this that =
     let R : Call → Type 0 = λ x. IsNext base s earlier filters e (asked x tables) later in
     let a : R d = subst R same this in
-    let t : tables ≡ others = same_tables base s filters d tables others e.reply f.reply a.step.1 that.step.1 a.tables that.tables in
+    let t : tables ≡ others = same_tables base s filters d tables others e.reply f.reply a.step.1 that.step.1 a.tables
+    that.tables in
     let P : List (List ℕ) → Type 0 = λ x. IsNext base s earlier filters e (asked d x) later in
     let b : P others = subst P t a in
     record {
@@ -142,7 +145,8 @@ still_none None (Some new) c tables reply es same owes = cc
 still_none (Some out) new c tables reply es same owes = absurd owes.0
 
 -- a save is out just after its start
-owed_then : (base : Document) (s : State) (earlier : List Entry) (filters : List FilterState) (e : Entry) (kind : Kind) (es : List Entry)
+owed_then : (base : Document) (s : State) (earlier : List Entry) (filters : List FilterState) (e : Entry) (kind : Kind)
+    (es : List Entry)
     → IsNext base s earlier filters e kind es → Owed (after_kind base s e kind).out es
 owed_then base s earlier filters e (asked c tables) es next =
     still_none s.out (answer base s c tables).state.out c tables e.reply es (out-answer base s c tables) next.owes
@@ -190,9 +194,11 @@ pub one_rest : (base : Document) (s : State) (earlier : List Entry) (filters : L
     → lines_of es ≡ lines_of fs → IsRest base s earlier filters es → IsRest base s earlier filters fs → es ≡ fs
 one_rest base s earlier filters [] [] lines this that = refl
 one_rest base s earlier filters [] (f ∷ fs) lines this that =
-    absurd (none_left s.out f.kind f.reply f.session f.index (lines_of fs) this.owed (may_end base s earlier f f.kind that.run.0) lines)
+    absurd (none_left s.out f.kind f.reply f.session f.index (lines_of fs) this.owed
+    (may_end base s earlier f f.kind that.run.0) lines)
 one_rest base s earlier filters (e ∷ es) [] lines this that =
-    absurd (none_left s.out e.kind e.reply e.session e.index (lines_of es) that.owed (may_end base s earlier e e.kind this.run.0) (sym lines))
+    absurd (none_left s.out e.kind e.reply e.session e.index (lines_of es) that.owed (may_end base s earlier e e.kind this.run.0)
+    (sym lines))
 one_rest base s earlier filters (e ∷ es) (f ∷ fs) lines this that =
     let same = same_next base s earlier filters e f e.kind f.kind es fs (lines_of es) (lines_of fs) lines
     (next_of base s earlier filters e es this) (next_of base s earlier filters f fs that) in

@@ -18,7 +18,8 @@ use Rattle.spec_text.specs.Text.{IsAlone, IsAlonePeek, alone_reply}
 
 -- ---- tables
 
-changes-made : (s : State) (old : At) (edits : List Edit) (tables others : List (List ℕ)) (r q : Result At Refused) → refused_in r ≡ refused_in q
+changes-made : (s : State) (old : At) (edits : List Edit) (tables others : List (List ℕ)) (r q : Result At Refused)
+    → refused_in r ≡ refused_in q
     → is_changed (made s old edits tables r).reply ≡ is_changed (made s old edits others q).reply
 changes-made s old edits tables others (Ok m) (Ok n) same = refl
 changes-made s old edits tables others (Ok m) (Err f) same = cc
@@ -32,10 +33,12 @@ changes-guarded false x y z same = refl
 
 -- whether a group changes the document is the same with any tables
 changes : (base : Document) (s : State) (guard : Option ℕ) (edits : List Edit) (tables others : List (List ℕ))
-    → is_changed (answer base s (machine.edit guard edits) tables).reply ≡ is_changed (answer base s (machine.edit guard edits) others).reply
+    → is_changed (answer base s (machine.edit guard edits) tables).reply
+    ≡ is_changed (answer base s (machine.edit guard edits) others).reply
 changes base s guard edits tables others =
     let old : At = record { document = document_at base s (latest s); next = s.next_id } in
-    changes-guarded (names guard (latest s)) (made s old edits tables (apply_group old edits tables)) (made s old edits others (apply_group old edits others))
+    changes-guarded (names guard (latest s)) (made s old edits tables (apply_group old edits tables))
+    (made s old edits others (apply_group old edits others))
     (stays s (moved (latest s)))
     (changes-made s old edits tables others (apply_group old edits tables) (apply_group old edits others)
     (same_refused 0 old old edits tables others refl refl))
@@ -52,7 +55,8 @@ same_edits base s (machine.peek stack at) tables others r q this that = refl
 same_edits base s machine.top tables others r q this that = refl
 
 -- filters in one state answer the same tables
-pub same_tables : (base : Document) (s : State) (filters : List FilterState) (c : Call) (tables others : List (List ℕ)) (r q : Reply)
+pub same_tables : (base : Document) (s : State) (filters : List FilterState) (c : Call) (tables others : List (List ℕ))
+    (r q : Reply)
     → Answers base s c tables r → Answers base s c others q
     → tables ≡ expected_tables filters (asked c tables) r → others ≡ expected_tables filters (asked c others) q → tables ≡ others
 same_tables base s filters c tables others r q this that left right =
@@ -101,7 +105,8 @@ same_peek base s stack k now (machine.save_fault version) r q this that left rig
 same_peek base s stack k now (machine.save_memory version) r q this that left right = this ∙ sym that
 same_peek base s stack k now machine.history_full r q this that left right = this ∙ sym that
 
-pub same_reply : (base : Document) (s : State) (earlier : List Entry) (c : Call) (tables : List (List ℕ)) (r q : Reply) (later after : List Entry)
+pub same_reply : (base : Document) (s : State) (earlier : List Entry) (c : Call) (tables : List (List ℕ)) (r q : Reply)
+    (later after : List Entry)
     → Answers base s c tables r → Answers base s c tables q
     → IsAlone base earlier (asked c tables) r later → IsAlone base earlier (asked c tables) q after → r ≡ q
 same_reply base s earlier (machine.edit guard edits) tables r q later after this that left right = this ∙ sym that
@@ -109,5 +114,6 @@ same_reply base s earlier (machine.undo named) tables r q later after this that 
 same_reply base s earlier machine.redo tables r q later after this that left right = this ∙ sym that
 same_reply base s earlier (machine.tile stack at) tables r q later after this that left right = this ∙ sym that
 same_reply base s earlier (machine.peek stack at) tables r q later after this that left right =
-    same_peek base s stack (kept base earlier stack at) (latest_of earlier) (answer base s (machine.peek stack at) tables).reply r q this that left right
+    same_peek base s stack (kept base earlier stack at) (latest_of earlier)
+    (answer base s (machine.peek stack at) tables).reply r q this that left right
 same_reply base s earlier machine.top tables r q later after this that left right = this ∙ sym that

@@ -1,11 +1,14 @@
 -- The slots of all stacks, and which slot was taken last.
-use Rattle.std.specs.Prelude.{ℕ, ◌<◌, Bool, false, not, ◌&&◌, ◌||◌, ◌==◌, nat_lt, if◌then◌else◌, List, [], ◌∷◌, map, filter, find, flat_map, slice_get, is_some, Option, Some, None, option_map, option_and_then, unwrap_or}
+use Rattle.std.specs.Prelude.{ℕ, ◌<◌, Bool, false, not, ◌&&◌, ◌||◌, ◌==◌, nat_lt, if◌then◌else◌, List, [], ◌∷◌, map}
+use Rattle.std.specs.Prelude.{filter, find, flat_map, slice_get, is_some, Option, Some, None, option_map}
+use Rattle.std.specs.Prelude.{option_and_then, unwrap_or}
 use Rattle.std.specs.List.{AllByRecursion}
 use Rattle.spec_grid.specs.declared.Rect.{Rect}
 use Rattle.spec_grid.specs.declared.TileAt.{TileAt}
 use Rattle.spec_cache.specs.declared.Finished.{Finished}
 use Rattle.spec_cache.specs.declared.Finished.TheVariants.{Installed, Late, Gone}
-use Rattle.spec_cache.specs.Slots.{Slot, Slots, AreOfCanvas, Shown, blank_slots, slot_at, change_slot, mark_slots, marked_tiles, fill_slot, shown_by}
+use Rattle.spec_cache.specs.Slots.{Slot, Slots, AreOfCanvas, Shown, blank_slots, slot_at, change_slot, mark_slots}
+use Rattle.spec_cache.specs.Slots.{marked_tiles, fill_slot, shown_by}
 
 -- the slots of a stack; 0 is the image
 pub record Held : Type 0 where
@@ -91,7 +94,8 @@ kept cache stack at latest = option_and_then (shown_by latest) (slot_of cache st
 
 abbrev pub comes_after : Place → Place → Bool
 comes_after a b =
-    nat_lt b.stack a.stack || (a.stack == b.stack && (nat_lt b.at.row a.at.row || (a.at.row == b.at.row && nat_lt b.at.col a.at.col)))
+    nat_lt b.stack a.stack || (a.stack == b.stack
+    && (nat_lt b.at.row a.at.row || (a.at.row == b.at.row && nat_lt b.at.col a.at.col)))
 
 -- all marked slots, by the ids of their stacks, and then row by row
 abbrev pub marked_places : List Held → List Place

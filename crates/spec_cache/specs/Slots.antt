@@ -1,13 +1,15 @@
 -- The slots of a stack, one for each tile of the canvas. A slot keeps a picture of its tile, or none yet.
 -- Where it is marked, its picture is that of an earlier version at best.
-use Rattle.std.specs.Prelude.{◌≡◌, ℕ, suc, ◌+◌, ◌-◌, ◌*◌, ◌/◌, ◌%◌, ◌==◌, ◌&&◌, Bool, true, false, if◌then◌else◌, List, [], ◌∷◌, length, map, filter, replicate, slice_get, Option, Some, None}
+use Rattle.std.specs.Prelude.{◌≡◌, ℕ, suc, ◌+◌, ◌-◌, ◌*◌, ◌/◌, ◌%◌, ◌==◌, ◌&&◌, Bool, true, false, if◌then◌else◌, List}
+use Rattle.std.specs.Prelude.{[], ◌∷◌, length, map, filter, replicate, slice_get, Option, Some, None}
 use Rattle.std.specs.List.{list_any}
 use Rattle.spec_grid.specs.declared.Rect.{Rect}
 use Rattle.spec_grid.specs.declared.TileAt.{TileAt}
 use Rattle.spec_grid.specs.Rect.{do_meet}
 use Rattle.spec_grid.specs.Grid.{tiles_along, is_on_grid, tile_rect}
 
--- A picture or none; the last version of which a marked slot's picture is known to be; whether the slot is marked; and the version of its
+-- A picture or none; the last version of which a marked slot's picture is known to be; whether the slot is marked;
+-- and the version of its
 -- last mark, which stays when the slot becomes clean, so that an older picture never comes onto a newer one.
 pub record Slot : Type 0 where
   pub picture : Option (List ℕ)

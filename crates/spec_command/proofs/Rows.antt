@@ -182,7 +182,8 @@ abbrev fine : Found
 fine = record { source_fails = false; bad = None; shelf_fails = false; fault = None }
 
 abbrev all_wrong : Found
-all_wrong = record { source_fails = true; bad = Some 2; shelf_fails = true; fault = Some (record { kind = Truncated; at = 38; value = 0 }) }
+all_wrong =
+    record { source_fails = true; bad = Some 2; shelf_fails = true; fault = Some (record { kind = Truncated; at = 38; value = 0 }) }
 
 abbrev an_edit : Option Asked
 an_edit = Some (edit (codes "f") 2)
@@ -191,22 +192,27 @@ an_edit = Some (edit (codes "f") 2)
 stops : first_stop None all_wrong ∷ first_stop an_edit all_wrong ∷ first_stop an_edit (record all_wrong { source_fails = false })
     ∷ first_stop an_edit (record all_wrong { source_fails = false; bad = None })
     ∷ first_stop an_edit (record all_wrong { source_fails = false; bad = None; shelf_fails = false }) ∷ first_stop an_edit fine ∷ []
-    ≡ Some usage ∷ Some source_fault ∷ Some (bad_line 2) ∷ Some shelf_fault ∷ Some (refused (record { kind = Truncated; at = 38; value = 0 })) ∷ None ∷ []
+    ≡ Some usage ∷ Some source_fault ∷ Some (bad_line 2) ∷ Some shelf_fault
+    ∷ Some (refused (record { kind = Truncated; at = 38; value = 0 })) ∷ None ∷ []
 stops = refl
 
 -- a rendering reads no script, and what is made reads no file
-other_stops : first_stop (Some (render (codes "f"))) all_wrong ∷ first_stop (Some (make (codes "f") 7)) (record all_wrong { shelf_fails = false }) ∷ []
+other_stops : first_stop (Some (render (codes "f"))) all_wrong
+    ∷ first_stop (Some (make (codes "f") 7)) (record all_wrong { shelf_fails = false }) ∷ []
     ≡ Some shelf_fault ∷ None ∷ []
 other_stops = refl
 
-lines : map stop_line (usage ∷ source_fault ∷ bad_line 2 ∷ shelf_fault ∷ refused (record { kind = Truncated; at = 38; value = 0 }) ∷ [])
-    ≡ (codes "usage" ++ 10 ∷ []) ∷ (codes "source fault" ++ 10 ∷ []) ∷ (codes "bad line 2" ++ 10 ∷ []) ∷ (codes "shelf fault" ++ 10 ∷ [])
+lines : map stop_line (usage ∷ source_fault ∷ bad_line 2 ∷ shelf_fault ∷ refused (record { kind = Truncated; at = 38; value = 0 })
+    ∷ [])
+    ≡ (codes "usage" ++ 10 ∷ []) ∷ (codes "source fault" ++ 10 ∷ []) ∷ (codes "bad line 2" ++ 10 ∷ [])
+    ∷ (codes "shelf fault" ++ 10 ∷ [])
     ∷ (codes "file refused 3 at 38" ++ 10 ∷ []) ∷ []
 unfolding digits
 lines = refl
 
 -- after the sessions: memory, then the sink, then a save that failed
-statuses : end_status false false (changed 1 1 2 ∷ saved 1 ∷ []) ∷ end_status false false (save_fault 0 ∷ []) ∷ end_status false true (save_fault 0 ∷ [])
+statuses : end_status false false (changed 1 1 2 ∷ saved 1 ∷ []) ∷ end_status false false (save_fault 0 ∷ [])
+    ∷ end_status false true (save_fault 0 ∷ [])
     ∷ end_status true true (save_fault 0 ∷ []) ∷ end_status false true (save_memory 0 ∷ []) ∷ []
     ≡ 0 ∷ 6 ∷ 7 ∷ 8 ∷ 8 ∷ []
 statuses = refl

@@ -1,5 +1,7 @@
 -- What arguments ask for by their shape alone. It stands apart from the definitions of clap, so that rows compare both.
-use Rattle.std.specs.Prelude.{ℕ, ◌-◌, ◌^◌, Bool, true, false, not, ◌&&◌, ◌||◌, ◌==◌, nat_lt, nat_le, nat_eq, if◌then◌else◌, List, [], ◌∷◌, ◌++◌, length, drop, fold, codes, Option, Some, None, option_and_then, option_map, is_some}
+use Rattle.std.specs.Prelude.{ℕ, ◌-◌, ◌^◌, Bool, true, false, not, ◌&&◌, ◌||◌, ◌==◌, nat_lt, nat_le, nat_eq}
+use Rattle.std.specs.Prelude.{if◌then◌else◌, List, [], ◌∷◌, ◌++◌, length, drop, fold, codes, Option, Some, None}
+use Rattle.std.specs.Prelude.{option_and_then, option_map, is_some}
 use Rattle.std.specs.List.{list_all, starts_with}
 use Rattle.std.specs.Str.{bytes_eq}
 use Rattle.std.specs.Str.Parse.{digits_value, without_leading_sign, starts_with_minus}
@@ -55,7 +57,8 @@ take_argument option held argument =
 
 -- all arguments behind the command's name
 abbrev pub held_by : (option : Option Argument) → List Argument → Option Held
-held_by option arguments = fold (λ held argument. option_and_then (λ h. take_argument option h argument) held) (Some nothing_held) arguments
+held_by option arguments =
+    fold (λ held argument. option_and_then (λ h. take_argument option h argument) held) (Some nothing_held) arguments
 
 -- ---- what they ask for
 
@@ -92,10 +95,12 @@ with_number ask name None = None
 with_number ask name (Some n) = option_map (λ file. ask file n) name
 
 abbrev pub edit_shape : List Argument → Option Asked
-edit_shape arguments = option_and_then (λ h. with_number edit (file_of h) (workers_of h.value)) (held_by (Some (codes "--workers")) arguments)
+edit_shape arguments =
+    option_and_then (λ h. with_number edit (file_of h) (workers_of h.value)) (held_by (Some (codes "--workers")) arguments)
 
 abbrev pub make_shape : List Argument → Option Asked
-make_shape arguments = option_and_then (λ h. with_number make (file_of h) (seed_of h.value)) (held_by (Some (codes "--seed")) arguments)
+make_shape arguments =
+    option_and_then (λ h. with_number make (file_of h) (seed_of h.value)) (held_by (Some (codes "--seed")) arguments)
 
 -- a command without an option
 abbrev pub plain_shape : (Argument → Asked) → List Argument → Option Asked

@@ -57,7 +57,9 @@ stop_of why (Some a) = Some (why a)
 -- The first stop, in this order. Only an edit reads the source, and what is made needs no file.
 abbrev pub first_stop : Option Asked → Found → Option Stop
 first_stop None f = Some usage
-first_stop (Some (edit name workers)) f = first (stop_if f.source_fails source_fault ∷ stop_of bad_line f.bad ∷ stop_if f.shelf_fails shelf_fault ∷ stop_of refused f.fault ∷ [])
+first_stop (Some (edit name workers)) f =
+    first (stop_if f.source_fails source_fault ∷ stop_of bad_line f.bad ∷ stop_if f.shelf_fails shelf_fault
+    ∷ stop_of refused f.fault ∷ [])
 first_stop (Some (render name)) f = first (stop_if f.shelf_fails shelf_fault ∷ stop_of refused f.fault ∷ [])
 first_stop (Some (info name)) f = first (stop_if f.shelf_fails shelf_fault ∷ stop_of refused f.fault ∷ [])
 first_stop (Some (make name seed)) f = stop_if f.shelf_fails shelf_fault

@@ -1,6 +1,8 @@
--- Which arguments are a command: each name has a simple command of its own, and clap says which arguments are in order for it. The name of
+-- Which arguments are a command: each name has a simple command of its own, and clap says which arguments are in
+-- order for it. The name of
 -- the file does not begin with a minus, behind -- either.
-use Rattle.std.specs.Prelude.{ℕ, ◌-◌, ◌^◌, Bool, true, false, pos, nat_abs, List, [], ◌∷◌, if◌then◌else◌, codes, Option, Some, None, option_map, unwrap_or}
+use Rattle.std.specs.Prelude.{ℕ, ◌-◌, ◌^◌, Bool, true, false, pos, nat_abs, List, [], ◌∷◌, if◌then◌else◌, codes}
+use Rattle.std.specs.Prelude.{Option, Some, None, option_map, unwrap_or}
 use Rattle.std.specs.Str.{bytes_eq}
 use Rattle.std.specs.Str.Parse.{starts_with_minus, signed_digits_value}
 use Rattle.clap.specs.Walk.{Rule, Row, first_of, is_empty}
@@ -15,7 +17,8 @@ file_rule = record (new_rule (codes "file")) { required = true }
 
 -- an option with a number up to the greatest one
 abbrev pub number_rule : (name : Argument) → (most : ℕ) → (required : Bool) → Rule
-number_rule name most required = record (new_rule name) { long = Some name; parser = Some (parser.Signed (pos 0) (pos most)); required = required }
+number_rule name most required =
+    record (new_rule name) { long = Some name; parser = Some (parser.Signed (pos 0) (pos most)); required = required }
 
 abbrev pub plain_app : (name : Argument) → App
 plain_app name = with_rule (new_app name) file_rule

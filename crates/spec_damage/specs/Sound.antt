@@ -22,7 +22,8 @@ HasStack nodes stack = is_none (stack_at stack nodes) ≡ false
 
 -- each stack that is in both documents shows the same outside its rectangles
 abbrev pub SameBeyond : (old new : Document) → (rects : ℕ → List Rect) → Type 0
-SameBeyond old new rects = (stack : ℕ) → HasStack old.nodes stack → HasStack new.nodes stack → SameOutside old new stack (rects stack)
+SameBeyond old new rects =
+    (stack : ℕ) → HasStack old.nodes stack → HasStack new.nodes stack → SameOutside old new stack (rects stack)
 
 -- a document within its limits, an edit of it that is not refused, and a next id above all of its ids
 pub record IsAccepted (d : Document) (next : ℕ) (edit : Edit) : Type 0 where
@@ -32,21 +33,25 @@ pub record IsAccepted (d : Document) (next : ℕ) (edit : Edit) : Type 0 where
 
 -- the damage of an edit holds all that the edit changes in any picture
 abbrev pub IsSound : Edit → Type 0
-IsSound edit = (d : Document) (next : ℕ) (table : List ℕ) → IsAccepted d next edit → SameBeyond d (effect d next table edit) (damage_of d edit)
+IsSound edit =
+    (d : Document) (next : ℕ) (table : List ℕ) → IsAccepted d next edit → SameBeyond d (effect d next table edit) (damage_of d edit)
 
 -- the same of a group of edits, done and undone
 abbrev pub IsGroupSound : (edits : List Edit) → (tables : List (List ℕ)) → Type 0
 IsGroupSound edits tables =
     (old new : At) → IsAt old → apply_group old edits tables ≡ Ok new
-    → SameBeyond old.document new.document (group_damage old edits tables) × SameBeyond new.document old.document (group_damage old edits tables)
+    → SameBeyond old.document new.document (group_damage old edits tables)
+    × SameBeyond new.document old.document (group_damage old edits tables)
 
 -- each tile of the stack that shares no point with the rectangles shows the same in both documents
 abbrev pub SameTiles : (old new : Document) → (stack : ℕ) → List Rect → Type 0
 SameTiles old new stack rects =
-    (at : TileAt) → list_any (λ r. do_meet r (tile_rect old.width old.height at)) rects ≡ false → project old stack at ≡ project new stack at
+    (at : TileAt) → list_any (λ r. do_meet r (tile_rect old.width old.height at)) rects ≡ false
+    → project old stack at ≡ project new stack at
 
 -- a group of edits changes no tile that its damage does not meet
 abbrev pub KeepsTiles : (edits : List Edit) → (tables : List (List ℕ)) → Type 0
 KeepsTiles edits tables =
     (old new : At) → IsAt old → apply_group old edits tables ≡ Ok new
-    → (stack : ℕ) → HasStack old.document.nodes stack → HasStack new.document.nodes stack → SameTiles old.document new.document stack (group_damage old edits tables stack)
+    → (stack : ℕ) → HasStack old.document.nodes stack → HasStack new.document.nodes stack
+    → SameTiles old.document new.document stack (group_damage old edits tables stack)

@@ -21,4 +21,5 @@ true_from_T true t = refl
 true_from_T false t = absurd t
 
 pub offset_true : (z : ℤ) → IsOffset z → is_offset z ≡ true
-offset_true z h = ap (λ b. b && int_le z MAX_OFFSET) (true_from_T (int_le (neg_ℤ MAX_OFFSET) z) h.0.le) ∙ true_from_T (int_le z MAX_OFFSET) h.1.le
+offset_true z h =
+    ap (λ b. b && int_le z MAX_OFFSET) (true_from_T (int_le (neg_ℤ MAX_OFFSET) z) h.0.le) ∙ true_from_T (int_le z MAX_OFFSET) h.1.le

@@ -2,7 +2,9 @@
 use Rattle.std.specs.Prelude.{◌≡◌, ℕ, Bool, ℤ, List, Option, unwrap_or, refl, ◌==◌, if◌then◌else◌}
 use Rattle.std.specs.Coded.{Coded, code_by, coded×, coded_ℕ, coded_ℤ, coded_bool, coded_list, coded_option}
 use Rattle.spec_blend.specs.declared.Mode.{Mode}
-use Rattle.spec_blend.specs.declared.Mode.TheVariants.{Normal, Multiply, Screen, Overlay, Difference, Addition, Subtract, DarkenOnly, LightenOnly, Divide, Dodge, Burn, HardLight, SoftLight, GrainExtract, GrainMerge}
+use Rattle.spec_blend.specs.declared.Mode.TheVariants.{Normal, Multiply, Screen, Overlay, Difference, Addition}
+use Rattle.spec_blend.specs.declared.Mode.TheVariants.{Subtract, DarkenOnly, LightenOnly, Divide, Dodge, Burn}
+use Rattle.spec_blend.specs.declared.Mode.TheVariants.{HardLight, SoftLight, GrainExtract, GrainMerge}
 use Rattle.spec_blend.specs.Blend.{mode_code, mode_of_code}
 use Rattle.spec_forest.specs.Code.{coded_forest}
 use Rattle.spec_document.specs.declared.Base.{Base}
@@ -46,12 +48,14 @@ abbrev pub coded_base : Coded Base
 coded_base = code_by ℕ coded_ℕ base_code base_back base_same
 
 abbrev pub coded_kept : Coded Kept
-coded_kept = code_by (ℕ × List ℕ) (coded× coded_ℕ (coded_list coded_ℕ)) (λ k. (k.kind, k.payload)) (λ p. record { kind = p.0; payload = p.1 }) (λ _. refl)
+coded_kept = code_by (ℕ × List ℕ) (coded× coded_ℕ (coded_list coded_ℕ)) (λ k. (k.kind, k.payload))
+    (λ p. record { kind = p.0; payload = p.1 }) (λ _. refl)
 
 abbrev pub coded_plane : Coded Plane
 coded_plane =
     code_by (ℕ × (ℕ × (ℕ × List ℕ))) (coded× coded_ℕ (coded× coded_ℕ (coded× coded_ℕ (coded_list coded_ℕ))))
-    (λ p. (p.width, (p.height, (p.bpp, p.bytes)))) (λ q. record { width = q.0; height = q.1.0; bpp = q.1.1.0; bytes = q.1.1.1 }) (λ _. refl)
+    (λ p. (p.width, (p.height, (p.bpp, p.bytes)))) (λ q. record { width = q.0; height = q.1.0; bpp = q.1.1.0; bytes = q.1.1.1 })
+    (λ _. refl)
 
 abbrev pub coded_channel : Coded Channel
 coded_channel =
@@ -60,7 +64,8 @@ coded_channel =
 
 abbrev pub coded_group : Coded Group
 coded_group =
-    code_by (List ℕ × (ℕ × (Mode × (Bool × List Kept)))) (coded× (coded_list coded_ℕ) (coded× coded_ℕ (coded× coded_mode (coded× coded_bool (coded_list coded_kept)))))
+    code_by (List ℕ × (ℕ × (Mode × (Bool × List Kept))))
+    (coded× (coded_list coded_ℕ) (coded× coded_ℕ (coded× coded_mode (coded× coded_bool (coded_list coded_kept)))))
     (λ g. (g.name, (g.opacity, (g.mode, (g.visible, g.kept)))))
     (λ q. record { name = q.0; opacity = q.1.0; mode = q.1.1.0; visible = q.1.1.1.0; kept = q.1.1.1.1 }) (λ _. refl)
 
@@ -68,12 +73,16 @@ abbrev pub Pixels : Type 0
 Pixels = ℕ × (ℤ × (ℤ × (Plane × (Option Channel × Bool))))
 
 abbrev pub coded_pixels : Coded Pixels
-coded_pixels = coded× coded_ℕ (coded× coded_ℤ (coded× coded_ℤ (coded× coded_plane (coded× (coded_option coded_channel) coded_bool))))
+coded_pixels =
+    coded× coded_ℕ (coded× coded_ℤ (coded× coded_ℤ (coded× coded_plane (coded× (coded_option coded_channel) coded_bool))))
 
 abbrev pub coded_layer : Coded Layer
 coded_layer =
     code_by (Group × Pixels) (coded× coded_group coded_pixels)
-    (λ l. (record { name = l.name; opacity = l.opacity; mode = l.mode; visible = l.visible; kept = l.kept }, (l.kind, (l.x, (l.y, (l.plane, (l.mask, l.apply_mask)))))))
+    (λ l. (
+      record { name = l.name; opacity = l.opacity; mode = l.mode; visible = l.visible; kept = l.kept },
+      (l.kind, (l.x, (l.y, (l.plane, (l.mask, l.apply_mask))))),
+    ))
     (λ q. record {
       name = q.0.name;
       opacity = q.0.opacity;
@@ -92,11 +101,14 @@ abbrev pub Canvas : Type 0
 Canvas = ℕ × (ℕ × (Base × (ℕ × (List (List ℕ) × List Kept))))
 
 abbrev pub coded_canvas : Coded Canvas
-coded_canvas = coded× coded_ℕ (coded× coded_ℕ (coded× coded_base (coded× coded_ℕ (coded× (coded_list (coded_list coded_ℕ)) (coded_list coded_kept)))))
+coded_canvas = coded× coded_ℕ (coded× coded_ℕ
+    (coded× coded_base (coded× coded_ℕ (coded× (coded_list (coded_list coded_ℕ)) (coded_list coded_kept)))))
 
 abbrev pub coded_document : Coded Document
 coded_document =
-    code_by (Canvas × (Nodes × (List Channel × Option Channel))) (coded× coded_canvas (coded× (coded_forest coded_layer coded_group) (coded× (coded_list coded_channel) (coded_option coded_channel))))
+    code_by (Canvas × (Nodes × (List Channel × Option Channel)))
+    (coded× coded_canvas (coded× (coded_forest coded_layer coded_group)
+    (coded× (coded_list coded_channel) (coded_option coded_channel))))
     (λ d. ((d.width, (d.height, (d.base, (d.compression, (d.colours, d.kept))))), (d.nodes, (d.channels, d.selection))))
     (λ q. record {
       width = q.0.0;

@@ -28,11 +28,13 @@ mixed_byte s new old hs hn ho =
 replaced_byte : (s new old : ℕ) → new < 256 → old < 256 → replaced s new old < 256
 replaced_byte s new old hn ho = either IsByte (nat_le 128 s) new old hn ho
 
-selected_in_byte : (o : Option Channel) (d : Document) (x y : ℤ) → IsChannelIfAny owners.Channel d.width d.height o → selected_in o d x y < 256
+selected_in_byte : (o : Option Channel) (d : Document) (x y : ℤ) → IsChannelIfAny owners.Channel d.width d.height o
+    → selected_in o d x y < 256
 selected_in_byte None d x y h = omega arith
 selected_in_byte (Some s) d x y h =
     either IsByte (has_point (sheet d.width d.height) x y) (byte_at s.plane (part_above_0 x) (part_above_0 y) 0) 0
-    (index_byte s.plane.bytes ((part_above_0 y * s.plane.width + part_above_0 x) * s.plane.bpp + 0) h.plane.plane.bytes) (omega arith)
+    (index_byte s.plane.bytes ((part_above_0 y * s.plane.width + part_above_0 x) * s.plane.bpp + 0) h.plane.plane.bytes)
+    (omega arith)
 
 pub selected_byte : (d : Document) (x y : ℤ) → IsDocument d → selected d x y < 256
 selected_byte d x y h = selected_in_byte d.selection d x y h.selection
@@ -40,13 +42,16 @@ selected_byte d x y h = selected_in_byte d.selection d x y h.selection
 pub byte_at_byte : (p : Plane) (x y c : ℕ) → AreBytes p.bytes → byte_at p x y c < 256
 byte_at_byte p x y c h = index_byte p.bytes ((y * p.width + x) * p.bpp + c) h
 
-pub with_rect_plane : (rect : Rect) (byte : ℕ → ℕ → ℕ → ℕ) (w h n : ℕ) (p : Plane) → IsPlaneOf w h n p → ((x y c : ℕ) → byte x y c < 256) → IsPlaneOf w h n (with_rect rect byte p)
+pub with_rect_plane : (rect : Rect) (byte : ℕ → ℕ → ℕ → ℕ) (w h n : ℕ) (p : Plane) → IsPlaneOf w h n p
+    → ((x y c : ℕ) → byte x y c < 256) → IsPlaneOf w h n (with_rect rect byte p)
 with_rect_plane rect byte w h n p k each =
     let made = plane_made (λ x y c. if has_point rect (pos x) (pos y) then byte x y c else byte_at p x y c) p.width p.height p.bpp
-    (λ x y c. either IsByte (has_point rect (pos x) (pos y)) (byte x y c) (byte_at p x y c) (each x y c) (byte_at_byte p x y c k.plane.bytes)) in
+    (λ x y c. either IsByte (has_point rect (pos x) (pos y)) (byte x y c) (byte_at p x y c) (each x y c)
+    (byte_at_byte p x y c k.plane.bytes)) in
     record { width_is = k.width_is; height_is = k.height_is; bpp_is = k.bpp_is; plane = made.plane }
 
-pub through_plane : (d : Document) (indexed : Bool) (left top : ℤ) (rect : Rect) (byte : ℕ → ℕ → ℕ → ℕ) (w h n : ℕ) (p : Plane) → IsDocument d → IsPlaneOf w h n p
+pub through_plane : (d : Document) (indexed : Bool) (left top : ℤ) (rect : Rect) (byte : ℕ → ℕ → ℕ → ℕ) (w h n : ℕ) (p : Plane)
+    → IsDocument d → IsPlaneOf w h n p
     → ((x y c : ℕ) → byte x y c < 256) → IsPlaneOf w h n (through d indexed left top rect byte p)
 through_plane d indexed left top rect byte w h n p k plane each =
     with_rect_plane rect (λ x y c.
@@ -60,7 +65,8 @@ through_plane d indexed left top rect byte w h n p k plane each =
     (mixed_byte s (byte x y c) (byte_at p x y c) (selected_byte d (left +ℤ pos x) (top +ℤ pos y) k) (each x y c) old))
 
 -- a layer that is painted with bytes is within its limits
-pub painted : (d : Document) (rect : Rect) (byte : ℕ → ℕ → ℕ → ℕ) (l : Layer) → IsDocument d → IsLayer d.base l → ((x y c : ℕ) → byte x y c < 256)
+pub painted : (d : Document) (rect : Rect) (byte : ℕ → ℕ → ℕ → ℕ) (l : Layer) → IsDocument d → IsLayer d.base l
+    → ((x y c : ℕ) → byte x y c < 256)
     → IsLayer d.base (paint d rect byte l)
 painted d rect byte l k h each = record {
   name = h.name;
@@ -76,14 +82,16 @@ painted d rect byte l k h each = record {
   mask = h.mask;
 }
 
-pub channel_painted : (owner : Owner) (w h : ℕ) (change : Plane → Plane) (c : Channel) → ((p : Plane) → IsPlaneOf w h 1 p → IsPlaneOf w h 1 (change p))
+pub channel_painted : (owner : Owner) (w h : ℕ) (change : Plane → Plane) (c : Channel)
+    → ((p : Plane) → IsPlaneOf w h 1 p → IsPlaneOf w h 1 (change p))
     → IsChannel owner w h c → IsChannel owner w h (with_plane change c)
 channel_painted owner w h change c keeps k = record { name = k.name; kept = k.kept; plane = keeps c.plane k.plane }
 
 pub listed_byte : (rect : Rect) (bpp : ℕ) (bytes : List ℕ) (x y c : ℕ) → AreBytes bytes → listed rect bpp bytes x y c < 256
 listed_byte rect bpp bytes x y c h = index_byte bytes _ h
 
-pub filtered_byte : (table : List ℕ) (l : Layer) (x y c : ℕ) → AreBytes table → AreBytes l.plane.bytes → filtered table l x y c < 256
+pub filtered_byte : (table : List ℕ) (l : Layer) (x y c : ℕ) → AreBytes table → AreBytes l.plane.bytes
+    → filtered table l x y c < 256
 filtered_byte table l x y c t h =
     either IsByte (has_alpha l.kind && c == l.plane.bpp - 1) (byte_at l.plane x y c) (slice_index table (byte_at l.plane x y c))
     (byte_at_byte l.plane x y c h) (index_byte table (byte_at l.plane x y c) t)

@@ -4,7 +4,10 @@ use Rattle.spec_forest.specs.Forest.{size, levels}
 use Rattle.spec_document.specs.Document.{Document, area}
 use Rattle.spec_document.specs.Limits.{IsDocument}
 use Rattle.spec_edit.specs.declared.EditRefused.{EditRefused}
-use Rattle.spec_edit.specs.declared.EditRefused.TheVariants.{NoNode, IsGroup, NotGroup, Inside, BadPlace, OutsideLayer, OtherType, NoMask, HasMask, NoChannel, NotIndexed, ModeRefused, TooMany, TooLarge, OffsetRange, BadName, GroupInIndexed, TooDeep}
+use Rattle.spec_edit.specs.declared.EditRefused.TheVariants.{NoNode, IsGroup, NotGroup, Inside, BadPlace, OutsideLayer}
+use Rattle.spec_edit.specs.declared.EditRefused.TheVariants.{OtherType, NoMask, HasMask, NoChannel, NotIndexed}
+use Rattle.spec_edit.specs.declared.EditRefused.TheVariants.{ModeRefused, TooMany, TooLarge, OffsetRange, BadName}
+use Rattle.spec_edit.specs.declared.EditRefused.TheVariants.{GroupInIndexed, TooDeep}
 use Rattle.spec_edit.specs.Edit.{Edit, add_channel}
 use Rattle.spec_forest.specs.declared.TheConstants.{MAX_NODES}
 use Rattle.spec_document.specs.declared.TheConstants.{MAX_DEPTH, MAX_AREA}

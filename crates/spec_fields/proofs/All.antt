@@ -29,7 +29,8 @@ module _ {X : Type 0} (P : X → Type 0) where
   all_at (x ∷ xs) zero d h p = h.0
   all_at (x ∷ xs) (suc i) d h p = all_at xs i d h.1 p
 
-  pub all_flat_map : {A : Type 0} (f : A → List X) → ((a : A) → AllByRecursion P (f a)) → (ys : List A) → AllByRecursion P (flat_map f ys)
+  pub all_flat_map : {A : Type 0} (f : A → List X) → ((a : A) → AllByRecursion P (f a)) → (ys : List A)
+      → AllByRecursion P (flat_map f ys)
   all_flat_map f each [] = tt
   all_flat_map f each (a ∷ ys) = all_append (f a) (flat_map f ys) (each a) (all_flat_map f each ys)
 

@@ -7,7 +7,8 @@ use Rattle.spec_fields.proofs.FieldsBack.{bytes_below}
 
 pub word_below : (file : List ℕ) (at : ℕ) → AllByRecursion (λ b. b < 256) file → word_value file at < 2 ^ 32
 word_below file at bytes =
-    let each : (i : ℕ) → get_or (bytes_at file at 4) i 0 < 256 = λ i. all_at (λ b. b < 256) (bytes_at file at 4) i 0 (bytes_below file at 4 bytes) (omega arith) in
+    let each : (i : ℕ) → get_or (bytes_at file at 4) i 0 < 256 =
+    λ i. all_at (λ b. b < 256) (bytes_at file at 4) i 0 (bytes_below file at 4 bytes) (omega arith) in
     omega (arith, each 0, each 1, each 2, each 3)
 
 pub has_word_below : (file : List ℕ) (at n : ℕ) → AllByRecursion (λ b. b < 256) file → HasWord file at n → n < 2 ^ 32

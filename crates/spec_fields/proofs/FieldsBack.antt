@@ -1,5 +1,6 @@
 -- A word and a name that were read stand in the file.
-use Rattle.std.proofs.Common.{◌≡◌, ℕ, zero, suc, ◌+◌, ◌<◌, ◌≤◌, Bool, true, false, cond, List, ◌++◌, length, drop, slice_index, refl, sym, ◌∙◌, ap, arith, length-append, append_assoc}
+use Rattle.std.proofs.Common.{◌≡◌, ℕ, zero, suc, ◌+◌, ◌<◌, ◌≤◌, Bool, true, false, cond, List, ◌++◌, length, drop}
+use Rattle.std.proofs.Common.{slice_index, refl, sym, ◌∙◌, ap, arith, length-append, append_assoc}
 use Rattle.std.specs.Prelude.{Ok, Err, Option, Some, None, nat_le, ◌==◌}
 use Rattle.std.specs.List.{AllByRecursion}
 use Rattle.std.proofs.lemmas.Bool.{leb-true, eqb-true}
@@ -39,7 +40,8 @@ choice_back false x y z e = (λ f. cc, λ _. e)
 pub word_back : (file : List ℕ) (at n : ℕ) → word_at file at ≡ Ok n → HasWord file at n
 word_back file at n e = by (nat_le (at + 4) (length file)) refl e
   where
-    by : (b : Bool) → nat_le (at + 4) (length file) ≡ b → cond b (Ok (word_value file at)) (Err (fault Truncated at)) ≡ Ok n → HasWord file at n
+    by : (b : Bool) → nat_le (at + 4) (length file) ≡ b → cond b (Ok (word_value file at)) (Err (fault Truncated at)) ≡ Ok n
+        → HasWord file at n
     by true fits e = record { fits = leb-true (at + 4) (length file) fits; is = cc }
     by false fits e = cc
 
@@ -59,7 +61,8 @@ has_bytes file at n fits =
     record { fits = omega (arith, size, fits); are = ap (bytes_at file at) size }
 
 -- bytes before bytes
-pub has_both : (file : List ℕ) (at : ℕ) (a b : List ℕ) → HasBytes file at a → HasBytes file (at + length a) b → HasBytes file at (a ++ b)
+pub has_both : (file : List ℕ) (at : ℕ) (a b : List ℕ) → HasBytes file at a → HasBytes file (at + length a) b
+    → HasBytes file at (a ++ b)
 has_both file at a b p q =
     let rest = drop (at + length a + length b) file in
     has_from file at (a ++ b) rest (omega (arith, q.fits, length-append a b))
@@ -68,13 +71,16 @@ has_both file at a b p q =
 pub byte_below : (file : List ℕ) (at : ℕ) → AllByRecursion (λ b. b < 256) file → slice_index file at < 256
 byte_below file at bytes = all_at (λ b. b < 256) file at 0 bytes (omega arith)
 
-pub bytes_below : (file : List ℕ) (at n : ℕ) → AllByRecursion (λ b. b < 256) file → AllByRecursion (λ b. b < 256) (bytes_at file at n)
+pub bytes_below : (file : List ℕ) (at n : ℕ) → AllByRecursion (λ b. b < 256) file
+    → AllByRecursion (λ b. b < 256) (bytes_at file at n)
 bytes_below file at n bytes = all_take (λ b. b < 256) n (drop at file) (all_drop (λ b. b < 256) at file bytes)
 
-last_zero : (file : List ℕ) (at n : ℕ) → cond (n == 0) true (slice_index file (at + 3 + n) == 0) ≡ true → 0 < n → slice_index file (at + 3 + n) ≡ 0
+last_zero : (file : List ℕ) (at n : ℕ) → cond (n == 0) true (slice_index file (at + 3 + n) == 0) ≡ true → 0 < n
+    → slice_index file (at + 3 + n) ≡ 0
 last_zero file at zero e some = absurd (omega (arith, some))
 last_zero file at (suc n) e some =
-    eqb-true (slice_index file (at + 3 + suc n)) 0 (sym (chosen_false (suc n == 0) true (slice_index file (at + 3 + suc n) == 0) (eqb-suc-zero n)) ∙ e)
+    eqb-true (slice_index file (at + 3 + suc n)) 0
+    (sym (chosen_false (suc n == 0) true (slice_index file (at + 3 + suc n) == 0) (eqb-suc-zero n)) ∙ e)
 
 pub name_has : (file : List ℕ) (at : ℕ) (text : Text) → name_at file at ≡ Ok text → HasName file at text
 unfolding name_at

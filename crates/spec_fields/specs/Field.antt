@@ -1,5 +1,6 @@
 -- Words and names at an offset of a file.
-use Rattle.std.specs.Prelude.{◌≡◌, ℕ, true, ◌+◌, ◌<◌, ◌≤◌, ◌==◌, nat_le, List, length, take, drop, slice_index, position, unwrap_or, Ok, Err, if◌then◌else◌, ℤ}
+use Rattle.std.specs.Prelude.{◌≡◌, ℕ, true, ◌+◌, ◌<◌, ◌≤◌, ◌==◌, nat_le, List, length, take, drop, slice_index}
+use Rattle.std.specs.Prelude.{position, unwrap_or, Ok, Err, if◌then◌else◌, ℤ}
 use Rattle.std.specs.Int.{w32, from_be_bytes, cast_signed}
 use Rattle.spec_fields.specs.declared.Kind.TheVariants.{Truncated, BadString}
 use Rattle.spec_fields.specs.Reading.{Read, ◌>>=◌, fault, wants}

@@ -1,7 +1,11 @@
 -- The numbers of the kinds of refusal, as they are told to a user.
 use Rattle.std.specs.Prelude.{ℕ}
 use Rattle.spec_fields.specs.declared.Kind.{Kind}
-use Rattle.spec_fields.specs.declared.Kind.TheVariants.{NotXcf, Version, Truncated, BadSize, BaseType, OldColourMap, NoColourMap, BadProperty, BadString, ModeRefused, Compression, FloatingSelection, LayerType, MaskSize, GroupMask, GroupInIndexed, BadPath, BadHierarchy, BadRun, TwoSelections, ChannelSize, TooMany, TooLarge, OffsetRange}
+use Rattle.spec_fields.specs.declared.Kind.TheVariants.{NotXcf, Version, Truncated, BadSize, BaseType, OldColourMap}
+use Rattle.spec_fields.specs.declared.Kind.TheVariants.{NoColourMap, BadProperty, BadString, ModeRefused, Compression}
+use Rattle.spec_fields.specs.declared.Kind.TheVariants.{FloatingSelection, LayerType, MaskSize, GroupMask}
+use Rattle.spec_fields.specs.declared.Kind.TheVariants.{GroupInIndexed, BadPath, BadHierarchy, BadRun, TwoSelections}
+use Rattle.spec_fields.specs.declared.Kind.TheVariants.{ChannelSize, TooMany, TooLarge, OffsetRange}
 
 abbrev pub kind_number : Kind → ℕ
 kind_number NotXcf = 1

@@ -1,5 +1,6 @@
 -- The channels that were read stand in the file.
-use Rattle.std.proofs.Common.{◌≡◌, ℕ, zero, suc, ◌+◌, ◌*◌, ◌^◌, ◌≤◌, Bool, true, false, cond, ◌||◌, not, List, [], ◌∷◌, length, nat_lt, refl, subst, arith}
+use Rattle.std.proofs.Common.{◌≡◌, ℕ, zero, suc, ◌+◌, ◌*◌, ◌^◌, ◌≤◌, Bool, true, false, cond, ◌||◌, not, List, [], ◌∷◌}
+use Rattle.std.proofs.Common.{length, nat_lt, refl, subst, arith}
 use Rattle.std.specs.Prelude.{Ok, Option, Some, None, is_none, nat_le, ◌==◌}
 use Rattle.std.proofs.lemmas.Bool.{leb-true, ltb-true, eqb-true, eqb-false}
 use Rattle.spec_document.specs.declared.Owner.TheVariants as owners
@@ -41,7 +42,8 @@ room_left false n e h = omega (arith, ltb-true n 64 e)
 at_most : (x y n : ℕ) → x ≡ y → y ≤ n → x ≤ n
 at_most x y n e h = omega (arith, e, h)
 
-channel_back : (file : List ℕ) (at place : ℕ) (old new : Document) → AreBytes file → IsWithin old → length old.channels ≤ 64 → channel_at file at place old ≡ Ok new → IsChannel file at old new
+channel_back : (file : List ℕ) (at place : ℕ) (old new : Document) → AreBytes file → IsWithin old → length old.channels ≤ 64
+    → channel_at file at place old ≡ Ok new → IsChannel file at old new
 unfolding channel_at
 channel_back file at place old new all w few e =
     let a = bind_back (same_word_at file at old.width ChannelSize) _ new e in
@@ -51,7 +53,8 @@ channel_back file at place old new all w few e =
     let c = unless_back (passes owners.Channel (all_kept old) props.0.list) _ new props.2 in
     let hierarchy = bind_back (pointer_at file (props.0.end + 8) BadHierarchy) _ new c.1 in
     let selection = is_selection props.0.list in
-    let d = wants_back (not selection || is_none old.selection) (fault TwoSelections (place_of SELECTION props.0.list)) _ new hierarchy.2 in
+    let d = wants_back (not selection
+    || is_none old.selection) (fault TwoSelections (place_of SELECTION props.0.list)) _ new hierarchy.2 in
     let f = wants_back (selection || nat_lt (length old.channels) 64) (fault TooMany place) _ new d.1 in
     let g = wants_back (nat_le (area old + old.width * old.height) (2 ^ 28)) (fault TooLarge at) _ new f.1 in
     let plane = bind_back (hierarchy_at file hierarchy.0 old.width old.height 1 old.compression) _ new g.1 in
@@ -92,8 +95,10 @@ pub record HasChannels (file : List ℕ) (at : ℕ) (old new : Document) : Type 
   pub within : IsWithin new
   pub few : length new.channels ≤ 64
 
-channels_by : (room : ℕ) (file : List ℕ) (at pointer : ℕ) (old new : Document) → AreBytes file → IsWithin old → length old.channels ≤ 64 → HasWord file at pointer
-    → ((mid : Document) → IsWithin mid → length mid.channels ≤ 64 → channels_at room file (at + 4) mid ≡ Ok new → HasChannels file (at + 4) mid new)
+channels_by : (room : ℕ) (file : List ℕ) (at pointer : ℕ) (old new : Document) → AreBytes file → IsWithin old
+    → length old.channels ≤ 64 → HasWord file at pointer
+    → ((mid : Document) → IsWithin mid → length mid.channels ≤ 64 → channels_at room file (at + 4) mid ≡ Ok new
+    → HasChannels file (at + 4) mid new)
     → (b : Bool) → (pointer == 0) ≡ b
     → ((pointer == 0) ≡ true → ◌≡◌ {A = Read Document} (Ok old) (Ok new))
     → ((pointer == 0) ≡ false → (channel_at file pointer at old >>= (λ changed. channels_at room file (at + 4) changed)) ≡ Ok new)
@@ -116,11 +121,13 @@ channels_by room file at pointer old new all w few word more false t ended goes_
       few = rest.few;
     }
 
-pub channels_back : (room : ℕ) (file : List ℕ) (at : ℕ) (old new : Document) → AreBytes file → IsWithin old → length old.channels ≤ 64 → channels_at room file at old ≡ Ok new
+pub channels_back : (room : ℕ) (file : List ℕ) (at : ℕ) (old new : Document) → AreBytes file → IsWithin old
+    → length old.channels ≤ 64 → channels_at room file at old ≡ Ok new
     → HasChannels file at old new
 unfolding channels_at
 channels_back zero file at old new all w few e = cc
 channels_back (suc room) file at old new all w few e =
     let a = word_first file at _ new e in
     let c = choice_back (a.0 == 0) _ _ new a.2 in
-    channels_by room file at a.0 old new all w few a.1 (λ mid within less rest. channels_back room file (at + 4) mid new all within less rest) (a.0 == 0) refl c.0 c.1
+    channels_by room file at a.0 old new all w few a.1
+    (λ mid within less rest. channels_back room file (at + 4) mid new all within less rest) (a.0 == 0) refl c.0 c.1

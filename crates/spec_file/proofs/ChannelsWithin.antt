@@ -21,12 +21,22 @@ pub record HasSheets (d : Document) : Type 0 where
 abbrev SameBut : (old new : Document) → Type 0
 SameBut old new = new ≡ record old { channels = new.channels; selection = new.selection }
 
-with_one : (old : Document) (b : Bool) (c : Channel) → HasSheets old → limits.IsChannel owners.Channel old.width old.height c → HasSheets (with_channel old b c) × SameBut old (with_channel old b c)
+with_one : (old : Document) (b : Bool) (c : Channel) → HasSheets old → limits.IsChannel owners.Channel old.width old.height c
+    → HasSheets (with_channel old b c) × SameBut old (with_channel old b c)
 with_one old true c h is = (record { channels = h.channels; selection = is }, refl)
-with_one old false c h is =
-    (record { channels = all_append (limits.IsChannel owners.Channel old.width old.height) old.channels (c ∷ []) h.channels (is, tt); selection = h.selection }, refl)
+with_one old false c h is = (
+  record {
+    channels = all_append (limits.IsChannel owners.Channel old.width old.height) old.channels (c ∷ []) h.channels (
+      is,
+      tt,
+    );
+    selection = h.selection;
+  },
+  refl,
+)
 
-channel_within : (file : List ℕ) (at : ℕ) (old new : Document) → AreBytes file → HasSheets old → AddsChannel file at old new → HasSheets new × SameBut old new
+channel_within : (file : List ℕ) (at : ℕ) (old new : Document) → AreBytes file → HasSheets old → AddsChannel file at old new
+    → HasSheets new × SameBut old new
 channel_within file at old new all h a =
     let c : Channel = record { name = a.text.name; kept = kept_of owners.Channel a.props.list; plane = a.plane } in
     let P : Document → Type 0 = λ d. HasSheets d × SameBut old d in
@@ -36,7 +46,8 @@ channel_within file at old new all h a =
       plane = a.plane_is;
     }))
 
-pub channels_within : (file : List ℕ) (pointers : List ℕ) (at : ℕ) (old new : Document) → AreBytes file → HasSheets old → AddChannels file at pointers old new → HasSheets new × SameBut old new
+pub channels_within : (file : List ℕ) (pointers : List ℕ) (at : ℕ) (old new : Document) → AreBytes file → HasSheets old
+    → AddChannels file at pointers old new → HasSheets new × SameBut old new
 channels_within file [] at old new all h a =
     let P : Document → Type 0 = λ d. HasSheets d × SameBut old d in subst P (sym a.1) (h, refl)
 channels_within file (pointer ∷ pointers) at old new all h (word, some, (mid, channel, rest)) =

@@ -1,5 +1,6 @@
 -- What a forest has after a branch was put in by a path.
-use Rattle.std.proofs.Common.{◌≡◌, ℕ, zero, suc, ◌+◌, ◌<◌, ◌≤◌, max, false, List, [], ◌∷◌, ◌++◌, length, nat_eq, refl, sym, ◌∙◌, ap, arith}
+use Rattle.std.proofs.Common.{◌≡◌, ℕ, zero, suc, ◌+◌, ◌<◌, ◌≤◌, max, false, List, [], ◌∷◌, ◌++◌, length, nat_eq, refl}
+use Rattle.std.proofs.Common.{sym, ◌∙◌, ap, arith}
 use Rattle.std.specs.Prelude.{Option, Some, None, option_map}
 use Rattle.std.specs.List.{AllByRecursion, IsDistinct}
 use Rattle.std.proofs.lemmas.List.{append-nil, append_assoc}
@@ -23,11 +24,14 @@ module _ {L G : Type 0} where
   size-put_last (place ∷ path) branch none new e = cc
   size-put_last (zero ∷ path) branch (leaf id w u) new e = cc
   size-put_last (zero ∷ path) branch (group id w c u) new e =
-      let m = mapped (λ x. group id w x u) (put_last path branch c) new e in ap size (sym m.2) ∙ omega (arith, size-put_last path branch c m.0 m.1)
+      let m = mapped (λ x. group id w x u) (put_last path branch c) new e in
+      ap size (sym m.2) ∙ omega (arith, size-put_last path branch c m.0 m.1)
   size-put_last (suc place ∷ path) branch (leaf id w u) new e =
-      let m = mapped (leaf id w) (put_last (place ∷ path) branch u) new e in ap size (sym m.2) ∙ omega (arith, size-put_last (place ∷ path) branch u m.0 m.1)
+      let m = mapped (leaf id w) (put_last (place ∷ path) branch u) new e in
+      ap size (sym m.2) ∙ omega (arith, size-put_last (place ∷ path) branch u m.0 m.1)
   size-put_last (suc place ∷ path) branch (group id w c u) new e =
-      let m = mapped (group id w c) (put_last (place ∷ path) branch u) new e in ap size (sym m.2) ∙ omega (arith, size-put_last (place ∷ path) branch u m.0 m.1)
+      let m = mapped (group id w c) (put_last (place ∷ path) branch u) new e in
+      ap size (sym m.2) ∙ omega (arith, size-put_last (place ∷ path) branch u m.0 m.1)
 
   pub levels-put_last : (path : List ℕ) (branch old new : Forest L G) → put_last path branch old ≡ Some new
       → levels new ≤ max (levels old) (length path + levels branch)
@@ -36,18 +40,26 @@ module _ {L G : Type 0} where
   levels-put_last (place ∷ path) branch none new e = cc
   levels-put_last (zero ∷ path) branch (leaf id w u) new e = cc
   levels-put_last (zero ∷ path) branch (group id w c u) new e =
-      let m = mapped (λ x. group id w x u) (put_last path branch c) new e in omega (arith, ap levels m.2, levels-put_last path branch c m.0 m.1)
+      let m = mapped (λ x. group id w x u) (put_last path branch c) new e in
+      omega (arith, ap levels m.2, levels-put_last path branch c m.0 m.1)
   levels-put_last (suc place ∷ path) branch (leaf id w u) new e =
-      let m = mapped (leaf id w) (put_last (place ∷ path) branch u) new e in omega (arith, ap levels m.2, levels-put_last (place ∷ path) branch u m.0 m.1)
+      let m = mapped (leaf id w) (put_last (place ∷ path) branch u) new e in
+      omega (arith, ap levels m.2, levels-put_last (place ∷ path) branch u m.0 m.1)
   levels-put_last (suc place ∷ path) branch (group id w c u) new e =
-      let m = mapped (group id w c) (put_last (place ∷ path) branch u) new e in omega (arith, ap levels m.2, levels-put_last (place ∷ path) branch u m.0 m.1)
+      let m = mapped (group id w c) (put_last (place ∷ path) branch u) new e in
+      omega (arith, ap levels m.2, levels-put_last (place ∷ path) branch u m.0 m.1)
 
   -- the ids of a branch stand somewhere among the others
   pub ids-put_last : (path : List ℕ) (branch old new : Forest L G) → put_last path branch old ≡ Some new
       → (before : List ℕ) × (after : List ℕ) × (ids old ≡ before ++ after) × (ids new ≡ before ++ (ids branch ++ after))
   ids-put_last [] branch old new e =
-      let is : above old branch ≡ new = cc in
-      (ids old, [], sym (append-nil (ids old)), ap ids (sym is) ∙ (ids-above old branch ∙ ap (λ xs. ids old ++ xs) (sym (append-nil (ids branch)))))
+      let is : above old branch ≡ new = cc in (
+        ids old,
+        [],
+        sym (append-nil (ids old)),
+        ap ids (sym is)
+            ∙ (ids-above old branch ∙ ap (λ xs. ids old ++ xs) (sym (append-nil (ids branch)))),
+      )
   ids-put_last (place ∷ path) branch none new e = cc
   ids-put_last (zero ∷ path) branch (leaf id w u) new e = cc
   ids-put_last (zero ∷ path) branch (group id w c u) new e =
@@ -56,7 +68,8 @@ module _ {L G : Type 0} where
         id ∷ r.0,
         r.1 ++ ids u,
         ap (λ xs. id ∷ xs) (ap (λ xs. xs ++ ids u) r.2 ∙ append_assoc r.0 r.1 (ids u)),
-        ap ids (sym m.2) ∙ ap (λ xs. id ∷ xs) (ap (λ xs. xs ++ ids u) r.3 ∙ (append_assoc r.0 (ids branch ++ r.1) (ids u) ∙ ap (λ xs. r.0 ++ xs) (append_assoc (ids branch) r.1 (ids u)))),
+        ap ids (sym m.2) ∙ ap (λ xs. id ∷ xs) (ap (λ xs. xs ++ ids u) r.3
+            ∙ (append_assoc r.0 (ids branch ++ r.1) (ids u) ∙ ap (λ xs. r.0 ++ xs) (append_assoc (ids branch) r.1 (ids u)))),
       )
   ids-put_last (suc place ∷ path) branch (leaf id w u) new e =
       let m = mapped (leaf id w) (put_last (place ∷ path) branch u) new e in
@@ -117,5 +130,8 @@ up_to_next n (x ∷ xs) h = ((h.0.0, omega (arith, h.0.1)), up_to_next n xs h.1)
 pub next_among : (n : ℕ) (before after : List ℕ) → AreUpTo n (before ++ after) → AreUpTo (n + 1) (before ++ ((1 + n) ∷ after))
 next_among n before after h = record {
   distinct = distinct_with before after (1 + n) h.distinct (below_next n (before ++ after) h.each);
-  each = all_with (λ id. (1 ≤ id) × (id ≤ n + 1)) before after (1 + n) (up_to_next n (before ++ after) h.each) (omega arith, omega arith);
+  each = all_with (λ id. (1 ≤ id) × (id ≤ n + 1)) before after (1 + n) (up_to_next n (before ++ after) h.each) (
+    omega arith,
+    omega arith,
+  );
 }

@@ -1,5 +1,6 @@
 -- A head that was read stands in the file.
-use Rattle.std.proofs.Common.{◌≡◌, ◌≢◌, ℕ, ◌+◌, ◌-◌, ◌^◌, ◌<◌, ◌≤◌, Bool, true, false, cond, ◌&&◌, not, List, length, take, drop, nat_lt, refl, sym, ◌∙◌, ap, subst, arith}
+use Rattle.std.proofs.Common.{◌≡◌, ◌≢◌, ℕ, ◌+◌, ◌-◌, ◌^◌, ◌<◌, ◌≤◌, Bool, true, false, cond, ◌&&◌, not, List, length}
+use Rattle.std.proofs.Common.{take, drop, nat_lt, refl, sym, ◌∙◌, ap, subst, arith}
 use Rattle.std.specs.Prelude.{Ok, Some, None, nat_le, ◌==◌}
 use Rattle.std.specs.Cmp.Lexicographic.{same_text}
 use Rattle.std.proofs.lemmas.Bool.{leb-true, ltb-true, eqb-true, eq-eqb}
@@ -45,7 +46,8 @@ base_back code b e = by_0 (code == 0) refl e
     by_1 true t e = let is : Grey ≡ b = cc in eqb-true code 1 t ∙ ap base_code is
     by_1 false t e = by_2 (code == 2) refl e
 
-    by_0 : (t : Bool) → (code == 0) ≡ t → cond t (Some Rgb) (cond (code == 1) (Some Grey) (cond (code == 2) (Some Indexed) None)) ≡ Some b → code ≡ base_code b
+    by_0 : (t : Bool) → (code == 0) ≡ t
+        → cond t (Some Rgb) (cond (code == 1) (Some Grey) (cond (code == 2) (Some Indexed) None)) ≡ Some b → code ≡ base_code b
     by_0 true t e = let is : Rgb ≡ b = cc in eqb-true code 0 t ∙ ap base_code is
     by_0 false t e = by_1 (code == 1) refl e
 
@@ -54,7 +56,8 @@ not_zero true version e i z = let f : (version == 0) ≡ true = eq-eqb version 0
 not_zero false version e i z = cc
 
 -- the bytes that a file begins with
-begins_back : (file : List ℕ) (at : ℕ) (bytes : List ℕ) → at + length bytes ≤ length file → begins file at bytes ≡ true → HasBytes file at bytes
+begins_back : (file : List ℕ) (at : ℕ) (bytes : List ℕ) → at + length bytes ≤ length file → begins file at bytes ≡ true
+    → HasBytes file at bytes
 begins_back file at bytes fits e =
     let found = bytes_at file at (length bytes) in
     let short : length found ≤ length bytes = omega (arith, length-take (length bytes) (drop at file)) in

@@ -1,13 +1,16 @@
 -- The layers and groups that were read stand in the file.
-use Rattle.std.proofs.Common.{◌≡◌, ℕ, zero, suc, ◌+◌, ◌*◌, ◌^◌, ◌<◌, ◌≤◌, Bool, true, false, ◌&&◌, not, List, [], ◌∷◌, length, nat_lt, refl, sym, ◌∙◌, ap, subst, arith}
+use Rattle.std.proofs.Common.{◌≡◌, ℕ, zero, suc, ◌+◌, ◌*◌, ◌^◌, ◌<◌, ◌≤◌, Bool, true, false, ◌&&◌, not, List, [], ◌∷◌}
+use Rattle.std.proofs.Common.{length, nat_lt, refl, sym, ◌∙◌, ap, subst, arith}
 use Rattle.std.specs.Prelude.{Ok, Option, Some, None, nat_le, ◌==◌, MatchBool}
 use Rattle.std.proofs.lemmas.Bool.{leb-true, ltb-true, eqb-true, eqb-false}
 use Rattle.spec_forest.specs.Forest.{none, leaf, group, size}
 use Rattle.spec_forest.specs.Changes.{put_last}
 use Rattle.spec_document.specs.declared.Owner.TheVariants as owners
-use Rattle.spec_document.specs.Document.{Document, Nodes, Channel, base_code, base_of_kind, bytes_of_kind, mask_area, channel_kept, area, all_kept, kept_bytes}
+use Rattle.spec_document.specs.Document.{Document, Nodes, Channel, base_code, base_of_kind, bytes_of_kind, mask_area}
+use Rattle.spec_document.specs.Document.{channel_kept, area, all_kept, kept_bytes}
 use Rattle.spec_document.specs.Limits.{AreBytes}
-use Rattle.spec_fields.specs.declared.Kind.TheVariants.{BadSize, LayerType, MaskSize, GroupMask, GroupInIndexed, BadPath, BadHierarchy, TooLarge, TooMany}
+use Rattle.spec_fields.specs.declared.Kind.TheVariants.{BadSize, LayerType, MaskSize, GroupMask, GroupInIndexed}
+use Rattle.spec_fields.specs.declared.Kind.TheVariants.{BadPath, BadHierarchy, TooLarge, TooMany}
 use Rattle.spec_fields.specs.Reading.{Read, ◌>>=◌, fault}
 use Rattle.spec_fields.specs.Field.{name_at, HasWord}
 use Rattle.spec_fields.proofs.Back.{bind_back, wants_back}
@@ -19,7 +22,8 @@ use Rattle.spec_hierarchy.specs.Reading.{same_word_at, pointer_at, hierarchy_at}
 use Rattle.spec_hierarchy.proofs.PlanesBack.{same_word_has, pointer_has, plane_has}
 use Rattle.spec_file.specs.Header.{is_indexed, is_side}
 use Rattle.spec_file.specs.Placing.{path_to, place_of, passes}
-use Rattle.spec_file.specs.Layers.{Head, Upto, hierarchy_place, mask_place, head_at, placed, path_of, group_of, group_in, mask_at, layer_of, layer_in, node_at, nodes_at}
+use Rattle.spec_file.specs.Layers.{Head, Upto, hierarchy_place, mask_place, head_at, placed, path_of, group_of}
+use Rattle.spec_file.specs.Layers.{group_in, mask_at, layer_of, layer_in, node_at, nodes_at}
 use Rattle.spec_file.specs.Holds.{HasHead, HasMaskIfAny, Places, AddsGroup, AddsLayer, AddsNode, AddNodes}
 use Rattle.spec_file.proofs.SumsBack.{passes_back}
 use Rattle.spec_file.proofs.NodesAre.{IsWithin, places_area, places_kept}
@@ -29,7 +33,8 @@ use Rattle.spec_document.specs.declared.numbers.TheConstants.{GROUP_ITEM, ITEM_P
 placed_back : (old : Document) (h : Head) (branch : Nodes) (new : Document) → placed old h branch ≡ Ok new → Places old h branch new
 unfolding placed
 placed_back old h branch new e =
-    let a = given_back (put_last (path_to h.props.list) branch old.nodes) (fault BadPath (place_of ITEM_PATH h.props.list)) _ new e in
+    let a = given_back (put_last (path_to h.props.list) branch old.nodes)
+    (fault BadPath (place_of ITEM_PATH h.props.list)) _ new e in
     let is : record old { nodes = a.0 } ≡ new = cc in
     (a.0, a.1, sym is)
 
@@ -55,11 +60,22 @@ head_back file at d h w e =
     let text = bind_back (name_at file (at + 12)) _ h a.1 in
     let props = bind_back (properties_at file owners.Layer text.0.next) _ h text.2 in
     let b = unless_back (passes owners.Layer (all_kept d) props.0.list) _ h props.2 in
-    let c = wants_back (not (is_indexed d.base && is_group props.0.list)) (fault GroupInIndexed (place_of GROUP_ITEM props.0.list)) _ h b.1 in
+    let c = wants_back (not (is_indexed d.base && is_group props.0.list))
+    (fault GroupInIndexed (place_of GROUP_ITEM props.0.list)) _ h b.1 in
     let hierarchy = word_first file (props.0.end + 8) _ h c.1 in
     let mask = word_first file (props.0.end + 12) _ h hierarchy.2 in
     let both = both_hold (nat_le kind.0 5) (base_of_kind kind.0 == base_code d.base) a.0 in
-    let g : Head = record { at = at; width = width.0; height = height.0; kind = kind.0; text = text.0; props = props.0; hierarchy = hierarchy.0; mask = mask.0 } in
+    let g : Head = record {
+      at = at;
+      width = width.0;
+      height = height.0;
+      kind = kind.0;
+      text = text.0;
+      props = props.0;
+      hierarchy =
+          hierarchy.0;
+      mask = mask.0;
+    } in
     let is : g ≡ h = one_read g h mask.2 in
     subst (IsHead file at d) is (record {
       stands = record {
@@ -83,7 +99,8 @@ record IsGroup (old : Document) (h : Head) (new : Document) : Type 0 where
   adds : AddsGroup old h new
   within : IsWithin new
 
-group_back : (old : Document) (h : Head) (new : Document) → is_indexed old.base ≡ false → all_kept old + kept_bytes (kept_of owners.Layer h.props.list) ≤ 2 ^ 28
+group_back : (old : Document) (h : Head) (new : Document) → is_indexed old.base ≡ false
+    → all_kept old + kept_bytes (kept_of owners.Layer h.props.list) ≤ 2 ^ 28
     → group_in old h ≡ Ok new → IsGroup old h new
 unfolding group_in
 group_back old h new base kept e =
@@ -105,7 +122,8 @@ record IsMask (file : List ℕ) (old : Document) (h : Head) (mask : Option Chann
   area_fits : area old + (h.width * h.height + mask_area mask) ≤ 2 ^ 28
   kept_fits : all_kept old + (kept_bytes (kept_of owners.Layer h.props.list) + channel_kept mask) ≤ 2 ^ 28
 
-mask_back : (file : List ℕ) (old : Document) (h : Head) (mask : Option Channel) → AreBytes file → area old + h.width * h.height ≤ 2 ^ 28
+mask_back : (file : List ℕ) (old : Document) (h : Head) (mask : Option Channel) → AreBytes file
+    → area old + h.width * h.height ≤ 2 ^ 28
     → all_kept old + kept_bytes (kept_of owners.Layer h.props.list) ≤ 2 ^ 28 → mask_at file old h ≡ Ok mask → IsMask file old h mask
 unfolding mask_at
 mask_back file old h mask all area_fits kept_fits e = by (h.mask == 0) refl
@@ -114,7 +132,12 @@ mask_back file old h mask all area_fits kept_fits e = by (h.mask == 0) refl
     by true t =
         let a = (choice_back (h.mask == 0) _ _ mask e).0 t in
         let is : None ≡ mask = cc in
-        subst (IsMask file old h) is (record { has = eqb-true h.mask 0 t; area_fits = omega (arith, area_fits); kept_fits = omega (arith, kept_fits) })
+        subst (IsMask file old h) is (record {
+          has = eqb-true h.mask 0 t;
+          area_fits = omega (arith, area_fits);
+          kept_fits =
+              omega (arith, kept_fits);
+        })
     by false t =
         let kept = all_kept old + kept_bytes (kept_of owners.Layer h.props.list) in
         let a = bind_back (same_word_at file h.mask h.width MaskSize) _ mask ((choice_back (h.mask == 0) _ _ mask e).1 t) in
@@ -157,7 +180,8 @@ record IsLayer (file : List ℕ) (old : Document) (h : Head) (new : Document) : 
   adds : AddsLayer file old h new
   within : IsWithin new
 
-layer_back : (file : List ℕ) (old : Document) (h : Head) (new : Document) → AreBytes file → all_kept old + kept_bytes (kept_of owners.Layer h.props.list) ≤ 2 ^ 28
+layer_back : (file : List ℕ) (old : Document) (h : Head) (new : Document) → AreBytes file
+    → all_kept old + kept_bytes (kept_of owners.Layer h.props.list) ≤ 2 ^ 28
     → layer_in file old h ≡ Ok new → IsLayer file old h new
 unfolding layer_in
 layer_back file old h new all kept e =
@@ -200,31 +224,47 @@ not_indexed : (indexed grouped : Bool) → grouped ≡ true → not (indexed && 
 not_indexed true grouped g e = cc
 not_indexed false grouped g e = refl
 
-node_by : (file : List ℕ) (at : ℕ) (old new : Document) (h : Head) → AreBytes file → IsHead file at old h → length (path_to h.props.list) < 8
-    → (b : Bool) → is_group h.props.list ≡ b → (is_group h.props.list ≡ true → group_in old h ≡ Ok new) → (is_group h.props.list ≡ false → layer_in file old h ≡ Ok new)
+node_by : (file : List ℕ) (at : ℕ) (old new : Document) (h : Head) → AreBytes file → IsHead file at old h
+    → length (path_to h.props.list) < 8
+    → (b : Bool) → is_group h.props.list ≡ b → (is_group h.props.list ≡ true → group_in old h ≡ Ok new)
+    → (is_group h.props.list ≡ false → layer_in file old h ≡ Ok new)
     → IsNode file at old new
 node_by file at old new h all head short true t grouped layered =
     let g = group_back old h new (not_indexed (is_indexed old.base) (is_group h.props.list) t head.groups) head.kept (grouped t) in
     record {
-      adds = record { head = h; has_head = head.stands; short_path = short; adds = subst (λ b. MatchBool b (AddsGroup old h new) (AddsLayer file old h new)) (sym t) g.adds };
+      adds = record {
+        head = h;
+        has_head = head.stands;
+        short_path = short;
+        adds =
+            subst (λ b. MatchBool b (AddsGroup old h new) (AddsLayer file old h new)) (sym t) g.adds;
+      };
       within = g.within;
       channels = ap (λ d. d.channels) g.adds.places.2;
     }
 node_by file at old new h all head short false t grouped layered =
     let l = layer_back file old h new all head.kept (layered t) in
     record {
-      adds = record { head = h; has_head = head.stands; short_path = short; adds = subst (λ b. MatchBool b (AddsGroup old h new) (AddsLayer file old h new)) (sym t) l.adds };
+      adds = record {
+        head = h;
+        has_head = head.stands;
+        short_path = short;
+        adds =
+            subst (λ b. MatchBool b (AddsGroup old h new) (AddsLayer file old h new)) (sym t) l.adds;
+      };
       within = l.within;
       channels = ap (λ d. d.channels) l.adds.places.2;
     }
 
-node_back : (file : List ℕ) (at : ℕ) (old new : Document) → AreBytes file → IsWithin old → node_at file at old ≡ Ok new → IsNode file at old new
+node_back : (file : List ℕ) (at : ℕ) (old new : Document) → AreBytes file → IsWithin old → node_at file at old ≡ Ok new
+    → IsNode file at old new
 unfolding node_at
 node_back file at old new all w e =
     let h = bind_back (head_at file at old) _ new e in
     let path = bind_back (path_of old h.0) _ new h.2 in
     let c = choice_back (is_group h.0.props.list) _ _ new path.2 in
-    node_by file at old new h.0 all (head_back file at old h.0 w h.1) (path_back old h.0 path.1) (is_group h.0.props.list) refl c.0 c.1
+    node_by file at old new h.0 all (head_back file at old h.0 w h.1) (path_back old h.0 path.1)
+    (is_group h.0.props.list) refl c.0 c.1
 
 pub record HasNodes (room : ℕ) (file : List ℕ) (at : ℕ) (old : Document) (upto : Upto) : Type 0 where
   pub pointers : List ℕ
@@ -235,7 +275,8 @@ pub record HasNodes (room : ℕ) (file : List ℕ) (at : ℕ) (old : Document) (
   pub channels : upto.document.channels ≡ old.channels
 
 -- the zero word behind the pointers
-no_nodes : (room : ℕ) (file : List ℕ) (at pointer : ℕ) (old : Document) (upto : Upto) → HasWord file at pointer → pointer ≡ 0 → IsWithin old
+no_nodes : (room : ℕ) (file : List ℕ) (at pointer : ℕ) (old : Document) (upto : Upto) → HasWord file at pointer → pointer ≡ 0
+    → IsWithin old
     → record { document = old; next = at + 4 } ≡ upto → HasNodes room file at old upto
 no_nodes room file at pointer old upto word zero_is w is =
     subst (HasNodes room file at old) is (record {
@@ -247,14 +288,16 @@ no_nodes room file at pointer old upto word zero_is w is =
       channels = refl;
     })
 
-nodes_by : (room : ℕ) (file : List ℕ) (at pointer : ℕ) (old : Document) (upto : Upto) → AreBytes file → IsWithin old → HasWord file at pointer
+nodes_by : (room : ℕ) (file : List ℕ) (at pointer : ℕ) (old : Document) (upto : Upto) → AreBytes file → IsWithin old
+    → HasWord file at pointer
     → ((mid : Document) → IsWithin mid → nodes_at room file (at + 4) mid ≡ Ok upto → HasNodes room file (at + 4) mid upto)
     → (b : Bool) → (pointer == 0) ≡ b
     → ((pointer == 0) ≡ true → ◌≡◌ {A = Read Upto} (Ok (record { document = old; next = at + 4 })) (Ok upto))
     → ((pointer == 0) ≡ false → (node_at file pointer old >>= (λ changed. nodes_at room file (at + 4) changed)) ≡ Ok upto)
     → HasNodes (suc room) file at old upto
 nodes_by room file at pointer old upto all w word more true t ended goes_on =
-    no_nodes (suc room) file at pointer old upto word (eqb-true pointer 0 t) w (one_read (record { document = old; next = at + 4 }) upto (ended t))
+    no_nodes (suc room) file at pointer old upto word (eqb-true pointer 0 t) w
+    (one_read (record { document = old; next = at + 4 }) upto (ended t))
 nodes_by room file at pointer old upto all w word more false t ended goes_on =
     let mid = bind_back (node_at file pointer old) _ upto (goes_on t) in
     let node = node_back file pointer old mid.0 all w mid.1 in
@@ -268,7 +311,8 @@ nodes_by room file at pointer old upto all w word more false t ended goes_on =
       channels = rest.channels ∙ node.channels;
     }
 
-pub nodes_back : (room : ℕ) (file : List ℕ) (at : ℕ) (old : Document) (upto : Upto) → AreBytes file → IsWithin old → nodes_at room file at old ≡ Ok upto → HasNodes room file at old upto
+pub nodes_back : (room : ℕ) (file : List ℕ) (at : ℕ) (old : Document) (upto : Upto) → AreBytes file → IsWithin old
+    → nodes_at room file at old ≡ Ok upto → HasNodes room file at old upto
 unfolding nodes_at
 nodes_back zero file at old upto all w e =
     let a = word_first file at _ upto e in
@@ -277,4 +321,5 @@ nodes_back zero file at old upto all w e =
 nodes_back (suc room) file at old upto all w e =
     let a = word_first file at _ upto e in
     let c = choice_back (a.0 == 0) _ _ upto a.2 in
-    nodes_by room file at a.0 old upto all w a.1 (λ mid within rest. nodes_back room file (at + 4) mid upto all within rest) (a.0 == 0) refl c.0 c.1
+    nodes_by room file at a.0 old upto all w a.1 (λ mid within rest. nodes_back room file (at + 4) mid upto all within rest)
+    (a.0 == 0) refl c.0 c.1

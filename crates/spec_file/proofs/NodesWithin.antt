@@ -1,5 +1,6 @@
 -- The layers and groups that a file of bytes has are within the limits.
-use Rattle.std.proofs.Common.{◌≡◌, ℕ, zero, suc, ◌+◌, ◌<◌, ◌≤◌, Bool, true, false, List, [], ◌∷◌, ◌++◌, length, refl, sym, ◌∙◌, ap, subst, arith}
+use Rattle.std.proofs.Common.{◌≡◌, ℕ, zero, suc, ◌+◌, ◌<◌, ◌≤◌, Bool, true, false, List, [], ◌∷◌, ◌++◌, length, refl}
+use Rattle.std.proofs.Common.{sym, ◌∙◌, ap, subst, arith}
 use Rattle.std.specs.Prelude.{Option, Some, None, option_map, MatchBool}
 use Rattle.spec_forest.specs.Forest.{none, leaf, group, size, levels, ids}
 use Rattle.spec_forest.specs.Changes.{above, put_last}
@@ -64,9 +65,11 @@ places_grown old h branch new short single g (nodes, put, is) =
     let path = path_to h.props.list in
     let r = ids-put_last path branch old.nodes nodes put in
     let count : size nodes ≡ size old.nodes + 1 = omega (arith, size-put_last path branch old.nodes nodes put, single.size_is) in
-    let among : AreUpTo (size old.nodes + 1) (r.0 ++ ((1 + size old.nodes) ∷ r.1)) = next_among (size old.nodes) r.0 r.1 (subst (AreUpTo (size old.nodes)) r.2 g.ids) in
+    let among : AreUpTo (size old.nodes + 1) (r.0 ++ ((1 + size old.nodes) ∷ r.1)) =
+    next_among (size old.nodes) r.0 r.1 (subst (AreUpTo (size old.nodes)) r.2 g.ids) in
     let numbers : ids nodes ≡ r.0 ++ ((1 + size old.nodes) ∷ r.1) = r.3 ∙ ap (λ xs. r.0 ++ (xs ++ r.1)) single.ids_is in
-    let numbered : AreUpTo (size nodes) (ids nodes) = subst (λ n. AreUpTo n (ids nodes)) (sym count) (subst (AreUpTo (size old.nodes + 1)) (sym numbers) among) in
+    let numbered : AreUpTo (size nodes) (ids nodes) =
+    subst (λ n. AreUpTo n (ids nodes)) (sym count) (subst (AreUpTo (size old.nodes + 1)) (sym numbers) among) in
     subst (GrowsTo 1 old) (sym is) (record {
       grown = record {
         nodes = are_put old.base path branch old.nodes nodes single.is g.nodes put;
@@ -105,7 +108,8 @@ layer_within file at old h new all head a =
       height = subst IsSide high a.height;
       plane = record { width_is = refl; height_is = refl; bpp_is = a.plane_is.bpp_is; plane = a.plane_is.plane };
       mask = subst (λ w. IsChannelIfAny owners.Mask w a.plane.height a.mask) wide
-          (subst (λ v. IsChannelIfAny owners.Mask h.width v a.mask) high (mask_within file h.mask h.width h.height old.compression a.mask all a.has_mask));
+          (subst (λ v. IsChannelIfAny owners.Mask h.width v a.mask) high
+          (mask_within file h.mask h.width h.height old.compression a.mask all a.has_mask));
     }
 
 group_within : (file : List ℕ) (at : ℕ) (old : Document) (h : Head) → AreBytes file → HasHead file at old h → IsGroup (group_of h)
@@ -125,10 +129,17 @@ node_by : (file : List ℕ) (at : ℕ) (old : Document) (h : Head) (new : Docume
     → MatchBool b (AddsGroup old h new) (AddsLayer file old h new) → GrowsTo 1 old new
 node_by file at old h new true all head short g a =
     places_grown old h (group (1 + size old.nodes) (group_of h) none none) new short
-    (record { size_is = omega arith; levels_is = omega arith; ids_is = refl; is = ((may_have old.base a.base, group_within file at old h all head), (tt, tt)) }) g a.places
+    (record {
+      size_is = omega arith;
+      levels_is = omega arith;
+      ids_is = refl;
+      is =
+          ((may_have old.base a.base, group_within file at old h all head), (tt, tt));
+    }) g a.places
 node_by file at old h new false all head short g a =
     places_grown old h (leaf (1 + size old.nodes) (layer_of h a.plane a.mask) none) new short
-    (record { size_is = omega arith; levels_is = omega arith; ids_is = refl; is = (layer_within file at old h new all head a, tt) }) g a.places
+    (record { size_is = omega arith; levels_is = omega arith; ids_is = refl; is = (layer_within file at old h new all head a, tt) })
+    g a.places
 
 pub nodes_within : (file : List ℕ) (pointers : List ℕ) (at : ℕ) (old new : Document) → AreBytes file → IsGrown old
     → AddNodes file at pointers old new → GrowsTo (length pointers) old new

@@ -41,9 +41,11 @@ read_held file d all e =
     let layers = bind_back (nodes_at MAX_NODES file (props.0.end + 8) (blank h.0 props.0)) _ d b.1 in
     let head = header_has file h.0 h.1 in
     let kept : 0 + kept_bytes (kept_of Image props.0.list) ≤ 2 ^ 28 = passes_back Image 0 props.0.list (omega arith) a.0 in
-    let within : IsWithin (blank h.0 props.0) = record { area = nothing_yet (h.0.width * h.0.height); kept = omega (arith, kept) } in
+    let within : IsWithin (blank h.0 props.0) =
+    record { area = nothing_yet (h.0.width * h.0.height); kept = omega (arith, kept) } in
     let nodes = nodes_back MAX_NODES file (props.0.end + 8) (blank h.0 props.0) layers.0 all within layers.1 in
-    let channels = channels_back 66 file layers.0.next layers.0.document d all nodes.within (omega (arith, ap length nodes.channels)) layers.2 in
+    let channels = channels_back 66 file layers.0.next layers.0.document d all nodes.within
+    (omega (arith, ap length nodes.channels)) layers.2 in
     let next : layers.0.next ≡ props.0.end + 12 + 4 * length nodes.pointers = omega (arith, nodes.next) in
     record {
       short = head.short;

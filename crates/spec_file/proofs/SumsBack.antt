@@ -12,7 +12,8 @@ use Rattle.spec_props.specs.Meaning.{Property, kept_of}
 use Rattle.spec_file.specs.Placing.{passes}
 use Rattle.spec_file.proofs.Sums.{kept_sum}
 
-went_on : (b : Bool) (next : Option ReadRefused) (refused : ReadRefused) → cond b next (Some refused) ≡ None → (b ≡ true) × (next ≡ None)
+went_on : (b : Bool) (next : Option ReadRefused) (refused : ReadRefused) → cond b next (Some refused) ≡ None
+    → (b ≡ true) × (next ≡ None)
 went_on true next refused e = (refl, e)
 went_on false next refused e = cc
 
@@ -20,7 +21,8 @@ together : (b : Bool) (before n rest : ℕ) → cond b before (before + n) + res
 together true before n rest h = omega (arith, h)
 together false before n rest h = omega (arith, h)
 
-pub passes_back : (owner : Owner) (before : ℕ) (ps : List Property) → before ≤ 2 ^ 28 → passes owner before ps ≡ None → before + kept_bytes (kept_of owner ps) ≤ 2 ^ 28
+pub passes_back : (owner : Owner) (before : ℕ) (ps : List Property) → before ≤ 2 ^ 28 → passes owner before ps ≡ None
+    → before + kept_bytes (kept_of owner ps) ≤ 2 ^ 28
 passes_back owner before [] h e = omega (arith, h)
 passes_back owner before (p ∷ ps) h e =
     let total = cond (interprets owner p.kind) before (before + length p.payload) in

@@ -1,5 +1,6 @@
 -- Where ids are distinct, a node with an id stands in one place, and changes by id change nothing else.
-use Rattle.std.proofs.Common.{◌≡◌, ℕ, ◌+◌, false, cond, eqb, nat_eq, List, [], ◌∷◌, ◌++◌, ◌⊎◌, inl, inr, refl, sym, ◌∙◌, subst, ap, eq-eqb, arith}
+use Rattle.std.proofs.Common.{◌≡◌, ℕ, false, cond, eqb, nat_eq, List, [], ◌∷◌, ◌++◌, ◌⊎◌, inl, inr, refl, sym, ◌∙◌}
+use Rattle.std.proofs.Common.{subst, ap, eq-eqb, arith}
 use Rattle.std.specs.List.{AllByRecursion, IsDistinct}
 use Rattle.std.proofs.lemmas.Map.Keys.{IsDistinct-head, IsDistinct-tail, IsDistinct-cons}
 use Rattle.std.proofs.lemmas.List.{append_assoc}
@@ -88,8 +89,10 @@ module _ {L G : Type 0} where
   lone_from id (under_group i w c h) f d m =
       lone_from id h f (distinct-right (ids c) (ids (plug h f)) (IsDistinct-tail nat_eq i (ids c ++ ids (plug h f)) d)) m
   lone_from id (in_group i w h u) f d m =
-      let t = IsDistinct-tail nat_eq i (ids (plug h f) ++ ids u) d in
-      (nothing_from_ids id u (apart id (ids (plug h f)) (ids u) t (member-plug id h f m)), lone_from id h f (distinct-left (ids (plug h f)) (ids u) t) m)
+      let t = IsDistinct-tail nat_eq i (ids (plug h f) ++ ids u) d in (
+        nothing_from_ids id u (apart id (ids (plug h f)) (ids u) t (member-plug id h f m)),
+        lone_from id h f (distinct-left (ids (plug h f)) (ids u) t) m,
+      )
 
   -- a change by id that passes other nodes by
   pub record Walks (id : ℕ) (change : Forest L G → Forest L G) : Type 0 where
@@ -97,7 +100,8 @@ module _ {L G : Type 0} where
     pub by_leaf : (i : ℕ) (w : L) (u : Forest L G) → eqb id i ≡ false → change (leaf i w u) ≡ leaf i w (change u)
     pub by_group : (i : ℕ) (w : G) (c u : Forest L G) → eqb id i ≡ false → change (group i w c u) ≡ group i w (change c) (change u)
 
-  pub untouched : (id : ℕ) (change : Forest L G → Forest L G) → Walks id change → (f : Forest L G) → find id f ≡ nothing → change f ≡ f
+  pub untouched : (id : ℕ) (change : Forest L G → Forest L G) → Walks id change → (f : Forest L G) → find id f ≡ nothing
+      → change f ≡ f
   untouched id change k none n = k.at_none
   untouched id change k (leaf i w u) n =
       let l = lacks_leaf w (find id u) (eqb id i) n in
@@ -106,7 +110,8 @@ module _ {L G : Type 0} where
       let l = lacks_group w c (find id c) (find id u) (eqb id i) n in
       k.by_group i w c u l.0 ∙ (λ j. group i w (untouched id change k c l.1 j) (untouched id change k u l.2 j))
 
-  pub walks-plug : (id : ℕ) (change : Forest L G → Forest L G) → Walks id change → (h : Hole L G) (f : Forest L G) → Fresh id h → Lone id h → change (plug h f) ≡ plug h (change f)
+  pub walks-plug : (id : ℕ) (change : Forest L G → Forest L G) → Walks id change → (h : Hole L G) (f : Forest L G) → Fresh id h
+      → Lone id h → change (plug h f) ≡ plug h (change f)
   walks-plug id change k here f fresh lone = refl
   walks-plug id change k (under_leaf i w h) f fresh lone =
       k.by_leaf i w (plug h f) fresh.0 ∙ ap (leaf i w) (walks-plug id change k h f fresh.1 lone)
@@ -173,7 +178,8 @@ module _ {L G : Type 0} where
     pub lone : Lone id h
     pub under : find id u ≡ nothing
 
-  pub lone_leaf : (id : ℕ) (h : Hole L G) (w : L) (u : Forest L G) → IsDistinct nat_eq (ids (plug h (leaf id w u))) → LoneLeaf id h u
+  pub lone_leaf : (id : ℕ) (h : Hole L G) (w : L) (u : Forest L G) → IsDistinct nat_eq (ids (plug h (leaf id w u)))
+      → LoneLeaf id h u
   lone_leaf id h w u d = record {
     lone = lone_from id h (leaf id w u) d (inl refl);
     under = nothing_from_ids id u (IsDistinct-head nat_eq id (ids u) (distinct-in_hole h (leaf id w u) d));
@@ -184,7 +190,8 @@ module _ {L G : Type 0} where
     pub children : find id c ≡ nothing
     pub under : find id u ≡ nothing
 
-  pub lone_group : (id : ℕ) (h : Hole L G) (w : G) (c u : Forest L G) → IsDistinct nat_eq (ids (plug h (group id w c u))) → LoneGroup id h c u
+  pub lone_group : (id : ℕ) (h : Hole L G) (w : G) (c u : Forest L G) → IsDistinct nat_eq (ids (plug h (group id w c u)))
+      → LoneGroup id h c u
   lone_group id h w c u d =
       let others = IsDistinct-head nat_eq id (ids c ++ ids u) (distinct-in_hole h (group id w c u) d) in
       record {
@@ -194,50 +201,63 @@ module _ {L G : Type 0} where
       }
 
   -- the changes, at a node in its hole
-  pub with_leaf-at_leaf : (id : ℕ) (change : L → L) (h : Hole L G) (w : L) (u : Forest L G) → Fresh id h → LoneLeaf id h u → with_leaf id change (plug h (leaf id w u)) ≡ plug h (leaf id (change w) u)
+  pub with_leaf-at_leaf : (id : ℕ) (change : L → L) (h : Hole L G) (w : L) (u : Forest L G) → Fresh id h → LoneLeaf id h u
+      → with_leaf id change (plug h (leaf id w u)) ≡ plug h (leaf id (change w) u)
   with_leaf-at_leaf id change h w u fresh l =
       walks-plug id (with_leaf id change) (walks-with_leaf id change) h (leaf id w u) fresh l.lone
-      ∙ (λ j. plug h (leaf id (cond (eq-eqb id id refl j) (change w) w) (untouched id (with_leaf id change) (walks-with_leaf id change) u l.under j)))
+      ∙ (λ j. plug h (leaf id (cond (eq-eqb id id refl j) (change w) w)
+      (untouched id (with_leaf id change) (walks-with_leaf id change) u l.under j)))
 
-  pub with_leaf-at_group : (id : ℕ) (change : L → L) (h : Hole L G) (w : G) (c u : Forest L G) → Fresh id h → LoneGroup id h c u → with_leaf id change (plug h (group id w c u)) ≡ plug h (group id w c u)
+  pub with_leaf-at_group : (id : ℕ) (change : L → L) (h : Hole L G) (w : G) (c u : Forest L G) → Fresh id h → LoneGroup id h c u
+      → with_leaf id change (plug h (group id w c u)) ≡ plug h (group id w c u)
   with_leaf-at_group id change h w c u fresh l =
       let k = walks-with_leaf id change in
       walks-plug id (with_leaf id change) k h (group id w c u) fresh l.lone
-      ∙ (λ j. plug h (group id w (untouched id (with_leaf id change) k c l.children j) (untouched id (with_leaf id change) k u l.under j)))
+      ∙ (λ j. plug h (group id w (untouched id (with_leaf id change) k c l.children j)
+      (untouched id (with_leaf id change) k u l.under j)))
 
-  pub with_group-at_leaf : (id : ℕ) (change : G → G) (h : Hole L G) (w : L) (u : Forest L G) → Fresh id h → LoneLeaf id h u → with_group id change (plug h (leaf id w u)) ≡ plug h (leaf id w u)
+  pub with_group-at_leaf : (id : ℕ) (change : G → G) (h : Hole L G) (w : L) (u : Forest L G) → Fresh id h → LoneLeaf id h u
+      → with_group id change (plug h (leaf id w u)) ≡ plug h (leaf id w u)
   with_group-at_leaf id change h w u fresh l =
       let k = walks-with_group id change in
       walks-plug id (with_group id change) k h (leaf id w u) fresh l.lone
       ∙ (λ j. plug h (leaf id w (untouched id (with_group id change) k u l.under j)))
 
-  pub with_group-at_group : (id : ℕ) (change : G → G) (h : Hole L G) (w : G) (c u : Forest L G) → Fresh id h → LoneGroup id h c u → with_group id change (plug h (group id w c u)) ≡ plug h (group id (change w) c u)
+  pub with_group-at_group : (id : ℕ) (change : G → G) (h : Hole L G) (w : G) (c u : Forest L G) → Fresh id h → LoneGroup id h c u
+      → with_group id change (plug h (group id w c u)) ≡ plug h (group id (change w) c u)
   with_group-at_group id change h w c u fresh l =
       let k = walks-with_group id change in
       walks-plug id (with_group id change) k h (group id w c u) fresh l.lone
-      ∙ (λ j. plug h (group id (cond (eq-eqb id id refl j) (change w) w) (untouched id (with_group id change) k c l.children j) (untouched id (with_group id change) k u l.under j)))
+      ∙ (λ j. plug h (group id (cond (eq-eqb id id refl j) (change w) w) (untouched id (with_group id change) k c l.children j)
+      (untouched id (with_group id change) k u l.under j)))
 
-  pub with_children-at_group : (id : ℕ) (change : Forest L G → Forest L G) (h : Hole L G) (w : G) (c u : Forest L G) → Fresh id h → LoneGroup id h c u → with_children id change (plug h (group id w c u)) ≡ plug h (group id w (change c) u)
+  pub with_children-at_group : (id : ℕ) (change : Forest L G → Forest L G) (h : Hole L G) (w : G) (c u : Forest L G) → Fresh id h
+      → LoneGroup id h c u → with_children id change (plug h (group id w c u)) ≡ plug h (group id w (change c) u)
   with_children-at_group id change h w c u fresh l =
       let k = walks-with_children id change in
       walks-plug id (with_children id change) k h (group id w c u) fresh l.lone
-      ∙ (λ j. plug h (group id w (cond (eq-eqb id id refl j) (change c) (with_children id change c)) (untouched id (with_children id change) k u l.under j)))
+      ∙ (λ j. plug h (group id w (cond (eq-eqb id id refl j) (change c) (with_children id change c))
+      (untouched id (with_children id change) k u l.under j)))
 
-  pub without-at_leaf : (id : ℕ) (h : Hole L G) (w : L) (u : Forest L G) → Fresh id h → LoneLeaf id h u → without id (plug h (leaf id w u)) ≡ plug h u
+  pub without-at_leaf : (id : ℕ) (h : Hole L G) (w : L) (u : Forest L G) → Fresh id h → LoneLeaf id h u
+      → without id (plug h (leaf id w u)) ≡ plug h u
   without-at_leaf id h w u fresh l =
       walks-plug id (without id) (walks-without id) h (leaf id w u) fresh l.lone
       ∙ (λ j. plug h (cond (eq-eqb id id refl j) u (leaf id w (without id u))))
 
-  pub without-at_group : (id : ℕ) (h : Hole L G) (w : G) (c u : Forest L G) → Fresh id h → LoneGroup id h c u → without id (plug h (group id w c u)) ≡ plug h u
+  pub without-at_group : (id : ℕ) (h : Hole L G) (w : G) (c u : Forest L G) → Fresh id h → LoneGroup id h c u
+      → without id (plug h (group id w c u)) ≡ plug h u
   without-at_group id h w c u fresh l =
       walks-plug id (without id) (walks-without id) h (group id w c u) fresh l.lone
       ∙ (λ j. plug h (cond (eq-eqb id id refl j) u (group id w (without id c) (without id u))))
 
-  pub branch_of-at_leaf : (id : ℕ) (h : Hole L G) (w : L) (u : Forest L G) → Fresh id h → LoneLeaf id h u → branch_of id (plug h (leaf id w u)) ≡ leaf id w none
+  pub branch_of-at_leaf : (id : ℕ) (h : Hole L G) (w : L) (u : Forest L G) → Fresh id h → LoneLeaf id h u
+      → branch_of id (plug h (leaf id w u)) ≡ leaf id w none
   branch_of-at_leaf id h w u fresh l =
       branch_of-plug id h (leaf id w u) fresh l.lone ∙ ap (λ b. cond b (leaf id w none) (branch_of id u)) (eq-eqb id id refl)
 
-  pub branch_of-at_group : (id : ℕ) (h : Hole L G) (w : G) (c u : Forest L G) → Fresh id h → LoneGroup id h c u → branch_of id (plug h (group id w c u)) ≡ group id w c none
+  pub branch_of-at_group : (id : ℕ) (h : Hole L G) (w : G) (c u : Forest L G) → Fresh id h → LoneGroup id h c u
+      → branch_of id (plug h (group id w c u)) ≡ group id w c none
   branch_of-at_group id h w c u fresh l =
       branch_of-plug id h (group id w c u) fresh l.lone
       ∙ ap (λ b. cond b (group id w c none) (above (branch_of id c) (branch_of id u))) (eq-eqb id id refl)
@@ -260,7 +280,8 @@ between-from (x ∷ xs) ys d = (all-right (IsNot x) xs ys d.0, between-from xs y
 apart_parts : (xs ys : List ℕ) → IsDistinct nat_eq (xs ++ ys) → ApartParts xs ys
 apart_parts xs ys d = record { left = distinct-left xs ys d; right = distinct-right xs ys d; between = between-from xs ys d }
 
-distinct-join : (xs ys : List ℕ) → IsDistinct nat_eq xs → IsDistinct nat_eq ys → AllByRecursion (λ x. AllByRecursion (IsNot x) ys) xs → IsDistinct nat_eq (xs ++ ys)
+distinct-join : (xs ys : List ℕ) → IsDistinct nat_eq xs → IsDistinct nat_eq ys
+    → AllByRecursion (λ x. AllByRecursion (IsNot x) ys) xs → IsDistinct nat_eq (xs ++ ys)
 unfolding IsDistinct
 distinct-join [] ys d e b = e
 distinct-join (x ∷ xs) ys d e b = (all-join (IsNot x) xs ys d.0 b.0, distinct-join xs ys d.1 e b.1)
@@ -275,15 +296,23 @@ module _ {L G : Type 0} where
     pub all : (P : ℕ → Type 0) → AllByRecursion P (ids old) → AllByRecursion P (ids new)
     pub distinct : IsDistinct nat_eq (ids old) → IsDistinct nat_eq (ids new)
 
-  all-plug : (old new : Forest L G) → FewerIds old new → (P : ℕ → Type 0) (h : Hole L G) → AllByRecursion P (ids (plug h old)) → AllByRecursion P (ids (plug h new))
+  all-plug : (old new : Forest L G) → FewerIds old new → (P : ℕ → Type 0) (h : Hole L G) → AllByRecursion P (ids (plug h old))
+      → AllByRecursion P (ids (plug h new))
   all-plug old new k P here a = k.all P a
   all-plug old new k P (under_leaf i w h) a = (a.0, all-plug old new k P h a.1)
-  all-plug old new k P (under_group i w c h) a =
-      (a.0, all-join P (ids c) (ids (plug h new)) (all-left P (ids c) (ids (plug h old)) a.1) (all-plug old new k P h (all-right P (ids c) (ids (plug h old)) a.1)))
-  all-plug old new k P (in_group i w h u) a =
-      (a.0, all-join P (ids (plug h new)) (ids u) (all-plug old new k P h (all-left P (ids (plug h old)) (ids u) a.1)) (all-right P (ids (plug h old)) (ids u) a.1))
+  all-plug old new k P (under_group i w c h) a = (
+    a.0,
+    all-join P (ids c) (ids (plug h new)) (all-left P (ids c) (ids (plug h old)) a.1)
+        (all-plug old new k P h (all-right P (ids c) (ids (plug h old)) a.1)),
+  )
+  all-plug old new k P (in_group i w h u) a = (
+    a.0,
+    all-join P (ids (plug h new)) (ids u) (all-plug old new k P h (all-left P (ids (plug h old)) (ids u) a.1))
+        (all-right P (ids (plug h old)) (ids u) a.1),
+  )
 
-  pub distinct-plug : (old new : Forest L G) → FewerIds old new → (h : Hole L G) → IsDistinct nat_eq (ids (plug h old)) → IsDistinct nat_eq (ids (plug h new))
+  pub distinct-plug : (old new : Forest L G) → FewerIds old new → (h : Hole L G) → IsDistinct nat_eq (ids (plug h old))
+      → IsDistinct nat_eq (ids (plug h new))
   distinct-plug old new k here d = k.distinct d
   distinct-plug old new k (under_leaf i w h) d =
       IsDistinct-cons nat_eq i (ids (plug h new)) (all-plug old new k (IsNot i) h (IsDistinct-head nat_eq i (ids (plug h old)) d))
@@ -292,14 +321,18 @@ module _ {L G : Type 0} where
       let p = apart_parts (ids c) (ids (plug h old)) (IsDistinct-tail nat_eq i (ids c ++ ids (plug h old)) d) in
       let front_all = IsDistinct-head nat_eq i (ids c ++ ids (plug h old)) d in
       IsDistinct-cons nat_eq i (ids c ++ ids (plug h new))
-      (all-join (IsNot i) (ids c) (ids (plug h new)) (all-left (IsNot i) (ids c) (ids (plug h old)) front_all) (all-plug old new k (IsNot i) h (all-right (IsNot i) (ids c) (ids (plug h old)) front_all)))
+      (all-join (IsNot i) (ids c) (ids (plug h new)) (all-left (IsNot i) (ids c) (ids (plug h old)) front_all)
+      (all-plug old new k (IsNot i) h (all-right (IsNot i) (ids c) (ids (plug h old)) front_all)))
       (distinct-join (ids c) (ids (plug h new)) p.left (distinct-plug old new k h p.right)
-      (each (λ x. AllByRecursion (IsNot x) (ids (plug h old))) (λ x. AllByRecursion (IsNot x) (ids (plug h new))) (ids c) (λ x a. all-plug old new k (IsNot x) h a) p.between))
+      (each (λ x. AllByRecursion (IsNot x) (ids (plug h old))) (λ x. AllByRecursion (IsNot x) (ids (plug h new))) (ids c)
+      (λ x a. all-plug old new k (IsNot x) h a) p.between))
   distinct-plug old new k (in_group i w h u) d =
       let p = apart_parts (ids (plug h old)) (ids u) (IsDistinct-tail nat_eq i (ids (plug h old) ++ ids u) d) in
       let front_all = IsDistinct-head nat_eq i (ids (plug h old) ++ ids u) d in
       IsDistinct-cons nat_eq i (ids (plug h new) ++ ids u)
-      (all-join (IsNot i) (ids (plug h new)) (ids u) (all-plug old new k (IsNot i) h (all-left (IsNot i) (ids (plug h old)) (ids u) front_all)) (all-right (IsNot i) (ids (plug h old)) (ids u) front_all))
+      (all-join (IsNot i) (ids (plug h new)) (ids u)
+      (all-plug old new k (IsNot i) h (all-left (IsNot i) (ids (plug h old)) (ids u) front_all))
+      (all-right (IsNot i) (ids (plug h old)) (ids u) front_all))
       (distinct-join (ids (plug h new)) (ids u) (distinct-plug old new k h p.left) p.right
       (all-plug old new k (λ x. AllByRecursion (IsNot x) (ids u)) h p.between))
 
@@ -313,5 +346,6 @@ module _ {L G : Type 0} where
   pub fewer_under : (a b : Forest L G) → FewerIds (above a b) b
   fewer_under a b = record {
     all = λ P h. all-right P (ids a) (ids b) (let Q : List ℕ → Type 0 = λ xs. AllByRecursion P xs in subst Q (ids-above a b) h);
-    distinct = λ d. distinct-right (ids a) (ids b) (let Q : List ℕ → Type 0 = λ xs. IsDistinct nat_eq xs in subst Q (ids-above a b) d);
+    distinct =
+        λ d. distinct-right (ids a) (ids b) (let Q : List ℕ → Type 0 = λ xs. IsDistinct nat_eq xs in subst Q (ids-above a b) d);
   }

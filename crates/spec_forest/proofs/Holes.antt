@@ -94,7 +94,8 @@ module _ {L G : Type 0} where
   passed-at_end (group id w c u) = omega (arith, passed-at_end u)
 
 -- an option that was mapped twice
-option_map_twice : {A B C : Type 0} (f : A → B) (g : B → C) (o : Option A) → option_map g (option_map f o) ≡ option_map (λ x. g (f x)) o
+option_map_twice : {A B C : Type 0} (f : A → B) (g : B → C) (o : Option A)
+    → option_map g (option_map f o) ≡ option_map (λ x. g (f x)) o
 option_map_twice f g None = refl
 option_map_twice f g (Some x) = refl
 
@@ -117,7 +118,8 @@ module _ {L G : Type 0} where
       ∙ (option_map_twice (λ h. plug h b) (group id w c) (hole_last (place ∷ path) u)
       ∙ sym (option_map_twice (under_group id w c) (λ h. plug h b) (hole_last (place ∷ path) u)))
 
-  mapped_hole : (f : Hole L G → Hole L G) (o : Option (Hole L G)) (h : Hole L G) → option_map f o ≡ Some h → (x : Hole L G) × (o ≡ Some x) × (f x ≡ h)
+  mapped_hole : (f : Hole L G → Hole L G) (o : Option (Hole L G)) (h : Hole L G) → option_map f o ≡ Some h
+      → (x : Hole L G) × (o ≡ Some x) × (f x ≡ h)
   mapped_hole f None h e = cc
   mapped_hole f (Some x) h e = (x, refl, cc)
 
@@ -177,7 +179,8 @@ module _ {L G : Type 0} where
   passed-hole_at (suc place) (group id w c u) = omega (arith, passed-hole_at place u)
 
   -- what is put in at a place goes into the hole there
-  pub put_at-hole : (b : Forest L G) (place : ℕ) (f : Forest L G) → put_at b place f ≡ plug (hole_at place f) (above b (from_place place f))
+  pub put_at-hole : (b : Forest L G) (place : ℕ) (f : Forest L G)
+      → put_at b place f ≡ plug (hole_at place f) (above b (from_place place f))
   put_at-hole b zero f = refl
   put_at-hole b (suc place) none = refl
   put_at-hole b (suc place) (leaf id w u) = ap (leaf id w) (put_at-hole b place u)

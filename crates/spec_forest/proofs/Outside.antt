@@ -1,5 +1,6 @@
 -- A node that stands outside a branch is still there when the branch is gone.
-use Rattle.std.proofs.Common.{◌≡◌, ℕ, Bool, true, false, cond, eqb, nat_eq, List, [], ◌∷◌, ◌++◌, inl, inr, refl, sym, ◌∙◌, subst, ap, eq-eqb}
+use Rattle.std.proofs.Common.{◌≡◌, ℕ, Bool, true, false, cond, eqb, nat_eq, List, [], ◌∷◌, ◌++◌, inl, inr, refl, sym}
+use Rattle.std.proofs.Common.{◌∙◌, subst, ap, eq-eqb}
 use Rattle.std.proofs.lemmas.Bool.{eqb-false, ne_eqb}
 use Rattle.std.proofs.lemmas.List.{append_assoc, append-nil}
 use Rattle.std.proofs.lemmas.Map.Keys.{IsDistinct-head, IsDistinct-tail}
@@ -8,8 +9,10 @@ use Rattle.std.specs.List.{AllByRecursion, IsDistinct, list_any}
 use Rattle.spec_forest.specs.Forest.{Forest, leaf, group, ids, Found, nothing, a_leaf, a_group, or_else, find, ancestors}
 use Rattle.spec_forest.specs.Holes.{Hole, here, under_leaf, under_group, in_group, plug}
 use Rattle.spec_forest.proofs.Holes.{into, plug-into}
-use Rattle.spec_forest.proofs.Standing.{Fresh, Standing, nowhere, at_leaf, at_group, standing, groups, ancestors-plug, ancestors-of_leaf, ancestors-of_group}
-use Rattle.spec_forest.proofs.Distinct.{IsNot, Member, member-left, member-right, member-plug, distinct-left, distinct-right, nothing_from_ids}
+use Rattle.spec_forest.proofs.Standing.{Fresh, Standing, nowhere, at_leaf, at_group, standing, groups, ancestors-plug}
+use Rattle.spec_forest.proofs.Standing.{ancestors-of_leaf, ancestors-of_group}
+use Rattle.spec_forest.proofs.Distinct.{IsNot, Member, member-left, member-right, member-plug, distinct-left}
+use Rattle.spec_forest.proofs.Distinct.{distinct-right, nothing_from_ids}
 
 -- nothing, a leaf or a group
 abbrev pub kind : {L G : Type 0} → Found L G → ℕ
@@ -57,14 +60,18 @@ module _ {L G : Type 0} where
   kind-or_else (a_group w c) (a_group v d) y y' e f = refl
 
   -- what is found outside a hole is of the same kind, whatever is in the hole
-  pub kind-plug : (p : ℕ) (h : Hole L G) (old new : Forest L G) → kind (find p old) ≡ kind (find p new) → kind (find p (plug h old)) ≡ kind (find p (plug h new))
+  pub kind-plug : (p : ℕ) (h : Hole L G) (old new : Forest L G) → kind (find p old) ≡ kind (find p new)
+      → kind (find p (plug h old)) ≡ kind (find p (plug h new))
   kind-plug p here old new e = e
-  kind-plug p (under_leaf i w h) old new e = kind-cond (eqb p i) (a_leaf w) (a_leaf w) (find p (plug h old)) (find p (plug h new)) refl (kind-plug p h old new e)
+  kind-plug p (under_leaf i w h) old new e =
+      kind-cond (eqb p i) (a_leaf w) (a_leaf w) (find p (plug h old)) (find p (plug h new)) refl (kind-plug p h old new e)
   kind-plug p (under_group i w c h) old new e =
-      kind-cond (eqb p i) (a_group w c) (a_group w c) (or_else (find p c) (find p (plug h old))) (or_else (find p c) (find p (plug h new))) refl
+      kind-cond (eqb p i) (a_group w c) (a_group w c) (or_else (find p c) (find p (plug h old)))
+      (or_else (find p c) (find p (plug h new))) refl
       (kind-or_else (find p c) (find p c) (find p (plug h old)) (find p (plug h new)) refl (kind-plug p h old new e))
   kind-plug p (in_group i w h u) old new e =
-      kind-cond (eqb p i) (a_group w (plug h old)) (a_group w (plug h new)) (or_else (find p (plug h old)) (find p u)) (or_else (find p (plug h new)) (find p u)) refl
+      kind-cond (eqb p i) (a_group w (plug h old)) (a_group w (plug h new)) (or_else (find p (plug h old)) (find p u))
+      (or_else (find p (plug h new)) (find p u)) refl
       (kind-or_else (find p (plug h old)) (find p (plug h new)) (find p u) (find p u) (kind-plug p h old new e) refl)
 
   -- where ids are distinct, no node before the hole has an id of what is in it
@@ -77,14 +84,17 @@ module _ {L G : Type 0} where
   fresh_from p (under_group i w c h) f d m =
       let t = IsDistinct-tail nat_eq i (ids c ++ ids (plug h f)) d in
       let inside = member-plug p h f m in (
-        not_same i p (all_member (IsNot i) p (ids c ++ ids (plug h f)) (IsDistinct-head nat_eq i (ids c ++ ids (plug h f)) d) (member-right p (ids c) (ids (plug h f)) inside)),
+        not_same i p (all_member (IsNot i) p (ids c
+            ++ ids (plug h f)) (IsDistinct-head nat_eq i (ids c ++ ids (plug h f)) d)
+            (member-right p (ids c) (ids (plug h f)) inside)),
         nothing_from_ids p c (apart_before p (ids c) (ids (plug h f)) t inside),
         fresh_from p h f (distinct-right (ids c) (ids (plug h f)) t) m,
       )
   fresh_from p (in_group i w h u) f d m =
       let t = IsDistinct-tail nat_eq i (ids (plug h f) ++ ids u) d in
       let inside = member-plug p h f m in (
-        not_same i p (all_member (IsNot i) p (ids (plug h f) ++ ids u) (IsDistinct-head nat_eq i (ids (plug h f) ++ ids u) d) (member-left p (ids (plug h f)) (ids u) inside)),
+        not_same i p (all_member (IsNot i) p (ids (plug h f)
+            ++ ids u) (IsDistinct-head nat_eq i (ids (plug h f) ++ ids u) d) (member-left p (ids (plug h f)) (ids u) inside)),
         fresh_from p h f (distinct-left (ids (plug h f)) (ids u) t) m,
       )
 
@@ -98,16 +108,22 @@ module _ {L G : Type 0} where
   groups-into here inner = sym (append-nil (groups inner))
   groups-into (under_leaf i w h) inner = groups-into h inner
   groups-into (under_group i w c h) inner = groups-into h inner
-  groups-into (in_group i w h u) inner = ap (λ x. x ++ i ∷ []) (groups-into h inner) ∙ append_assoc (groups inner) (groups h) (i ∷ [])
+  groups-into (in_group i w h u) inner =
+      ap (λ x. x ++ i ∷ []) (groups-into h inner) ∙ append_assoc (groups inner) (groups h) (i ∷ [])
 
   -- a node in a group has the group among those above it
-  pub above_inside : (p id : ℕ) (h : Hole L G) (w : G) (c u : Forest L G) → IsDistinct nat_eq (ids (plug h (group id w c u))) → eqb p id ≡ false → (find p c ≡ nothing → ⊥) → list_any (λ i. eqb i id) (unwrap_or (ancestors p (plug h (group id w c u))) []) ≡ true
+  pub above_inside : (p id : ℕ) (h : Hole L G) (w : G) (c u : Forest L G) → IsDistinct nat_eq (ids (plug h (group id w c u)))
+      → eqb p id ≡ false → (find p c ≡ nothing → ⊥)
+      → list_any (λ i. eqb i id) (unwrap_or (ancestors p (plug h (group id w c u))) []) ≡ true
   above_inside p id h w c u d ne some = from (standing p c) where
-    made : (h2 : Hole L G) (x : Forest L G) → c ≡ plug h2 x → Fresh p h2 → Member p (ids x) → ancestors p x ≡ Some [] → list_any (λ i. eqb i id) (unwrap_or (ancestors p (plug h (group id w c u))) []) ≡ true
+    made : (h2 : Hole L G) (x : Forest L G) → c ≡ plug h2 x → Fresh p h2 → Member p (ids x) → ancestors p x ≡ Some []
+        → list_any (λ i. eqb i id) (unwrap_or (ancestors p (plug h (group id w c u))) []) ≡ true
     made h2 x is fresh m top =
         let all : Hole L G = into h (in_group id w h2 u) in
-        let whole : plug h (group id w c u) ≡ plug all x = ap (λ y. plug h (group id w y u)) is ∙ sym (plug-into h (in_group id w h2 u) x) in
-        let inside : Member p (ids c) = let P : Forest L G → Type 0 = λ y. Member p (ids y) in subst P (sym is) (member-plug p h2 x m) in
+        let whole : plug h (group id w c u) ≡ plug all x = ap (λ y. plug h (group id w y u)) is
+        ∙ sym (plug-into h (in_group id w h2 u) x) in
+        let inside : Member p (ids c) = let P : Forest L G → Type 0 = λ y. Member p (ids y) in
+        subst P (sym is) (member-plug p h2 x m) in
         let before : Fresh p h = fresh_from p h (group id w c u) d (inr (member-left p (ids c) (ids u) inside)) in
         let above_it : ancestors p (plug h (group id w c u)) ≡ Some (groups all) =
         ap (ancestors p) whole ∙ ancestors-plug p all x (fresh-into p h (in_group id w h2 u) before (ne, fresh)) top in

@@ -1,5 +1,6 @@
 -- What is made from the seed 7, and sums of what is made from three seeds. The values were computed apart from the definitions.
-use Rattle.std.specs.Prelude.{◌≡◌, ℕ, ◌+◌, ◌*◌, ◌%◌, Bool, true, false, ℤ, pos, negsuc, List, [], ◌∷◌, length, map, fold, count_by, flat_map, slice_get, slice_index_or, Some, None, refl}
+use Rattle.std.specs.Prelude.{◌≡◌, ℕ, ◌+◌, ◌*◌, ◌%◌, Bool, true, false, ℤ, pos, negsuc, List, [], ◌∷◌, length, map}
+use Rattle.std.specs.Prelude.{fold, count_by, flat_map, slice_get, slice_index_or, Some, None, refl}
 use Rattle.spec_blend.specs.declared.Mode.TheVariants.{Normal, Multiply, Screen, Addition, SoftLight}
 use Rattle.spec_forest.specs.Forest.{none, leaf, ids}
 use Rattle.spec_document.specs.declared.Base.TheVariants.{Rgb}
@@ -41,10 +42,14 @@ order = refl
 abbrev session : ℕ → List Line
 session s = slice_index_or (script 7) s []
 
-first_fill : slice_get (session 0) 0 ≡ Some (call (machine.edit None (edits.fill 2 (record { x = pos 236; y = pos 256; w = 17; h = 27 }) (108 ∷ 32 ∷ 237 ∷ 88 ∷ []) ∷ [])))
+first_fill : slice_get (session 0) 0
+    ≡ Some (call (machine.edit None (edits.fill 2 (record { x = pos 236; y = pos 256; w = 17; h = 27 }) (108 ∷ 32 ∷ 237 ∷ 88 ∷ [])
+    ∷ [])))
 first_fill = refl
 
-last_fill : slice_get (session 7) 97 ≡ Some (call (machine.edit None (edits.fill 10 (record { x = pos 162; y = pos 308; w = 30; h = 47 }) (3 ∷ 182 ∷ 254 ∷ 214 ∷ []) ∷ [])))
+last_fill : slice_get (session 7) 97
+    ≡ Some (call (machine.edit None (edits.fill 10 (record { x = pos 162; y = pos 308; w = 30; h = 47 }) (3 ∷ 182 ∷ 254 ∷ 214 ∷ [])
+    ∷ [])))
 last_fill = refl
 
 first_tile : slice_get (session 0) 32 ≡ Some (call (machine.tile 0 (record { col = 4; row = 7 })))
@@ -118,7 +123,19 @@ tiny = record {
   compression = 0;
   colours = [];
   kept = [];
-  nodes = leaf 1 (record { name = []; opacity = 255; mode = Normal; visible = true; kept = []; kind = 1; x = pos 0; y = pos 0; plane = record { width = 1; height = 1; bpp = 4; bytes = 0 ∷ 0 ∷ 0 ∷ 0 ∷ [] }; mask = None; apply_mask = true }) none;
+  nodes = leaf 1 (record {
+    name = [];
+    opacity = 255;
+    mode = Normal;
+    visible = true;
+    kept = [];
+    kind = 1;
+    x = pos 0;
+    y = pos 0;
+    plane = record { width = 1; height = 1; bpp = 4; bytes = 0 ∷ 0 ∷ 0 ∷ 0 ∷ [] };
+    mask = None;
+    apply_mask = true;
+  }) none;
   channels = [];
   selection = None;
 }
@@ -126,6 +143,7 @@ tiny = record {
 abbrev fills_tiny : List ℕ → Line
 fills_tiny colour = call (machine.edit None (edits.fill 1 (record { x = pos 0; y = pos 0; w = 1; h = 1 }) colour ∷ []))
 
-last_fill_stands : picture_bytes (outcome tiny ((fills_tiny (1 ∷ 2 ∷ 3 ∷ 4 ∷ []) ∷ save ∷ []) ∷ (call (machine.tile 0 (record { col = 0; row = 0 })) ∷ fills_tiny (5 ∷ 6 ∷ 7 ∷ 255 ∷ []) ∷ []) ∷ [])) 0 0 0 1 1
+last_fill_stands : picture_bytes (outcome tiny ((fills_tiny (1 ∷ 2 ∷ 3 ∷ 4 ∷ []) ∷ save ∷ [])
+    ∷ (call (machine.tile 0 (record { col = 0; row = 0 })) ∷ fills_tiny (5 ∷ 6 ∷ 7 ∷ 255 ∷ []) ∷ []) ∷ [])) 0 0 0 1 1
     ≡ 5 ∷ 6 ∷ 7 ∷ 255 ∷ []
 last_fill_stands = refl

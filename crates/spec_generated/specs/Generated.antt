@@ -1,5 +1,6 @@
 -- The document and the script that are made from a seed: eight layers in two groups, and for each of them a session that fills it.
-use Rattle.std.specs.Prelude.{ℕ, suc, ◌+◌, true, nat_le, if◌then◌else◌, pos, List, [], ◌∷◌, ◌++◌, take, drop, slice_index, slice_index_or, flat_map, map, None}
+use Rattle.std.specs.Prelude.{ℕ, suc, ◌+◌, true, nat_le, if◌then◌else◌, pos, List, [], ◌∷◌, ◌++◌, take, drop}
+use Rattle.std.specs.Prelude.{slice_index, slice_index_or, flat_map, map, None}
 use Rattle.spec_blend.specs.declared.Mode.{Mode}
 use Rattle.spec_blend.specs.declared.Mode.TheVariants.{Normal, Multiply, Screen, Addition, SoftLight}
 use Rattle.spec_forest.specs.Forest.{Forest, none, leaf, group}
@@ -88,7 +89,8 @@ fill layer = do
   width ← draw 64
   height ← draw 64
   colour ← pixel
-  give (call (machine.edit None (edits.fill layer (record { x = pos left; y = pos top; w = 1 + width; h = 1 + height }) colour ∷ [])))
+  give (call (machine.edit None (edits.fill layer (record { x = pos left; y = pos top; w = 1 + width; h = 1 + height }) colour
+      ∷ [])))
 
 abbrev pub tile : Draws Line
 tile = do

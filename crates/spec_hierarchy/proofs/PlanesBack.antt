@@ -1,5 +1,6 @@
 -- A plane that was read stands in the file.
-use Rattle.std.proofs.Common.{◌≡◌, ℕ, zero, suc, ◌+◌, ◌-◌, ◌*◌, ◌/◌, ◌%◌, ◌<◌, ◌≤◌, min, Bool, true, false, cond, List, [], ◌∷◌, length, map, get_or, slice_index, nat_lt, refl, sym, ap, subst, arith}
+use Rattle.std.proofs.Common.{◌≡◌, ℕ, zero, suc, ◌+◌, ◌-◌, ◌*◌, ◌/◌, ◌%◌, ◌<◌, ◌≤◌, min, Bool, true, false, cond, List}
+use Rattle.std.proofs.Common.{[], ◌∷◌, length, map, get_or, slice_index, nat_lt, refl, sym, ap, subst, arith}
 use Rattle.std.specs.Prelude.{Ok, nat_le, ◌==◌, MatchBool, flat_map}
 use Rattle.std.specs.List.{AllByRecursion}
 use Rattle.std.proofs.lemmas.Bool.{leb-true, ltb-true, eqb-true}
@@ -49,7 +50,8 @@ pub record HasSome (file : List ℕ) (at n bpp compression : ℕ) (tile : List �
   pub stands : HasTile file at n bpp compression tile
   pub bytes : AreBytes tile
 
-plain_has : (file : List ℕ) (at n : ℕ) (tile : List ℕ) → AreBytes file → plain_at file at n ≡ Ok tile → HasBytes file at tile × (length tile ≡ n) × AreBytes tile
+plain_has : (file : List ℕ) (at n : ℕ) (tile : List ℕ) → AreBytes file → plain_at file at n ≡ Ok tile
+    → HasBytes file at tile × (length tile ≡ n) × AreBytes tile
 unfolding plain_at
 plain_has file at n tile all e =
     let a = wants_back (nat_le (at + n) (length file)) (fault Truncated at) _ tile e in
@@ -58,7 +60,8 @@ plain_has file at n tile all e =
     let P : List ℕ → Type 0 = λ t. HasBytes file at t × (length t ≡ n) × AreBytes t in
     subst P is (has_bytes file at n fits, length-bytes_at file at n fits, bytes_below file at n all)
 
-planes_have : (count : ℕ) (file : List ℕ) (at n : ℕ) (planes : List (List ℕ)) → AreBytes file → 0 < n → spelled_at count file at n ≡ Ok planes
+planes_have : (count : ℕ) (file : List ℕ) (at n : ℕ) (planes : List (List ℕ)) → AreBytes file → 0 < n
+    → spelled_at count file at n ≡ Ok planes
     → HasSpelled file at n planes × (length planes ≡ count) × AllByRecursion AreBytes planes
 unfolding spelled_at
 planes_have zero file at n planes all some e =
@@ -76,26 +79,35 @@ planes_have (suc count) file at n planes all some e =
     subst P is ((h.bytes, h.spells, h.full, h.has, rest), ap suc more.1, (spelled_below h.bytes a.0.pixels h.spells, more.2))
 
 interleaved_below : (n : ℕ) (planes : List (List ℕ)) → AllByRecursion AreBytes planes → AreBytes (interleaved n planes)
-interleaved_below n planes h = all_flat_map (λ b. b < 256) (λ k. map (λ plane. slice_index plane k) planes) (λ k. each k planes h) (count_from 0 n)
+interleaved_below n planes h =
+    all_flat_map (λ b. b < 256) (λ k. map (λ plane. slice_index plane k) planes) (λ k. each k planes h) (count_from 0 n)
   where
     each : (k : ℕ) (ps : List (List ℕ)) → AllByRecursion AreBytes ps → AreBytes (map (λ plane. slice_index plane k) ps)
     each k [] h = tt
     each k (p ∷ ps) h = (all_at (λ b. b < 256) p k 0 h.0 (omega arith), each k ps h.1)
 
-pub tile_has : (file : List ℕ) (at n bpp compression : ℕ) (tile : List ℕ) → AreBytes file → 0 < n → tile_at file at n bpp compression ≡ Ok tile → HasSome file at n bpp compression tile
+pub tile_has : (file : List ℕ) (at n bpp compression : ℕ) (tile : List ℕ) → AreBytes file → 0 < n
+    → tile_at file at n bpp compression ≡ Ok tile → HasSome file at n bpp compression tile
 unfolding tile_at
 tile_has file at n bpp compression tile all some e = by (compression == 0) refl e
   where
-    by : (b : Bool) → (compression == 0) ≡ b → cond b (plain_at file at (n * bpp)) (spelled_at bpp file at n >>= (λ planes. Ok (interleaved n planes))) ≡ Ok tile → HasSome file at n bpp compression tile
+    by : (b : Bool) → (compression == 0) ≡ b
+        → cond b (plain_at file at (n * bpp)) (spelled_at bpp file at n >>= (λ planes. Ok (interleaved n planes))) ≡ Ok tile
+        → HasSome file at n bpp compression tile
     by true t e =
         let a = plain_has file at (n * bpp) tile all e in
-        record { stands = subst (λ b. MatchBool b (HasBytes file at tile × (length tile ≡ n * bpp)) (IsSpelledTile file at n bpp tile)) (sym t) (a.0, a.1); bytes = a.2 }
+        record {
+          stands = subst (λ b. MatchBool b (HasBytes file at tile
+              × (length tile ≡ n * bpp)) (IsSpelledTile file at n bpp tile)) (sym t) (a.0, a.1);
+          bytes = a.2;
+        }
     by false t e =
         let a = bind_back (spelled_at bpp file at n) _ tile e in
         let h = planes_have bpp file at n a.0 all some a.1 in
         let is : interleaved n a.0 ≡ tile = cc in
         record {
-          stands = subst (λ b. MatchBool b (HasBytes file at tile × (length tile ≡ n * bpp)) (IsSpelledTile file at n bpp tile)) (sym t)
+          stands =
+              subst (λ b. MatchBool b (HasBytes file at tile × (length tile ≡ n * bpp)) (IsSpelledTile file at n bpp tile)) (sym t)
               (record { planes = a.0; as_many = h.1; stand = h.0; tile_is = sym is });
           bytes = subst AreBytes is (interleaved_below n a.0 h.2);
         }
@@ -117,7 +129,8 @@ row_has_points width height row first (suc n) r c = (
 )
 
 rows_have_points : (width height first n : ℕ) → first + n ≤ tiles_along height
-    → AllByRecursion (HasPoints width height) (flat_map (λ row. map (λ col. record { col = col; row = row }) (count_from 0 (tiles_along width))) (count_from first n))
+    → AllByRecursion (HasPoints width height)
+    (flat_map (λ row. map (λ col. record { col = col; row = row }) (count_from 0 (tiles_along width))) (count_from first n))
 rows_have_points width height first zero r = tt
 rows_have_points width height first (suc n) r =
     all_append (HasPoints width height) (map (λ col. record { col = col; row = first }) (count_from 0 (tiles_along width))) _
@@ -127,8 +140,10 @@ rows_have_points width height first (suc n) r =
 have_points : (width height : ℕ) → AllByRecursion (HasPoints width height) (all_tiles width height)
 have_points width height = rows_have_points width height 0 (tiles_along height) (omega arith)
 
-tiles_have : (ts : List TileAt) (file : List ℕ) (at width height bpp compression : ℕ) (tiles : List (List ℕ)) → AreBytes file → AllByRecursion (HasPoints width height) ts
-    → tiles_at ts file at width height bpp compression ≡ Ok tiles → HaveTiles file at width height bpp compression ts tiles × AllByRecursion AreBytes tiles
+tiles_have : (ts : List TileAt) (file : List ℕ) (at width height bpp compression : ℕ) (tiles : List (List ℕ)) → AreBytes file
+    → AllByRecursion (HasPoints width height) ts
+    → tiles_at ts file at width height bpp compression ≡ Ok tiles
+    → HaveTiles file at width height bpp compression ts tiles × AllByRecursion AreBytes tiles
 unfolding tiles_at
 tiles_have [] file at width height bpp compression tiles all points e =
     let is : [] ≡ tiles = cc in
@@ -143,39 +158,46 @@ tiles_have (t ∷ ts) file at width height bpp compression tiles all points e =
     let tile = tile_has file a.0 n bpp compression b.0 all points.0 b.1 in
     let more = tiles_have ts file (at + 4) width height bpp compression c.0 all points.1 c.1 in
     let is : b.0 ∷ c.0 ≡ tiles = cc in
-    let P : List (List ℕ) → Type 0 = λ xs. HaveTiles file at width height bpp compression (t ∷ ts) xs × AllByRecursion AreBytes xs in
+    let P : List (List ℕ) → Type 0 = λ xs. HaveTiles file at width height bpp compression (t ∷ ts) xs
+    × AllByRecursion AreBytes xs in
     subst P is (((a.0, pointer.word, pointer.some, tile.stands), more.0), (tile.bytes, more.1))
 
 pub record HasPlaneOf (file : List ℕ) (at width height bpp compression : ℕ) (p : Plane) : Type 0 where
   pub has : HasPlane file at compression p
   pub is : IsPlaneOf width height bpp p
 
-is_plane : (width height bpp : ℕ) (tiles : List (List ℕ)) → AllByRecursion AreBytes tiles → IsPlaneOf width height bpp (plane_of_tiles width height bpp tiles)
+is_plane : (width height bpp : ℕ) (tiles : List (List ℕ)) → AllByRecursion AreBytes tiles
+    → IsPlaneOf width height bpp (plane_of_tiles width height bpp tiles)
 is_plane width height bpp tiles h = record {
   width_is = refl;
   height_is = refl;
   bpp_is = refl;
   plane = record {
     full = omega (arith, length-plane_of byte width height bpp, product width height bpp);
-    bytes = all_flat_map (λ b. b < 256) (λ row. flat_map (λ column. map (λ c. byte column row c) (count_from 0 bpp)) (count_from 0 width))
+    bytes = all_flat_map (λ b. b < 256)
+        (λ row. flat_map (λ column. map (λ c. byte column row c) (count_from 0 bpp)) (count_from 0 width))
         (λ row. all_flat_map (λ b. b < 256) (λ column. map (λ c. byte column row c) (count_from 0 bpp))
-        (λ column. all_map (λ b. b < 256) (λ c. byte column row c) (λ c. below column row c) (count_from 0 bpp)) (count_from 0 width)) (count_from 0 height);
+        (λ column. all_map (λ b. b < 256) (λ c. byte column row c) (λ c. below column row c) (count_from 0 bpp))
+        (count_from 0 width)) (count_from 0 height);
   };
 }
   where
     byte : (x y c : ℕ) → ℕ
     byte x y c =
-        slice_index (get_or tiles ((y / 64) * tiles_along width + x / 64) []) (((y % 64) * min 64 (width - 64 * (x / 64)) + x % 64) * bpp + c)
+        slice_index (get_or tiles ((y / 64) * tiles_along width + x / 64) [])
+        (((y % 64) * min 64 (width - 64 * (x / 64)) + x % 64) * bpp + c)
 
     below : (x y c : ℕ) → byte x y c < 256
     below x y c =
-        all_at (λ b. b < 256) (get_or tiles ((y / 64) * tiles_along width + x / 64) []) (((y % 64) * min 64 (width - 64 * (x / 64)) + x % 64) * bpp + c) 0
+        all_at (λ b. b < 256) (get_or tiles ((y / 64) * tiles_along width + x / 64) [])
+        (((y % 64) * min 64 (width - 64 * (x / 64)) + x % 64) * bpp + c) 0
         (all_at AreBytes tiles ((y / 64) * tiles_along width + x / 64) [] h tt) (omega arith)
 
     product : (w h n : ℕ) → h * (w * n) ≡ w * h * n
     product w h n = omega arith
 
-pub plane_has : (file : List ℕ) (at width height bpp compression : ℕ) (p : Plane) → AreBytes file → hierarchy_at file at width height bpp compression ≡ Ok p → HasPlaneOf file at width height bpp compression p
+pub plane_has : (file : List ℕ) (at width height bpp compression : ℕ) (p : Plane) → AreBytes file
+    → hierarchy_at file at width height bpp compression ≡ Ok p → HasPlaneOf file at width height bpp compression p
 unfolding hierarchy_at
 plane_has file at width height bpp compression p all e =
     let a = bind_back (same_word_at file at width BadHierarchy) _ p e in
@@ -186,7 +208,8 @@ plane_has file at width height bpp compression p all e =
     let g = bind_back (same_word_at file (d.0 + 4) height BadHierarchy) _ p f.2 in
     let k = bind_back (tiles_at (all_tiles width height) file (d.0 + 8) width height bpp compression) _ p g.2 in
     let level = pointer_has file (at + 12) d.0 BadHierarchy d.1 in
-    let tiles = tiles_have (all_tiles width height) file (d.0 + 8) width height bpp compression k.0 all (have_points width height) k.1 in
+    let tiles = tiles_have (all_tiles width height) file (d.0 + 8) width height bpp compression k.0 all
+    (have_points width height) k.1 in
     let q = plane_of_tiles width height bpp k.0 in
     let is : q ≡ p = cc in
     subst (HasPlaneOf file at width height bpp compression) is (record {

@@ -21,7 +21,8 @@ places_from first (piece ∷ pieces) = first ∷ places_from (first + length pie
 abbrev pub AreSpelled : (fits : List ℕ → List ℕ → Type 0) → List ℕ → List (List ℕ) → Type 0
 AreSpelled fits bytes [] = bytes ≡ []
 AreSpelled fits bytes (plane ∷ planes) =
-    (spelled : List ℕ) × (rest : List ℕ) × Spells spelled plane × (length spelled ≤ length plane + 64) × fits plane spelled × (bytes ≡ spelled ++ rest)
+    (spelled : List ℕ) × (rest : List ℕ) × Spells spelled plane × (length spelled ≤ length plane + 64) × fits plane spelled
+    × (bytes ≡ spelled ++ rest)
     × AreSpelled fits rest planes
 
 -- the pixels of a tile as they are, or a spelling for each of the bytes of a pixel

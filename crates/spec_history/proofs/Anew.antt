@@ -1,5 +1,6 @@
 -- What a new version damages: as its group says, also where the group is undone or made again.
-use Rattle.std.proofs.Common.{◌≡◌, ℕ, ◌+◌, ◌-◌, ◌<◌, ◌≤◌, Bool, true, cond, List, [], ◌∷◌, ◌++◌, inl, inr, length, refl, sym, ◌∙◌, ap, subst, arith, length-append}
+use Rattle.std.proofs.Common.{◌≡◌, ℕ, ◌+◌, ◌-◌, ◌<◌, ◌≤◌, Bool, true, cond, List, [], ◌∷◌, ◌++◌, inl, inr, length}
+use Rattle.std.proofs.Common.{refl, sym, ◌∙◌, ap, subst, arith, length-append}
 use Rattle.std.specs.Prelude.{Option, Result, Ok, slice_get, option_to_list}
 use Rattle.std.specs.List.{AllByRecursion, list_any}
 use Rattle.spec_grid.specs.declared.TileAt.{TileAt}
@@ -9,7 +10,8 @@ use Rattle.spec_document.specs.Document.{Document}
 use Rattle.spec_edit.specs.Edit.{Edit}
 use Rattle.spec_edit.specs.Apply.{At, Refused, apply_group}
 use Rattle.spec_damage.specs.Damage.{group_damage}
-use Rattle.spec_history.specs.Machine.{edit, undo, redo, changed, Done, Cause, State, latest, document_at, names, stays, again, moved, not_top, made, undo_answer, redo_answer, answer}
+use Rattle.spec_history.specs.Machine.{edit, undo, redo, changed, Done, Cause, State, latest, document_at, names}
+use Rattle.spec_history.specs.Machine.{stays, again, moved, not_top, made, undo_answer, redo_answer, answer}
 use Rattle.spec_history.specs.History.{Entry, after_entry, replay_from, replay, document_of}
 use Rattle.spec_history.specs.Kept.{cause_meets, damaged_at}
 use Rattle.spec_history.specs.Chained.{IsThere, IsChained}
@@ -54,9 +56,12 @@ undo-again base es named tables d ds e is =
     let after_le = all.0.after in
     let later = all.0.later in
     let t : State = record (again s d.before d.after) { undo = ds; redo = d ∷ s.redo } in
-    let A : Bool → Type 0 = λ b. IsAgain base s (cond b (record { reply = changed (latest s + 1) d.group s.next_id; state = t }) (stays s (not_top d.group))).state d.before d.after in
+    let A : Bool → Type 0 = λ b. IsAgain base s
+    (cond b (record { reply = changed (latest s + 1) d.group s.next_id; state = t }) (stays s (not_top d.group))).state d.before
+    d.after in
     let U : List Done → Type 0 = λ us. IsAgain base s (undo_answer s named us).state d.before d.after in
-    subst U (sym e) (subst A (sym is) (again-is base s d.before d.after ds (d ∷ s.redo) (sound-replay base es) count all.0.before (omega arith)))
+    subst U (sym e) (subst A (sym is)
+    (again-is base s d.before d.after ds (d ∷ s.redo) (sound-replay base es) count all.0.before (omega arith)))
 
 pub redo-again : (base : Document) (es : List Entry) (tables : List (List ℕ)) (d : Done) (ds : List Done)
     → (replay base es).redo ≡ d ∷ ds
@@ -75,8 +80,11 @@ redo-again base es tables d ds e =
 
 edit-made : (base : Document) (s : State) (edits : List Edit) (tables : List (List ℕ)) (new : At) (stack : ℕ) (at : TileAt)
     → IsSound s → length s.causes ≡ latest s
-    → damaged_at base (made s (record { document = document_at base s (latest s); next = s.next_id }) edits tables (Ok new)).state stack at (latest (made s (record { document = document_at base s (latest s); next = s.next_id }) edits tables (Ok new)).state)
-    ≡ list_any (λ r. do_meet r (tile_rect base.width base.height at)) (group_damage (record { document = document_at base s (latest s); next = s.next_id }) edits tables stack)
+    → damaged_at base (made s (record { document = document_at base s (latest s); next = s.next_id }) edits tables (Ok new)).state
+    stack at (latest (made s (record { document = document_at base s (latest s); next = s.next_id }) edits tables
+    (Ok new)).state)
+    ≡ list_any (λ r. do_meet r (tile_rect base.width base.height at))
+    (group_damage (record { document = document_at base s (latest s); next = s.next_id }) edits tables stack)
 edit-made base s edits tables new stack at sound count =
     let some = sound.some in
     let old : At = record { document = document_at base s (latest s); next = s.next_id } in
@@ -86,20 +94,28 @@ edit-made base s edits tables new stack at sound count =
     let place : latest t - 1 ≡ length s.causes = omega (arith, next_is, count) in
     ap (cause_meets stack base.width base.height at) (ap (slice_get (s.causes ++ c ∷ [])) place ∙ slice_get-last s.causes c)
 
-pub edit-damages : (base : Document) (es : List Entry) (guard : Option ℕ) (edits : List Edit) (tables : List (List ℕ)) (new : At) (stack : ℕ) (at : TileAt) → names guard (latest (replay base es)) ≡ true
-    → apply_group (record { document = document_of base es (latest (replay base es)); next = (replay base es).next_id }) edits tables ≡ Ok new
-    → damaged_at base (answer base (replay base es) (edit guard edits) tables).state stack at (latest (answer base (replay base es) (edit guard edits) tables).state)
-    ≡ list_any (λ r. do_meet r (tile_rect base.width base.height at)) (group_damage (record { document = document_of base es (latest (replay base es)); next = (replay base es).next_id }) edits tables stack)
+pub edit-damages : (base : Document) (es : List Entry) (guard : Option ℕ) (edits : List Edit) (tables : List (List ℕ)) (new : At)
+    (stack : ℕ) (at : TileAt) → names guard (latest (replay base es)) ≡ true
+    → apply_group (record { document = document_of base es (latest (replay base es)); next = (replay base es).next_id }) edits
+    tables ≡ Ok new
+    → damaged_at base (answer base (replay base es) (edit guard edits) tables).state stack at
+    (latest (answer base (replay base es) (edit guard edits) tables).state)
+    ≡ list_any (λ r. do_meet r (tile_rect base.width base.height at))
+    (group_damage (record { document = document_of base es (latest (replay base es)); next = (replay base es).next_id }) edits
+    tables stack)
 edit-damages base es guard edits tables new stack at is e =
     let s = replay base es in
     let old : At = record { document = document_at base s (latest s); next = s.next_id } in
     let G : Bool → Type 0 = λ b.
     let t = (cond b (made s old edits tables (apply_group old edits tables)) (stays s (moved (latest s)))).state in
-    damaged_at base t stack at (latest t) ≡ list_any (λ r. do_meet r (tile_rect base.width base.height at)) (group_damage old edits tables stack) in
+    damaged_at base t stack at (latest t)
+    ≡ list_any (λ r. do_meet r (tile_rect base.width base.height at)) (group_damage old edits tables stack) in
     let R : Result At Refused → Type 0 = λ r.
     let t = (made s old edits tables r).state in
-    damaged_at base t stack at (latest t) ≡ list_any (λ r. do_meet r (tile_rect base.width base.height at)) (group_damage old edits tables stack) in
-    subst G (sym is) (subst R (sym e) (edit-made base s edits tables new stack at (sound-replay base es) (chained-replay base es).causes))
+    damaged_at base t stack at (latest t)
+    ≡ list_any (λ r. do_meet r (tile_rect base.width base.height at)) (group_damage old edits tables stack) in
+    subst G (sym is) (subst R (sym e)
+    (edit-made base s edits tables new stack at (sound-replay base es) (chained-replay base es).causes))
 
 -- ---- later on
 
@@ -124,7 +140,8 @@ lasts-replay_from : (base : Document) (s : State) (es : List Entry) → IsSound 
 lasts-replay_from base s [] sound chained = record { later = omega arith; damage = λ stack at w low high. refl }
 lasts-replay_from base s (e ∷ es) sound chained =
     let first = lasts-move base s (after_entry base s e) sound chained.causes (moves-entry base s e sound chained) in
-    let rest = lasts-replay_from base (after_entry base s e) es (sound-entry base s e sound) (chained-entry base s e sound chained) in
+    let rest = lasts-replay_from base (after_entry base s e) es (sound-entry base s e sound)
+    (chained-entry base s e sound chained) in
     let a = first.later in
     let b = rest.later in
     record {
@@ -137,4 +154,5 @@ pub damage-lasts : (base : Document) (es more : List Entry) (stack : ℕ) (at : 
     → damaged_at base (replay base (es ++ more)) stack at version ≡ damaged_at base (replay base es) stack at version
 damage-lasts base es more stack at version low high =
     ap (λ s. damaged_at base s stack at version) (replay-append base es more)
-    ∙ (lasts-replay_from base (replay base es) more (sound-replay base es) (chained-replay base es)).damage stack at version low high
+    ∙ (lasts-replay_from base (replay base es) more (sound-replay base es) (chained-replay base es)).damage stack at version low
+    high

@@ -5,7 +5,9 @@ use Rattle.std.proofs.lemmas.List.{append-nil}
 use Rattle.spec_document.specs.Document.{Document}
 use Rattle.spec_edit.specs.Edit.{Edit}
 use Rattle.spec_edit.specs.Apply.{At, Refused, apply_group}
-use Rattle.spec_history.specs.Machine.{Call, edit, undo, redo, tile, peek, top, changed, Done, Cause, State, latest, document_at, names, stays, again, moved, not_top, made, undo_answer, redo_answer, answer}
+use Rattle.spec_history.specs.Machine.{Call, edit, undo, redo, tile, peek, top, changed, Done, Cause, State, latest}
+use Rattle.spec_history.specs.Machine.{document_at, names, stays, again, moved, not_top, made, undo_answer}
+use Rattle.spec_history.specs.Machine.{redo_answer, answer}
 use Rattle.spec_history.specs.History.{Kind, asked, starts, ends, Entry, after_kind, after_entry}
 use Rattle.spec_history.proofs.Growing.{cond_both}
 
@@ -25,7 +27,11 @@ more-undo : (s : State) (named : Option ℕ) (ds : List Done) → More s.causes 
 more-undo s named [] = same s.causes
 more-undo s named (d ∷ ds) =
     cond_both (λ a. More s.causes a.state.causes) (names named d.group)
-    (record { reply = changed (latest s + 1) d.group s.next_id; state = record (again s d.before d.after) { undo = ds; redo = d ∷ s.redo } })
+    (record {
+      reply = changed (latest s + 1) d.group s.next_id;
+      state =
+          record (again s d.before d.after) { undo = ds; redo = d ∷ s.redo };
+    })
     (stays s (not_top d.group)) (option_to_list (slice_get s.causes (d.after - 1)), refl) (same s.causes)
 
 more-redo : (s : State) (ds : List Done) → More s.causes (redo_answer s ds).state.causes
@@ -36,7 +42,8 @@ more-answer : (base : Document) (s : State) (call : Call) (tables : List (List �
     → More s.causes (answer base s call tables).state.causes
 more-answer base s (edit guard edits) tables =
     let old : At = record { document = document_at base s (latest s); next = s.next_id } in
-    cond_both (λ a. More s.causes a.state.causes) (names guard (latest s)) (made s old edits tables (apply_group old edits tables)) (stays s (moved (latest s)))
+    cond_both (λ a. More s.causes a.state.causes) (names guard (latest s)) (made s old edits tables (apply_group old edits tables))
+    (stays s (moved (latest s)))
     (more-made s old edits tables (apply_group old edits tables)) (same s.causes)
 more-answer base s (undo named) tables = more-undo s named s.undo
 more-answer base s redo tables = more-redo s s.redo

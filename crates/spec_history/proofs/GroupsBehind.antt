@@ -1,5 +1,6 @@
 -- Each version after the first has a group that makes it of the version before, or makes that one of it.
-use Rattle.std.proofs.Common.{◌≡◌, ℕ, suc, ◌+◌, ◌-◌, ◌<◌, ◌≤◌, Bool, true, false, cond, List, [], ◌∷◌, ◌++◌, ◌⊎◌, inl, inr, ⊎_elim, length, refl, sym, ◌∙◌, ap, subst, arith, length-append}
+use Rattle.std.proofs.Common.{◌≡◌, ℕ, suc, ◌+◌, ◌-◌, ◌<◌, ◌≤◌, Bool, true, false, cond, List, [], ◌∷◌, ◌++◌, ◌⊎◌, inl}
+use Rattle.std.proofs.Common.{inr, ⊎_elim, length, refl, sym, ◌∙◌, ap, subst, arith, length-append}
 use Rattle.std.specs.Prelude.{zero, Option, Some, None, Result, Ok, Err, slice_get, option_to_list, unwrap_or}
 use Rattle.std.specs.List.{AllByRecursion}
 use Rattle.std.proofs.lemmas.Bool.{cases_lt}
@@ -14,7 +15,9 @@ use Rattle.spec_edit.specs.Effect.{effect, makes_node}
 use Rattle.spec_edit.specs.Apply.{At, Refused, unless_refused, after, apply_from, apply_group, is_filter, first_table, other_tables}
 use Rattle.spec_damage.proofs.WellMade.{well_made}
 use Rattle.spec_damage.proofs.Groups.{Ready, group_ready, group_sides}
-use Rattle.spec_history.specs.Machine.{Call, edit, undo, redo, tile, peek, top, changed, Done, Cause, State, latest, document_at, initial, names, stays, again, moved, not_top, made, undo_answer, redo_answer, answer}
+use Rattle.spec_history.specs.Machine.{Call, edit, undo, redo, tile, peek, top, changed, Done, Cause, State, latest}
+use Rattle.spec_history.specs.Machine.{document_at, initial, names, stays, again, moved, not_top, made, undo_answer}
+use Rattle.spec_history.specs.Machine.{redo_answer, answer}
 use Rattle.spec_history.specs.History.{Kind, asked, starts, ends, Entry, after_kind, after_entry, replay_from, replay}
 use Rattle.spec_history.specs.Chained.{Undoes, Redoes, IsThere, IsChained}
 use Rattle.spec_history.proofs.Growing.{cond_both, Grows, grows_by, document_at-grows}
@@ -51,7 +54,11 @@ not_refused index None mid new rest e = e
 not_refused index (Some c) mid new rest e = cc
 
 abbrev after_edit : At → Edit → List (List ℕ) → At
-after_edit old one tables = record { document = effect old.document old.next (first_table tables) one; next = cond (makes_node one) (old.next + 1) old.next }
+after_edit old one tables = record {
+  document = effect old.document old.next (first_table tables) one;
+  next =
+      cond (makes_node one) (old.next + 1) old.next;
+}
 
 next_kept : (b : Bool) (n : ℕ) → n ≤ cond b (n + 1) n
 next_kept true n = omega arith
@@ -119,21 +126,25 @@ more-caused base s t m sound count turns caused =
     let grows : Grows s.documents t.documents = grows_by s.documents t.documents (m.new ∷ []) documents in
     let version : latest t ≡ latest s + 1 = rw (documents, length-append) (omega arith) in
     let now : document_at base t (latest t) ≡ m.new = last-document base t s.documents m.new documents in
-    let before : document_at base t (latest s) ≡ document_at base s (latest s) = document_at-grows base s t (latest s) grows (omega arith) in
+    let before : document_at base t (latest s) ≡ document_at base s (latest s) =
+    document_at-grows base s t (latest s) grows (omega arith) in
     let last : slice_get t.causes (latest s) ≡ Some m.cause =
-    ap (λ cs. slice_get cs (latest s)) m.causes ∙ (ap (slice_get (s.causes ++ m.cause ∷ [])) (sym count) ∙ slice_get-last s.causes m.cause) in
+    ap (λ cs. slice_get cs (latest s)) m.causes
+    ∙ (ap (slice_get (s.causes ++ m.cause ∷ [])) (sym count) ∙ slice_get-last s.causes m.cause) in
     let T : Document → Type 0 = λ d. IsTurn m.cause (document_at base s (latest s)) d in
     let U : Document → Type 0 = λ d. IsTurn m.cause d (document_at base t (latest s + 1)) in
     record {
       base_is = fits_more base s.next_id t.next_id base turns.next_is caused.base_is;
       documents = subst (AllByRecursion (Fits base t.next_id)) (sym documents)
           (all-append (Fits base t.next_id) s.documents (m.new ∷ [])
-          (all-each (Fits base s.next_id) (Fits base t.next_id) s.documents (λ d. fits_more base s.next_id t.next_id d turns.next_is) caused.documents) (turns.fits, tt));
+          (all-each (Fits base s.next_id) (Fits base t.next_id) s.documents
+          (λ d. fits_more base s.next_id t.next_id d turns.next_is) caused.documents) (turns.fits, tt));
       each = λ v within. ⊎_elim
           (λ less.
           let old = caused.each v less in
           let low : document_at base t v ≡ document_at base s v = document_at-grows base s t v grows (omega (arith, less, some)) in
-          let high : document_at base t (v + 1) ≡ document_at base s (v + 1) = document_at-grows base s t (v + 1) grows (omega (arith, less, some)) in
+          let high : document_at base t (v + 1) ≡ document_at base s (v + 1) =
+          document_at-grows base s t (v + 1) grows (omega (arith, less, some)) in
           let A : Document → Type 0 = λ d. IsTurn old.of.cause d (document_at base s (v + 1)) in
           let B : Document → Type 0 = λ d. IsTurn old.of.cause (document_at base t v) d in
           let here : HasGroup base t v = record {
@@ -165,10 +176,12 @@ more-caused base s t m sound count turns caused =
 
 same-caused : (base : Document) (s t : State) → AsBefore s t → IsCaused base s → IsCaused base t
 same-caused base s t same caused =
-    let at : (v : ℕ) → document_at base t v ≡ document_at base s v = λ v. ap (λ ds. unwrap_or (slice_get ds v) base) same.documents in
+    let at : (v : ℕ) → document_at base t v ≡ document_at base s v =
+    λ v. ap (λ ds. unwrap_or (slice_get ds v) base) same.documents in
     record {
       base_is = subst (λ n. Fits base n base) (sym same.next_is) caused.base_is;
-      documents = subst (λ n. AllByRecursion (Fits base n) t.documents) (sym same.next_is) (subst (AllByRecursion (Fits base s.next_id)) (sym same.documents) caused.documents);
+      documents = subst (λ n. AllByRecursion (Fits base n) t.documents) (sym same.next_is)
+          (subst (AllByRecursion (Fits base s.next_id)) (sym same.documents) caused.documents);
       each = λ v within.
           let count = ap length same.documents in
           let old = caused.each v (omega (arith, within, count)) in
@@ -194,10 +207,17 @@ caused-made base s edits tables (Err r) sound count caused e = caused
 caused-made base s edits tables (Ok new) sound count caused e =
     let old : At = record { document = document_at base s (latest s); next = s.next_id } in
     let t : State = (made s old edits tables (Ok new)).state in
-    let f : Fits base s.next_id (document_at base s (latest s)) = there (Fits base s.next_id) base s.documents (latest s) caused.base_is caused.documents in
+    let f : Fits base s.next_id (document_at base s (latest s)) =
+    there (Fits base s.next_id) base s.documents (latest s) caused.base_is caused.documents in
     let is : apply_group old edits tables ≡ Ok new = sym e in
     let sides = group_sides edits 0 old new tables is in
-    let m : OneMore s t = record { new = new.document; cause = record { old = old; edits = edits; tables = tables }; documents = refl; causes = refl } in
+    let m : OneMore s t = record {
+      new = new.document;
+      cause = record { old = old; edits = edits; tables = tables };
+      documents =
+          refl;
+      causes = refl;
+    } in
     more-caused base s t m sound count (record {
       next_is = group_next edits 0 old new tables is;
       fits = record {
@@ -221,14 +241,17 @@ caused-again base s version v cause us rs sound count caused within less is turn
     let some = sound.some in
     let t : State = record (again s version cause) { undo = us; redo = rs } in
     let g = caused.each v less in
-    let f : Fits base s.next_id (document_at base s version) = there (Fits base s.next_id) base s.documents version caused.base_is caused.documents in
+    let f : Fits base s.next_id (document_at base s version) =
+    there (Fits base s.next_id) base s.documents version caused.base_is caused.documents in
     let m : OneMore s t = record {
       new = document_at base s version;
       cause = g.of.cause;
       documents = behind base s version cause (omega arith);
       causes = ap (λ o. s.causes ++ option_to_list o) (ap (slice_get s.causes) is ∙ g.of.there);
     } in
-    more-caused base s t m sound count (record { next_is = omega arith; fits = f; ready = g.ready; width_is = g.width_is; height_is = g.height_is; turn = turn g }) caused
+    more-caused base s t m sound count
+    (record { next_is = omega arith; fits = f; ready = g.ready; width_is = g.width_is; height_is = g.height_is; turn = turn g })
+    caused
 
 caused-undo : (base : Document) (s : State) (named : Option ℕ) (ds : List Done) → IsSound s → length s.causes ≡ latest s
     → IsCaused base s
@@ -240,12 +263,17 @@ caused-undo base s named (d ∷ ds) sound count caused all chain =
     let after_le = all.0.after in
     let next_is = all.0.next_is in
     cond_both (λ a. IsCaused base a.state) (names named d.group)
-    (record { reply = changed (latest s + 1) d.group s.next_id; state = record (again s d.before d.after) { undo = ds; redo = d ∷ s.redo } })
+    (record {
+      reply = changed (latest s + 1) d.group s.next_id;
+      state =
+          record (again s d.before d.after) { undo = ds; redo = d ∷ s.redo };
+    })
     (stays s (not_top d.group))
     (caused-again base s d.before d.before d.after ds (d ∷ s.redo) sound count caused before (omega arith) (omega arith)
     (λ g.
     let A : Document → Type 0 = λ x. IsTurn g.of.cause x (document_at base s d.before) in
-    subst A (ap (document_at base s) (sym next_is) ∙ chain.0) (turned-round g.of.cause (document_at base s d.before) (document_at base s (d.before + 1)) g.of.turn)))
+    subst A (ap (document_at base s) (sym next_is)
+    ∙ chain.0) (turned-round g.of.cause (document_at base s d.before) (document_at base s (d.before + 1)) g.of.turn)))
     caused
 
 caused-redo : (base : Document) (s : State) (ds : List Done) → IsSound s → length s.causes ≡ latest s → IsCaused base s
@@ -266,10 +294,13 @@ caused-answer : (base : Document) (s : State) (call : Call) (tables : List (List
     → IsCaused base s → IsCaused base (answer base s call tables).state
 caused-answer base s (edit guard edits) tables sound chained caused =
     let old : At = record { document = document_at base s (latest s); next = s.next_id } in
-    cond_both (λ a. IsCaused base a.state) (names guard (latest s)) (made s old edits tables (apply_group old edits tables)) (stays s (moved (latest s)))
+    cond_both (λ a. IsCaused base a.state) (names guard (latest s)) (made s old edits tables (apply_group old edits tables))
+    (stays s (moved (latest s)))
     (caused-made base s edits tables (apply_group old edits tables) sound chained.causes caused refl) caused
-caused-answer base s (undo named) tables sound chained caused = caused-undo base s named s.undo sound chained.causes caused chained.undo_there chained.undo
-caused-answer base s redo tables sound chained caused = caused-redo base s s.redo sound chained.causes caused chained.redo_there chained.redo
+caused-answer base s (undo named) tables sound chained caused =
+    caused-undo base s named s.undo sound chained.causes caused chained.undo_there chained.undo
+caused-answer base s redo tables sound chained caused =
+    caused-redo base s s.redo sound chained.causes caused chained.redo_there chained.redo
 caused-answer base s (tile stack at) tables sound chained caused = caused
 caused-answer base s (peek stack at) tables sound chained caused = caused
 caused-answer base s top tables sound chained caused = caused
@@ -277,8 +308,10 @@ caused-answer base s top tables sound chained caused = caused
 caused-kind : (base : Document) (s : State) (e : Entry) (kind : Kind) → IsSound s → IsChained base s → IsCaused base s
     → IsCaused base (after_kind base s e kind)
 caused-kind base s e (asked call tables) sound chained caused = caused-answer base s call tables sound chained caused
-caused-kind base s e starts sound chained caused = same-caused base s (after_kind base s e starts) (record { documents = refl; causes = refl; next_is = refl }) caused
-caused-kind base s e ends sound chained caused = same-caused base s (after_kind base s e ends) (record { documents = refl; causes = refl; next_is = refl }) caused
+caused-kind base s e starts sound chained caused =
+    same-caused base s (after_kind base s e starts) (record { documents = refl; causes = refl; next_is = refl }) caused
+caused-kind base s e ends sound chained caused =
+    same-caused base s (after_kind base s e ends) (record { documents = refl; causes = refl; next_is = refl }) caused
 
 pub caused-entry : (base : Document) (s : State) (e : Entry) → IsSound s → IsChained base s → IsCaused base s
     → IsCaused base (after_entry base s e)
@@ -290,7 +323,8 @@ pub caused-replay_from : (base : Document) (s : State) (es : List Entry) → IsS
     → IsCaused base (replay_from base s es)
 caused-replay_from base s [] sound chained caused = caused
 caused-replay_from base s (e ∷ es) sound chained caused =
-    caused-replay_from base (after_entry base s e) es (sound-entry base s e sound) (chained-entry base s e sound chained) (caused-entry base s e sound chained caused)
+    caused-replay_from base (after_entry base s e) es (sound-entry base s e sound) (chained-entry base s e sound chained)
+    (caused-entry base s e sound chained caused)
 
 pub caused-initial : (base : Document) → IsDocument base → IsCaused base (initial base)
 caused-initial base is =
@@ -303,7 +337,8 @@ caused-initial base is =
     record { base_is = f; documents = (f, tt); each = λ v less. absurd (omega (arith, less)) }
 
 pub caused-replay : (base : Document) (es : List Entry) → IsDocument base → IsCaused base (replay base es)
-caused-replay base es is = caused-replay_from base (initial base) es (sound-initial base) (chained-initial base) (caused-initial base is)
+caused-replay base es is =
+    caused-replay_from base (initial base) es (sound-initial base) (chained-initial base) (caused-initial base is)
 
 pub cause-replay : (base : Document) (es : List Entry) (version : ℕ) → IsDocument base → version < latest (replay base es)
     → HasCause base (replay base es) version

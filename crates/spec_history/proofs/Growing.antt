@@ -1,5 +1,6 @@
 -- Histories that grow by an entry. Versions.antt counts the versions, and Seen.antt says what a session has seen then.
-use Rattle.std.proofs.Common.{◌≡◌, ℕ, ◌+◌, ◌<◌, ◌≤◌, Bool, true, false, cond, List, [], ◌∷◌, ◌++◌, length, get_or, refl, sym, ◌∙◌, ap, subst, arith, lit<, append_assoc, length-append}
+use Rattle.std.proofs.Common.{◌≡◌, ℕ, ◌+◌, ◌<◌, ◌≤◌, Bool, true, false, cond, List, [], ◌∷◌, ◌++◌, length, get_or}
+use Rattle.std.proofs.Common.{refl, sym, ◌∙◌, ap, subst, arith, lit<, append_assoc, length-append}
 use Rattle.std.specs.Prelude.{◌==◌, ◌&&◌, not, Option, Result, Ok, Err, MatchBool, slice_get, option_to_list}
 use Rattle.std.proofs.lemmas.List.{append-nil, get_or_append_left}
 use Rattle.std.proofs.lemmas.List.Sums.{sum_by_push, sum_by-cons}
@@ -8,8 +9,12 @@ use Rattle.std.proofs.lemmas.Option.{unwrap_or-slice_get}
 use Rattle.spec_document.specs.Document.{Document}
 use Rattle.spec_edit.specs.Edit.{Edit}
 use Rattle.spec_edit.specs.Apply.{At, Refused, apply_group}
-use Rattle.spec_history.specs.Machine.{Call, edit, undo, redo, tile, peek, top, changed, Done, State, latest, document_at, initial, names, stays, again, moved, not_top, made, undo_answer, redo_answer, answer}
-use Rattle.spec_history.specs.History.{Kind, asked, starts, ends, Entry, is_end_kind, next_index, after_kind, after_entry, replay_from, replay, IsStep, RunFrom, is_changed, latest_of, document_of, mine}
+use Rattle.spec_history.specs.Machine.{Call, edit, undo, redo, tile, peek, top, changed, Done, State, latest}
+use Rattle.spec_history.specs.Machine.{document_at, initial, names, stays, again, moved, not_top, made, undo_answer}
+use Rattle.spec_history.specs.Machine.{redo_answer, answer}
+use Rattle.spec_history.specs.History.{Kind, asked, starts, ends, Entry, is_end_kind, next_index, after_kind}
+use Rattle.spec_history.specs.History.{after_entry, replay_from, replay, IsStep, RunFrom, is_changed, latest_of}
+use Rattle.spec_history.specs.History.{document_of, mine}
 use Rattle.spec_history.specs.Kept.{PeekMeetsKept, PeeksMeetKept, IsLegal}
 
 -- ---- the state after more entries
@@ -32,8 +37,11 @@ pub RunFrom-snoc : (base : Document) (s : State) (earlier es : List Entry) (e : 
 RunFrom-snoc base s earlier [] e run step =
     let P : List Entry → Type 0 = λ before. IsStep base s before e in (subst P (append-nil earlier) step, tt)
 RunFrom-snoc base s earlier (x ∷ es) e run step =
-    let P : List Entry → Type 0 = λ before. IsStep base (replay_from base (after_entry base s x) es) before e in
-    (run.0, RunFrom-snoc base (after_entry base s x) (earlier ++ x ∷ []) es e run.1 (subst P (sym (append_assoc earlier (x ∷ []) es)) step))
+    let P : List Entry → Type 0 = λ before. IsStep base (replay_from base (after_entry base s x) es) before e in (
+      run.0,
+      RunFrom-snoc base (after_entry base s x) (earlier
+          ++ x ∷ []) es e run.1 (subst P (sym (append_assoc earlier (x ∷ []) es)) step),
+    )
 
 pub PeeksMeetKept-snoc : (base : Document) (earlier es : List Entry) (e : Entry)
     → PeeksMeetKept base earlier es → PeekMeetsKept base (earlier ++ es) e.kind e.reply → PeeksMeetKept base earlier (es ++ e ∷ [])
@@ -81,7 +89,8 @@ match_both false f g h = g h
 
 -- ---- no call lets a save out or in
 
-out-made : (s : State) (old : At) (edits : List Edit) (tables : List (List ℕ)) (r : Result At Refused) → (made s old edits tables r).state.out ≡ s.out
+out-made : (s : State) (old : At) (edits : List Edit) (tables : List (List ℕ)) (r : Result At Refused)
+    → (made s old edits tables r).state.out ≡ s.out
 out-made s old edits tables (Ok new) = refl
 out-made s old edits tables (Err r) = refl
 
@@ -89,17 +98,23 @@ out-undo : (s : State) (named : Option ℕ) (ds : List Done) → (undo_answer s 
 out-undo s named [] = refl
 out-undo s named (d ∷ ds) =
     cond_both (λ a. a.state.out ≡ s.out) (names named d.group)
-    (record { reply = changed (latest s + 1) d.group s.next_id; state = record (again s d.before d.after) { undo = ds; redo = d ∷ s.redo } })
+    (record {
+      reply = changed (latest s + 1) d.group s.next_id;
+      state =
+          record (again s d.before d.after) { undo = ds; redo = d ∷ s.redo };
+    })
     (stays s (not_top d.group)) refl refl
 
 out-redo : (s : State) (ds : List Done) → (redo_answer s ds).state.out ≡ s.out
 out-redo s [] = refl
 out-redo s (d ∷ ds) = refl
 
-pub out-answer : (base : Document) (s : State) (call : Call) (tables : List (List ℕ)) → (answer base s call tables).state.out ≡ s.out
+pub out-answer : (base : Document) (s : State) (call : Call) (tables : List (List ℕ))
+    → (answer base s call tables).state.out ≡ s.out
 out-answer base s (edit guard edits) tables =
     let old : At = record { document = document_at base s (latest s); next = s.next_id } in
-    cond_both (λ a. a.state.out ≡ s.out) (names guard (latest s)) (made s old edits tables (apply_group old edits tables)) (stays s (moved (latest s)))
+    cond_both (λ a. a.state.out ≡ s.out) (names guard (latest s)) (made s old edits tables (apply_group old edits tables))
+    (stays s (moved (latest s)))
     (out-made s old edits tables (apply_group old edits tables)) refl
 out-answer base s (undo named) tables = out-undo s named s.undo
 out-answer base s redo tables = out-redo s s.redo
@@ -129,23 +144,30 @@ grows-made s old edits tables (Ok new) = grows_by s.documents (s.documents ++ ne
 grows-made s old edits tables (Err r) = grows-same s.documents
 
 grows-again : (s : State) (version cause : ℕ) → Grows s.documents (again s version cause).documents
-grows-again s version cause = grows_by s.documents (again s version cause).documents (option_to_list (slice_get s.documents version)) refl
+grows-again s version cause =
+    grows_by s.documents (again s version cause).documents (option_to_list (slice_get s.documents version)) refl
 
 grows-undo : (s : State) (named : Option ℕ) (ds : List Done) → Grows s.documents (undo_answer s named ds).state.documents
 grows-undo s named [] = grows-same s.documents
 grows-undo s named (d ∷ ds) =
     cond_both (λ a. Grows s.documents a.state.documents) (names named d.group)
-    (record { reply = changed (latest s + 1) d.group s.next_id; state = record (again s d.before d.after) { undo = ds; redo = d ∷ s.redo } })
+    (record {
+      reply = changed (latest s + 1) d.group s.next_id;
+      state =
+          record (again s d.before d.after) { undo = ds; redo = d ∷ s.redo };
+    })
     (stays s (not_top d.group)) (grows-again s d.before d.after) (grows-same s.documents)
 
 grows-redo : (s : State) (ds : List Done) → Grows s.documents (redo_answer s ds).state.documents
 grows-redo s [] = grows-same s.documents
 grows-redo s (d ∷ ds) = grows-again s d.after d.after
 
-pub grows-answer : (base : Document) (s : State) (call : Call) (tables : List (List ℕ)) → Grows s.documents (answer base s call tables).state.documents
+pub grows-answer : (base : Document) (s : State) (call : Call) (tables : List (List ℕ))
+    → Grows s.documents (answer base s call tables).state.documents
 grows-answer base s (edit guard edits) tables =
     let old : At = record { document = document_at base s (latest s); next = s.next_id } in
-    cond_both (λ a. Grows s.documents a.state.documents) (names guard (latest s)) (made s old edits tables (apply_group old edits tables)) (stays s (moved (latest s)))
+    cond_both (λ a. Grows s.documents a.state.documents) (names guard (latest s))
+    (made s old edits tables (apply_group old edits tables)) (stays s (moved (latest s)))
     (grows-made s old edits tables (apply_group old edits tables)) (grows-same s.documents)
 grows-answer base s (undo named) tables = grows-undo s named s.undo
 grows-answer base s redo tables = grows-redo s s.redo

@@ -31,7 +31,8 @@ kept_found base s stack at a None le there e = record {
   from = le;
   within = omega arith;
   there = there;
-  whole = λ w low high. not_found (damaged_at base s stack at) (a + 1) (latest s - a) w e (omega (arith, low)) (omega (arith, high, le));
+  whole = λ w low high. not_found (damaged_at base s stack at) (a + 1) (latest s - a) w e (omega (arith, low))
+      (omega (arith, high, le));
 }
 kept_found base s stack at a (Some w) le there e =
     let f = found (damaged_at base s stack at) (a + 1) (latest s - a) w e in
@@ -49,10 +50,13 @@ pub kept_to : (base : Document) (s : State) (stack : ℕ) (at : TileAt) (a : ℕ
 kept_to base s stack at a le =
     step (list_all (λ v. has_stack (document_at base s v) stack) (count_from a (latest s + 1 - a))) refl where
       step : (always : Bool) → list_all (λ v. has_stack (document_at base s v) stack) (count_from a (latest s + 1 - a)) ≡ always
-          → IfSome (cond always (Some (unwrap_or (option_map (λ w. w - 1) (find (damaged_at base s stack at) (count_from (a + 1) (latest s - a)))) (latest s))) None) (KeptTo base s stack at a)
+          → IfSome (cond always (Some (unwrap_or
+          (option_map (λ w. w - 1) (find (damaged_at base s stack at) (count_from (a + 1) (latest s - a)))) (latest s))) None)
+          (KeptTo base s stack at a)
       step true e =
           kept_found base s stack at a (find (damaged_at base s stack at) (count_from (a + 1) (latest s - a))) le
-          (λ v low high. all_counted (λ v. has_stack (document_at base s v) stack) a (latest s + 1 - a) v e low (omega (arith, low, high))) refl
+          (λ v low high. all_counted (λ v. has_stack (document_at base s v) stack) a (latest s + 1 - a) v e low
+          (omega (arith, low, high))) refl
       step false e = tt
 
 kept_is : (base : Document) (es : List Entry) (stack : ℕ) (at : TileAt) (a : ℕ) (o : Option ℕ) → IsCaused base (replay base es)
@@ -69,7 +73,8 @@ kept_is base es stack at a (Some k) caused last to =
       within = within;
       there = to.there;
       same = λ v low high.
-          tile_keeps base s stack at v k caused high within (λ u from up. to.there u (omega (arith, low, from)) (omega (arith, up, within)))
+          tile_keeps base s stack at v k caused high within
+          (λ u from up. to.there u (omega (arith, low, from)) (omega (arith, up, within)))
           (λ w from up. to.whole w (omega (arith, low, from)) up);
     }
 

@@ -4,8 +4,10 @@ use Rattle.std.specs.Prelude.{not, ◌==◌, ◌&&◌, Option, Some, None}
 use Rattle.spec_grid.specs.declared.TileAt.{TileAt}
 use Rattle.spec_grid.specs.Grid.{is_on_grid}
 use Rattle.spec_document.specs.Document.{Document}
-use Rattle.spec_history.specs.Machine.{tile, Reply, tile_of, no_stack, outside_tile, State, latest, document_at, initial, answer, has_stack}
-use Rattle.spec_history.specs.History.{Kind, asked, Entry, after_entry, replay_from, replay, MayBe, IsStep, RunFrom, Run, is_changed}
+use Rattle.spec_history.specs.Machine.{tile, Reply, tile_of, no_stack, outside_tile, State, latest, document_at}
+use Rattle.spec_history.specs.Machine.{initial, answer, has_stack}
+use Rattle.spec_history.specs.History.{Kind, asked, Entry, after_entry, replay_from, replay, MayBe, IsStep, RunFrom}
+use Rattle.spec_history.specs.History.{Run, is_changed}
 use Rattle.spec_history.specs.Kept.{same_tile, shown_version, or_earlier, last_tile}
 use Rattle.spec_history.proofs.Versions.{IsSound, sound-initial, ends-run}
 use Rattle.spec_history.proofs.Stacks.{sound-entry}
@@ -31,7 +33,8 @@ answered true true named version now e = (refl, cc)
 answered true false named version now e = cc
 answered false on named version now e = cc
 
-shown_latest : (base : Document) (s : State) (named : ℕ) (place : TileAt) (tables : List (List ℕ)) (reply : Reply) (stack : ℕ) (at : TileAt) (v : ℕ)
+shown_latest : (base : Document) (s : State) (named : ℕ) (place : TileAt) (tables : List (List ℕ)) (reply : Reply) (stack : ℕ)
+    (at : TileAt) (v : ℕ)
     → shown_version (asked (tile named place) tables) reply stack at ≡ Some v
     → reply ≡ (answer base s (tile named place) tables).reply → ShowsLatest base s stack v
 shown_latest base s named place tables (tile_of version) stack at v e is =
@@ -43,7 +46,8 @@ shown_latest base s named place tables reply stack at v e is = cc
 
 shown_kind : (base : Document) (s : State) (earlier : List Entry) (e : Entry) (kind : Kind) (stack : ℕ) (at : TileAt) (v : ℕ)
     → MayBe base s earlier e kind → shown_version kind e.reply stack at ≡ Some v → ShowsLatest base s stack v
-shown_kind base s earlier e (asked (tile named place) tables) stack at v may is = shown_latest base s named place tables e.reply stack at v is may.1
+shown_kind base s earlier e (asked (tile named place) tables) stack at v may is =
+    shown_latest base s named place tables e.reply stack at v is may.1
 shown_kind base s earlier e kind stack at v may is = cc
 
 -- a tile call shows the version that stands
@@ -62,7 +66,8 @@ pub last-within : (base : Document) (s : State) (earlier es : List Entry) (stack
     → IsSound s → RunFrom base s earlier es → last_tile stack at es ≡ Some a → a ≤ latest (replay_from base s es)
 last-within base s earlier [] stack at a sound run e = cc
 last-within base s earlier (x ∷ es) stack at a sound run e =
-    step (last_tile stack at es) (λ o. last-within base (after_entry base s x) (earlier ++ x ∷ []) es stack at a (sound-entry base s x sound) run.1 o) e where
+    step (last_tile stack at es) (λ o. last-within base (after_entry base s x) (earlier
+    ++ x ∷ []) es stack at a (sound-entry base s x sound) run.1 o) e where
       step : (o : Option ℕ) → (o ≡ Some a → a ≤ latest (replay_from base (after_entry base s x) es))
           → or_earlier o (shown_version x.kind x.reply stack at) ≡ Some a
           → a ≤ latest (replay_from base (after_entry base s x) es)

@@ -6,7 +6,9 @@ use Rattle.spec_grid.specs.Grid.{is_on_grid}
 use Rattle.spec_document.specs.Document.{Document}
 use Rattle.spec_edit.specs.Edit.{Edit}
 use Rattle.spec_edit.specs.Apply.{At, Refused, apply_group}
-use Rattle.spec_history.specs.Machine.{Call, edit, undo, redo, tile, peek, top, Reply, changed, Done, State, latest, document_at, names, stays, again, moved, not_top, tile_of, no_stack, outside_tile, has_stack, tile_reply, made, undo_answer, redo_answer, answer}
+use Rattle.spec_history.specs.Machine.{Call, edit, undo, redo, tile, peek, top, Reply, changed, Done, State, latest}
+use Rattle.spec_history.specs.Machine.{document_at, names, stays, again, moved, not_top, tile_of, no_stack}
+use Rattle.spec_history.specs.Machine.{outside_tile, has_stack, tile_reply, made, undo_answer, redo_answer, answer}
 use Rattle.spec_history.specs.History.{Entry, is_changed, latest_of}
 use Rattle.spec_history.specs.Kept.{IsFreshReply, IsFreshFrom, IsFresh}
 use Rattle.spec_history.proofs.Growing.{cond_both, match_both, latest_of-cons}
@@ -26,14 +28,17 @@ fresh-snoc : (session now seen : ℕ) (es : List Entry) (e : Entry)
     → IsFreshFrom session now seen (es ++ e ∷ [])
 fresh-snoc session now seen [] e le fresh last =
     match_both (e.session == session) {P = Unit {0}} {Q = Unit {0}} {P' = IsFreshReply seen e.reply × Unit {0}} {Q' = Unit {0}}
-    (λ h. (last seen (omega arith), tt)) (λ h. tt) (elim (e.session == session) as (λ b. MatchBool b (Unit {0}) (Unit {0})) [ true ↦ tt | false ↦ tt ])
+    (λ h. (last seen (omega arith), tt)) (λ h. tt)
+    (elim (e.session == session) as (λ b. MatchBool b (Unit {0}) (Unit {0})) [ true ↦ tt | false ↦ tt ])
 fresh-snoc session now seen (x ∷ es) e le fresh last =
     let now' = cond (is_changed x.reply) (now + 1) now in
-    let count : now' + latest_of es ≡ now + latest_of (x ∷ es) = rw (latest_of-cons x es) (one_more (is_changed x.reply) now (latest_of es)) in
+    let count : now' + latest_of es ≡ now + latest_of (x ∷ es) =
+    rw (latest_of-cons x es) (one_more (is_changed x.reply) now (latest_of es)) in
     let later : (l : ℕ) → l ≤ now' + latest_of es → IsFreshReply l e.reply = λ l h. last l (omega (arith, h, count)) in
     match_both (x.session == session)
     {P = IsFreshReply seen x.reply × IsFreshFrom session now' now' es} {Q = IsFreshFrom session now' seen es}
-    {P' = IsFreshReply seen x.reply × IsFreshFrom session now' now' (es ++ e ∷ [])} {Q' = IsFreshFrom session now' seen (es ++ e ∷ [])}
+    {P' = IsFreshReply seen x.reply × IsFreshFrom session now' now' (es ++ e ∷ [])} {Q' =
+    IsFreshFrom session now' seen (es ++ e ∷ [])}
     (λ h. (h.0, fresh-snoc session now' now' es e (omega arith) h.1 later))
     (λ h. fresh-snoc session now' seen es e (no_less (is_changed x.reply) now seen le) h later)
     fresh
@@ -54,16 +59,22 @@ fresh-undo : (s : State) (seen : ℕ) (named : Option ℕ) (ds : List Done) → 
 fresh-undo s seen named [] = tt
 fresh-undo s seen named (d ∷ ds) =
     cond_both (λ a. IsFreshReply seen a.reply) (names named d.group)
-    (record { reply = changed (latest s + 1) d.group s.next_id; state = record (again s d.before d.after) { undo = ds; redo = d ∷ s.redo } })
+    (record {
+      reply = changed (latest s + 1) d.group s.next_id;
+      state =
+          record (again s d.before d.after) { undo = ds; redo = d ∷ s.redo };
+    })
     (stays s (not_top d.group)) tt tt
 
 fresh-redo : (s : State) (seen : ℕ) (ds : List Done) → IsFreshReply seen (redo_answer s ds).reply
 fresh-redo s seen [] = tt
 fresh-redo s seen (d ∷ ds) = tt
 
-fresh-tile : (d : Document) (seen stack : ℕ) (at : TileAt) (version : ℕ) → seen ≤ version → IsFreshReply seen (tile_reply d stack at (tile_of version))
+fresh-tile : (d : Document) (seen stack : ℕ) (at : TileAt) (version : ℕ) → seen ≤ version
+    → IsFreshReply seen (tile_reply d stack at (tile_of version))
 fresh-tile d seen stack at version le =
-    fresh_cond seen (not (has_stack d stack)) (no_stack stack) (cond (not (is_on_grid d.width d.height at)) outside_tile (tile_of version)) tt
+    fresh_cond seen (not (has_stack d stack)) (no_stack stack)
+    (cond (not (is_on_grid d.width d.height at)) outside_tile (tile_of version)) tt
     (fresh_cond seen (not (is_on_grid d.width d.height at)) outside_tile (tile_of version) tt le)
 
 -- the machine's answer is fresh to whoever has seen the last version or less
@@ -71,7 +82,8 @@ pub fresh-answer : (base : Document) (s : State) (call : Call) (tables : List (L
     → seen ≤ latest s → IsFreshReply seen (answer base s call tables).reply
 fresh-answer base s (edit guard edits) tables seen le =
     let old : At = record { document = document_at base s (latest s); next = s.next_id } in
-    cond_both (λ a. IsFreshReply seen a.reply) (names guard (latest s)) (made s old edits tables (apply_group old edits tables)) (stays s (moved (latest s)))
+    cond_both (λ a. IsFreshReply seen a.reply) (names guard (latest s)) (made s old edits tables (apply_group old edits tables))
+    (stays s (moved (latest s)))
     (fresh-made s seen old edits tables (apply_group old edits tables)) tt
 fresh-answer base s (undo named) tables seen le = fresh-undo s seen named s.undo
 fresh-answer base s redo tables seen le = fresh-redo s seen s.redo

@@ -1,5 +1,6 @@
 -- Every version of a history is a document within its limits.
-use Rattle.std.proofs.Common.{◌≡◌, ℕ, zero, suc, ◌+◌, ◌*◌, ◌^◌, ◌<◌, ◌≤◌, max, Bool, true, false, cond, List, [], ◌∷◌, ◌++◌, length, refl, sym, subst, arith}
+use Rattle.std.proofs.Common.{◌≡◌, ℕ, zero, suc, ◌+◌, ◌*◌, ◌^◌, ◌<◌, ◌≤◌, max, Bool, true, false, cond, List, [], ◌∷◌}
+use Rattle.std.proofs.Common.{◌++◌, length, refl, sym, subst, arith}
 use Rattle.std.specs.Prelude.{Option, Result, Ok, Err, slice_get, option_to_list, unwrap_or, fold, count_by}
 use Rattle.std.specs.List.{AllByRecursion}
 use Rattle.std.proofs.lemmas.List.Sums.{sum_by-cons, sum_by-append}
@@ -14,7 +15,9 @@ use Rattle.spec_edit.specs.Apply.{At, Refused, apply_group}
 use Rattle.spec_edit.specs.Limited.{IsAt}
 use Rattle.spec_edit.proofs.EditsLimited.{GroupGoes, group_goes}
 use Rattle.spec_edit.proofs.IdsKept.{group_all}
-use Rattle.spec_history.specs.Machine.{Call, edit, undo, redo, tile, peek, top, changed, Done, State, latest, document_at, initial, names, stays, again, moved, not_top, made, undo_answer, redo_answer, answer}
+use Rattle.spec_history.specs.Machine.{Call, edit, undo, redo, tile, peek, top, changed, Done, State, latest}
+use Rattle.spec_history.specs.Machine.{document_at, initial, names, stays, again, moved, not_top, made, undo_answer}
+use Rattle.spec_history.specs.Machine.{redo_answer, answer}
 use Rattle.spec_history.specs.History.{Kind, asked, starts, ends, Entry, after_kind, after_entry, replay_from, replay, document_of}
 use Rattle.spec_history.specs.Calls.{most_edits, most_entries}
 use Rattle.spec_history.specs.Limited.{HasEdits, AsksEdits, AreEdits, edits_of, edits_in, ids_asked, AreGroupsUpTo}
@@ -60,7 +63,8 @@ goes-same base s more h = record { limited = h; grows = omega arith; next_is = o
 
 goes-made : (base : Document) (s : State) (edits : List Edit) (tables : List (List ℕ)) (r : Result At Refused) → IsLimited base s
     → ((new : At) → r ≡ Ok new → GroupGoes (record { document = document_at base s (latest s); next = s.next_id }) edits new)
-    → Goes base s (made s (record { document = document_at base s (latest s); next = s.next_id }) edits tables r).state (count_by makes_node edits)
+    → Goes base s (made s (record { document = document_at base s (latest s); next = s.next_id }) edits tables r).state
+    (count_by makes_node edits)
 goes-made base s edits tables (Err r) h goes = goes-same base s (count_by makes_node edits) h
 goes-made base s edits tables (Ok new) h goes =
     let g = goes new refl in
@@ -70,7 +74,10 @@ goes-made base s edits tables (Ok new) h goes =
       limited = record {
         base_is = below_more s.next_id new.next base le h.base_is;
         documents = all-append (Below new.next) s.documents (new.document ∷ [])
-            (all-each (Below s.next_id) (Below new.next) s.documents (λ d. below_more s.next_id new.next d le) h.documents) (g.at, tt);
+            (all-each (Below s.next_id) (Below new.next) s.documents (λ d. below_more s.next_id new.next d le) h.documents) (
+              g.at,
+              tt,
+            );
       };
       grows = le;
       next_is = omega arith;
@@ -83,14 +90,18 @@ goes-edit : (base : Document) (s : State) (guard : Option ℕ) (edits : List Edi
 goes-edit base s guard edits tables h are bytes room =
     let old : At = record { document = document_at base s (latest s); next = s.next_id } in
     let old_is : IsAt old = there (Below s.next_id) base s.documents (latest s) h.base_is h.documents in
-    cond_both (λ a. Goes base s a.state (count_by makes_node edits)) (names guard (latest s)) (made s old edits tables (apply_group old edits tables)) (stays s (moved (latest s)))
-    (goes-made base s edits tables (apply_group old edits tables) h (λ new e. group_goes 0 old new edits tables old_is are bytes room e))
+    cond_both (λ a. Goes base s a.state (count_by makes_node edits)) (names guard (latest s))
+    (made s old edits tables (apply_group old edits tables)) (stays s (moved (latest s)))
+    (goes-made base s edits tables (apply_group old edits tables) h
+    (λ new e. group_goes 0 old new edits tables old_is are bytes room e))
     (goes-same base s (count_by makes_node edits) h)
 
-limited-again : (base : Document) (s : State) (version cause : ℕ) (us rs : List Done) → IsLimited base s → IsLimited base (record (again s version cause) { undo = us; redo = rs })
+limited-again : (base : Document) (s : State) (version cause : ℕ) (us rs : List Done) → IsLimited base s
+    → IsLimited base (record (again s version cause) { undo = us; redo = rs })
 limited-again base s version cause us rs h = record {
   base_is = h.base_is;
-  documents = all-append (Below s.next_id) s.documents (option_to_list (slice_get s.documents version)) h.documents (got (Below s.next_id) s.documents version h.documents);
+  documents = all-append (Below s.next_id) s.documents (option_to_list (slice_get s.documents version)) h.documents
+      (got (Below s.next_id) s.documents version h.documents);
 }
 
 goes-undo : (base : Document) (s : State) (named : Option ℕ) (ds : List Done) → IsLimited base s
@@ -98,13 +109,19 @@ goes-undo : (base : Document) (s : State) (named : Option ℕ) (ds : List Done) 
 goes-undo base s named [] h = goes-same base s 0 h
 goes-undo base s named (d ∷ ds) h =
     cond_both (λ a. Goes base s a.state 0) (names named d.group)
-    (record { reply = changed (latest s + 1) d.group s.next_id; state = record (again s d.before d.after) { undo = ds; redo = d ∷ s.redo } })
+    (record {
+      reply = changed (latest s + 1) d.group s.next_id;
+      state =
+          record (again s d.before d.after) { undo = ds; redo = d ∷ s.redo };
+    })
     (stays s (not_top d.group))
-    (record { limited = limited-again base s d.before d.after ds (d ∷ s.redo) h; grows = omega arith; next_is = omega arith }) (goes-same base s 0 h)
+    (record { limited = limited-again base s d.before d.after ds (d ∷ s.redo) h; grows = omega arith; next_is = omega arith })
+    (goes-same base s 0 h)
 
 goes-redo : (base : Document) (s : State) (ds : List Done) → IsLimited base s → Goes base s (redo_answer s ds).state 0
 goes-redo base s [] h = goes-same base s 0 h
-goes-redo base s (d ∷ ds) h = record { limited = limited-again base s d.after d.after (d ∷ s.undo) ds h; grows = omega arith; next_is = omega arith }
+goes-redo base s (d ∷ ds) h =
+    record { limited = limited-again base s d.after d.after (d ∷ s.undo) ds h; grows = omega arith; next_is = omega arith }
 
 goes-call : (base : Document) (s : State) (call : Call) (tables : List (List ℕ)) → IsLimited base s → HasEdits call tables
     → s.next_id + count_by makes_node (edits_of call) ≤ 2 ^ 32
@@ -120,8 +137,10 @@ goes-kind : (base : Document) (s : State) (e : Entry) (kind : Kind) → IsLimite
     → s.next_id + count_by makes_node (edits_in kind) ≤ 2 ^ 32
     → Goes base s (after_kind base s e kind) (count_by makes_node (edits_in kind))
 goes-kind base s e (asked call tables) h is room = goes-call base s call tables h is room
-goes-kind base s e starts h is room = record { limited = record { base_is = h.base_is; documents = h.documents }; grows = omega arith; next_is = omega arith }
-goes-kind base s e ends h is room = record { limited = record { base_is = h.base_is; documents = h.documents }; grows = omega arith; next_is = omega arith }
+goes-kind base s e starts h is room =
+    record { limited = record { base_is = h.base_is; documents = h.documents }; grows = omega arith; next_is = omega arith }
+goes-kind base s e ends h is room =
+    record { limited = record { base_is = h.base_is; documents = h.documents }; grows = omega arith; next_is = omega arith }
 
 -- the same after entries
 pub record GoesOn (base : Document) (s t : State) (more : ℕ) : Type 0 where
@@ -133,7 +152,8 @@ pub goes_on : (base : Document) (s : State) (es : List Entry) → IsLimited base
     → s.next_id + ids_asked es ≤ 2 ^ 32 → GoesOn base s (replay_from base s es) (ids_asked es)
 goes_on base s [] h are room = record { limited = h; grows = omega arith; next_is = omega arith }
 goes_on base s (e ∷ es) h are room =
-    let counted : ids_asked (e ∷ es) ≡ count_by makes_node (edits_in e.kind) + ids_asked es = sum_by-cons (λ x. count_by makes_node (edits_in x.kind)) e es in
+    let counted : ids_asked (e ∷ es) ≡ count_by makes_node (edits_in e.kind) + ids_asked es =
+    sum_by-cons (λ x. count_by makes_node (edits_in x.kind)) e es in
     let one = goes-kind base s e e.kind h are.0 (omega (arith, counted, room)) in
     let grows = one.grows in
     let next_is = one.next_is in
@@ -155,7 +175,8 @@ below_most a (x ∷ xs) =
 
 pub limited-initial : (base : Document) → IsDocument base → IsLimited base (initial base)
 limited-initial base h =
-    let is : Below (1 + fold max 0 (ids base.nodes)) base = record { document = h; positive = omega arith; below = below_most 0 (ids base.nodes) } in
+    let is : Below (1 + fold max 0 (ids base.nodes)) base =
+    record { document = h; positive = omega arith; below = below_most 0 (ids base.nodes) } in
     record { base_is = is; documents = (is, tt) }
 
 pub run_limited : (base : Document) (es : List Entry) → IsDocument base → AreEdits es
@@ -175,7 +196,8 @@ version_below base es version h are room =
 count-le : (edits : List Edit) → count_by makes_node edits ≤ length edits
 count-le [] = omega arith
 count-le (e ∷ edits) =
-    let counted : count_by makes_node (e ∷ edits) ≡ cond (makes_node e) 1 0 + count_by makes_node edits = sum_by-cons (λ x. cond (makes_node x) 1 0) e edits in
+    let counted : count_by makes_node (e ∷ edits) ≡ cond (makes_node e) 1 0 + count_by makes_node edits =
+    sum_by-cons (λ x. cond (makes_node x) 1 0) e edits in
     omega (arith, counted, count-le edits, one (makes_node e)) where
       one : (b : Bool) → cond b 1 0 ≤ 1
       one true = omega arith
@@ -184,7 +206,8 @@ count-le (e ∷ edits) =
 ids-le : (limit : ℕ) (es : List Entry) → AreGroupsUpTo limit es → ids_asked es ≤ length es * limit
 ids-le limit [] h = omega arith
 ids-le limit (e ∷ es) h =
-    let counted : ids_asked (e ∷ es) ≡ count_by makes_node (edits_in e.kind) + ids_asked es = sum_by-cons (λ x. count_by makes_node (edits_in x.kind)) e es in
+    let counted : ids_asked (e ∷ es) ≡ count_by makes_node (edits_in e.kind) + ids_asked es =
+    sum_by-cons (λ x. count_by makes_node (edits_in x.kind)) e es in
     let long : suc (length es) * limit ≡ limit + length es * limit = omega arith in
     omega (arith, counted, count-le (edits_in e.kind), h.0, ids-le limit es h.1, long)
 
@@ -219,7 +242,8 @@ pub numbered_version : (d : Document) (es : List Entry) (version : ℕ) → IsDo
     → length es ≤ most_entries
     → IsDocument (document_of (renumber d) es version)
 numbered_version d es version h are groups short =
-    let small = all-each (λ id. id ≤ MAX_NODES) (λ id. id ≤ 2 ^ 31) (ids (renumber d).nodes) (λ id k. omega (arith, k)) (renumbered_ids d h.few) in
+    let small = all-each (λ id. id ≤ MAX_NODES) (λ id. id ≤ 2 ^ 31) (ids (renumber d).nodes) (λ id k. omega (arith, k))
+    (renumbered_ids d h.few) in
     short_version (renumber d) es version (renumbered d h) small are groups short
 
 -- ---- more entries
@@ -229,7 +253,8 @@ pub next_grows : (base : Document) (es more : List Entry) → IsDocument base �
     → (replay base es).next_id ≤ (replay base (es ++ more)).next_id
 next_grows base es more h are room =
     let P : Entry → Type 0 = λ e. AsksEdits e.kind in
-    let counted : ids_asked (es ++ more) ≡ ids_asked es + ids_asked more = sum_by-append (λ x. count_by makes_node (edits_in x.kind)) es more in
+    let counted : ids_asked (es ++ more) ≡ ids_asked es + ids_asked more =
+    sum_by-append (λ x. count_by makes_node (edits_in x.kind)) es more in
     let first = run_limited base es h (all-left P es more are) (omega (arith, counted, room)) in
     let next_is = first.next_is in
     let rest = goes_on base (replay base es) more first.limited (all-right P es more are) (omega (arith, next_is, counted, room)) in
@@ -251,19 +276,29 @@ module _ (P : ℕ → Type 0) (base : Document) where
       → AllIds (made s (record { document = document_at base s (latest s); next = s.next_id }) edits tables r).state
   ids-made s edits tables (Err r) h goes = h
   ids-made s edits tables (Ok new) h goes =
-      record { base_ids = h.base_ids; document_ids = all-append OfIds s.documents (new.document ∷ []) h.document_ids (goes new refl, tt) }
+      record {
+        base_ids = h.base_ids;
+        document_ids =
+            all-append OfIds s.documents (new.document ∷ []) h.document_ids (goes new refl, tt);
+      }
 
-  ids-again : (s : State) (version cause : ℕ) (us rs : List Done) → AllIds s → AllIds (record (again s version cause) { undo = us; redo = rs })
+  ids-again : (s : State) (version cause : ℕ) (us rs : List Done) → AllIds s
+      → AllIds (record (again s version cause) { undo = us; redo = rs })
   ids-again s version cause us rs h = record {
     base_ids = h.base_ids;
-    document_ids = all-append OfIds s.documents (option_to_list (slice_get s.documents version)) h.document_ids (got OfIds s.documents version h.document_ids);
+    document_ids = all-append OfIds s.documents (option_to_list (slice_get s.documents version)) h.document_ids
+        (got OfIds s.documents version h.document_ids);
   }
 
   ids-undo : (s : State) (named : Option ℕ) (ds : List Done) → AllIds s → AllIds (undo_answer s named ds).state
   ids-undo s named [] h = h
   ids-undo s named (d ∷ ds) h =
       cond_both (λ a. AllIds a.state) (names named d.group)
-      (record { reply = changed (latest s + 1) d.group s.next_id; state = record (again s d.before d.after) { undo = ds; redo = d ∷ s.redo } })
+      (record {
+        reply = changed (latest s + 1) d.group s.next_id;
+        state =
+            record (again s d.before d.after) { undo = ds; redo = d ∷ s.redo };
+      })
       (stays s (not_top d.group)) (ids-again s d.before d.after ds (d ∷ s.redo) h) h
 
   ids-redo : (s : State) (ds : List Done) → AllIds s → AllIds (redo_answer s ds).state
@@ -277,7 +312,8 @@ module _ (P : ℕ → Type 0) (base : Document) where
       let old : At = record { document = document_at base s (latest s); next = s.next_id } in
       let old_is : IsAt old = there (Below s.next_id) base s.documents (latest s) h.base_is h.documents in
       let old_ids : OfIds old.document = there OfIds base s.documents (latest s) all.base_ids all.document_ids in
-      cond_both (λ a. AllIds a.state) (names guard (latest s)) (made s old edits tables (apply_group old edits tables)) (stays s (moved (latest s)))
+      cond_both (λ a. AllIds a.state) (names guard (latest s)) (made s old edits tables (apply_group old edits tables))
+      (stays s (moved (latest s)))
       (ids-made s edits tables (apply_group old edits tables) all
       (λ new e. group_all P 0 old new edits tables old_is is.0 is.1 room e (λ id low high. fresh id low) old_ids))
       all
@@ -298,7 +334,8 @@ module _ (P : ℕ → Type 0) (base : Document) where
       → ((id : ℕ) → s.next_id ≤ id → P id) → AllIds s → AllIds (replay_from base s es)
   ids-replay_from s [] h are room fresh all = all
   ids-replay_from s (e ∷ es) h are room fresh all =
-      let counted : ids_asked (e ∷ es) ≡ count_by makes_node (edits_in e.kind) + ids_asked es = sum_by-cons (λ x. count_by makes_node (edits_in x.kind)) e es in
+      let counted : ids_asked (e ∷ es) ≡ count_by makes_node (edits_in e.kind) + ids_asked es =
+      sum_by-cons (λ x. count_by makes_node (edits_in x.kind)) e es in
       let enough : s.next_id + count_by makes_node (edits_in e.kind) ≤ 2 ^ 32 = omega (arith, counted, room) in
       let one = goes-kind base s e e.kind h are.0 enough in
       let grows = one.grows in
@@ -322,11 +359,17 @@ module _ (P : ℕ → Type 0) (base : Document) where
       → AllByRecursion P (ids (document_of base (es ++ more) version).nodes)
   ids_of_more es more version h are room before fresh =
       let K : Entry → Type 0 = λ e. AsksEdits e.kind in
-      let counted : ids_asked (es ++ more) ≡ ids_asked es + ids_asked more = sum_by-append (λ x. count_by makes_node (edits_in x.kind)) es more in
+      let counted : ids_asked (es ++ more) ≡ ids_asked es + ids_asked more =
+      sum_by-append (λ x. count_by makes_node (edits_in x.kind)) es more in
       let first = run_limited base es h (all-left K es more are) (omega (arith, counted, room)) in
       let next_is = first.next_is in
       let start : AllIds (replay base es) =
-      record { base_ids = past_all (replay base es).documents before; document_ids = each_document (replay base es).documents before } in
-      let ended = ids-replay_from (replay base es) more first.limited (all-right K es more are) (omega (arith, next_is, counted, room)) fresh start in
+      record {
+        base_ids = past_all (replay base es).documents before;
+        document_ids =
+            each_document (replay base es).documents before;
+      } in
+      let ended = ids-replay_from (replay base es) more first.limited (all-right K es more are)
+      (omega (arith, next_is, counted, room)) fresh start in
       let whole : AllIds (replay base (es ++ more)) = subst AllIds (sym (replay-append base es more)) ended in
       there OfIds base (replay base (es ++ more)).documents version whole.base_ids whole.document_ids

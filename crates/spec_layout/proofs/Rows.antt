@@ -13,7 +13,13 @@ use Rattle.spec_props.specs.Layout.{property_list}
 use Rattle.spec_layout.specs.Layout.{Item, item_values, Written}
 
 abbrev one : List ℕ
-one = 103 ∷ 105 ∷ 109 ∷ 112 ∷ 32 ∷ 120 ∷ 99 ∷ 102 ∷ 32 ∷ 102 ∷ 105 ∷ 108 ∷ 101 ∷ 0 ∷ 0 ∷ 0 ∷ 0 ∷ 1 ∷ 0 ∷ 0 ∷ 0 ∷ 1 ∷ 0 ∷ 0 ∷ 0 ∷ 0 ∷ 0 ∷ 0 ∷ 0 ∷ 17 ∷ 0 ∷ 0 ∷ 0 ∷ 1 ∷ 0 ∷ 0 ∷ 0 ∷ 0 ∷ 0 ∷ 0 ∷ 0 ∷ 0 ∷ 0 ∷ 0 ∷ 0 ∷ 0 ∷ 55 ∷ 0 ∷ 0 ∷ 0 ∷ 0 ∷ 0 ∷ 0 ∷ 0 ∷ 0 ∷ 0 ∷ 0 ∷ 0 ∷ 1 ∷ 0 ∷ 0 ∷ 0 ∷ 1 ∷ 0 ∷ 0 ∷ 0 ∷ 1 ∷ 0 ∷ 0 ∷ 0 ∷ 2 ∷ 65 ∷ 0 ∷ 0 ∷ 0 ∷ 0 ∷ 6 ∷ 0 ∷ 0 ∷ 0 ∷ 4 ∷ 0 ∷ 0 ∷ 0 ∷ 255 ∷ 0 ∷ 0 ∷ 0 ∷ 7 ∷ 0 ∷ 0 ∷ 0 ∷ 4 ∷ 0 ∷ 0 ∷ 0 ∷ 0 ∷ 0 ∷ 0 ∷ 0 ∷ 8 ∷ 0 ∷ 0 ∷ 0 ∷ 4 ∷ 0 ∷ 0 ∷ 0 ∷ 1 ∷ 0 ∷ 0 ∷ 0 ∷ 11 ∷ 0 ∷ 0 ∷ 0 ∷ 4 ∷ 0 ∷ 0 ∷ 0 ∷ 1 ∷ 0 ∷ 0 ∷ 0 ∷ 15 ∷ 0 ∷ 0 ∷ 0 ∷ 8 ∷ 0 ∷ 0 ∷ 0 ∷ 0 ∷ 0 ∷ 0 ∷ 0 ∷ 0 ∷ 0 ∷ 0 ∷ 0 ∷ 0 ∷ 0 ∷ 0 ∷ 0 ∷ 0 ∷ 0 ∷ 0 ∷ 0 ∷ 153 ∷ 0 ∷ 0 ∷ 0 ∷ 0 ∷ 0 ∷ 0 ∷ 0 ∷ 1 ∷ 0 ∷ 0 ∷ 0 ∷ 1 ∷ 0 ∷ 0 ∷ 0 ∷ 4 ∷ 0 ∷ 0 ∷ 0 ∷ 173 ∷ 0 ∷ 0 ∷ 0 ∷ 0 ∷ 0 ∷ 0 ∷ 0 ∷ 1 ∷ 0 ∷ 0 ∷ 0 ∷ 1 ∷ 0 ∷ 0 ∷ 0 ∷ 189 ∷ 0 ∷ 0 ∷ 0 ∷ 0 ∷ 200 ∷ 100 ∷ 50 ∷ 255 ∷ []
+one = 103 ∷ 105 ∷ 109 ∷ 112 ∷ 32 ∷ 120 ∷ 99 ∷ 102 ∷ 32 ∷ 102 ∷ 105 ∷ 108 ∷ 101 ∷ 0 ∷ 0 ∷ 0 ∷ 0 ∷ 1 ∷ 0 ∷ 0 ∷ 0 ∷ 1 ∷ 0 ∷ 0 ∷ 0 ∷ 0
+    ∷ 0 ∷ 0 ∷ 0 ∷ 17 ∷ 0 ∷ 0 ∷ 0 ∷ 1 ∷ 0 ∷ 0 ∷ 0 ∷ 0 ∷ 0 ∷ 0 ∷ 0 ∷ 0 ∷ 0 ∷ 0 ∷ 0 ∷ 0 ∷ 55 ∷ 0 ∷ 0 ∷ 0 ∷ 0 ∷ 0 ∷ 0 ∷ 0 ∷ 0 ∷ 0 ∷ 0
+    ∷ 0 ∷ 1 ∷ 0 ∷ 0 ∷ 0 ∷ 1 ∷ 0 ∷ 0 ∷ 0 ∷ 1 ∷ 0 ∷ 0 ∷ 0 ∷ 2 ∷ 65 ∷ 0 ∷ 0 ∷ 0 ∷ 0 ∷ 6 ∷ 0 ∷ 0 ∷ 0 ∷ 4 ∷ 0 ∷ 0 ∷ 0 ∷ 255 ∷ 0 ∷ 0 ∷ 0
+    ∷ 7 ∷ 0 ∷ 0 ∷ 0 ∷ 4 ∷ 0 ∷ 0 ∷ 0 ∷ 0 ∷ 0 ∷ 0 ∷ 0 ∷ 8 ∷ 0 ∷ 0 ∷ 0 ∷ 4 ∷ 0 ∷ 0 ∷ 0 ∷ 1 ∷ 0 ∷ 0 ∷ 0 ∷ 11 ∷ 0 ∷ 0 ∷ 0 ∷ 4 ∷ 0 ∷ 0 ∷ 0
+    ∷ 1 ∷ 0 ∷ 0 ∷ 0 ∷ 15 ∷ 0 ∷ 0 ∷ 0 ∷ 8 ∷ 0 ∷ 0 ∷ 0 ∷ 0 ∷ 0 ∷ 0 ∷ 0 ∷ 0 ∷ 0 ∷ 0 ∷ 0 ∷ 0 ∷ 0 ∷ 0 ∷ 0 ∷ 0 ∷ 0 ∷ 0 ∷ 0 ∷ 153 ∷ 0 ∷ 0
+    ∷ 0 ∷ 0 ∷ 0 ∷ 0 ∷ 0 ∷ 1 ∷ 0 ∷ 0 ∷ 0 ∷ 1 ∷ 0 ∷ 0 ∷ 0 ∷ 4 ∷ 0 ∷ 0 ∷ 0 ∷ 173 ∷ 0 ∷ 0 ∷ 0 ∷ 0 ∷ 0 ∷ 0 ∷ 0 ∷ 1 ∷ 0 ∷ 0 ∷ 0 ∷ 1 ∷ 0
+    ∷ 0 ∷ 0 ∷ 189 ∷ 0 ∷ 0 ∷ 0 ∷ 0 ∷ 200 ∷ 100 ∷ 50 ∷ 255 ∷ []
 
 abbrev one_document : Document
 one_document = record {
@@ -23,7 +29,19 @@ one_document = record {
   compression = 0;
   colours = [];
   kept = [];
-  nodes = leaf 1 (record { name = 65 ∷ []; opacity = 255; mode = Normal; visible = true; kept = []; kind = 1; x = pos 0; y = pos 0; plane = record { width = 1; height = 1; bpp = 4; bytes = 200 ∷ 100 ∷ 50 ∷ 255 ∷ [] }; mask = None; apply_mask = true }) none;
+  nodes = leaf 1 (record {
+    name = 65 ∷ [];
+    opacity = 255;
+    mode = Normal;
+    visible = true;
+    kept = [];
+    kind = 1;
+    x = pos 0;
+    y = pos 0;
+    plane = record { width = 1; height = 1; bpp = 4; bytes = 200 ∷ 100 ∷ 50 ∷ 255 ∷ [] };
+    mask = None;
+    apply_mask = true;
+  }) none;
   channels = [];
   selection = None;
 }
@@ -59,7 +77,10 @@ coded = slice_set (take 189 one) 34 1 ++ coded_tile
 
 -- one code that gives one byte
 one_code : (b : ℕ) → b < 256 → Spells (0 ∷ b ∷ []) (b ∷ [])
-one_code b small = (short_run 1 b ∷ [], record { few = lit≤ tt; each = ((lit≤ tt, lit≤ tt, small), tt); ends = lit< tt; spelled = refl; given = refl })
+one_code b small = (
+  short_run 1 b ∷ [],
+  record { few = lit≤ tt; each = ((lit≤ tt, lit≤ tt, small), tt); ends = lit< tt; spelled = refl; given = refl },
+)
 
 coded_written : Written coded coded_document
 coded_written = record {
@@ -137,5 +158,6 @@ deep_group = record {
 
 -- the properties of a group at depth 2: its mark and its path come first
 group_properties : property_list (item_values deep_group) deep_group.kept
-    ≡ words (29 ∷ 0 ∷ 30 ∷ 8 ∷ 0 ∷ 3 ∷ 6 ∷ 4 ∷ 255 ∷ 7 ∷ 4 ∷ 0 ∷ 8 ∷ 4 ∷ 1 ∷ 11 ∷ 4 ∷ 1 ∷ 15 ∷ 8 ∷ 0 ∷ 4294967295 ∷ 20 ∷ 1 ∷ []) ++ 7 ∷ words (0 ∷ 0 ∷ [])
+    ≡ words (29 ∷ 0 ∷ 30 ∷ 8 ∷ 0 ∷ 3 ∷ 6 ∷ 4 ∷ 255 ∷ 7 ∷ 4 ∷ 0 ∷ 8 ∷ 4 ∷ 1 ∷ 11 ∷ 4 ∷ 1 ∷ 15 ∷ 8 ∷ 0 ∷ 4294967295 ∷ 20 ∷ 1 ∷ [])
+    ++ 7 ∷ words (0 ∷ 0 ∷ [])
 group_properties = refl

@@ -18,11 +18,13 @@ use Rattle.spec_merged.proofs.Merged.{last_is_outcome}
 abbrev owner : ℕ → ℕ
 owner id = if nat_le id 5 then id - 2 else id - 3
 
-all_times : {A : Type 0} (P : A → Type 0) (draws : Draws A) → ((s : ℕ) → P (draws s).what) → (n s : ℕ) → AllByRecursion P (times n draws s).what
+all_times : {A : Type 0} (P : A → Type 0) (draws : Draws A) → ((s : ℕ) → P (draws s).what) → (n s : ℕ)
+    → AllByRecursion P (times n draws s).what
 all_times P draws each zero s = tt
 all_times P draws each (suc n) s = (each s, all_times P draws each n (draws s).state)
 
-all_behind : {A : Type 0} (P : A → Type 0) (xs ys : List A) → AllByRecursion P xs → AllByRecursion P ys → AllByRecursion P (xs ++ ys)
+all_behind : {A : Type 0} (P : A → Type 0) (xs ys : List A) → AllByRecursion P xs → AllByRecursion P ys
+    → AllByRecursion P (xs ++ ys)
 all_behind P [] ys front back = back
 all_behind P (x ∷ xs) ys front back = (front.0, all_behind P xs ys front.1 back)
 
@@ -35,7 +37,8 @@ module _ (session : ℕ) (own : owner (layer_of_session session) ≡ session) wh
       let layer = layer_of_session session in
       let fills = (times 32 (fill layer) s).what in
       let next = (times 32 (fill layer) s).state in
-      all_behind (IsOwnLine owner session) fills ((tile next).what ∷ []) (all_times (IsOwnLine owner session) (fill layer) own_fill 32 s) (tt, tt)
+      all_behind (IsOwnLine owner session) fills ((tile next).what ∷ [])
+      (all_times (IsOwnLine owner session) (fill layer) own_fill 32 s) (tt, tt)
 
   own_parts : (parts : List (List Line)) → AllByRecursion (AllByRecursion (IsOwnLine owner session)) parts
       → AllByRecursion (IsOwnLine owner session) (flat_map (λ (p : List Line). p) parts)
@@ -48,7 +51,8 @@ module _ (session : ℕ) (own : owner (layer_of_session session) ≡ session) wh
   own_session s =
       let parts = (times 3 (fills_and_tile (layer_of_session session)) s).what in
       all_behind (IsOwnLine owner session) (flat_map (λ (p : List Line). p) parts) (save ∷ [])
-      (own_parts parts (all_times (AllByRecursion (IsOwnLine owner session)) (fills_and_tile (layer_of_session session)) own_part 3 s)) (tt, tt)
+      (own_parts parts (all_times (AllByRecursion (IsOwnLine owner session))
+      (fills_and_tile (layer_of_session session)) own_part 3 s)) (tt, tt)
 
 own_sessions : (n first s : ℕ) → ((k : ℕ) → k < n → owner (layer_of_session (first + k)) ≡ first + k)
     → AreOwn owner first (for_each (count_from first n) session_lines s).what

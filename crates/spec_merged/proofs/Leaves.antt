@@ -24,5 +24,7 @@ module _ {L G : Type 0} where
   pub with_leaf-all_leaves : (id : ℕ) (change : L → L) (f : ℕ → L → L) (n : Forest L G)
       → with_leaf id change (all_leaves f n) ≡ all_leaves (λ i l. cond (eqb id i) (change (f i l)) (f i l)) n
   with_leaf-all_leaves id change f none = refl
-  with_leaf-all_leaves id change f (leaf i w u) = λ k. leaf i (cond (eqb id i) (change (f i w)) (f i w)) (with_leaf-all_leaves id change f u k)
-  with_leaf-all_leaves id change f (group i w c u) = λ k. group i w (with_leaf-all_leaves id change f c k) (with_leaf-all_leaves id change f u k)
+  with_leaf-all_leaves id change f (leaf i w u) =
+      λ k. leaf i (cond (eqb id i) (change (f i w)) (f i w)) (with_leaf-all_leaves id change f u k)
+  with_leaf-all_leaves id change f (group i w c u) =
+      λ k. group i w (with_leaf-all_leaves id change f c k) (with_leaf-all_leaves id change f u k)

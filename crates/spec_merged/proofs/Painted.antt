@@ -19,7 +19,8 @@ use Rattle.spec_merged.proofs.Leaves.{all_leaves}
 abbrev pub with_nodes : Document → Nodes → Document
 with_nodes d nodes = record d { nodes = nodes }
 
-selected_same : (o : Option Channel) (d : Document) (nodes : Nodes) (x y : ℤ) → selected_in o (with_nodes d nodes) x y ≡ selected_in o d x y
+selected_same : (o : Option Channel) (d : Document) (nodes : Nodes) (x y : ℤ)
+    → selected_in o (with_nodes d nodes) x y ≡ selected_in o d x y
 selected_same None d nodes x y = refl
 selected_same (Some s) d nodes x y = refl
 
@@ -75,7 +76,8 @@ like_or_else (a_group g b) nothing x y p q = absurd p
 like_or_else (a_group g b) (a_leaf m) x y p q = absurd p
 like_or_else (a_group g b) (a_group h c) x y p q = tt
 
-like_found : (change : ℕ → Layer → Layer) → KeepsLike change → (id : ℕ) (n : Nodes) → AreLike (find id (all_leaves change n)) (find id n)
+like_found : (change : ℕ → Layer → Layer) → KeepsLike change → (id : ℕ) (n : Nodes)
+    → AreLike (find id (all_leaves change n)) (find id n)
 like_found change keeps id none = tt
 like_found change keeps id (leaf i l u) = go (eqb id i) (like_found change keeps id u) where
   go : (b : Bool) → AreLike (find id (all_leaves change u)) (find id u)
@@ -86,8 +88,10 @@ like_found change keeps id (group i g c u) =
     go (eqb id i)
     (like_or_else (find id (all_leaves change c)) (find id c) (find id (all_leaves change u)) (find id u)
     (like_found change keeps id c) (like_found change keeps id u)) where
-      go : (b : Bool) → AreLike (or_else (find id (all_leaves change c)) (find id (all_leaves change u))) (or_else (find id c) (find id u))
-          → AreLike (cond b (a_group g (all_leaves change c)) (or_else (find id (all_leaves change c)) (find id (all_leaves change u))))
+      go : (b : Bool) → AreLike (or_else (find id (all_leaves change c)) (find id (all_leaves change u)))
+          (or_else (find id c) (find id u))
+          → AreLike (cond b (a_group g (all_leaves change c))
+          (or_else (find id (all_leaves change c)) (find id (all_leaves change u))))
           (cond b (a_group g c) (or_else (find id c) (find id u)))
       go true rest = tt
       go false rest = rest
@@ -95,10 +99,12 @@ like_found change keeps id (group i g c u) =
 -- the rules of a fill, of what stands at its id
 abbrev fill_rules : (id : ℕ) (rect : Rect) (pixel : List ℕ) → Found Layer Group → Option EditRefused
 fill_rules id rect pixel found = first (
-    no_node_found id found ∷ is_group_found id found ∷ of_leaf (λ l. unless (lies_on l.plane.width l.plane.height rect) OutsideLayer) found
+    no_node_found id found ∷ is_group_found id found
+    ∷ of_leaf (λ l. unless (lies_on l.plane.width l.plane.height rect) OutsideLayer) found
     ∷ of_leaf (λ l. unless (length pixel == 1 * bytes_of_kind l.kind) OtherType) found ∷ [])
 
-rules_alike : (id : ℕ) (rect : Rect) (pixel : List ℕ) (a b : Found Layer Group) → AreLike a b → fill_rules id rect pixel a ≡ fill_rules id rect pixel b
+rules_alike : (id : ℕ) (rect : Rect) (pixel : List ℕ) (a b : Found Layer Group) → AreLike a b
+    → fill_rules id rect pixel a ≡ fill_rules id rect pixel b
 rules_alike id rect pixel nothing nothing like = refl
 rules_alike id rect pixel nothing (a_leaf m) like = absurd like
 rules_alike id rect pixel nothing (a_group h c) like = absurd like

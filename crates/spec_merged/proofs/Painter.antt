@@ -11,7 +11,8 @@ use Rattle.spec_edit.specs.Effect.{paint, change_leaf}
 use Rattle.spec_history.specs.Machine.{Call, edit}
 use Rattle.spec_script.specs.Script.{Line, call, save, forget}
 use Rattle.spec_merged.proofs.Leaves.{all_leaves, with_leaf-all_leaves}
-use Rattle.spec_merged.proofs.Painted.{with_nodes, paint-nodes, KeepsLike, IsLike, like_itself, like_both, like_painted, refusal-like}
+use Rattle.spec_merged.proofs.Painted.{with_nodes, paint-nodes, KeepsLike, IsLike, like_itself, like_both}
+use Rattle.spec_merged.proofs.Painted.{like_painted, refusal-like}
 
 -- ---- a fill, refused or not
 
@@ -30,7 +31,8 @@ painted_unless (Some r) base id rect pixel i l = l
 abbrev pub painted : Document → (id : ℕ) → Rect → (pixel : List ℕ) → (i : ℕ) → Layer → Layer
 painted base id rect pixel i l = painted_unless (refusal base (fill id rect pixel)) base id rect pixel i l
 
-like_painted_unless : (r : Option EditRefused) (base : Document) (id : ℕ) (rect : Rect) (pixel : List ℕ) → KeepsLike (painted_unless r base id rect pixel)
+like_painted_unless : (r : Option EditRefused) (base : Document) (id : ℕ) (rect : Rect) (pixel : List ℕ)
+    → KeepsLike (painted_unless r base id rect pixel)
 like_painted_unless None base id rect pixel i l = go (eqb id i) where
   go : (b : Bool) → IsLike (cond b (paint base rect (λ x y c. slice_index pixel c) l) l) l
   go true = like_painted base rect (λ x y c. slice_index pixel c) l
@@ -45,16 +47,20 @@ changed_leaves base change = with_nodes base (all_leaves change base.nodes)
 pub filled-leaves : (base : Document) (change : ℕ → Layer → Layer) → KeepsLike change → (id : ℕ) (rect : Rect) (pixel : List ℕ)
     → filled (changed_leaves base change) id rect pixel ≡ changed_leaves base (λ i l. painted base id rect pixel i (change i l))
 filled-leaves base change keeps id rect pixel =
-    ap (λ (r : Option EditRefused). filled_unless r (changed_leaves base change) id rect pixel) (refusal-like base change keeps id rect pixel)
+    ap (λ (r : Option EditRefused). filled_unless r (changed_leaves base change) id rect pixel)
+    (refusal-like base change keeps id rect pixel)
     ∙ go (refusal base (fill id rect pixel)) where
       byte : ℕ → ℕ → ℕ → ℕ
       byte x y c = slice_index pixel c
 
       go : (r : Option EditRefused)
-          → filled_unless r (changed_leaves base change) id rect pixel ≡ changed_leaves base (λ i l. painted_unless r base id rect pixel i (change i l))
+          → filled_unless r (changed_leaves base change) id rect pixel
+          ≡ changed_leaves base (λ i l. painted_unless r base id rect pixel i (change i l))
       go (Some r) = refl
       go None =
-          (λ k. with_nodes base (with_leaf id (λ l. paint-nodes base (all_leaves change base.nodes) rect (λ x y c. slice_index pixel c) l k) (all_leaves change base.nodes)))
+          (λ k. with_nodes base (with_leaf id
+          (λ l. paint-nodes base (all_leaves change base.nodes) rect (λ x y c. slice_index pixel c) l k)
+          (all_leaves change base.nodes)))
           ∙ ap (with_nodes base) (with_leaf-all_leaves id (paint base rect (λ x y c. slice_index pixel c)) change base.nodes)
 
 -- ---- lines
@@ -107,4 +113,5 @@ along_all base (lines ∷ lists) i l = along_all base lists i (along base lines 
 pub like_along : (base : Document) (lines : List Line) → KeepsLike (along base lines)
 like_along base [] i l = like_itself l
 like_along base (line ∷ lines) i l =
-    like_both (along base lines i (painter base line i l)) (painter base line i l) l (like_along base lines i (painter base line i l)) (like_painter base line i l)
+    like_both (along base lines i (painter base line i l)) (painter base line i l) l
+    (like_along base lines i (painter base line i l)) (like_painter base line i l)

@@ -21,7 +21,8 @@ abbrev pub last : Document → State → Document
 last base s = document_at base s (latest s)
 
 -- what a document is that is put behind all
-last_of : (base : Document) (ds : List Document) (d : Document) → unwrap_or (slice_get (ds ++ d ∷ []) (length (ds ++ d ∷ []) - 1)) base ≡ d
+last_of : (base : Document) (ds : List Document) (d : Document)
+    → unwrap_or (slice_get (ds ++ d ∷ []) (length (ds ++ d ∷ []) - 1)) base ≡ d
 last_of base ds d =
     let place : length (ds ++ d ∷ []) - 1 ≡ length ds = let l = length-append ds (d ∷ []) in omega (arith, l) in
     ap (λ (n : ℕ). unwrap_or (slice_get (ds ++ d ∷ []) n) base) place
@@ -35,15 +36,18 @@ last-fill base s tables id rect pixel = go (refusal (last base s) (fill id rect 
   old : At
   old = record { document = document_at base s (latest s); next = s.next_id }
 
-  go : (r : Option EditRefused) → last base (made s (record { document = document_at base s (latest s); next = s.next_id }) (fill id rect pixel ∷ []) tables
-      (after 0 (unless_refused r (record { document = filled_unless None (last base s) id rect pixel; next = s.next_id })) (λ (mid : At). Ok mid))).state
+  go : (r : Option EditRefused) → last base
+      (made s (record { document = document_at base s (latest s); next = s.next_id }) (fill id rect pixel ∷ []) tables
+      (after 0 (unless_refused r (record { document = filled_unless None (last base s) id rect pixel; next = s.next_id }))
+      (λ (mid : At). Ok mid))).state
       ≡ filled_unless r (last base s) id rect pixel
   go None = last_of base s.documents (filled_unless None (last base s) id rect pixel)
   go (Some r) = refl
 
 module _ (owner : ℕ → ℕ) (session : ℕ) (base : Document) (change : ℕ → Layer → Layer) (keeps : KeepsLike change) where
   -- a call of its session, behind a change of the leaves
-  pub last-call : (s : State) (c : Call) (tables : List (List ℕ)) → IsOwnCall owner session c → last base s ≡ changed_leaves base change
+  pub last-call : (s : State) (c : Call) (tables : List (List ℕ)) → IsOwnCall owner session c
+      → last base s ≡ changed_leaves base change
       → last base (answer base s c tables).state ≡ changed_leaves base (λ i l. painter_call base c i (change i l))
   last-call s (edit guard es) tables own at =
       ap (λ (g : Option ℕ). last base (answer base s (edit g es) tables).state) own.unguarded

@@ -1,5 +1,7 @@
 -- What a list of properties that stands in a file of bytes says is within the limits of a document.
-use Rattle.std.proofs.Common.{◌≡◌, ℕ, zero, suc, ◌+◌, ◌*◌, ◌^◌, ◌<◌, ◌≤◌, min, Bool, true, false, cond, not, ◌||◌, ◌&&◌, pos, List, [], ◌∷◌, length, take, drop, map, filter, slice_index, refl, sym, ap, subst, arith}
+use Rattle.std.proofs.Common.{◌≡◌, ℕ, zero, suc, ◌+◌, ◌*◌, ◌^◌, ◌<◌, ◌≤◌, min, Bool, true, false, cond, not, ◌||◌}
+use Rattle.std.proofs.Common.{◌&&◌, pos, List, [], ◌∷◌, length, take, drop, map, filter, slice_index, refl, sym, ap}
+use Rattle.std.proofs.Common.{subst, arith}
 use Rattle.std.specs.Prelude.{Ok, Err, Option, Some, None, option_map, unwrap_or, nat_le, ◌==◌, MatchBool, find, reverse}
 use Rattle.std.specs.List.{AllByRecursion}
 use Rattle.std.specs.Int.Signed.{le_z_yes}
@@ -8,7 +10,8 @@ use Rattle.std.proofs.lemmas.List.{reverse-append, length-take-le, length-drop}
 use Rattle.spec_grid.specs.Rect.{count_from}
 use Rattle.spec_document.specs.declared.Owner.{Owner}
 use Rattle.spec_document.specs.declared.Owner.TheVariants.{Image, Layer, Channel, Mask}
-use Rattle.spec_document.specs.Limits.{AreBytes, IsColour, IsKept, AreKept, is_offset, IsOffset, interprets, is_unit, is_unit_length}
+use Rattle.spec_document.specs.Limits.{AreBytes, IsColour, IsKept, AreKept, is_offset, IsOffset, interprets, is_unit}
+use Rattle.spec_document.specs.Limits.{is_unit_length}
 use Rattle.spec_fields.specs.declared.ReadRefused.{ReadRefused}
 use Rattle.spec_fields.specs.declared.Kind.TheVariants.{BadProperty}
 use Rattle.spec_fields.specs.Reading.{Read, fault}
@@ -17,7 +20,8 @@ use Rattle.spec_fields.proofs.Back.{bind_back, wants_back}
 use Rattle.spec_fields.proofs.All.{all_take, all_drop, all_append}
 use Rattle.spec_fields.proofs.FieldsBack.{one_read, name_has, bytes_below}
 use Rattle.spec_fields.proofs.Below.{has_word_below}
-use Rattle.spec_props.specs.Meaning.{Property, payload_word, payload_int, value_of, colour_number, colours_in, colours_of, compression_of, opacity_of, x_of, y_of, kept_of}
+use Rattle.spec_props.specs.Meaning.{Property, payload_word, payload_int, value_of, colour_number, colours_in}
+use Rattle.spec_props.specs.Meaning.{colours_of, compression_of, opacity_of, x_of, y_of, kept_of}
 use Rattle.spec_document.proofs.Offsets.{offset_is}
 use Rattle.spec_props.specs.Rules.{rule, rule_of}
 use Rattle.spec_props.specs.Unit.{names_end, named_end, length_up_to, unit_length, true_length}
@@ -25,17 +29,20 @@ use Rattle.spec_props.specs.Reading.{Properties, is_colour_map}
 use Rattle.spec_props.specs.Holds.{IsColourMap, HasProperty, Follow, HasProperties}
 use Rattle.spec_document.specs.declared.numbers.TheConstants.{COLOUR_MAP, COMPRESSION}
 
-pub stand : (file : List ℕ) (owner : Owner) (at : ℕ) (ps : List Property) (end : ℕ) → Follow file owner at ps end → AllByRecursion (HasProperty file owner) ps
+pub stand : (file : List ℕ) (owner : Owner) (at : ℕ) (ps : List Property) (end : ℕ) → Follow file owner at ps end
+    → AllByRecursion (HasProperty file owner) ps
 stand file owner at [] end f = tt
 stand file owner at (p ∷ ps) end f = (f.1, stand file owner (at + 8 + length p.payload) ps end f.2)
 
 module _ {X : Type 0} (Q : X → Type 0) where
   all_reverse : (xs : List X) → AllByRecursion Q xs → AllByRecursion Q (reverse xs)
   all_reverse [] h = tt
-  all_reverse (x ∷ xs) h = subst (AllByRecursion Q) (sym (reverse-append (x ∷ []) xs)) (all_append Q (reverse xs) (x ∷ []) (all_reverse xs h.1) (h.0, tt))
+  all_reverse (x ∷ xs) h = subst (AllByRecursion Q) (sym (reverse-append (x ∷ []) xs))
+      (all_append Q (reverse xs) (x ∷ []) (all_reverse xs h.1) (h.0, tt))
 
   -- what is found passes the test
-  find_holds : (test : X → Bool) (R : Option X → Type 0) → R None → ((x : X) → Q x → test x ≡ true → R (Some x)) → (xs : List X) → AllByRecursion Q xs → R (find test xs)
+  find_holds : (test : X → Bool) (R : Option X → Type 0) → R None → ((x : X) → Q x → test x ≡ true → R (Some x)) → (xs : List X)
+      → AllByRecursion Q xs → R (find test xs)
   find_holds test R none some [] h = none
   find_holds test R none some (x ∷ xs) h = by (test x) refl (find_holds test R none some xs h.1)
     where
@@ -44,13 +51,17 @@ module _ {X : Type 0} (Q : X → Type 0) where
       by false t rest = rest
 
 -- the value of the last property of a kind, where each such property has one of these values, and so has a list without one
-value_holds : {A : Type 0} (P : A → Type 0) (file : List ℕ) (owner : Owner) (kind : ℕ) (value : Property → A) (default : A) (ps : List Property)
-    → AllByRecursion (HasProperty file owner) ps → ((p : Property) → HasProperty file owner p → p.kind ≡ kind → P (value p)) → P default → P (value_of kind value default ps)
+value_holds : {A : Type 0} (P : A → Type 0) (file : List ℕ) (owner : Owner) (kind : ℕ) (value : Property
+    → A) (default : A) (ps : List Property)
+    → AllByRecursion (HasProperty file owner) ps → ((p : Property) → HasProperty file owner p → p.kind ≡ kind → P (value p))
+    → P default → P (value_of kind value default ps)
 value_holds P file owner kind value default ps h each none =
-    find_holds (HasProperty file owner) (λ p. p.kind == kind) (λ o. P (unwrap_or (option_map value o) default)) none (λ p q t. each p q (eqb-true p.kind kind t)) (reverse ps) (all_reverse (HasProperty file owner) ps h)
+    find_holds (HasProperty file owner) (λ p. p.kind == kind) (λ o. P (unwrap_or (option_map value o) default)) none
+    (λ p q t. each p q (eqb-true p.kind kind t)) (reverse ps) (all_reverse (HasProperty file owner) ps h)
 
 -- the rule holds, and so do the next ones
-rule_back : (holds : Bool) (refused : ReadRefused) (next : Option ReadRefused) → rule holds refused next ≡ None → (holds ≡ true) × (next ≡ None)
+rule_back : (holds : Bool) (refused : ReadRefused) (next : Option ReadRefused) → rule holds refused next ≡ None
+    → (holds ≡ true) × (next ≡ None)
 rule_back true refused next e = (refl, e)
 rule_back false refused next e = cc
 
@@ -58,7 +69,8 @@ rule_back false refused next e = cc
 abbrev of_kind : Property → ℕ → Property
 of_kind p kind = record { at = p.at; kind = kind; payload = p.payload }
 
-rule_at : (file : List ℕ) (owner : Owner) (p : Property) (kind : ℕ) → HasProperty file owner p → p.kind ≡ kind → rule_of owner (of_kind p kind) ≡ None
+rule_at : (file : List ℕ) (owner : Owner) (p : Property) (kind : ℕ) → HasProperty file owner p → p.kind ≡ kind
+    → rule_of owner (of_kind p kind) ≡ None
 rule_at file owner p kind h e = subst (λ k. rule_of owner (of_kind p k) ≡ None) e h.rules
 
 payload_bytes : (file : List ℕ) (owner : Owner) (p : Property) → AreBytes file → HasProperty file owner p → AreBytes p.payload
@@ -102,7 +114,8 @@ y_within file ps h =
     no_offset
 
 colours_numbered : (p : Property) (first n : ℕ) → AreBytes p.payload → 4 + 3 * (first + n) ≤ length p.payload
-    → (length (map (colour_number p) (count_from first n)) ≡ n) × AllByRecursion IsColour (map (colour_number p) (count_from first n))
+    → (length (map (colour_number p) (count_from first n)) ≡ n)
+    × AllByRecursion IsColour (map (colour_number p) (count_from first n))
 colours_numbered p first zero all fits = (refl, tt)
 colours_numbered p first (suc n) all fits =
     let more = colours_numbered p (suc first) n all (omega (arith, fits)) in
@@ -110,11 +123,14 @@ colours_numbered p first (suc n) all fits =
     let size : length (take 3 rest) ≡ 3 = length-take-le 3 rest (omega (arith, fits, length-drop (4 + 3 * first) p.payload)) in
     (ap suc more.0, ((size, all_take (λ b. b < 256) 3 rest (all_drop (λ b. b < 256) (4 + 3 * first) p.payload all)), more.1))
 
-pub colours_within : (file : List ℕ) (ps : List Property) → AreBytes file → AllByRecursion (HasProperty file Image) ps → (length (colours_of ps) ≤ 256) × AllByRecursion IsColour (colours_of ps)
+pub colours_within : (file : List ℕ) (ps : List Property) → AreBytes file → AllByRecursion (HasProperty file Image) ps
+    → (length (colours_of ps) ≤ 256) × AllByRecursion IsColour (colours_of ps)
 colours_within file ps all h =
     value_holds (λ cs. (length cs ≤ 256) × AllByRecursion IsColour cs) file Image 1 colours_in [] ps h
     (λ p q e. let t : (p.kind == COLOUR_MAP) ≡ true = eq-eqb p.kind 1 e in
-    let m : IsColourMap p = subst (λ b. MatchBool b (IsColourMap p) ((true_length file Image p.kind (p.at + 8) q.length_word ≡ length p.payload) × (q.length_word ≤ 2 ^ 24))) t q.length_is in
+    let m : IsColourMap p = subst (λ b.
+    MatchBool b (IsColourMap p) ((true_length file Image p.kind (p.at + 8) q.length_word ≡ length p.payload)
+    × (q.length_word ≤ 2 ^ 24))) t q.length_is in
     let c = colours_numbered p 0 (payload_word p 0) (payload_bytes file Image p all q) (omega (arith, m.2)) in
     (omega (arith, c.0, m.1), c.1))
     (omega arith, tt)
@@ -158,18 +174,23 @@ not_map Layer kind e = refl
 not_map Channel kind e = refl
 not_map Mask kind e = refl
 
-unit_ok : (file : List ℕ) (owner : Owner) (p : Property) → HasProperty file owner p → is_unit owner p.kind ≡ true → is_unit_length (length p.payload) ≡ true
+unit_ok : (file : List ℕ) (owner : Owner) (p : Property) → HasProperty file owner p → is_unit owner p.kind ≡ true
+    → is_unit_length (length p.payload) ≡ true
 unit_ok file Image p h u =
-    let a = rule_back (is_unit_length (length p.payload)) (fault BadProperty p.at) None (rule_at file Image p 24 h (eqb-true p.kind 24 u)) in a.0
+    let a = rule_back (is_unit_length (length p.payload)) (fault BadProperty p.at) None
+    (rule_at file Image p 24 h (eqb-true p.kind 24 u)) in a.0
 unit_ok file Layer p h u = cc
 unit_ok file Channel p h u = cc
 unit_ok file Mask p h u = cc
 
-is_kept : (file : List ℕ) (owner : Owner) (p : Property) → AreBytes file → HasProperty file owner p → interprets owner p.kind ≡ false → IsKept owner (record { kind = p.kind; payload = p.payload })
+is_kept : (file : List ℕ) (owner : Owner) (p : Property) → AreBytes file → HasProperty file owner p
+    → interprets owner p.kind ≡ false → IsKept owner (record { kind = p.kind; payload = p.payload })
 is_kept file owner p all h e =
     let m : (true_length file owner p.kind (p.at + 8) h.length_word ≡ length p.payload) × (h.length_word ≤ 2 ^ 24) =
-    subst (λ b. MatchBool b (IsColourMap p) ((true_length file owner p.kind (p.at + 8) h.length_word ≡ length p.payload) × (h.length_word ≤ 2 ^ 24))) (not_map owner p.kind e) h.length_is in
-    let short : true_length file owner p.kind (p.at + 8) h.length_word ≤ 2 ^ 24 = length_short (is_unit owner p.kind) _ _ (unit_short file (p.at + 8) h.length_word m.1) m.1 in
+    subst (λ b. MatchBool b (IsColourMap p) ((true_length file owner p.kind (p.at + 8) h.length_word ≡ length p.payload)
+    × (h.length_word ≤ 2 ^ 24))) (not_map owner p.kind e) h.length_is in
+    let short : true_length file owner p.kind (p.at + 8) h.length_word ≤ 2 ^ 24 =
+    length_short (is_unit owner p.kind) _ _ (unit_short file (p.at + 8) h.length_word m.1) m.1 in
     record {
       kind = has_word_below file p.at p.kind all h.kind;
       not_end = h.not_end;
@@ -179,14 +200,20 @@ is_kept file owner p all h e =
       unit = unit_ok file owner p h;
     }
 
-each_kept : (file : List ℕ) (owner : Owner) (ps : List Property) → AreBytes file → AllByRecursion (HasProperty file owner) ps → AllByRecursion (IsKept owner) (kept_of owner ps)
+each_kept : (file : List ℕ) (owner : Owner) (ps : List Property) → AreBytes file → AllByRecursion (HasProperty file owner) ps
+    → AllByRecursion (IsKept owner) (kept_of owner ps)
 each_kept file owner [] all h = tt
 each_kept file owner (p ∷ ps) all h = by (interprets owner p.kind) refl (each_kept file owner ps all h.1)
   where
     by : (b : Bool) → interprets owner p.kind ≡ b → AllByRecursion (IsKept owner) (kept_of owner ps)
-        → AllByRecursion (IsKept owner) (map (λ q. record { kind = q.kind; payload = q.payload }) (cond (not b) (p ∷ filter (λ q. not (interprets owner q.kind)) ps) (filter (λ q. not (interprets owner q.kind)) ps)))
+        → AllByRecursion (IsKept owner)
+        (map (λ q. record { kind = q.kind; payload = q.payload })
+        (cond (not b) (p ∷ filter (λ q. not (interprets owner q.kind)) ps)
+        (filter (λ q. not (interprets owner q.kind)) ps)))
     by true t rest = rest
     by false t rest = (is_kept file owner p all h.0 t, rest)
 
-pub kept_within : (file : List ℕ) (owner : Owner) (at : ℕ) (ps : Properties) → AreBytes file → HasProperties file owner at ps → AreKept owner (kept_of owner ps.list)
-kept_within file owner at ps all h = record { few = h.few_kept; each = each_kept file owner ps.list all (stand file owner at ps.list ps.end h.follow) }
+pub kept_within : (file : List ℕ) (owner : Owner) (at : ℕ) (ps : Properties) → AreBytes file → HasProperties file owner at ps
+    → AreKept owner (kept_of owner ps.list)
+kept_within file owner at ps all h =
+    record { few = h.few_kept; each = each_kept file owner ps.list all (stand file owner at ps.list ps.end h.follow) }

@@ -5,7 +5,8 @@ use Rattle.std.specs.List.{AllByRecursion}
 use Rattle.std.proofs.lemmas.List.{append-nil}
 use Rattle.spec_document.specs.Document.{Document}
 use Rattle.spec_history.specs.Machine.{Call, Reply, saved, save_fault, save_memory, Saving, State, latest, initial, answer}
-use Rattle.spec_history.specs.History.{Kind, asked, starts, ends, Entry, EndsWith, MayEnd, MayBe, after_entry, replay_from, replay, RunFrom, Run}
+use Rattle.spec_history.specs.History.{Kind, asked, starts, ends, Entry, EndsWith, MayEnd, MayBe, after_entry}
+use Rattle.spec_history.specs.History.{replay_from, replay, RunFrom, Run}
 use Rattle.spec_history.specs.History as history
 use Rattle.spec_history.proofs.Growing.{out-answer}
 use Rattle.spec_history.proofs.Versions.{IsSound, goes-answer}
@@ -42,11 +43,13 @@ later_versions : (a b : ℕ) → a ≤ b → (vs : List ℕ) → AllByRecursion 
 later_versions a b le [] all = tt
 later_versions a b le (v ∷ vs) all = (omega (arith, le, all.0), later_versions a b le vs all.1)
 
-pub one_more_name : (last : ℕ) (ns : List Named) (n : Named) → AllByRecursion (IsThere last) ns → IsThere last n → AllByRecursion (IsThere last) (ns ++ n ∷ [])
+pub one_more_name : (last : ℕ) (ns : List Named) (n : Named) → AllByRecursion (IsThere last) ns → IsThere last n
+    → AllByRecursion (IsThere last) (ns ++ n ∷ [])
 one_more_name last [] n all there = (there, tt)
 one_more_name last (m ∷ ns) n all there = (all.0, one_more_name last ns n all.1 there)
 
-one_more_version : (last : ℕ) (vs : List ℕ) (v : ℕ) → AllByRecursion (λ w. w ≤ last) vs → v ≤ last → AllByRecursion (λ w. w ≤ last) (vs ++ v ∷ [])
+one_more_version : (last : ℕ) (vs : List ℕ) (v : ℕ) → AllByRecursion (λ w. w ≤ last) vs → v ≤ last
+    → AllByRecursion (λ w. w ≤ last) (vs ++ v ∷ [])
 one_more_version last [] v all there = (there, tt)
 one_more_version last (w ∷ vs) v all there = (all.0, one_more_version last vs v all.1 there)
 
@@ -55,7 +58,8 @@ no_more_versions last vs all = subst (AllByRecursion (λ w. w ≤ last)) (sym (a
 
 -- ---- one entry
 
-pub answered_later : (base : Document) (s : State) (call : Call) (tables : List (List ℕ)) → IsSound s → latest s ≤ latest (answer base s call tables).state
+pub answered_later : (base : Document) (s : State) (call : Call) (tables : List (List ℕ)) → IsSound s
+    → latest s ≤ latest (answer base s call tables).state
 answered_later base s call tables sound = let more = (goes-answer base s call tables sound).more in omega (arith, more)
 
 sound_kind : (base : Document) (s : State) (e : Entry) (kind : Kind) → IsSound s → IsSound (history.after_kind base s e kind)
@@ -77,7 +81,13 @@ at_end : (last : ℕ) (ns : List Named) (vs : List ℕ) (out : Saving) (reply : 
     → IsBounded last (Some out) ns vs → IsBounded last None (after_end ns reply) (vs ++ [])
 at_end last ns vs out (saved v) said bounded =
     let there = bounded.out in
-    record { some = omega arith; names = (omega (arith, said, there), tt); out = tt; versions = no_more_versions last vs bounded.versions }
+    record {
+      some = omega arith;
+      names = (omega (arith, said, there), tt);
+      out = tt;
+      versions =
+          no_more_versions last vs bounded.versions;
+    }
 at_end last ns vs out (save_fault v) said bounded =
     let there = bounded.out in
     record {
@@ -90,14 +100,17 @@ at_end last ns vs out (save_memory v) said bounded =
     record { some = bounded.some; names = bounded.names; out = tt; versions = no_more_versions last vs bounded.versions }
 at_end last ns vs out reply said bounded = absurd said
 
-may_end : (last : ℕ) (ns : List Named) (vs : List ℕ) (out : Option Saving) (session index : ℕ) (reply : Reply) → MayEnd out session index reply
+may_end : (last : ℕ) (ns : List Named) (vs : List ℕ) (out : Option Saving) (session index : ℕ) (reply : Reply)
+    → MayEnd out session index reply
     → IsBounded last out ns vs → IsBounded last None (after_end ns reply) (vs ++ [])
 may_end last ns vs None session index reply may bounded = absurd may
 may_end last ns vs (Some out) session index reply may bounded = at_end last ns vs out reply may.2 bounded
 
-at_kind : (base : Document) (s : State) (earlier : List Entry) (e : Entry) (kind : Kind) (ns : List Named) (vs : List ℕ) → IsSound s → MayBe base s earlier e kind
+at_kind : (base : Document) (s : State) (earlier : List Entry) (e : Entry) (kind : Kind) (ns : List Named) (vs : List ℕ) → IsSound s
+    → MayBe base s earlier e kind
     → IsBounded (latest s) s.out ns vs
-    → IsBounded (latest (history.after_kind base s e kind)) (history.after_kind base s e kind).out (after_kind ns kind e.reply) (vs ++ versions_of kind e.reply)
+    → IsBounded (latest (history.after_kind base s e kind)) (history.after_kind base s e kind).out (after_kind ns kind e.reply) (vs
+    ++ versions_of kind e.reply)
 at_kind base s earlier e (asked call tables) ns vs sound may bounded =
     let t = (answer base s call tables).state in
     let le = answered_later base s call tables sound in
@@ -119,23 +132,33 @@ at_kind base s earlier e ends ns vs sound may bounded = may_end (latest s) ns vs
 
 -- ---- a history
 
-along : (base : Document) (s : State) (earlier es : List Entry) (ns : List Named) (vs : List ℕ) → IsSound s → RunFrom base s earlier es
+along : (base : Document) (s : State) (earlier es : List Entry) (ns : List Named) (vs : List ℕ) → IsSound s
+    → RunFrom base s earlier es
     → IsBounded (latest s) s.out ns vs
     → IsBounded (latest (replay_from base s es)) (replay_from base s es).out (fold after_one ns es) (vs ++ saved_versions es)
 along base s earlier [] ns vs sound run bounded =
-    record { some = bounded.some; names = bounded.names; out = bounded.out; versions = no_more_versions (latest s) vs bounded.versions }
+    record {
+      some = bounded.some;
+      names = bounded.names;
+      out = bounded.out;
+      versions =
+          no_more_versions (latest s) vs bounded.versions;
+    }
 along base s earlier (e ∷ es) ns vs sound run bounded =
-    let rest = along base (after_entry base s e) (earlier ++ e ∷ []) es (after_one ns e) (vs ++ versions_of e.kind e.reply) (sound_kind base s e e.kind sound) run.1
+    let rest = along base (after_entry base s e) (earlier ++ e ∷ []) es (after_one ns e) (vs
+    ++ versions_of e.kind e.reply) (sound_kind base s e e.kind sound) run.1
     (at_kind base s earlier e e.kind ns vs sound run.0 bounded) in
     let last = latest (replay_from base s (e ∷ es)) in
     record {
       some = rest.some;
       names = rest.names;
       out = rest.out;
-      versions = subst (AllByRecursion (λ v. v ≤ last)) (append_assoc vs (versions_of e.kind e.reply) (saved_versions es)) rest.versions;
+      versions =
+          subst (AllByRecursion (λ v. v ≤ last)) (append_assoc vs (versions_of e.kind e.reply) (saved_versions es)) rest.versions;
     }
 
 pub bounded : (base : Document) (es : List Entry) → Run base es
     → IsBounded (latest (replay base es)) (replay base es).out (names es) (saved_versions es)
 bounded base es run =
-    along base (initial base) [] es (the_old ∷ []) [] (record { some = omega arith; undo = tt; redo = tt }) run (record { some = omega arith; names = (tt, tt); out = tt; versions = tt })
+    along base (initial base) [] es (the_old ∷ []) [] (record { some = omega arith; undo = tt; redo = tt }) run
+    (record { some = omega arith; names = (tt, tt); out = tt; versions = tt })

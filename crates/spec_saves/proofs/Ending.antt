@@ -1,5 +1,6 @@
 -- A save ends, and the shelf comes back.
-use Rattle.std.proofs.Common.{◌≡◌, ◌⊎◌, inl, inr, ⊎_elim, ℕ, ◌+◌, ◌<◌, ◌≤◌, List, [], ◌∷◌, ◌++◌, length, cond, refl, sym, ◌∙◌, ap, subst, arith}
+use Rattle.std.proofs.Common.{◌≡◌, ◌⊎◌, inl, inr, ⊎_elim, ℕ, ◌+◌, ◌<◌, ◌≤◌, List, [], ◌∷◌, ◌++◌, length, cond, refl}
+use Rattle.std.proofs.Common.{sym, ◌∙◌, ap, subst, arith}
 use Rattle.std.specs.Prelude.{Option, Some, None, IsSome}
 use Rattle.spec_document.specs.Document.{Document}
 use Rattle.spec_history.specs.Machine.{Saving, latest}
@@ -17,7 +18,8 @@ use Rattle.spec_saves.proofs.Bounds.{IsOutThere, one_more_name, bounded}
 use Rattle.spec_saves.proofs.Staying.{names-snoc, save_faults-snoc, with_some, stays_version, stays_in, stays_saved}
 
 -- two names are not one
-two_names : (ns : List Named) (v : ℕ) (name : List ℕ) (opened now : Disk) → 0 < length ns → IsSettled (ns ++ version v ∷ []) name opened now
+two_names : (ns : List Named) (v : ℕ) (name : List ℕ) (opened now : Disk) → 0 < length ns
+    → IsSettled (ns ++ version v ∷ []) name opened now
 two_names [] v name opened now some = absurd (omega (arith, some))
 two_names (the_old ∷ []) v name opened now some = tt
 two_names (version w ∷ []) v name opened now some = tt
@@ -30,24 +32,31 @@ out_there last (Some out) there = there
 
 rose_once_more : (how : SaveEnd) (faults old mid new : ℕ) → RoseOften faults old mid → CountEnds how mid new
     → RoseOften (faults + cond (ends_by_fault ends (end_reply how 0)) 1 0) old new
-rose_once_more Done faults old mid new rose count = subst (λ n. RoseOften (faults + 0) old n) (sym count) (⊎_elim (λ le. inl (omega (arith, le))) (λ le. inr le) rose)
-rose_once_more Memory faults old mid new rose count = subst (λ n. RoseOften (faults + 0) old n) (sym count) (⊎_elim (λ le. inl (omega (arith, le))) (λ le. inr le) rose)
-rose_once_more Fault faults old mid new rose (inl less) = ⊎_elim (λ le. inl (omega (arith, le, less))) (λ le. inr (omega (arith, le, less))) rose
+rose_once_more Done faults old mid new rose count =
+    subst (λ n. RoseOften (faults + 0) old n) (sym count) (⊎_elim (λ le. inl (omega (arith, le))) (λ le. inr le) rose)
+rose_once_more Memory faults old mid new rose count =
+    subst (λ n. RoseOften (faults + 0) old n) (sym count) (⊎_elim (λ le. inl (omega (arith, le))) (λ le. inr le) rose)
+rose_once_more Fault faults old mid new rose (inl less) =
+    ⊎_elim (λ le. inl (omega (arith, le, less))) (λ le. inr (omega (arith, le, less))) rose
 rose_once_more Fault faults old mid new rose (inr stands) = inr (rw (stands.1, stands.0) (omega arith))
 
-module _ (name : List ℕ) (base : Document) (es : List Entry) (run : Run base es) (out : IsSome (replay base es).out) (session index : ℕ) (opened handed now : Disk) where
+module _ (name : List ℕ) (base : Document) (es : List Entry) (run : Run base es) (out : IsSome (replay base es).out)
+    (session index : ℕ) (opened handed now : Disk) where
   abbrev ended : SaveEnd → List Entry
   ended how = es ++ end_entry base es session index how ∷ []
 
   v_there : out_version base es ≤ latest (replay base es)
   v_there = out_there (latest (replay base es)) (replay base es).out (bounded base es run).out
 
-  left : (how : SaveEnd) → DiskReturns name base es how opened handed now → (since : ℕ) (c : Content) → since ≤ opened.moment → MightHaveLeft now name since c
+  left : (how : SaveEnd) → DiskReturns name base es how opened handed now → (since : ℕ) (c : Content) → since ≤ opened.moment
+      → MightHaveLeft now name since c
       → MightHaveLeft opened name since c ⊎ IsSaved base (ended how) c
   left how back since c le might =
-      ⊎_elim (λ was. inl was) (λ is. inr (stays_saved base es (end_entry base es session index how) run c is)) (back.left since c le might)
+      ⊎_elim (λ was. inl was) (λ is. inr (stays_saved base es (end_entry base es session index how) run c is))
+      (back.left since c le might)
 
-  done : opened.moment ≤ handed.moment → DiskReturns name base es Done opened handed now → DiskIsRight name base (ended Done) opened now
+  done : opened.moment ≤ handed.moment → DiskReturns name base es Done opened handed now
+      → DiskIsRight name base (ended Done) opened now
   done later back =
       let e = end_entry base es session index Done in
       let is : names (ended Done) ≡ version (out_version base es) ∷ [] = names-snoc es e in
@@ -61,12 +70,14 @@ module _ (name : List ℕ) (base : Document) (es : List Entry) (run : Run base e
         settled = subst (λ ns. IsSettled ns name opened now) (sym is) back.ends.1;
       }
 
-  fault : opened.moment ≤ handed.moment → DiskReturns name base es Fault opened handed now → DiskIsRight name base (ended Fault) opened now
+  fault : opened.moment ≤ handed.moment → DiskReturns name base es Fault opened handed now
+      → DiskIsRight name base (ended Fault) opened now
   fault later back =
       let e = end_entry base es session index Fault in
       let is : names (ended Fault) ≡ names es ++ version (out_version base es) ∷ [] = names-snoc es e in
       let all : files base es ≡ names es ++ version (out_version base es) ∷ [] = with_some (names es) (replay base es).out out in
-      let there = one_more_name (latest (replay base es)) (names es) (version (out_version base es)) (bounded base es run).names v_there in
+      let there = one_more_name (latest (replay base es)) (names es) (version (out_version base es))
+      (bounded base es run).names v_there in
       let back_later = back.later in
       record {
         later = omega (arith, later, back_later);
@@ -74,10 +85,12 @@ module _ (name : List ℕ) (base : Document) (es : List Entry) (run : Run base e
             (stays_in base es e opened name c (names es ++ version (out_version base es) ∷ []) there
             (subst (IsIn base es opened name c) all (back.ends c may)));
         left = left Fault back;
-        settled = subst (λ ns. IsSettled ns name opened now) (sym is) (two_names (names es) (out_version base es) name opened now (bounded base es run).some);
+        settled = subst (λ ns. IsSettled ns name opened now) (sym is)
+            (two_names (names es) (out_version base es) name opened now (bounded base es run).some);
       }
 
-  memory : opened.moment ≤ handed.moment → DiskReturns name base es Memory opened handed now → DiskIsRight name base (ended Memory) opened now
+  memory : opened.moment ≤ handed.moment → DiskReturns name base es Memory opened handed now
+      → DiskIsRight name base (ended Memory) opened now
   memory later back =
       let e = end_entry base es session index Memory in
       let is : names (ended Memory) ≡ names es = names-snoc es e in
@@ -90,13 +103,16 @@ module _ (name : List ℕ) (base : Document) (es : List Entry) (run : Run base e
         settled = subst (λ ns. IsSettled ns name opened now) (sym is) back.ends.1;
       }
 
-  ends_disk : (how : SaveEnd) → opened.moment ≤ handed.moment → DiskReturns name base es how opened handed now → DiskIsRight name base (ended how) opened now
+  ends_disk : (how : SaveEnd) → opened.moment ≤ handed.moment → DiskReturns name base es how opened handed now
+      → DiskIsRight name base (ended how) opened now
   ends_disk Done later back = done later back
   ends_disk Fault later back = fault later back
   ends_disk Memory later back = memory later back
 
-ends_contents : (name : List ℕ) (base : Document) (es : List Entry) (run : Run base es) (out : IsSome (replay base es).out) (session index : ℕ) (how : SaveEnd)
-    (opened handed now : Option Disk) → Between opened handed (DiskIsRight name base es) → Among opened handed now (DiskReturns name base es how)
+ends_contents : (name : List ℕ) (base : Document) (es : List Entry) (run : Run base es) (out : IsSome (replay base es).out)
+    (session index : ℕ) (how : SaveEnd)
+    (opened handed now : Option Disk) → Between opened handed (DiskIsRight name base es)
+    → Among opened handed now (DiskReturns name base es how)
     → Between opened now (DiskIsRight name base (es ++ end_entry base es session index how ∷ []))
 ends_contents name base es run out session index how None None None right back = tt
 ends_contents name base es run out session index how (Some o) (Some h) (Some n) right back =
@@ -113,13 +129,15 @@ fault_or_not Fault v = refl
 fault_or_not Memory v = refl
 
 -- where no save ended by a fault, this one did not either
-count_stays : (how : SaveEnd) (faults old mid new : ℕ) → faults + cond (ends_by_fault ends (end_reply how 0)) 1 0 ≡ 0 → CountEnds how mid new
+count_stays : (how : SaveEnd) (faults old mid new : ℕ) → faults + cond (ends_by_fault ends (end_reply how 0)) 1 0 ≡ 0
+    → CountEnds how mid new
     → (faults ≡ 0 → mid ≡ old) → new ≡ old
 count_stays Done faults old mid new none count stays = count ∙ stays (omega (arith, none))
 count_stays Memory faults old mid new none count stays = count ∙ stays (omega (arith, none))
 count_stays Fault faults old mid new none count stays = absurd (omega (arith, none))
 
-pub comes_back_right : (opening handed now : Known) (base : Document) (es : List Entry) (session index : ℕ) (how : SaveEnd) → Run base es → IsSome (replay base es).out
+pub comes_back_right : (opening handed now : Known) (base : Document) (es : List Entry) (session index : ℕ) (how : SaveEnd)
+    → Run base es → IsSome (replay base es).out
     → ShelfIsRight opening base es handed → Returns opening handed base es how now
     → ShelfIsRight opening base (es ++ end_entry base es session index how ∷ []) now
 comes_back_right opening handed now base es session index how run out right back =
@@ -131,6 +149,8 @@ comes_back_right opening handed now base es session index how run out right back
       reading = back.reading ∙ right.reading;
       saving_rose = subst (λ n. RoseOften n opening.saving now.saving) (sym faults)
           (rose_once_more how (save_faults es) opening.saving handed.saving now.saving right.saving_rose back.saving);
-      saving_stays = λ none. count_stays how (save_faults es) opening.saving handed.saving now.saving (sym faults ∙ none) back.saving right.saving_stays;
-      contents = ends_contents (file_name opening) base es run out session index how opening.disk handed.disk now.disk right.contents back.contents;
+      saving_stays = λ none. count_stays how (save_faults es) opening.saving handed.saving now.saving (sym faults
+          ∙ none) back.saving right.saving_stays;
+      contents = ends_contents (file_name opening) base es run out session index how opening.disk handed.disk now.disk
+          right.contents back.contents;
     }

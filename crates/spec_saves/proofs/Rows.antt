@@ -31,7 +31,8 @@ done base = refl
 
 -- one that failed leaves both, and once more where it fails again
 twice_failed : (base : Document)
-    → files base (entry 0 starts (saved 0) ∷ entry 0 ends (save_fault 0) ∷ entry 1 starts (saved 0) ∷ entry 1 ends (save_fault 0) ∷ [])
+    → files base (entry 0 starts (saved 0) ∷ entry 0 ends (save_fault 0) ∷ entry 1 starts (saved 0) ∷ entry 1 ends (save_fault 0)
+    ∷ [])
     ≡ the_old ∷ version 0 ∷ version 0 ∷ []
 twice_failed base = refl
 
@@ -40,13 +41,16 @@ no_memory : (base : Document) → files base (entry 0 starts (saved 0) ∷ entry
 no_memory base = refl
 
 -- a save names the version of its start, whatever is called beside it
-beside_calls : names (entry 0 starts (saved 0) ∷ entry 1 (asked (edit None []) []) (changed 1 1 2) ∷ entry 0 ends (saved 0) ∷ []) ≡ version 0 ∷ []
+beside_calls : names (entry 0 starts (saved 0) ∷ entry 1 (asked (edit None []) []) (changed 1 1 2) ∷ entry 0 ends (saved 0) ∷ [])
+    ≡ version 0 ∷ []
 beside_calls = refl
 
-counted : save_faults (entry 0 starts (saved 0) ∷ entry 0 ends (save_fault 0) ∷ entry 1 starts (saved 0) ∷ entry 1 ends (saved 0) ∷ []) ≡ 1
+counted : save_faults (entry 0 starts (saved 0) ∷ entry 0 ends (save_fault 0) ∷ entry 1 starts (saved 0) ∷ entry 1 ends (saved 0)
+    ∷ []) ≡ 1
 counted = refl
 
-both_started : saved_versions (entry 0 starts (saved 0) ∷ entry 0 ends (save_fault 0) ∷ entry 1 starts (saved 3) ∷ entry 1 ends (saved 3) ∷ []) ≡ 0 ∷ 3 ∷ []
+both_started : saved_versions (entry 0 starts (saved 0) ∷ entry 0 ends (save_fault 0) ∷ entry 1 starts (saved 3)
+    ∷ entry 1 ends (saved 3) ∷ []) ≡ 0 ∷ 3 ∷ []
 both_started = refl
 
 version_out : (base : Document) → out_version base (entry 0 starts (saved 0) ∷ []) ≡ 0

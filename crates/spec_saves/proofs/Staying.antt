@@ -1,5 +1,6 @@
 -- What the file may hold stays while entries come behind.
-use Rattle.std.proofs.Common.{◌≡◌, inl, inr, ⊎_elim, ℕ, ◌+◌, ◌<◌, ◌≤◌, List, [], ◌∷◌, ◌++◌, length, length-append, zero, suc, cond, refl, sym, ◌∙◌, subst, arith}
+use Rattle.std.proofs.Common.{◌≡◌, inl, inr, ⊎_elim, ℕ, ◌+◌, ◌<◌, ◌≤◌, List, [], ◌∷◌, ◌++◌, length, length-append}
+use Rattle.std.proofs.Common.{zero, suc, cond, refl, sym, ◌∙◌, subst, arith}
 use Rattle.std.specs.Prelude.{false, Contains, slice_index_or, Option, Some, None, IsSome}
 use Rattle.std.specs.List.{AllByRecursion}
 use Rattle.std.proofs.lemmas.List.{get_or_append_left}
@@ -13,7 +14,8 @@ use Rattle.spec_history.proofs.Growing.{document_of-append}
 use Rattle.xl_ports.specs.Shelf.{Content, absent, file}
 use Rattle.xl_ports.specs.Disk.{Disk, Between}
 use Rattle.xl_ports.proofs.Moments.{weaker}
-use Rattle.spec_saves.specs.Names.{Named, the_old, version, after_one, after_kind, names, with_out, versions_of, saved_versions, ends_by_fault, save_faults, is_start, saves_started, version_out}
+use Rattle.spec_saves.specs.Names.{Named, the_old, version, after_one, after_kind, names, with_out, versions_of}
+use Rattle.spec_saves.specs.Names.{saved_versions, ends_by_fault, save_faults, is_start, saves_started, version_out}
 use Rattle.spec_saves.specs.Contents.{IsVersion, IsSaved, IsNamed, IsIn}
 use Rattle.spec_saves.specs.Shelf.{Known, file_name, IsSettled, DiskIsRight, RoseOften, ShelfIsRight}
 use Rattle.spec_saves.proofs.Bounds.{IsThere, bounded}
@@ -23,10 +25,12 @@ use Rattle.spec_saves.proofs.Bounds.{IsThere, bounded}
 pub names-snoc : (es : List Entry) (e : Entry) → names (es ++ e ∷ []) ≡ after_one (names es) e
 names-snoc es e = fold_push after_one (the_old ∷ []) es e
 
-pub save_faults-snoc : (es : List Entry) (e : Entry) → save_faults (es ++ e ∷ []) ≡ save_faults es + cond (ends_by_fault e.kind e.reply) 1 0
+pub save_faults-snoc : (es : List Entry) (e : Entry)
+    → save_faults (es ++ e ∷ []) ≡ save_faults es + cond (ends_by_fault e.kind e.reply) 1 0
 save_faults-snoc es e = sum_by_push (λ x. cond (ends_by_fault x.kind x.reply) 1 0) es e
 
-pub saves_started-snoc : (es : List Entry) (e : Entry) → saves_started (es ++ e ∷ []) ≡ saves_started es + cond (is_start e.kind) 1 0
+pub saves_started-snoc : (es : List Entry) (e : Entry)
+    → saves_started (es ++ e ∷ []) ≡ saves_started es + cond (is_start e.kind) 1 0
 saves_started-snoc es e = sum_by_push (λ x. cond (is_start x.kind) 1 0) es e
 
 saved_versions-snoc : (es : List Entry) (e : Entry) → saved_versions (es ++ e ∷ []) ≡ saved_versions es ++ saved_versions (e ∷ [])
@@ -41,7 +45,8 @@ with_some ns (Some out) some = refl
 pub stays_version : (base : Document) (es : List Entry) (e : Entry) (v : ℕ) → v ≤ latest (replay base es) → (c : Content)
     → IsVersion base es v c → IsVersion base (es ++ e ∷ []) v c
 stays_version base es e v there absent is = absurd is
-stays_version base es e v there (file bytes) is = subst (λ d. Written bytes d) (sym (document_of-append base es (e ∷ []) v there)) is
+stays_version base es e v there (file bytes) is =
+    subst (λ d. Written bytes d) (sym (document_of-append base es (e ∷ []) v there)) is
 
 stays_named : (base : Document) (es : List Entry) (e : Entry) (opened : Disk) (name : List ℕ) (c : Content) (n : Named)
     → IsThere (latest (replay base es)) n → IsNamed base es opened name c n → IsNamed base (es ++ e ∷ []) opened name c n
@@ -49,7 +54,8 @@ stays_named base es e opened name c the_old there is = is
 stays_named base es e opened name c (version v) there is = stays_version base es e v there c is
 
 pub stays_in : (base : Document) (es : List Entry) (e : Entry) (opened : Disk) (name : List ℕ) (c : Content) (ns : List Named)
-    → AllByRecursion (IsThere (latest (replay base es))) ns → IsIn base es opened name c ns → IsIn base (es ++ e ∷ []) opened name c ns
+    → AllByRecursion (IsThere (latest (replay base es))) ns → IsIn base es opened name c ns
+    → IsIn base (es ++ e ∷ []) opened name c ns
 stays_in base es e opened name c [] all is = absurd is
 stays_in base es e opened name c (n ∷ ns) all (inl this) = inl (stays_named base es e opened name c n all.0 this)
 stays_in base es e opened name c (n ∷ ns) all (inr more) = inr (stays_in base es e opened name c ns all.1 more)
@@ -60,17 +66,21 @@ all_at last (v ∷ vs) zero d lt all = all.0
 all_at last (v ∷ vs) (suc k) d lt all = all_at last vs k d (omega (arith, lt)) all.1
 
 contains_more : (vs ws : List ℕ) (v : ℕ) → Contains vs v → Contains (vs ++ ws) v
-contains_more vs ws v at = let within = at.1 in (at.0, simp length-append (omega (arith, within)), get_or_append_left vs ws v at.0 at.1 ∙ at.2)
+contains_more vs ws v at =
+    let within = at.1 in (at.0, simp length-append (omega (arith, within)), get_or_append_left vs ws v at.0 at.1 ∙ at.2)
 
-pub stays_saved : (base : Document) (es : List Entry) (e : Entry) → Run base es → (c : Content) → IsSaved base es c → IsSaved base (es ++ e ∷ []) c
+pub stays_saved : (base : Document) (es : List Entry) (e : Entry) → Run base es → (c : Content) → IsSaved base es c
+    → IsSaved base (es ++ e ∷ []) c
 stays_saved base es e run c is =
     let v = is.v in
     let at = is.started in
     let all = (bounded base es run).versions in
-    let there : v ≤ latest (replay base es) = subst (λ n. n ≤ latest (replay base es)) at.2 (all_at (latest (replay base es)) (saved_versions es) at.0 v at.1 all) in
+    let there : v ≤ latest (replay base es) =
+    subst (λ n. n ≤ latest (replay base es)) at.2 (all_at (latest (replay base es)) (saved_versions es) at.0 v at.1 all) in
     record {
       v = v;
-      started = subst (λ vs. Contains vs v) (sym (saved_versions-snoc es e)) (contains_more (saved_versions es) (saved_versions (e ∷ [])) v at);
+      started = subst (λ vs. Contains vs v) (sym (saved_versions-snoc es e))
+          (contains_more (saved_versions es) (saved_versions (e ∷ [])) v at);
       is = stays_version base es e v there c is.is;
     }
 
@@ -86,7 +96,8 @@ no_fault e (asked call tables) no_end = refl
 no_fault e starts no_end = refl
 no_fault e ends no_end = absurd (cc no_end)
 
-stays_disk : (name : List ℕ) (base : Document) (es : List Entry) (e : Entry) → Run base es → names (es ++ e ∷ []) ≡ names es → (opened now : Disk)
+stays_disk : (name : List ℕ) (base : Document) (es : List Entry) (e : Entry) → Run base es → names (es ++ e ∷ []) ≡ names es
+    → (opened now : Disk)
     → DiskIsRight name base es opened now → DiskIsRight name base (es ++ e ∷ []) opened now
 stays_disk name base es e run same opened now right = record {
   later = right.later;
@@ -99,21 +110,24 @@ stays_disk name base es e run same opened now right = record {
 pub stays_right : (opening now : Known) (base : Document) (es : List Entry) (e : Entry) → Run base es → is_end_kind e.kind ≡ false
     → ShelfIsRight opening base es now → ShelfIsRight opening base (es ++ e ∷ []) now
 stays_right opening now base es e run no_end right =
-    let faults : save_faults (es ++ e ∷ []) ≡ save_faults es = save_faults-snoc es e ∙ rw (no_fault e e.kind no_end) (omega arith) in
+    let faults : save_faults (es ++ e ∷ []) ≡ save_faults es = save_faults-snoc es e
+    ∙ rw (no_fault e e.kind no_end) (omega arith) in
     record {
       selected = right.selected;
       reading = right.reading;
       saving_rose = subst (λ n. RoseOften n opening.saving now.saving) (sym faults) right.saving_rose;
       saving_stays = λ none. right.saving_stays (sym faults ∙ none);
       contents = weaker (DiskIsRight (file_name opening) base es) (DiskIsRight (file_name opening) base (es ++ e ∷ []))
-          (stays_disk (file_name opening) base es e run (names-snoc es e ∙ same_names (names es) e e.kind no_end)) opening.disk now.disk right.contents;
+          (stays_disk (file_name opening) base es e run (names-snoc es e ∙ same_names (names es) e e.kind no_end)) opening.disk
+          now.disk right.contents;
     }
 
 -- ---- the opening
 
 opened_disk : (name : List ℕ) (base : Document) (disk : Option Disk) → Between disk disk (DiskIsRight name base [])
 opened_disk name base None = tt
-opened_disk name base (Some d) = record { later = omega arith; leaves = λ c may. inl may; left = λ since c le left. inl left; settled = refl }
+opened_disk name base (Some d) =
+    record { later = omega arith; leaves = λ c may. inl may; left = λ since c le left. inl left; settled = refl }
 
 pub opened_right : (opening : Known) (base : Document) → ShelfIsRight opening base [] opening
 opened_right opening base = record {

@@ -1,7 +1,9 @@
 -- The versions of the saves that were acknowledged.
 use Rattle.std.specs.Prelude.{ℕ, List, Option, Some, None}
 use Rattle.std.specs.List.{filter_map}
-use Rattle.spec_history.specs.Machine.{Reply, changed, refused, moved, nothing_to_undo, nothing_to_redo, not_top, tile_of, stale, no_stack, outside_tile, top_is, saved, save_fault, save_memory, history_full}
+use Rattle.spec_history.specs.Machine.{Reply, changed, refused, moved, nothing_to_undo, nothing_to_redo, not_top}
+use Rattle.spec_history.specs.Machine.{tile_of, stale, no_stack, outside_tile, top_is, saved, save_fault, save_memory}
+use Rattle.spec_history.specs.Machine.{history_full}
 use Rattle.spec_history.specs.History.{Kind, asked, starts, ends, Entry}
 
 -- the version that a reply says is saved

@@ -1,7 +1,10 @@
 -- What the file may hold after a history, by name: what it held at the opening, or versions that were saved.
-use Rattle.std.specs.Prelude.{ℕ, Bool, true, false, List, [], ◌∷◌, ◌++◌, fold, flat_map, count_by, Option, Some, None, option_to_list}
+use Rattle.std.specs.Prelude.{ℕ, Bool, true, false, List, [], ◌∷◌, ◌++◌, fold, flat_map, count_by, Option, Some, None}
+use Rattle.std.specs.Prelude.{option_to_list}
 use Rattle.spec_document.specs.Document.{Document}
-use Rattle.spec_history.specs.Machine.{Reply, changed, refused, moved, nothing_to_undo, nothing_to_redo, not_top, tile_of, stale, no_stack, outside_tile, top_is, saved, save_fault, save_memory, history_full, Saving}
+use Rattle.spec_history.specs.Machine.{Reply, changed, refused, moved, nothing_to_undo, nothing_to_redo, not_top}
+use Rattle.spec_history.specs.Machine.{tile_of, stale, no_stack, outside_tile, top_is, saved, save_fault, save_memory}
+use Rattle.spec_history.specs.Machine.{history_full, Saving}
 use Rattle.spec_history.specs.History.{Kind, asked, starts, ends, Entry, replay}
 use Rattle.spec_saves.specs.Acknowledged.{version_saved}
 
@@ -12,7 +15,8 @@ pub data Named : Type 0 where
 
 -- ---- the names after a history
 
--- A save that is done leaves its version alone. One that failed may have left it too; it is named once more where it is there already.
+-- A save that is done leaves its version alone. One that failed may have left it too; it is named once more where it
+-- is there already.
 abbrev pub after_end : List Named → Reply → List Named
 after_end ns (saved v) = version v ∷ []
 after_end ns (save_fault v) = ns ++ version v ∷ []

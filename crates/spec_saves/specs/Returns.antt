@@ -14,7 +14,8 @@ use Rattle.spec_saves.specs.Shelf.{Known, file_name, IsSettled}
 
 -- the end of the save that is out
 abbrev pub end_entry : Document → List Entry → (session index : ℕ) → SaveEnd → Entry
-end_entry base es session index how = record { session = session; index = index; kind = ends; reply = end_reply how (out_version base es) }
+end_entry base es session index how =
+    record { session = session; index = index; kind = ends; reply = end_reply how (out_version base es) }
 
 -- all are known or none, and where they are, this holds of them
 abbrev pub Among : (opened handed now : Option Disk) → (Disk → Disk → Disk → Type 0) → Type 0
@@ -33,7 +34,8 @@ EndsOn Memory name base es opened now =
 pub record DiskReturns (name : List ℕ) (base : Document) (es : List Entry) (how : SaveEnd) (opened handed now : Disk) : Type 0 where
   pub later : handed.moment ≤ now.moment
   pub within : (c : Content) → MightHaveLeft now name handed.moment c → IsIn base es opened name c (files base es)
-  pub left : (since : ℕ) (c : Content) → since ≤ opened.moment → MightHaveLeft now name since c → MightHaveLeft opened name since c ⊎ IsSaved base es c
+  pub left : (since : ℕ) (c : Content) → since ≤ opened.moment → MightHaveLeft now name since c
+      → MightHaveLeft opened name since c ⊎ IsSaved base es c
   pub ends : EndsOn how name base es opened now
 
 -- only a fault raised the count

@@ -32,7 +32,8 @@ pub record DiskIsRight (name : List ℕ) (base : Document) (es : List Entry) (op
   -- a crash now
   pub leaves : (c : Content) → MayLeave now name c → IsIn base es opened name c (names es)
   -- a crash since the opening, or since a moment before it
-  pub left : (since : ℕ) (c : Content) → since ≤ opened.moment → MightHaveLeft now name since c → MightHaveLeft opened name since c ⊎ IsSaved base es c
+  pub left : (since : ℕ) (c : Content) → since ≤ opened.moment → MightHaveLeft now name since c
+      → MightHaveLeft opened name since c ⊎ IsSaved base es c
   pub settled : IsSettled (names es) name opened now
 
 -- a count rose at least so often, or stands at its end

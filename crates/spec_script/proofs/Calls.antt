@@ -1,5 +1,6 @@
 -- The calls of a script are within the limits.
-use Rattle.std.proofs.Common.{◌≡◌, ℕ, zero, suc, ◌+◌, ◌^◌, ◌≤◌, Bool, true, false, cond, ◌&&◌, nat_lt, nat_le, List, [], ◌∷◌, ◌++◌, length, map, refl, arith, length-append}
+use Rattle.std.proofs.Common.{◌≡◌, ℕ, zero, suc, ◌+◌, ◌^◌, ◌≤◌, Bool, true, false, cond, ◌&&◌, nat_lt, nat_le, List}
+use Rattle.std.proofs.Common.{[], ◌∷◌, ◌++◌, length, map, refl, arith, length-append}
 use Rattle.std.specs.Prelude.{Option, Some, None, IfSome, Result, Ok, Err, IfOk, slice_get, unwrap_or}
 use Rattle.std.specs.List.{AllByRecursion}
 use Rattle.std.proofs.lemmas.Bool.{and_parts, ltb-true}
@@ -10,10 +11,18 @@ use Rattle.spec_edit.specs.Effect.{changed_at}
 use Rattle.spec_history.specs.Machine as machine
 use Rattle.spec_history.specs.Calls.{most_edits}
 use Rattle.spec_script.specs.Words.{number_below, lines_of, words_of}
-use Rattle.spec_script.specs.Commands.{Command, Asked, an_edit, begins, ends, a_call, saves, forgets, Rule, Keyword, keywords, rule_in, rule_of, command_of, is_word}
-use Rattle.spec_script.specs.Script.{most_calls, Line, call, save, forget, Open, Session, Parsed, has_filter, has_its_filter, Taken, take_outside, take_inside, take_command, put_session, is_skipped, take_by, take_asked, take_line, or_refused, take_lines, never_ended, ended, closed, blank, line_of_byte, start, script}
+use Rattle.spec_script.specs.Commands.{Command, Asked, an_edit, begins, ends, a_call, saves, forgets, Rule, Keyword}
+use Rattle.spec_script.specs.Commands.{keywords, rule_in, rule_of, command_of, is_word}
+use Rattle.spec_script.specs.Script.{most_calls, Line, call, save, forget, Open, Session, Parsed, has_filter}
+use Rattle.spec_script.specs.Script.{has_its_filter, Taken, take_outside, take_inside, take_command, put_session}
+use Rattle.spec_script.specs.Script.{is_skipped, take_by, take_asked, take_line, or_refused, take_lines, never_ended}
+use Rattle.spec_script.specs.Script.{ended, closed, blank, line_of_byte, start, script}
 use Rattle.spec_script.specs.Limits.{IsLine, AreLines}
-use Rattle.spec_script.proofs.Limits.{IsOwnCall, IsCommand, Keeps, if-then, if-any, keeps-number, keeps-byte, keeps-fill, keeps-write, keeps-filter, keeps-copy, keeps-flag, keeps-one, keeps-select, keeps-fill_byte, keeps-offset, keeps-rename, keeps-new_layer, keeps-new_group, keeps-restack, keeps-name, keeps-colours, keeps-alone, keeps-optional, keeps-tile, keeps-forget}
+use Rattle.spec_script.proofs.Limits.{IsOwnCall, IsCommand, Keeps, if-then, if-any, keeps-number, keeps-byte}
+use Rattle.spec_script.proofs.Limits.{keeps-fill, keeps-write, keeps-filter, keeps-copy, keeps-flag, keeps-one}
+use Rattle.spec_script.proofs.Limits.{keeps-select, keeps-fill_byte, keeps-offset, keeps-rename, keeps-new_layer}
+use Rattle.spec_script.proofs.Limits.{keeps-new_group, keeps-restack, keeps-name, keeps-colours, keeps-alone}
+use Rattle.spec_script.proofs.Limits.{keeps-optional, keeps-tile, keeps-forget}
 
 -- ---- the rule of any keyword
 
@@ -133,7 +142,8 @@ keeps-command [] = tt
 keeps-command (s ∷ []) = tt
 keeps-command (s ∷ keyword ∷ words) =
     if-any (λ asked. IsCommand asked.command) (number_below 8 s) _ (λ session.
-    if-then IsCommand (λ asked. IsCommand asked.command) (rule_of keyword words) _ (keeps-in keywords keyword all-keep words) (λ command is. is))
+    if-then IsCommand (λ asked. IsCommand asked.command) (rule_of keyword words) _ (keeps-in keywords keyword all-keep words)
+    (λ command is. is))
 
 -- ---- sessions
 
@@ -145,7 +155,8 @@ pub record IsSession (s : Session) : Type 0 where
   lines : AllByRecursion IsLine s.lines
   open_is : IfSome s.open_group IsOpen
 
-all-behind : {A : Type 0} (P : A → Type 0) (xs ys : List A) → AllByRecursion P xs → AllByRecursion P ys → AllByRecursion P (xs ++ ys)
+all-behind : {A : Type 0} (P : A → Type 0) (xs ys : List A) → AllByRecursion P xs → AllByRecursion P ys
+    → AllByRecursion P (xs ++ ys)
 all-behind P [] ys all more = more
 all-behind P (x ∷ xs) ys all more = (all.0, all-behind P xs ys all.1 more)
 
@@ -153,7 +164,8 @@ all-behind P (x ∷ xs) ys all more = (all.0, all-behind P xs ys all.1 more)
 with-line : (s : Session) (line : Line) → IsSession s → IsLine line → IsSession (record s { lines = s.lines ++ line ∷ [] })
 with-line s line is line_is = record { lines = all-behind IsLine s.lines (line ∷ []) is.lines (line_is, tt); open_is = is.open_is }
 
-if-taken : (b : Bool) (t : Option Taken) → (b ≡ true → IfSome t (λ k. IsSession k.session)) → IfSome (cond b t None) (λ k. IsSession k.session)
+if-taken : (b : Bool) (t : Option Taken) → (b ≡ true → IfSome t (λ k. IsSession k.session))
+    → IfSome (cond b t None) (λ k. IsSession k.session)
 if-taken true t h = h refl
 if-taken false t h = tt
 
@@ -166,26 +178,38 @@ own-call (machine.tile stack at) own = tt
 own-call (machine.peek stack at) own = tt
 own-call machine.top own = tt
 
-outside : (number : ℕ) (s : Session) (c : Command) → IsSession s → IsCommand c → IfSome (take_outside number s c) (λ t. IsSession t.session)
+outside : (number : ℕ) (s : Session) (c : Command) → IsSession s → IsCommand c
+    → IfSome (take_outside number s c) (λ t. IsSession t.session)
 outside number s (an_edit e) is c =
-    if-taken (has_its_filter s e) _ (λ h. with-line s (call (machine.edit None (e ∷ []))) is (record { some = omega arith; few = omega arith; each = (c, tt) }))
+    if-taken (has_its_filter s e) _ (λ h.
+    with-line s (call (machine.edit None (e ∷ []))) is (record { some = omega arith; few = omega arith; each = (c, tt) }))
 outside number s (begins guard) is c = record { lines = is.lines; open_is = record { few = omega arith; each = tt } }
 outside number s ends is c = tt
 outside number s (a_call k) is c = with-line s (call k) is (own-call k c)
 outside number s saves is c = with-line s save is tt
 outside number s (forgets slot) is c =
-    if-taken (has_filter s slot) _ (λ h. record { lines = all-behind IsLine s.lines (forget slot ∷ []) is.lines (tt, tt); open_is = is.open_is })
+    if-taken (has_filter s slot) _ (λ h. record {
+      lines = all-behind IsLine s.lines (forget slot ∷ []) is.lines (tt, tt);
+      open_is =
+          is.open_is;
+    })
 
-inside : (o : Open) (s : Session) (c : Command) → IsSession s → IsOpen o → IsCommand c → IfSome (take_inside o s c) (λ t. IsSession t.session)
+inside : (o : Open) (s : Session) (c : Command) → IsSession s → IsOpen o → IsCommand c
+    → IfSome (take_inside o s c) (λ t. IsSession t.session)
 inside o s (an_edit e) is open_is c =
     if-taken (has_its_filter s e && nat_lt (length o.edits) most_edits) _ (λ h.
     let room = ltb-true (length o.edits) most_edits (and_parts (has_its_filter s e) (nat_lt (length o.edits) most_edits) h).1 in
     let more = length-append o.edits (e ∷ []) in
-    record { lines = is.lines; open_is = record { few = omega arith; each = all-behind IsEdit o.edits (e ∷ []) open_is.each (c, tt) } })
+    record {
+      lines = is.lines;
+      open_is =
+          record { few = omega arith; each = all-behind IsEdit o.edits (e ∷ []) open_is.each (c, tt) };
+    })
 inside o s ends is open_is c =
     if-taken (nat_lt 0 (length o.edits)) _ (λ h.
     record {
-      lines = all-behind IsLine s.lines (call (machine.edit o.guard o.edits) ∷ []) is.lines (record { some = ltb-true 0 (length o.edits) h; few = open_is.few; each = open_is.each }, tt);
+      lines = all-behind IsLine s.lines (call (machine.edit o.guard o.edits) ∷ []) is.lines
+          (record { some = ltb-true 0 (length o.edits) h; few = open_is.few; each = open_is.each }, tt);
       open_is = tt;
     })
 inside o s (begins guard) is open_is c = tt
@@ -193,7 +217,8 @@ inside o s (a_call k) is open_is c = tt
 inside o s saves is open_is c = tt
 inside o s (forgets slot) is open_is c = tt
 
-either : (number : ℕ) (s : Session) (o : Option Open) (c : Command) → IsSession s → IfSome o IsOpen → IsCommand c → IfSome (take_command number s o c) (λ t. IsSession t.session)
+either : (number : ℕ) (s : Session) (o : Option Open) (c : Command) → IsSession s → IfSome o IsOpen → IsCommand c
+    → IfSome (take_command number s o c) (λ t. IsSession t.session)
 either number s None c is open_is command = outside number s c is command
 either number s (Some o) c is open_is command = inside o s c is open_is command
 
@@ -202,7 +227,8 @@ either number s (Some o) c is open_is command = inside o s c is open_is command
 abbrev IsParsed : Parsed → Type 0
 IsParsed p = AllByRecursion IsSession p.sessions
 
-all-changed : (place : ℕ) (s : Session) (ss : List Session) → IsSession s → AllByRecursion IsSession ss → AllByRecursion IsSession (changed_at place (λ _. s) ss)
+all-changed : (place : ℕ) (s : Session) (ss : List Session) → IsSession s → AllByRecursion IsSession ss
+    → AllByRecursion IsSession (changed_at place (λ _. s) ss)
 all-changed place s [] is all = tt
 all-changed zero s (x ∷ xs) is all = (is, all.1)
 all-changed (suc place) s (x ∷ xs) is all = (all.0, all-changed place s xs is all.1)
@@ -215,14 +241,17 @@ if-there (s ∷ ss) (suc i) all = if-there ss i all.1
 put : (p : Parsed) (session : ℕ) (t : Taken) → IsParsed p → IsSession t.session → IfSome (put_session p session t) IsParsed
 put p session t all is = go (nat_le (p.calls + t.begun) most_calls)
   where
-    go : (b : Bool) → IfSome (cond b (Some (record { sessions = changed_at session (λ _. t.session) p.sessions; calls = p.calls + t.begun })) None) IsParsed
+    go : (b : Bool) → IfSome (cond b
+        (Some (record { sessions = changed_at session (λ _. t.session) p.sessions; calls = p.calls + t.begun })) None) IsParsed
     go true = all-changed session t.session p.sessions is all
     go false = tt
 
-by-keeps : (number : ℕ) (asked : Asked) (p : Parsed) → IsParsed p → IsCommand asked.command → IfSome (take_by number asked p) IsParsed
+by-keeps : (number : ℕ) (asked : Asked) (p : Parsed) → IsParsed p → IsCommand asked.command
+    → IfSome (take_by number asked p) IsParsed
 by-keeps number asked p all command =
     if-then IsSession IsParsed (slice_get p.sessions asked.session) _ (if-there p.sessions asked.session all) (λ s is.
-    if-then (λ t. IsSession t.session) IsParsed (take_command number s s.open_group asked.command) _ (either number s s.open_group asked.command is is.open_is command) (λ t session.
+    if-then (λ t. IsSession t.session) IsParsed (take_command number s s.open_group asked.command) _
+    (either number s s.open_group asked.command is is.open_is command) (λ t session.
     put p asked.session t all session))
 
 asked-keeps : (number : ℕ) (words : List (List ℕ)) (p : Parsed) → IsParsed p → IfSome (take_asked number words p) IsParsed
@@ -237,14 +266,16 @@ line-keeps number line p all = go (is_skipped line)
     go true = all
     go false = asked-keeps number (words_of line) p all
 
-or-refused : (number : ℕ) (o : Option Parsed) (rest : Parsed → Result Parsed ℕ) → IfSome o IsParsed → ((p : Parsed) → IsParsed p → IfOk (rest p) IsParsed) → IfOk (or_refused number o rest) IsParsed
+or-refused : (number : ℕ) (o : Option Parsed) (rest : Parsed → Result Parsed ℕ) → IfSome o IsParsed
+    → ((p : Parsed) → IsParsed p → IfOk (rest p) IsParsed) → IfOk (or_refused number o rest) IsParsed
 or-refused number None rest h f = tt
 or-refused number (Some p) rest h f = f p h
 
 lines-keep : (number : ℕ) (lines : List (List ℕ)) (p : Parsed) → IsParsed p → IfOk (take_lines number lines p) IsParsed
 lines-keep number [] p all = all
 lines-keep number (line ∷ lines) p all =
-    or-refused number (take_line number line p) (λ q. take_lines (suc number) lines q) (line-keeps number line p all) (λ q is. lines-keep (suc number) lines q is)
+    or-refused number (take_line number line p) (λ q. take_lines (suc number) lines q) (line-keeps number line p all)
+    (λ q is. lines-keep (suc number) lines q is)
 
 all-lines : (ss : List Session) → AllByRecursion IsSession ss → AreLines (map (λ s. s.lines) ss)
 all-lines [] all = tt
@@ -263,7 +294,9 @@ blank-all chests [] = tt
 blank-all chests (n ∷ ns) = (record { lines = tt; open_is = tt }, blank-all chests ns)
 
 pub script-keeps : (text chests : List ℕ) → IfOk (script text chests) AreLines
-script-keeps text chests = go (nat_le (length text) (2 ^ 24)) (closed-keeps (take_lines 1 (lines_of text) (start chests)) (lines-keep 1 (lines_of text) (start chests) (blank-all chests (count_from 0 8))))
+script-keeps text chests = go (nat_le (length text) (2 ^ 24))
+    (closed-keeps (take_lines 1 (lines_of text) (start chests))
+    (lines-keep 1 (lines_of text) (start chests) (blank-all chests (count_from 0 8))))
   where
     go : (b : Bool) → IfOk (closed (take_lines 1 (lines_of text) (start chests))) AreLines
         → IfOk (cond b (closed (take_lines 1 (lines_of text) (start chests))) (Err (line_of_byte text (2 ^ 24)))) AreLines

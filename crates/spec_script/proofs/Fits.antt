@@ -1,5 +1,6 @@
 -- The lines of a script fit the filters of their sessions.
-use Rattle.std.proofs.Common.{◌≡◌, ℕ, zero, suc, ◌+◌, ◌^◌, ◌≤◌, Bool, true, false, cond, ◌&&◌, nat_lt, nat_le, List, [], ◌∷◌, ◌++◌, length, map, filter, refl, sym, ap, subst, arith, length-append, ◌∙◌}
+use Rattle.std.proofs.Common.{◌≡◌, ℕ, zero, suc, ◌+◌, ◌^◌, ◌≤◌, Bool, true, false, cond, ◌&&◌, nat_lt, nat_le, List}
+use Rattle.std.proofs.Common.{[], ◌∷◌, ◌++◌, length, map, filter, refl, sym, ap, subst, arith, length-append, ◌∙◌}
 use Rattle.std.specs.Prelude.{Option, Some, None, IfSome, Result, Ok, Err, IfOk, slice_get, unwrap_or}
 use Rattle.std.specs.List.{AllByRecursion, list_all}
 use Rattle.std.proofs.lemmas.Bool.{and_parts, leb-true}
@@ -11,13 +12,17 @@ use Rattle.spec_history.specs.Machine as machine
 use Rattle.spec_history.specs.Calls.{most_edits}
 use Rattle.spec_script.specs.Words.{lines_of, words_of}
 use Rattle.spec_script.specs.Commands.{Command, Asked, an_edit, begins, ends, a_call, saves, forgets, command_of}
-use Rattle.spec_script.specs.Script.{most_calls, Line, call, save, forget, Open, Session, Parsed, Taken, is_there, finds_filter, has_its_filter, has_filter, take_outside, take_inside, take_command, is_skipped, take_by, take_asked, take_line, or_refused, take_lines, never_ended, ended, closed, blank, line_of_byte, start, script, is_call}
+use Rattle.spec_script.specs.Script.{most_calls, Line, call, save, forget, Open, Session, Parsed, Taken, is_there}
+use Rattle.spec_script.specs.Script.{finds_filter, has_its_filter, has_filter, take_outside, take_inside, take_command}
+use Rattle.spec_script.specs.Script.{is_skipped, take_by, take_asked, take_line, or_refused, take_lines, never_ended}
+use Rattle.spec_script.specs.Script.{ended, closed, blank, line_of_byte, start, script, is_call}
 use Rattle.spec_script.specs.Limits.{IsLine, AreLines}
 use Rattle.spec_script.specs.Fits.{finds_filters, IsFit, dropped_by, AreFit, EachFit, count_calls, FitsFilters}
 use Rattle.spec_script.proofs.Limits.{IsOwnCall, IsCommand, if-then}
 use Rattle.spec_script.proofs.Calls.{keeps-command, script-keeps}
 
-refused_or : (P : Parsed → Type 0) (number : ℕ) (o : Option Parsed) (rest : Parsed → Result Parsed ℕ) → IfSome o P → ((p : Parsed) → P p → IfOk (rest p) P)
+refused_or : (P : Parsed → Type 0) (number : ℕ) (o : Option Parsed) (rest : Parsed → Result Parsed ℕ) → IfSome o P
+    → ((p : Parsed) → P p → IfOk (rest p) P)
     → IfOk (or_refused number o rest) P
 refused_or P number None rest h f = tt
 refused_or P number (Some p) rest h f = f p h
@@ -38,12 +43,14 @@ abbrev all_dropped : (dropped : List ℕ) → List Line → List ℕ
 all_dropped dropped [] = dropped
 all_dropped dropped (line ∷ lines) = all_dropped (dropped_by dropped line) lines
 
-held-more : (filters : ℕ) (dropped : List ℕ) (lines : List Line) (line : Line) → AreHeld filters dropped lines → IsHeld filters (all_dropped dropped lines) line
+held-more : (filters : ℕ) (dropped : List ℕ) (lines : List Line) (line : Line) → AreHeld filters dropped lines
+    → IsHeld filters (all_dropped dropped lines) line
     → AreHeld filters dropped (lines ++ line ∷ [])
 held-more filters dropped [] line are is = (is, tt)
 held-more filters dropped (x ∷ lines) line are is = (are.0, held-more filters (dropped_by dropped x) lines line are.1 is)
 
-dropped-more : (dropped : List ℕ) (lines : List Line) (line : Line) → all_dropped dropped (lines ++ line ∷ []) ≡ dropped_by (all_dropped dropped lines) line
+dropped-more : (dropped : List ℕ) (lines : List Line) (line : Line)
+    → all_dropped dropped (lines ++ line ∷ []) ≡ dropped_by (all_dropped dropped lines) line
 dropped-more dropped [] line = refl
 dropped-more dropped (x ∷ lines) line = dropped-more (dropped_by dropped x) lines line
 
@@ -71,22 +78,28 @@ record IsStep (given before : ℕ) (t : Taken) : Type 0 where
   after : IsFor given t.session
   few : calls_so_far t.session ≤ before + t.begun
 
-if-taken : (given before : ℕ) (b : Bool) (t : Taken) → (b ≡ true → IsStep given before t) → IfSome (cond b (Some t) None) (IsStep given before)
+if-taken : (given before : ℕ) (b : Bool) (t : Taken) → (b ≡ true → IsStep given before t)
+    → IfSome (cond b (Some t) None) (IsStep given before)
 if-taken given before true t h = h refl
 if-taken given before false t h = tt
 
-calls-more : (lines : List Line) (line : Line) → length (filter is_call (lines ++ line ∷ [])) ≡ length (filter is_call lines) + length (filter is_call (line ∷ []))
-calls-more lines line = ap length (filter-append is_call lines (line ∷ [])) ∙ length-append (filter is_call lines) (filter is_call (line ∷ []))
+calls-more : (lines : List Line) (line : Line)
+    → length (filter is_call (lines ++ line ∷ [])) ≡ length (filter is_call lines) + length (filter is_call (line ∷ []))
+calls-more lines line =
+    ap length (filter-append is_call lines (line ∷ [])) ∙ length-append (filter is_call lines) (filter is_call (line ∷ []))
 
 -- a call or a save outside of a group
-with-line : (given : ℕ) (s : Session) (line : Line) → IsFor given s → s.open_group ≡ None → IsHeld s.filters s.dropped line → dropped_by s.dropped line ≡ s.dropped
-    → length (filter is_call (line ∷ [])) ≡ 1 → IsStep given (calls_so_far s) (record { session = record s { lines = s.lines ++ line ∷ [] }; begun = 1 })
+with-line : (given : ℕ) (s : Session) (line : Line) → IsFor given s → s.open_group ≡ None → IsHeld s.filters s.dropped line
+    → dropped_by s.dropped line ≡ s.dropped
+    → length (filter is_call (line ∷ [])) ≡ 1
+    → IsStep given (calls_so_far s) (record { session = record s { lines = s.lines ++ line ∷ [] }; begun = 1 })
 with-line given s line is outside held same one =
     let more = calls-more s.lines line in
     record {
       after = record {
         filters_are = is.filters_are;
-        lines_are = held-more s.filters [] s.lines line is.lines_are (subst (λ d. IsHeld s.filters d line) (sym is.dropped_are) held);
+        lines_are =
+            held-more s.filters [] s.lines line is.lines_are (subst (λ d. IsHeld s.filters d line) (sym is.dropped_are) held);
         dropped_are = dropped-more [] s.lines line ∙ ap (λ d. dropped_by d line) is.dropped_are ∙ same;
         group_is = is.group_is;
       };
@@ -105,7 +118,8 @@ own-line filters dropped machine.top own = refl
 taken-outside : (given number : ℕ) (s : Session) (c : Command) → IsFor given s → s.open_group ≡ None → IsCommand c
     → IfSome (take_outside number s c) (IsStep given (calls_so_far s))
 taken-outside given number s (an_edit e) is outside command =
-    if-taken given (calls_so_far s) (has_its_filter s e) _ (λ there. with-line given s (call (machine.edit None (e ∷ []))) is outside (rw there refl) refl refl)
+    if-taken given (calls_so_far s) (has_its_filter s e) _
+    (λ there. with-line given s (call (machine.edit None (e ∷ []))) is outside (rw there refl) refl refl)
 taken-outside given number s (begins guard) is outside command =
     let none : begun_by s.open_group ≡ 0 = ap begun_by outside in
     record {
@@ -113,14 +127,16 @@ taken-outside given number s (begins guard) is outside command =
       few = omega (arith, none);
     }
 taken-outside given number s ends is outside command = tt
-taken-outside given number s (a_call c) is outside command = with-line given s (call c) is outside (own-line s.filters s.dropped c command) refl refl
+taken-outside given number s (a_call c) is outside command =
+    with-line given s (call c) is outside (own-line s.filters s.dropped c command) refl refl
 taken-outside given number s saves is outside command = with-line given s save is outside tt refl refl
 taken-outside given number s (forgets slot) is outside command =
     let more = calls-more s.lines (forget slot) in
     if-taken given (calls_so_far s) (has_filter s slot) _ (λ there. record {
       after = record {
         filters_are = is.filters_are;
-        lines_are = held-more s.filters [] s.lines (forget slot) is.lines_are (subst (λ d. IsHeld s.filters d (forget slot)) (sym is.dropped_are) there);
+        lines_are = held-more s.filters [] s.lines (forget slot) is.lines_are
+            (subst (λ d. IsHeld s.filters d (forget slot)) (sym is.dropped_are) there);
         dropped_are = dropped-more [] s.lines (forget slot) ∙ ap (λ d. d ++ slot ∷ []) is.dropped_are;
         group_is = subst (λ o. IfSome o (GroupFinds s.filters (s.dropped ++ slot ∷ []))) (sym outside) tt;
       };
@@ -128,7 +144,8 @@ taken-outside given number s (forgets slot) is outside command =
     })
 
 -- a command in a group
-taken-inside : (given : ℕ) (o : Open) (s : Session) (c : Command) → IsFor given s → s.open_group ≡ Some o → IfSome (take_inside o s c) (IsStep given (calls_so_far s))
+taken-inside : (given : ℕ) (o : Open) (s : Session) (c : Command) → IsFor given s → s.open_group ≡ Some o
+    → IfSome (take_inside o s c) (IsStep given (calls_so_far s))
 taken-inside given o s (an_edit e) is inside =
     let some : begun_by s.open_group ≡ 1 = ap begun_by inside in
     let group : GroupFinds s.filters s.dropped o = subst (λ g. IfSome g (GroupFinds s.filters s.dropped)) inside is.group_is in
@@ -151,7 +168,8 @@ taken-inside given o s ends is inside =
     if-taken given (calls_so_far s) (nat_lt 0 (length o.edits)) _ (λ any. record {
       after = record {
         filters_are = is.filters_are;
-        lines_are = held-more s.filters [] s.lines ended is.lines_are (subst (λ d. finds_filters s.filters d (machine.edit o.guard o.edits) ≡ true) (sym is.dropped_are) group);
+        lines_are = held-more s.filters [] s.lines ended is.lines_are
+            (subst (λ d. finds_filters s.filters d (machine.edit o.guard o.edits) ≡ true) (sym is.dropped_are) group);
         dropped_are = dropped-more [] s.lines ended ∙ is.dropped_are;
         group_is = tt;
       };
@@ -188,7 +206,8 @@ if-later : {P Q : Session → Type 0} (o : Option Session) → ((s : Session) �
 if-later None f h = tt
 if-later (Some s) f h = f s h
 
-place-of : (chests : List ℕ) (session : ℕ) (ss : List Session) (place : ℕ) → EachFor chests session ss → IfSome (slice_get ss place) (IsPlace chests session ss place)
+place-of : (chests : List ℕ) (session : ℕ) (ss : List Session) (place : ℕ) → EachFor chests session ss
+    → IfSome (slice_get ss place) (IsPlace chests session ss place)
 place-of chests session [] place each = tt
 place-of chests session (s ∷ ss) zero each = record {
   given = unwrap_or (slice_get chests session) 0;
@@ -210,9 +229,11 @@ record IsSoFar (chests : List ℕ) (p : Parsed) : Type 0 where
   few : all_calls p.sessions ≤ p.calls
   most : p.calls ≤ most_calls
 
-put : (chests : List ℕ) (p : Parsed) (place : ℕ) (s : Session) (t : Taken) → IsSoFar chests p → (at : IsPlace chests 0 p.sessions place s) → IsStep at.given (calls_so_far s) t
+put : (chests : List ℕ) (p : Parsed) (place : ℕ) (s : Session) (t : Taken) → IsSoFar chests p
+    → (at : IsPlace chests 0 p.sessions place s) → IsStep at.given (calls_so_far s) t
     → (b : Bool) → nat_le (p.calls + t.begun) most_calls ≡ b
-    → IfSome (cond b (Some (record { sessions = changed_at place (λ _. t.session) p.sessions; calls = p.calls + t.begun })) None) (IsSoFar chests)
+    → IfSome (cond b (Some (record { sessions = changed_at place (λ _. t.session) p.sessions; calls = p.calls + t.begun })) None)
+    (IsSoFar chests)
 put chests p place s t so at step true e =
     let count = at.count t.session in
     let more = step.few in
@@ -220,55 +241,68 @@ put chests p place s t so at step true e =
     record { each = at.put t.session step.after; few = omega arith; most = leb-true (p.calls + t.begun) most_calls e }
 put chests p place s t so at step false e = tt
 
-by-held : (chests : List ℕ) (number : ℕ) (asked : Asked) (p : Parsed) → IsSoFar chests p → IsCommand asked.command → IfSome (take_by number asked p) (IsSoFar chests)
+by-held : (chests : List ℕ) (number : ℕ) (asked : Asked) (p : Parsed) → IsSoFar chests p → IsCommand asked.command
+    → IfSome (take_by number asked p) (IsSoFar chests)
 by-held chests number asked p so command =
-    if-then (IsPlace chests 0 p.sessions asked.session) (IsSoFar chests) (slice_get p.sessions asked.session) _ (place-of chests 0 p.sessions asked.session so.each) (λ s at.
+    if-then (IsPlace chests 0 p.sessions asked.session) (IsSoFar chests) (slice_get p.sessions asked.session) _
+    (place-of chests 0 p.sessions asked.session so.each) (λ s at.
     if-then (IsStep at.given (calls_so_far s)) (IsSoFar chests) (take_command number s s.open_group asked.command) _
     (either at.given number s s.open_group asked.command refl at.is command) (λ t step.
     put chests p asked.session s t so at step (nat_le (p.calls + t.begun) most_calls) refl))
 
 -- ---- the lines of the text
 
-asked-held : (chests : List ℕ) (number : ℕ) (words : List (List ℕ)) (p : Parsed) → IsSoFar chests p → IfSome (take_asked number words p) (IsSoFar chests)
+asked-held : (chests : List ℕ) (number : ℕ) (words : List (List ℕ)) (p : Parsed) → IsSoFar chests p
+    → IfSome (take_asked number words p) (IsSoFar chests)
 asked-held chests number words p so =
     let Q : Asked → Type 0 = λ asked. IsCommand asked.command in
-    if-then Q (IsSoFar chests) (command_of words) _ (keeps-command words) (λ asked command. by-held chests number asked p so command)
+    if-then Q (IsSoFar chests) (command_of words) _ (keeps-command words)
+    (λ asked command. by-held chests number asked p so command)
 
-line-held : (chests : List ℕ) (number : ℕ) (line : List ℕ) (p : Parsed) → IsSoFar chests p → IfSome (take_line number line p) (IsSoFar chests)
+line-held : (chests : List ℕ) (number : ℕ) (line : List ℕ) (p : Parsed) → IsSoFar chests p
+    → IfSome (take_line number line p) (IsSoFar chests)
 line-held chests number line p so = go (is_skipped line)
   where
     go : (b : Bool) → IfSome (cond b (Some p) (take_asked number (words_of line) p)) (IsSoFar chests)
     go true = so
     go false = asked-held chests number (words_of line) p so
 
-lines-taken : (chests : List ℕ) (number : ℕ) (lines : List (List ℕ)) (p : Parsed) → IsSoFar chests p → IfOk (take_lines number lines p) (IsSoFar chests)
+lines-taken : (chests : List ℕ) (number : ℕ) (lines : List (List ℕ)) (p : Parsed) → IsSoFar chests p
+    → IfOk (take_lines number lines p) (IsSoFar chests)
 lines-taken chests number [] p so = so
 lines-taken chests number (line ∷ lines) p so =
-    refused_or (IsSoFar chests) number (take_line number line p) (λ q. take_lines (suc number) lines q) (line-held chests number line p so)
+    refused_or (IsSoFar chests) number (take_line number line p) (λ q. take_lines (suc number) lines q)
+    (line-held chests number line p so)
     (λ q is. lines-taken chests (suc number) lines q is)
 
-blank-for : (chests : List ℕ) (session n : ℕ) → EachFor chests session (map (λ s. blank (unwrap_or (slice_get chests s) 0)) (count_from session n))
+blank-for : (chests : List ℕ) (session n : ℕ)
+    → EachFor chests session (map (λ s. blank (unwrap_or (slice_get chests s) 0)) (count_from session n))
 blank-for chests session zero = tt
-blank-for chests session (suc n) = (record { filters_are = refl; lines_are = tt; dropped_are = refl; group_is = tt }, blank-for chests (suc session) n)
+blank-for chests session (suc n) =
+    (record { filters_are = refl; lines_are = tt; dropped_are = refl; group_is = tt }, blank-for chests (suc session) n)
 
-blank-calls : (chests : List ℕ) (session n : ℕ) → all_calls (map (λ s. blank (unwrap_or (slice_get chests s) 0)) (count_from session n)) ≡ 0
+blank-calls : (chests : List ℕ) (session n : ℕ)
+    → all_calls (map (λ s. blank (unwrap_or (slice_get chests s) 0)) (count_from session n)) ≡ 0
 blank-calls chests session zero = refl
 blank-calls chests session (suc n) = let rest = blank-calls chests (suc session) n in omega (arith, rest)
 
 start-held : (chests : List ℕ) → IsSoFar chests (start chests)
-start-held chests = let none = blank-calls chests 0 8 in record { each = blank-for chests 0 8; few = omega (arith, none); most = omega arith }
+start-held chests =
+    let none = blank-calls chests 0 8 in record { each = blank-for chests 0 8; few = omega (arith, none); most = omega arith }
 
 -- ---- the lists
 
 abbrev EachHeld : (chests : List ℕ) (session : ℕ) → List (List Line) → Type 0
 EachHeld chests session [] = Unit {0}
-EachHeld chests session (lines ∷ lists) = AreHeld (unwrap_or (slice_get chests session) 0) [] lines × EachHeld chests (suc session) lists
+EachHeld chests session (lines ∷ lists) =
+    AreHeld (unwrap_or (slice_get chests session) 0) [] lines × EachHeld chests (suc session) lists
 
 record AreListsHeld (chests : List ℕ) (lists : List (List Line)) : Type 0 where
   each : EachHeld chests 0 lists
   few : count_calls lists ≤ most_calls
 
-each-lists : (chests : List ℕ) (session : ℕ) (ss : List Session) → EachFor chests session ss → EachHeld chests session (map (λ s. s.lines) ss)
+each-lists : (chests : List ℕ) (session : ℕ) (ss : List Session) → EachFor chests session ss
+    → EachHeld chests session (map (λ s. s.lines) ss)
 each-lists chests session [] each = tt
 each-lists chests session (s ∷ ss) each =
     let is = each.0 in
@@ -294,9 +328,11 @@ lists-held : (text chests : List ℕ) → IfOk (script text chests) (AreListsHel
 lists-held text chests = go (nat_le (length text) (2 ^ 24))
   where
     parsed : IfOk (closed (take_lines 1 (lines_of text) (start chests))) (AreListsHeld chests)
-    parsed = closed-held chests (take_lines 1 (lines_of text) (start chests)) (lines-taken chests 1 (lines_of text) (start chests) (start-held chests))
+    parsed = closed-held chests (take_lines 1 (lines_of text) (start chests))
+        (lines-taken chests 1 (lines_of text) (start chests) (start-held chests))
 
-    go : (b : Bool) → IfOk (cond b (closed (take_lines 1 (lines_of text) (start chests))) (Err (line_of_byte text (2 ^ 24)))) (AreListsHeld chests)
+    go : (b : Bool) → IfOk (cond b (closed (take_lines 1 (lines_of text) (start chests))) (Err (line_of_byte text (2 ^ 24))))
+        (AreListsHeld chests)
     go true = parsed
     go false = tt
 
@@ -307,17 +343,20 @@ line-fit filters dropped (call c) is held = (is, held)
 line-fit filters dropped save is held = tt
 line-fit filters dropped (forget slot) is held = held
 
-lines-fit : (filters : ℕ) (dropped : List ℕ) (lines : List Line) → AllByRecursion IsLine lines → AreHeld filters dropped lines → AreFit filters dropped lines
+lines-fit : (filters : ℕ) (dropped : List ℕ) (lines : List Line) → AllByRecursion IsLine lines → AreHeld filters dropped lines
+    → AreFit filters dropped lines
 lines-fit filters dropped [] are held = tt
 lines-fit filters dropped (line ∷ lines) are held =
     (line-fit filters dropped line are.0 held.0, lines-fit filters (dropped_by dropped line) lines are.1 held.1)
 
-each-fit : (chests : List ℕ) (session : ℕ) (lists : List (List Line)) → AreLines lists → EachHeld chests session lists → EachFit chests session lists
+each-fit : (chests : List ℕ) (session : ℕ) (lists : List (List Line)) → AreLines lists → EachHeld chests session lists
+    → EachFit chests session lists
 each-fit chests session [] are held = tt
 each-fit chests session (lines ∷ lists) are held =
     (lines-fit (unwrap_or (slice_get chests session) 0) [] lines are.0 held.0, each-fit chests (suc session) lists are.1 held.1)
 
-both : (chests : List ℕ) (r : Result (List (List Line)) ℕ) → IfOk r AreLines → IfOk r (AreListsHeld chests) → IfOk r (FitsFilters chests)
+both : (chests : List ℕ) (r : Result (List (List Line)) ℕ) → IfOk r AreLines → IfOk r (AreListsHeld chests)
+    → IfOk r (FitsFilters chests)
 both chests (Err line) are held = tt
 both chests (Ok lists) are held = record { each = each-fit chests 0 lists are held.each; few = held.few }
 

@@ -1,5 +1,6 @@
 -- What the words of a line ask for is within the limits.
-use Rattle.std.proofs.Common.{◌≡◌, ℕ, ◌+◌, ◌-◌, ◌<◌, ◌≤◌, Bool, true, false, cond, ◌&&◌, ◌==◌, nat_lt, nat_le, List, [], ◌∷◌, length, refl, arith}
+use Rattle.std.proofs.Common.{◌≡◌, ℕ, ◌+◌, ◌-◌, ◌<◌, ◌≤◌, Bool, true, false, cond, ◌&&◌, ◌==◌, nat_lt, nat_le, List}
+use Rattle.std.proofs.Common.{[], ◌∷◌, length, refl, arith}
 use Rattle.std.specs.Prelude.{Option, Some, None, IfSome, option_map, ◌/◌, ◌%◌}
 use Rattle.std.proofs.lemmas.Bool.{and_parts, leb-true, ltb-true, eqb-true}
 use Rattle.std.proofs.lemmas.Nat.{div-add-mod'}
@@ -10,8 +11,14 @@ use Rattle.spec_edit.specs.Edit as edits
 use Rattle.spec_edit.specs.Edit.{Edit, IsEdit}
 use Rattle.spec_history.specs.Machine as machine
 use Rattle.spec_history.specs.Machine.{Call}
-use Rattle.spec_script.specs.Words.{◌>>=◌, if_holds, plain_number, number_below, number, hex_digit, hex_bytes, hex, is_digit, flag, coordinate, rect, spot, offset, side, size, none, number_or_none, one, two, three, five, six, eight}
-use Rattle.spec_script.specs.Commands.{Command, an_edit, begins, ends, a_call, saves, forgets, Rule, edit_of, fill_rule, write_rule, filter_rule, copy_rule, fill_byte_rule, byte_rule, number_rule, flag_rule, one_rule, rect_byte_rule, offset_rule, rename_rule, new_layer_rule, new_group_rule, restack_rule, name_rule, are_colours, colours_rule, alone, optional_rule, tile_rule, forget_rule}
+use Rattle.spec_script.specs.Words.{◌>>=◌, if_holds, plain_number, number_below, number, hex_digit, hex_bytes, hex}
+use Rattle.spec_script.specs.Words.{is_digit, flag, coordinate, rect, spot, offset, side, size, none, number_or_none}
+use Rattle.spec_script.specs.Words.{one, two, three, five, six, eight}
+use Rattle.spec_script.specs.Commands.{Command, an_edit, begins, ends, a_call, saves, forgets, Rule, edit_of}
+use Rattle.spec_script.specs.Commands.{fill_rule, write_rule, filter_rule, copy_rule, fill_byte_rule, byte_rule}
+use Rattle.spec_script.specs.Commands.{number_rule, flag_rule, one_rule, rect_byte_rule, offset_rule, rename_rule}
+use Rattle.spec_script.specs.Commands.{new_layer_rule, new_group_rule, restack_rule, name_rule, are_colours}
+use Rattle.spec_script.specs.Commands.{colours_rule, alone, optional_rule, tile_rule, forget_rule}
 use Rattle.spec_grid.specs.declared.TheConstants.{MAX_SIDE}
 
 -- a call with a line of its own, which a group of edits has not
@@ -33,7 +40,8 @@ IsCommand (forgets slot) = Unit {0}
 
 -- ---- values
 
-pub if-then : {A B : Type 0} (Q : A → Type 0) (P : B → Type 0) (o : Option A) (f : A → Option B) → IfSome o Q → ((x : A) → Q x → IfSome (f x) P) → IfSome (o >>= f) P
+pub if-then : {A B : Type 0} (Q : A → Type 0) (P : B → Type 0) (o : Option A) (f : A → Option B) → IfSome o Q
+    → ((x : A) → Q x → IfSome (f x) P) → IfSome (o >>= f) P
 if-then Q P None f h g = tt
 if-then Q P (Some x) f h g = g x h
 
@@ -46,10 +54,12 @@ if-test P true x g = g refl
 if-test P false x g = tt
 
 below : (limit : ℕ) (word : List ℕ) → IfSome (number_below limit word) (λ n. n < limit)
-below limit word = if-any (λ n. n < limit) (plain_number word) (λ n. if_holds (nat_lt n limit) n) (λ n. if-test (λ m. m < limit) (nat_lt n limit) n (λ e. ltb-true n limit e))
+below limit word = if-any (λ n. n < limit) (plain_number word) (λ n. if_holds (nat_lt n limit) n)
+    (λ n. if-test (λ m. m < limit) (nat_lt n limit) n (λ e. ltb-true n limit e))
 
 byte : (word : List ℕ) → IfSome (number_below 256 word) (λ n. n ≤ 255)
-byte word = if-any (λ n. n ≤ 255) (plain_number word) (λ n. if_holds (nat_lt n 256) n) (λ n. if-test (λ m. m ≤ 255) (nat_lt n 256) n (λ e. let l = ltb-true n 256 e in omega arith))
+byte word = if-any (λ n. n ≤ 255) (plain_number word) (λ n. if_holds (nat_lt n 256) n)
+    (λ n. if-test (λ m. m ≤ 255) (nat_lt n 256) n (λ e. let l = ltb-true n 256 e in omega arith))
 
 digit-below : (b : ℕ) → IfSome (hex_digit b) (λ d. d < 16)
 digit-below b = go (is_digit b) (nat_le 97 b && nat_le b 102) (nat_le 65 b && nat_le b 70) refl refl refl
@@ -77,7 +87,8 @@ hex-are (b ∷ c ∷ digits) = hex_bytes-are (b ∷ c ∷ digits)
 
 side-is : (word : List ℕ) → IfSome (side word) IsSide
 side-is word =
-    if-then (λ n. n < MAX_SIDE + 1) IsSide (number_below (MAX_SIDE + 1) word) (λ n. if_holds (nat_le 1 n) n) (below (MAX_SIDE + 1) word) (λ n l.
+    if-then (λ n. n < MAX_SIDE + 1) IsSide (number_below (MAX_SIDE + 1) word) (λ n. if_holds (nat_le 1 n) n)
+    (below (MAX_SIDE + 1) word) (λ n l.
     if-test IsSide (nat_le 1 n) n (λ e. (leb-true 1 n e, omega (arith, l))))
 
 abbrev AreSides : ℕ × ℕ → Type 0
@@ -118,9 +129,11 @@ keeps-copy words = if-any IsCommand (eight words) _ (λ t. edit-of _
     (if-any IsEdit (spot t.0 t.1 t.2 t.3 t.4) _ (λ at. if-any IsEdit (number t.5) _ (λ from.
     if-any IsEdit (coordinate t.6) _ (λ left. if-any IsEdit (coordinate t.7) _ (λ top. tt))))))
 
-pub keeps-fill_byte : (make : ℕ → Rect → ℕ → Edit) → ((id : ℕ) (r : Rect) (value : ℕ) → value ≤ 255 → IsEdit (make id r value)) → Keeps (fill_byte_rule make)
+pub keeps-fill_byte : (make : ℕ → Rect → ℕ → Edit) → ((id : ℕ) (r : Rect) (value : ℕ) → value ≤ 255 → IsEdit (make id r value))
+    → Keeps (fill_byte_rule make)
 keeps-fill_byte make is words = if-any IsCommand (six words) _ (λ t. edit-of _
-    (if-any IsEdit (spot t.0 t.1 t.2 t.3 t.4) _ (λ at. if-then (λ b. b ≤ 255) IsEdit (number_below 256 t.5) _ (byte t.5) (λ b le. is at.0 at.1 b le))))
+    (if-any IsEdit (spot t.0 t.1 t.2 t.3 t.4) _
+    (λ at. if-then (λ b. b ≤ 255) IsEdit (number_below 256 t.5) _ (byte t.5) (λ b le. is at.0 at.1 b le))))
 
 pub keeps-byte : (make : ℕ → ℕ → Edit) → ((id value : ℕ) → value ≤ 255 → IsEdit (make id value)) → Keeps (byte_rule make)
 keeps-byte make is words = if-any IsCommand (two words) _ (λ t. edit-of _
@@ -153,11 +166,13 @@ pub keeps-new_layer : Keeps new_layer_rule
 keeps-new_layer words = if-any IsCommand (eight words) _ (λ t. edit-of _
     (if-any IsEdit (number t.0) _ (λ parent. if-any IsEdit (number t.1) _ (λ place. if-any IsEdit (offset t.2 t.3) _ (λ to.
     if-then AreSides IsEdit (size t.4 t.5) _ (size-is t.4 t.5) (λ sides are.
-    if-any IsEdit (number_below 6 t.6) _ (λ kind. if-then AreBytes IsEdit (hex t.7) _ (hex-are t.7) (λ bytes all. (are.0, are.1, all)))))))))
+    if-any IsEdit (number_below 6 t.6) _
+    (λ kind. if-then AreBytes IsEdit (hex t.7) _ (hex-are t.7) (λ bytes all. (are.0, are.1, all)))))))))
 
 pub keeps-new_group : Keeps new_group_rule
 keeps-new_group words = if-any IsCommand (three words) _ (λ t. edit-of _
-    (if-any IsEdit (number t.0) _ (λ parent. if-any IsEdit (number t.1) _ (λ place. if-then AreBytes IsEdit (hex t.2) _ (hex-are t.2) (λ bytes all. all)))))
+    (if-any IsEdit (number t.0) _ (λ parent.
+    if-any IsEdit (number t.1) _ (λ place. if-then AreBytes IsEdit (hex t.2) _ (hex-are t.2) (λ bytes all. all)))))
 
 pub keeps-restack : Keeps restack_rule
 keeps-restack words = if-any IsCommand (three words) _ (λ t. edit-of _
@@ -185,7 +200,8 @@ keeps-colours words = if-any IsCommand (one words) _ (λ word. edit-of _
 pub keeps-alone : (command : Command) → IsCommand command → Keeps (alone command)
 keeps-alone command is words = if-test IsCommand (none words) command (λ e. is)
 
-optional-keeps : (make : Option ℕ → Command) (o : Option (Option ℕ)) → ((n : Option ℕ) → IsCommand (make n)) → IfSome (option_map make o) IsCommand
+optional-keeps : (make : Option ℕ → Command) (o : Option (Option ℕ)) → ((n : Option ℕ) → IsCommand (make n))
+    → IfSome (option_map make o) IsCommand
 optional-keeps make None is = tt
 optional-keeps make (Some n) is = is n
 
@@ -198,7 +214,9 @@ call-of (Some c) h = h
 
 pub keeps-tile : (make : ℕ → TileAt → Call) → ((stack : ℕ) (at : TileAt) → IsOwnCall (make stack at)) → Keeps (tile_rule make)
 keeps-tile make is words = if-any IsCommand (three words) _ (λ t. call-of _
-    (if-any IsOwnCall (number t.0) _ (λ stack. if-any IsOwnCall (number t.1) _ (λ col. if-any IsOwnCall (number t.2) _ (λ row. is stack (record { col = col; row = row }))))))
+    (if-any IsOwnCall (number t.0) _
+    (λ stack. if-any IsOwnCall (number t.1) _
+    (λ col. if-any IsOwnCall (number t.2) _ (λ row. is stack (record { col = col; row = row }))))))
 
 forget-keeps : (o : Option ℕ) → IfSome (option_map forgets o) IsCommand
 forget-keeps None = tt

@@ -12,7 +12,8 @@ ln text = text ++ 10 ∷ []
 abbrev only : List Line → List (List Line)
 only lines = lines ∷ replicate 7 []
 
-first_path : script (ln (codes "0 opacity 1 0") ++ ln (codes "0 tile 0 0 0") ++ ln (codes "0 undo") ++ codes "0 fill 1 2 3 4 5 0aFF") []
+first_path : script (ln (codes "0 opacity 1 0") ++ ln (codes "0 tile 0 0 0") ++ ln (codes "0 undo")
+    ++ codes "0 fill 1 2 3 4 5 0aFF") []
     ≡ Ok (only (
     call (edit None (set_opacity 1 0 ∷ [])) ∷ call (tile 0 (record { col = 0; row = 0 })) ∷ call (undo None)
     ∷ call (edit None (fill 1 (record { x = pos 2; y = pos 3; w = 4; h = 5 }) (10 ∷ 255 ∷ []) ∷ [])) ∷ []))
@@ -48,17 +49,21 @@ unfolding keywords
 past_coordinate = refl
 
 -- each session has its lines, and a session may have no group but a call of each kind
-calls_of_two : script (ln (codes "1 undo") ++ ln (codes "0 undo 1") ++ ln (codes "1 redo") ++ ln (codes "0 top") ++ codes "1 peek 2 3 4") []
-    ≡ Ok ((call (undo (Some 1)) ∷ call top ∷ []) ∷ (call (undo None) ∷ call redo ∷ call (peek 2 (record { col = 3; row = 4 })) ∷ []) ∷ replicate 6 [])
+calls_of_two : script (ln (codes "1 undo") ++ ln (codes "0 undo 1") ++ ln (codes "1 redo") ++ ln (codes "0 top")
+    ++ codes "1 peek 2 3 4") []
+    ≡ Ok ((call (undo (Some 1)) ∷ call top ∷ []) ∷ (call (undo None) ∷ call redo ∷ call (peek 2 (record { col = 3; row = 4 })) ∷ [])
+    ∷ replicate 6 [])
 unfolding keywords
 calls_of_two = refl
 
 run : script (ln (codes "0 visible 1 0") ++ ln (codes "0 tile 0 0 0") ++ ln (codes "0 undo") ++ codes "0 top") (replicate 8 4)
-    ≡ Ok (only (call (edit None (set_visible 1 false ∷ [])) ∷ call (tile 0 (record { col = 0; row = 0 })) ∷ call (undo None) ∷ call top ∷ []))
+    ≡ Ok (only (call (edit None (set_visible 1 false ∷ [])) ∷ call (tile 0 (record { col = 0; row = 0 })) ∷ call (undo None)
+    ∷ call top ∷ []))
 unfolding keywords
 run = refl
 
-grouped : script (ln (codes "0 begin 7") ++ ln (codes "0 opacity 1 9") ++ ln (codes "0 visible 1 1") ++ ln (codes "0 end")) (replicate 8 4)
+grouped : script (ln (codes "0 begin 7") ++ ln (codes "0 opacity 1 9") ++ ln (codes "0 visible 1 1")
+    ++ ln (codes "0 end")) (replicate 8 4)
     ≡ Ok (only (call (edit (Some 7) (set_opacity 1 9 ∷ set_visible 1 true ∷ [])) ∷ []))
 unfolding keywords
 grouped = refl
@@ -67,7 +72,8 @@ dropped : script (ln (codes "0 forget 3") ++ ln (codes "0 filter 1 0 0 1 1 3")) 
 unfolding keywords
 dropped = refl
 
-never : script (ln (codes "1 begin") ++ ln (codes "0 begin") ++ ln (codes "1 opacity 1 2") ++ ln (codes "1 end")) (replicate 8 4) ≡ Err 2
+never : script (ln (codes "1 begin") ++ ln (codes "0 begin") ++ ln (codes "1 opacity 1 2") ++ ln (codes "1 end")) (replicate 8 4)
+    ≡ Err 2
 unfolding keywords
 never = refl
 
@@ -76,7 +82,8 @@ unfolding keywords
 two_spaces = refl
 
 -- signed numbers lie in the range of 32 bits, and there is no -0
-least_offset : script (codes "0 offset 1 -2147483648 2147483647") [] ≡ Ok (only (call (edit None (set_offset 1 (negsuc 2147483647) (pos 2147483647) ∷ [])) ∷ []))
+least_offset : script (codes "0 offset 1 -2147483648 2147483647") []
+    ≡ Ok (only (call (edit None (set_offset 1 (negsuc 2147483647) (pos 2147483647) ∷ [])) ∷ []))
 unfolding keywords
 least_offset = refl
 
@@ -168,12 +175,14 @@ unfolding keywords
 bad_number = refl
 
 -- a peek is a line as a tile is
-peek_line : script (ln (codes "0 undo") ++ ln (codes "0 peek 0 0 0")) [] ≡ Ok (only (call (undo None) ∷ call (peek 0 (record { col = 0; row = 0 })) ∷ []))
+peek_line : script (ln (codes "0 undo") ++ ln (codes "0 peek 0 0 0")) []
+    ≡ Ok (only (call (undo None) ∷ call (peek 0 (record { col = 0; row = 0 })) ∷ []))
 unfolding keywords
 peek_line = refl
 
 -- a filter that the session has, in a group and until it is dropped
-filter_line : script (ln (codes "0 forget 2") ++ ln (codes "0 begin") ++ ln (codes "0 filter 1 0 0 1 1 3") ++ ln (codes "0 end") ++ codes "0 filter 1 0 0 1 1 2") (replicate 8 4)
+filter_line : script (ln (codes "0 forget 2") ++ ln (codes "0 begin") ++ ln (codes "0 filter 1 0 0 1 1 3") ++ ln (codes "0 end")
+    ++ codes "0 filter 1 0 0 1 1 2") (replicate 8 4)
     ≡ Err 5
 unfolding keywords
 filter_line = refl

@@ -36,7 +36,8 @@ AreFit filters dropped (line ∷ lines) = IsFit filters dropped line × AreFit f
 -- the sessions' lines, the first session being that of this number; one past the end of chests has no filter
 abbrev pub EachFit : (chests : List ℕ) (session : ℕ) → List (List Line) → Type 0
 EachFit chests session [] = Unit {0}
-EachFit chests session (lines ∷ lists) = AreFit (unwrap_or (slice_get chests session) 0) [] lines × EachFit chests (suc session) lists
+EachFit chests session (lines ∷ lists) =
+    AreFit (unwrap_or (slice_get chests session) 0) [] lines × EachFit chests (suc session) lists
 
 -- the calls of all sessions, saves among them
 abbrev pub count_calls : List (List Line) → ℕ

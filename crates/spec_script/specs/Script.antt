@@ -1,5 +1,7 @@
 -- A script: the lines of each session, or the first line that is refused.
-use Rattle.std.specs.Prelude.{ℕ, suc, ◌+◌, ◌^◌, Bool, true, false, ◌&&◌, not, ◌==◌, min, nat_lt, nat_le, if◌then◌else◌, List, [], ◌∷◌, ◌++◌, length, map, take, count_by, Option, Some, None, option_map, Result, Ok, Err, slice_get, unwrap_or}
+use Rattle.std.specs.Prelude.{ℕ, suc, ◌+◌, ◌^◌, Bool, true, false, ◌&&◌, not, ◌==◌, min, nat_lt, nat_le, if◌then◌else◌}
+use Rattle.std.specs.Prelude.{List, [], ◌∷◌, ◌++◌, length, map, take, count_by, Option, Some, None, option_map, Result}
+use Rattle.std.specs.Prelude.{Ok, Err, slice_get, unwrap_or}
 use Rattle.spec_grid.specs.Rect.{count_from}
 use Rattle.std.specs.List.{list_any}
 use Rattle.spec_edit.specs.Edit as edits
@@ -68,7 +70,8 @@ add_line s line = takes (record s { lines = s.lines ++ line ∷ [] }) 1
 -- a command outside a group
 abbrev pub take_outside : (number : ℕ) → Session → Command → Option Taken
 take_outside number s (an_edit e) = if has_its_filter s e then add_line s (call (machine.edit None (e ∷ []))) else None
-take_outside number s (begins guard) = takes (record s { open_group = Some (record { line = number; guard = guard; edits = [] }) }) 1
+take_outside number s (begins guard) =
+    takes (record s { open_group = Some (record { line = number; guard = guard; edits = [] }) }) 1
 take_outside number s ends = None
 take_outside number s (a_call c) = add_line s (call c)
 take_outside number s saves = add_line s save

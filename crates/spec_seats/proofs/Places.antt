@@ -36,7 +36,8 @@ pub all_later : (n m : ℕ) (places : List ℕ) → n ≤ m → AllByRecursion (
 all_later n m [] le all = tt
 all_later n m (p ∷ places) le all = (omega (arith, le, all.0), all_later n m places le all.1)
 
-pub all_and_last : (n p : ℕ) (places : List ℕ) → AllByRecursion (λ q. q < n) places → p < n → AllByRecursion (λ q. q < n) (places ++ p ∷ [])
+pub all_and_last : (n p : ℕ) (places : List ℕ) → AllByRecursion (λ q. q < n) places → p < n
+    → AllByRecursion (λ q. q < n) (places ++ p ∷ [])
 all_and_last n p [] all last = (last, tt)
 all_and_last n p (q ∷ places) all last = (all.0, all_and_last n p places all.1 last)
 

@@ -1,5 +1,6 @@
 -- The digests of the tiles that a session was shown, as the history grows.
-use Rattle.std.proofs.Common.{◌≡◌, ℕ, ◌+◌, ◌<◌, ◌≤◌, Bool, true, false, cond, List, [], ◌∷◌, ◌++◌, length, Some, None, refl, sym, ◌∙◌, ap, subst, arith, append-nil, append_assoc}
+use Rattle.std.proofs.Common.{◌≡◌, ℕ, ◌+◌, ◌<◌, ◌≤◌, Bool, true, false, cond, List, [], ◌∷◌, ◌++◌, length, Some, None}
+use Rattle.std.proofs.Common.{refl, sym, ◌∙◌, ap, subst, arith, append-nil, append_assoc}
 use Rattle.std.specs.Prelude.{◌&&◌, not, Option, Result, Ok, Err}
 use Rattle.std.specs.List.{AllByRecursion}
 use Rattle.std.proofs.lemmas.List.Concat.{flat_map-append, flat_map-cons}
@@ -10,8 +11,11 @@ use Rattle.spec_document.specs.Document.{Document}
 use Rattle.spec_picture.specs.Picture.{project}
 use Rattle.spec_edit.specs.Edit.{Edit}
 use Rattle.spec_edit.specs.Apply.{At, Refused, apply_group}
-use Rattle.spec_history.specs.Machine.{Call, edit, undo, redo, tile, peek, top, Reply, moved, tile_of, no_stack, outside_tile, State, Saving, Done, Answer, latest, document_at, initial, names, stays, made, answer, undo_answer, redo_answer, has_stack, tile_reply}
-use Rattle.spec_history.specs.History.{Entry, Kind, asked, starts, ends, after_entry, replay_from, replay, Answers, PeekAnswers, MayPeek, EndsWith, MayEnd, MayBe, RunFrom}
+use Rattle.spec_history.specs.Machine.{Call, edit, undo, redo, tile, peek, top, Reply, moved, tile_of, no_stack}
+use Rattle.spec_history.specs.Machine.{outside_tile, State, Saving, Done, Answer, latest, document_at, initial, names}
+use Rattle.spec_history.specs.Machine.{stays, made, answer, undo_answer, redo_answer, has_stack, tile_reply}
+use Rattle.spec_history.specs.History.{Entry, Kind, asked, starts, ends, after_entry, replay_from, replay, Answers}
+use Rattle.spec_history.specs.History.{PeekAnswers, MayPeek, EndsWith, MayEnd, MayBe, RunFrom}
 use Rattle.spec_history.specs.Kept.{IsLegal}
 use Rattle.spec_history.proofs.Growing.{cond_both, document_of-append}
 use Rattle.spec_history.proofs.Versions.{IsSound, sound-initial, goes-step, ends-run}
@@ -31,7 +35,8 @@ up_to_later : (now last : ℕ) (r : Reply) → now ≤ last → IsUpTo now r →
 up_to_later now last (tile_of version) le is = omega (arith, le, is)
 up_to_later now last r le is = tt
 
-up_to_made : (n : ℕ) (s : State) (old : At) (es : List Edit) (tables : List (List ℕ)) (r : Result At Refused) → IsUpTo n (made s old es tables r).reply
+up_to_made : (n : ℕ) (s : State) (old : At) (es : List Edit) (tables : List (List ℕ)) (r : Result At Refused)
+    → IsUpTo n (made s old es tables r).reply
 up_to_made n s old es tables (Err r) = tt
 up_to_made n s old es tables (Ok new) = tt
 
@@ -44,7 +49,8 @@ up_to_redo n s [] = tt
 up_to_redo n s (d ∷ ds) = tt
 
 -- of the replies to a tile, whichever is given
-tile_either : (P : Reply → Type 0) (d : Document) (stack : ℕ) (at : TileAt) (reply : Reply) → P (no_stack stack) → P outside_tile → P reply → P (tile_reply d stack at reply)
+tile_either : (P : Reply → Type 0) (d : Document) (stack : ℕ) (at : TileAt) (reply : Reply) → P (no_stack stack) → P outside_tile
+    → P reply → P (tile_reply d stack at reply)
 tile_either P d stack at reply none outside given =
     cond_both P (not (has_stack d stack)) (no_stack stack) (cond (not (is_on_grid d.width d.height at)) outside_tile reply) none
     (cond_both P (not (is_on_grid d.width d.height at)) outside_tile reply outside given)
@@ -53,19 +59,25 @@ up_to_peek : (base : Document) (s : State) (stack : ℕ) (r : Reply) → MayPeek
 up_to_peek base s stack (tile_of version) may = may.0
 up_to_peek base s stack r may = tt
 
-up_to_answers : (base : Document) (s : State) (c : Call) (tables : List (List ℕ)) (r : Reply) → Answers base s c tables r → IsUpTo (latest s) r
+up_to_answers : (base : Document) (s : State) (c : Call) (tables : List (List ℕ)) (r : Reply) → Answers base s c tables r
+    → IsUpTo (latest s) r
 up_to_answers base s (edit guard es) tables r same =
     let old : At = record { document = document_at base s (latest s); next = s.next_id } in
-    subst (IsUpTo (latest s)) (sym same) (cond_both (λ (a : Answer). IsUpTo (latest s) a.reply) (names guard (latest s)) (made s old es tables (apply_group old es tables)) (stays s (moved (latest s)))
+    subst (IsUpTo (latest s)) (sym same)
+    (cond_both (λ (a : Answer). IsUpTo (latest s) a.reply) (names guard (latest s))
+    (made s old es tables (apply_group old es tables)) (stays s (moved (latest s)))
     (up_to_made (latest s) s old es tables (apply_group old es tables)) tt)
 up_to_answers base s (undo named) tables r same = subst (IsUpTo (latest s)) (sym same) (up_to_undo (latest s) s named s.undo)
 up_to_answers base s redo tables r same = subst (IsUpTo (latest s)) (sym same) (up_to_redo (latest s) s s.redo)
 up_to_answers base s (tile stack at) tables r same =
     let le : latest s ≤ latest s = omega arith in
-    subst (IsUpTo (latest s)) (sym same) (tile_either (IsUpTo (latest s)) (document_at base s (latest s)) stack at (tile_of (latest s)) tt tt le)
+    subst (IsUpTo (latest s)) (sym same)
+    (tile_either (IsUpTo (latest s)) (document_at base s (latest s)) stack at (tile_of (latest s)) tt tt le)
 up_to_answers base s (peek stack at) tables r answers =
-    tile_either (λ (plain : Reply). PeekAnswers base s stack plain r → IsUpTo (latest s) r) (document_at base s (latest s)) stack at (tile_of (latest s))
-    (λ same. subst (IsUpTo (latest s)) (sym same) tt) (λ same. subst (IsUpTo (latest s)) (sym same) tt) (up_to_peek base s stack r) answers
+    tile_either (λ (plain : Reply). PeekAnswers base s stack plain r
+    → IsUpTo (latest s) r) (document_at base s (latest s)) stack at (tile_of (latest s))
+    (λ same. subst (IsUpTo (latest s)) (sym same) tt) (λ same. subst (IsUpTo (latest s)) (sym same) tt)
+    (up_to_peek base s stack r) answers
 up_to_answers base s top tables r same = subst (IsUpTo (latest s)) (sym same) tt
 
 up_to_end : (now version : ℕ) (r : Reply) → EndsWith version r → IsUpTo now r
@@ -76,7 +88,8 @@ up_to_ends : (now : ℕ) (out : Option Saving) (session index : ℕ) (r : Reply)
 up_to_ends now None session index r may = absurd may
 up_to_ends now (Some o) session index r may = up_to_end now o.version r may.2
 
-up_to_step : (base : Document) (s : State) (earlier : List Entry) (e : Entry) (k : Kind) → MayBe base s earlier e k → IsUpTo (latest s) e.reply
+up_to_step : (base : Document) (s : State) (earlier : List Entry) (e : Entry) (k : Kind) → MayBe base s earlier e k
+    → IsUpTo (latest s) e.reply
 up_to_step base s earlier e (asked c tables) may = up_to_answers base s c tables e.reply may.1
 up_to_step base s earlier e starts may = subst (IsUpTo (latest s)) (sym may.2) tt
 up_to_step base s earlier e ends may = up_to_ends (latest s) s.out e.session e.index e.reply may
@@ -88,8 +101,10 @@ up_to_run base s earlier [] sound run = tt
 up_to_run base s earlier (e ∷ es) sound run =
     let goes = goes-step base s earlier e sound run.0 in
     let more = (ends-run base s earlier (e ∷ es) sound run).more in
-    let le : latest s ≤ latest (replay_from base s (e ∷ es)) = omega (arith, more) in
-    (up_to_later (latest s) (latest (replay_from base s (e ∷ es))) e.reply le (up_to_step base s earlier e e.kind run.0), up_to_run base (after_entry base s e) (earlier ++ e ∷ []) es goes.sound run.1)
+    let le : latest s ≤ latest (replay_from base s (e ∷ es)) = omega (arith, more) in (
+      up_to_later (latest s) (latest (replay_from base s (e ∷ es))) e.reply le (up_to_step base s earlier e e.kind run.0),
+      up_to_run base (after_entry base s e) (earlier ++ e ∷ []) es goes.sound run.1,
+    )
 
 -- ---- a digest stays
 
@@ -108,18 +123,22 @@ digests_along : (base : Document) (all more own : List Entry) → AllByRecursion
 digests_along base all more [] up = refl
 digests_along base all more (e ∷ own) up =
     flat_map-cons (λ x. digest_in base (all ++ more) x.kind x.reply) e own
-    ∙ ap (λ d. cond (shows_tile e.kind e.reply) (d ∷ []) [] ++ digests_in base (all ++ more) own) (digest_stays base all more e.kind e.reply up.0)
+    ∙ ap (λ d. cond (shows_tile e.kind e.reply) (d ∷ []) []
+    ++ digests_in base (all ++ more) own) (digest_stays base all more e.kind e.reply up.0)
     ∙ ap (λ ds. digest_in base all e.kind e.reply ++ ds) (digests_along base all more own up.1)
     ∙ sym (flat_map-cons (λ x. digest_in base all x.kind x.reply) e own)
 
-all_picked : (P : Entry → Type 0) (at : ℕ) (places : List ℕ) (es : List Entry) → AllByRecursion P es → AllByRecursion P (picked_from at places es)
+all_picked : (P : Entry → Type 0) (at : ℕ) (places : List ℕ) (es : List Entry) → AllByRecursion P es
+    → AllByRecursion P (picked_from at places es)
 all_picked P at places [] all = tt
 all_picked P at places (e ∷ es) all = go (is_at at places) (all_picked P (at + 1) places es all.1) where
-  go : (b : Bool) → AllByRecursion P (picked_from (at + 1) places es) → AllByRecursion P (cond b (e ∷ picked_from (at + 1) places es) (picked_from (at + 1) places es))
+  go : (b : Bool) → AllByRecursion P (picked_from (at + 1) places es)
+      → AllByRecursion P (cond b (e ∷ picked_from (at + 1) places es) (picked_from (at + 1) places es))
   go true rest = (all.0, rest)
   go false rest = rest
 
-digests_longer : (base : Document) (places : List ℕ) (es new : List Entry) → IsLegal base es → IsPrefix es new → digests_in base new (picked places es) ≡ digests_in base es (picked places es)
+digests_longer : (base : Document) (places : List ℕ) (es new : List Entry) → IsLegal base es → IsPrefix es new
+    → digests_in base new (picked places es) ≡ digests_in base es (picked places es)
 digests_longer base places es new legal begins =
     let Up : Entry → Type 0 = λ e. IsUpTo (latest (replay base es)) e.reply in
     let up : AllByRecursion Up es = up_to_run base (initial base) [] es (sound-initial base) legal.run in
@@ -129,7 +148,8 @@ digests_longer base places es new legal begins =
 -- ---- as the history grows
 
 -- the entries of others change no digest
-pub digests_grow : (base : Document) (places : List ℕ) (es new : List Entry) → IsLegal base es → IsPrefix es new → AllByRecursion (λ p. p < length es) places
+pub digests_grow : (base : Document) (places : List ℕ) (es new : List Entry) → IsLegal base es → IsPrefix es new
+    → AllByRecursion (λ p. p < length es) places
     → digests_in base new (picked places new) ≡ digests_in base es (picked places es)
 digests_grow base places es new legal begins within =
     ap (digests_in base new) (picked_grown places es new begins within) ∙ digests_longer base places es new legal begins
@@ -138,33 +158,40 @@ digests_grow base places es new legal begins within =
 pub digests_none : (base : Document) (es : List Entry) → digests_in base es (picked [] es) ≡ []
 digests_none base es = ap (digests_in base es) (picked-none 0 es)
 
-digests_snoc : (base : Document) (all own : List Entry) (e : Entry) → digests_in base all (own ++ e ∷ []) ≡ digests_in base all own ++ digest_in base all e.kind e.reply
+digests_snoc : (base : Document) (all own : List Entry) (e : Entry)
+    → digests_in base all (own ++ e ∷ []) ≡ digests_in base all own ++ digest_in base all e.kind e.reply
 digests_snoc base all own e =
     flat_map-append (λ x. digest_in base all x.kind x.reply) own (e ∷ [])
-    ∙ ap (λ ds. digests_in base all own ++ ds) (flat_map-cons (λ x. digest_in base all x.kind x.reply) e [] ∙ append-nil (digest_in base all e.kind e.reply))
+    ∙ ap (λ ds. digests_in base all own ++ ds) (flat_map-cons (λ x. digest_in base all x.kind x.reply) e []
+    ∙ append-nil (digest_in base all e.kind e.reply))
 
 prefix_more : (es entered more : List Entry) → IsPrefix es entered → IsPrefix es (entered ++ more)
 prefix_more es entered more begins = (begins.0 ++ more, sym (append_assoc es begins.0 more) ∙ ap (λ xs. xs ++ more) begins.1)
 
 -- an entry more, with its digest if it shows a tile
-pub digests_one : (base : Document) (places : List ℕ) (es entered : List Entry) (e : Entry) → IsLegal base es → IsPrefix es entered → AllByRecursion (λ p. p < length es) places
+pub digests_one : (base : Document) (places : List ℕ) (es entered : List Entry) (e : Entry) → IsLegal base es → IsPrefix es entered
+    → AllByRecursion (λ p. p < length es) places
     → digests_in base (entered ++ e ∷ []) (picked (places ++ length entered ∷ []) (entered ++ e ∷ []))
     ≡ digests_in base es (picked places es) ++ digest_in base (entered ++ e ∷ []) e.kind e.reply
 digests_one base places es entered e legal begins within =
     let all = entered ++ e ∷ [] in
     ap (digests_in base all) (picked_one places es entered e begins within)
     ∙ digests_snoc base all (picked places es) e
-    ∙ ap (λ ds. ds ++ digest_in base all e.kind e.reply) (digests_longer base places es all legal (prefix_more es entered (e ∷ []) begins))
+    ∙ ap (λ ds. ds ++ digest_in base all e.kind e.reply)
+    (digests_longer base places es all legal (prefix_more es entered (e ∷ []) begins))
 
 -- a save shows no tile
-pub digests_save : (base : Document) (places : List ℕ) (es entered : List Entry) (s : Entry) (between : List Entry) (t : Entry) → IsLegal base es → IsPrefix es entered
+pub digests_save : (base : Document) (places : List ℕ) (es entered : List Entry) (s : Entry) (between : List Entry) (t : Entry)
+    → IsLegal base es → IsPrefix es entered
     → AllByRecursion (λ p. p < length es) places → s.kind ≡ starts → t.kind ≡ ends
-    → digests_in base (before_end entered s between ++ t ∷ []) (picked (with_save places entered s between) (before_end entered s between ++ t ∷ []))
+    → digests_in base (before_end entered s between
+    ++ t ∷ []) (picked (with_save places entered s between) (before_end entered s between ++ t ∷ []))
     ≡ digests_in base es (picked places es)
 digests_save base places es entered s between t legal begins within starts_so ends_so =
     let all = before_end entered s between ++ t ∷ [] in
     let mine = picked places es in
-    let longer = prefix_more es (before_end entered s between) (t ∷ []) (prefix_more es (entered ++ s ∷ []) between (prefix_more es entered (s ∷ []) begins)) in
+    let longer = prefix_more es (before_end entered s between) (t ∷ [])
+    (prefix_more es (entered ++ s ∷ []) between (prefix_more es entered (s ∷ []) begins)) in
     let no_start : digest_in base all s.kind s.reply ≡ [] = ap (λ k. digest_in base all k s.reply) starts_so in
     let no_end : digest_in base all t.kind t.reply ≡ [] = ap (λ k. digest_in base all k t.reply) ends_so in
     ap (digests_in base all) (picked_two places es entered s between t begins within)
@@ -176,7 +203,8 @@ digests_save base places es entered s between t legal begins within starts_so en
 
 -- ---- the digest of a reply
 
-no_tile_made : (s : State) (old : At) (es : List Edit) (tables : List (List ℕ)) (r : Result At Refused) → is_tile_reply (made s old es tables r).reply ≡ false
+no_tile_made : (s : State) (old : At) (es : List Edit) (tables : List (List ℕ)) (r : Result At Refused)
+    → is_tile_reply (made s old es tables r).reply ≡ false
 no_tile_made s old es tables (Err r) = refl
 no_tile_made s old es tables (Ok new) = refl
 
@@ -188,11 +216,13 @@ no_tile_redo : (s : State) (ds : List Done) → is_tile_reply (redo_answer s ds)
 no_tile_redo s [] = refl
 no_tile_redo s (d ∷ ds) = refl
 
-tile_asked : (base : Document) (s : State) (c : Call) (tables : List (List ℕ)) (r : Reply) → Answers base s c tables r → is_tile_reply r ≡ true → asks_tile c ≡ true
+tile_asked : (base : Document) (s : State) (c : Call) (tables : List (List ℕ)) (r : Reply) → Answers base s c tables r
+    → is_tile_reply r ≡ true → asks_tile c ≡ true
 tile_asked base s (edit guard es) tables r same is =
     let old : At = record { document = document_at base s (latest s); next = s.next_id } in
     let none : is_tile_reply (answer base s (edit guard es) tables).reply ≡ false =
-    cond_both (λ (a : Answer). is_tile_reply a.reply ≡ false) (names guard (latest s)) (made s old es tables (apply_group old es tables)) (stays s (moved (latest s)))
+    cond_both (λ (a : Answer). is_tile_reply a.reply ≡ false) (names guard (latest s))
+    (made s old es tables (apply_group old es tables)) (stays s (moved (latest s)))
     (no_tile_made s old es tables (apply_group old es tables)) refl in
     sym none ∙ ap is_tile_reply (sym same) ∙ is
 tile_asked base s (undo named) tables r same is = sym (no_tile_undo s named s.undo) ∙ ap is_tile_reply (sym same) ∙ is
@@ -207,5 +237,6 @@ both_or_none false true h = h refl
 both_or_none false false h = refl
 
 -- a call shows a tile where its reply is one
-pub shows_as_reply : (base : Document) (s : State) (c : Call) (tables : List (List ℕ)) (r : Reply) → Answers base s c tables r → shows_tile (asked c tables) r ≡ is_tile_reply r
+pub shows_as_reply : (base : Document) (s : State) (c : Call) (tables : List (List ℕ)) (r : Reply) → Answers base s c tables r
+    → shows_tile (asked c tables) r ≡ is_tile_reply r
 shows_as_reply base s c tables r answers = both_or_none (asks_tile c) (is_tile_reply r) (tile_asked base s c tables r answers)

@@ -1,7 +1,9 @@
 -- The digests of the tiles that were shown along some entries.
 use Rattle.std.specs.Prelude.{ℕ, Bool, true, false, ◌&&◌, if◌then◌else◌, List, [], ◌∷◌, flat_map}
 use Rattle.spec_document.specs.Document.{Document}
-use Rattle.spec_history.specs.Machine.{Call, edit, undo, redo, tile, peek, top, Reply, changed, refused, moved, nothing_to_undo, nothing_to_redo, not_top, tile_of, stale, no_stack, outside_tile, top_is, saved, save_fault, save_memory, history_full}
+use Rattle.spec_history.specs.Machine.{Call, edit, undo, redo, tile, peek, top, Reply, changed, refused, moved}
+use Rattle.spec_history.specs.Machine.{nothing_to_undo, nothing_to_redo, not_top, tile_of, stale, no_stack}
+use Rattle.spec_history.specs.Machine.{outside_tile, top_is, saved, save_fault, save_memory, history_full}
 use Rattle.spec_history.specs.History.{Entry, Kind, asked, starts, ends}
 use Rattle.spec_text.specs.Text.{shown_digest}
 

@@ -25,7 +25,8 @@ pub record IsOf (session : ℕ) (places : List ℕ) (es : List Entry) : Type 0 w
   pub within : AllByRecursion (λ place. place < length es) places
   pub rise : Rise places
 
--- They are the calls of its lines, once each and in order, with the tables of its filters; what each was shown is no older than what
+-- They are the calls of its lines, once each and in order, with the tables of its filters; what each was shown is no
+-- older than what
 -- the session had seen.
 pub record HasMade (session : ℕ) (filters : List FilterState) (lines : List Line) (places : List ℕ) (es : List Entry) : Type 0 where
   pub of : IsOf session places es

@@ -43,7 +43,8 @@ abbrev pub IsFreshAtFrom : (at : ℕ) → (places : List ℕ) → (now seen : �
 IsFreshAtFrom at places now seen [] = Unit {0}
 IsFreshAtFrom at places now seen (e ∷ es) =
     let then_is = if is_changed e.reply then now + 1 else now in
-    MatchBool (is_at at places) (IsFreshReply seen e.reply × IsFreshAtFrom (at + 1) places then_is then_is es) (IsFreshAtFrom (at + 1) places then_is seen es)
+    MatchBool (is_at at places) (IsFreshReply seen e.reply
+    × IsFreshAtFrom (at + 1) places then_is then_is es) (IsFreshAtFrom (at + 1) places then_is seen es)
 
 -- no reply at these places is older than what was seen at the one before
 abbrev pub IsFreshAt : (places : List ℕ) → List Entry → Type 0

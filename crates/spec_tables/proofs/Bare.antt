@@ -1,7 +1,8 @@
 -- The nodes of a document without the bytes of their layers' pixels.
 use Rattle.std.proofs.Common.{◌≡◌, ℕ, zero, suc, ◌+◌, max, Bool, true, false, cond, eqb, [], ◌∷◌, ◌++◌, refl, sym, ◌∙◌, ap}
 use Rattle.std.specs.Prelude.{Some, option_map}
-use Rattle.spec_forest.specs.Forest.{none, leaf, group, Found, nothing, a_leaf, a_group, or_else, find, children_of, size, count, levels, first_of, ancestors, stack_at}
+use Rattle.spec_forest.specs.Forest.{none, leaf, group, Found, nothing, a_leaf, a_group, or_else, find, children_of}
+use Rattle.spec_forest.specs.Forest.{size, count, levels, first_of, ancestors, stack_at}
 use Rattle.spec_forest.specs.Changes.{above, put_at, with_children, put_into, without, branch_of, with_leaf, with_group}
 use Rattle.spec_document.specs.Document.{Document, Nodes, Layer, Group, nodes_area, plane_area, mask_area}
 
@@ -30,7 +31,8 @@ either f false x y = refl
 pub bare-without : (id : ℕ) (t : Nodes) → bare_nodes (without id t) ≡ without id (bare_nodes t)
 bare-without id none = refl
 bare-without id (leaf i l u) =
-    either bare_nodes (eqb id i) u (leaf i l (without id u)) ∙ ap (λ x. cond (eqb id i) (bare_nodes u) (leaf i (bare_layer l) x)) (bare-without id u)
+    either bare_nodes (eqb id i) u (leaf i l (without id u))
+    ∙ ap (λ x. cond (eqb id i) (bare_nodes u) (leaf i (bare_layer l) x)) (bare-without id u)
 bare-without id (group i g c u) =
     either bare_nodes (eqb id i) u (group i g (without id c) (without id u))
     ∙ (λ j. cond (eqb id i) (bare_nodes u) (group i g (bare-without id c j) (bare-without id u j)))
@@ -43,7 +45,8 @@ bare-above (group i g c u) b = ap (group i g (bare_nodes c)) (bare-above u b)
 pub bare-branch_of : (id : ℕ) (t : Nodes) → bare_nodes (branch_of id t) ≡ branch_of id (bare_nodes t)
 bare-branch_of id none = refl
 bare-branch_of id (leaf i l u) =
-    either bare_nodes (eqb id i) (leaf i l none) (branch_of id u) ∙ ap (λ x. cond (eqb id i) (leaf i (bare_layer l) none) x) (bare-branch_of id u)
+    either bare_nodes (eqb id i) (leaf i l none) (branch_of id u)
+    ∙ ap (λ x. cond (eqb id i) (leaf i (bare_layer l) none) x) (bare-branch_of id u)
 bare-branch_of id (group i g c u) =
     either bare_nodes (eqb id i) (group i g c none) (above (branch_of id c) (branch_of id u))
     ∙ ap (λ x. cond (eqb id i) (group i g (bare_nodes c) none) x)
@@ -55,7 +58,8 @@ bare-put_at b (suc place) none = bare-above b none
 bare-put_at b (suc place) (leaf i l u) = ap (leaf i (bare_layer l)) (bare-put_at b place u)
 bare-put_at b (suc place) (group i g c u) = ap (group i g (bare_nodes c)) (bare-put_at b place u)
 
-bare-with_children : (id place : ℕ) (b t : Nodes) → bare_nodes (with_children id (put_at b place) t) ≡ with_children id (put_at (bare_nodes b) place) (bare_nodes t)
+bare-with_children : (id place : ℕ) (b t : Nodes)
+    → bare_nodes (with_children id (put_at b place) t) ≡ with_children id (put_at (bare_nodes b) place) (bare_nodes t)
 bare-with_children id place b none = refl
 bare-with_children id place b (leaf i l u) = ap (leaf i (bare_layer l)) (bare-with_children id place b u)
 bare-with_children id place b (group i g c u) = λ j.
@@ -64,7 +68,8 @@ bare-with_children id place b (group i g c u) = λ j.
     ∙ (λ k. cond (eqb id i) (bare-put_at b place c k) (bare-with_children id place b c k))) j)
     (bare-with_children id place b u j)
 
-pub bare-put_into : (stack place : ℕ) (b t : Nodes) → bare_nodes (put_into stack place b t) ≡ put_into stack place (bare_nodes b) (bare_nodes t)
+pub bare-put_into : (stack place : ℕ) (b t : Nodes)
+    → bare_nodes (put_into stack place b t) ≡ put_into stack place (bare_nodes b) (bare_nodes t)
 bare-put_into stack place b t =
     either bare_nodes (eqb stack 0) (put_at b place t) (with_children stack (put_at b place) t)
     ∙ (λ k. cond (eqb stack 0) (bare-put_at b place t k) (bare-with_children stack place b t k))
@@ -144,6 +149,7 @@ count_found (a_group g c) = ap Some (count-bare c)
 -- how many children a stack has
 pub children-bare : (stack : ℕ) (t : Nodes) → option_map count (stack_at stack (bare_nodes t)) ≡ option_map count (stack_at stack t)
 children-bare stack t = step (eqb stack 0) where
-  step : (test : Bool) → option_map count (cond test (Some (bare_nodes t)) (children_of (find stack (bare_nodes t)))) ≡ option_map count (cond test (Some t) (children_of (find stack t)))
+  step : (test : Bool) → option_map count (cond test (Some (bare_nodes t)) (children_of (find stack (bare_nodes t))))
+      ≡ option_map count (cond test (Some t) (children_of (find stack t)))
   step true = ap Some (count-bare t)
   step false = ap (λ f. option_map count (children_of f)) (find-bare stack t) ∙ count_found (find stack t)

@@ -17,7 +17,8 @@ some_list (None ∷ ss) = let rest = some_list ss in (record { kind = Invert; am
 some_list (Some s ∷ ss) = let rest = some_list ss in (s ∷ rest.0, (refl, rest.1))
 
 -- a filter that is there has the state of the list
-pub state_in : (chest : List (Option FilterState)) (filters : List FilterState) (slot : ℕ) (s : FilterState) → Agrees chest filters → state_at chest slot ≡ Some s
+pub state_in : (chest : List (Option FilterState)) (filters : List FilterState) (slot : ℕ) (s : FilterState) → Agrees chest filters
+    → state_at chest slot ≡ Some s
     → slice_get filters slot ≡ Some s
 state_in [] [] slot s a e = cc
 state_in [] (f ∷ fs) slot s a e = absurd a
@@ -43,7 +44,8 @@ some_used None = refl
 some_used (Some s) = refl
 
 -- it stays in its slot
-pub used_slots : (chest : List (Option FilterState)) (slot : ℕ) → SameSlots chest (slice_set chest slot (option_map after_use (state_at chest slot)))
+pub used_slots : (chest : List (Option FilterState)) (slot : ℕ)
+    → SameSlots chest (slice_set chest slot (option_map after_use (state_at chest slot)))
 used_slots [] slot = refl
 used_slots (x ∷ xs) zero = ap (λ b. b ∷ map is_some xs) (some_used x)
 used_slots (x ∷ xs) (suc slot) = ap (λ bs. is_some x ∷ bs) (used_slots xs slot)
@@ -57,12 +59,14 @@ same_there (x ∷ xs) (y ∷ ys) zero e = cc
 same_there (x ∷ xs) (y ∷ ys) (suc slot) e = let rest : map is_some ys ≡ map is_some xs = cc in same_there xs ys slot rest
 
 -- two chests that agree with one list and have filters in the same slots are one
-pub agree_same : (old new : List (Option FilterState)) (filters : List FilterState) → SameSlots old new → Agrees old filters → Agrees new filters → new ≡ old
+pub agree_same : (old new : List (Option FilterState)) (filters : List FilterState) → SameSlots old new → Agrees old filters
+    → Agrees new filters → new ≡ old
 agree_same [] [] filters e a b = refl
 agree_same [] (y ∷ ys) filters e a b = cc
 agree_same (x ∷ xs) [] filters e a b = cc
 agree_same (x ∷ xs) (y ∷ ys) [] e a b = absurd a
-agree_same (None ∷ xs) (None ∷ ys) (f ∷ fs) e a b = let rest : map is_some ys ≡ map is_some xs = cc in ap (λ zs. None ∷ zs) (agree_same xs ys fs rest a b)
+agree_same (None ∷ xs) (None ∷ ys) (f ∷ fs) e a b =
+    let rest : map is_some ys ≡ map is_some xs = cc in ap (λ zs. None ∷ zs) (agree_same xs ys fs rest a b)
 agree_same (None ∷ xs) (Some y ∷ ys) (f ∷ fs) e a b = cc
 agree_same (Some x ∷ xs) (None ∷ ys) (f ∷ fs) e a b = cc
 agree_same (Some x ∷ xs) (Some y ∷ ys) (f ∷ fs) e a b =

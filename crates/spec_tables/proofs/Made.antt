@@ -7,7 +7,8 @@ use Rattle.spec_filters.specs.declared.FilterState.{FilterState}
 use Rattle.spec_tables.specs.Tables.{tables_for, used_by, expected_tables, filters_after}
 use Rattle.spec_tables.specs.Agrees.{edits_made}
 
-pub tables_made : (filters : List FilterState) (call : Call) (tables : List (List ℕ)) (reply : Reply) → expected_tables filters (asked call tables) reply ≡ tables_for filters (edits_made call reply)
+pub tables_made : (filters : List FilterState) (call : Call) (tables : List (List ℕ)) (reply : Reply)
+    → expected_tables filters (asked call tables) reply ≡ tables_for filters (edits_made call reply)
 tables_made filters (machine.edit guard es) tables (machine.changed version group next) = refl
 tables_made filters (machine.edit guard es) tables (machine.refused index cause) = refl
 tables_made filters (machine.edit guard es) tables (machine.moved now) = refl
@@ -29,7 +30,8 @@ tables_made filters (machine.tile stack at) tables reply = refl
 tables_made filters (machine.peek stack at) tables reply = refl
 tables_made filters machine.top tables reply = refl
 
-pub filters_made : (filters : List FilterState) (call : Call) (tables : List (List ℕ)) (reply : Reply) → filters_after filters (asked call tables) reply ≡ used_by filters (edits_made call reply)
+pub filters_made : (filters : List FilterState) (call : Call) (tables : List (List ℕ)) (reply : Reply)
+    → filters_after filters (asked call tables) reply ≡ used_by filters (edits_made call reply)
 filters_made filters (machine.edit guard es) tables (machine.changed version group next) = refl
 filters_made filters (machine.edit guard es) tables (machine.refused index cause) = refl
 filters_made filters (machine.edit guard es) tables (machine.moved now) = refl

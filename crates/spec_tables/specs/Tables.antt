@@ -40,4 +40,5 @@ tables_in ends = []
 -- along the entries of one session
 abbrev pub HaveTables : List FilterState → List Entry → Type 0
 HaveTables filters [] = Unit {0}
-HaveTables filters (e ∷ es) = (tables_in e.kind ≡ expected_tables filters e.kind e.reply) × HaveTables (filters_after filters e.kind e.reply) es
+HaveTables filters (e ∷ es) =
+    (tables_in e.kind ≡ expected_tables filters e.kind e.reply) × HaveTables (filters_after filters e.kind e.reply) es

@@ -1,9 +1,14 @@
 -- The printed lines of a history.
 use Rattle.std.specs.Prelude.{ℕ, Bool, true, false, List, [], ◌∷◌, ◌++◌, flat_map, map, Option, Some, None, codes, decimal}
 use Rattle.spec_edit.specs.declared.EditRefused.{EditRefused}
-use Rattle.spec_edit.specs.declared.EditRefused.TheVariants.{NoNode, IsGroup, NotGroup, Inside, BadPlace, OutsideLayer, OtherType, NoMask, HasMask, NoChannel, NotIndexed, ModeRefused, TooMany, TooLarge, OffsetRange, BadName, GroupInIndexed, TooDeep}
+use Rattle.spec_edit.specs.declared.EditRefused.TheVariants.{NoNode, IsGroup, NotGroup, Inside, BadPlace, OutsideLayer}
+use Rattle.spec_edit.specs.declared.EditRefused.TheVariants.{OtherType, NoMask, HasMask, NoChannel, NotIndexed}
+use Rattle.spec_edit.specs.declared.EditRefused.TheVariants.{ModeRefused, TooMany, TooLarge, OffsetRange, BadName}
+use Rattle.spec_edit.specs.declared.EditRefused.TheVariants.{GroupInIndexed, TooDeep}
 use Rattle.spec_text.specs.declared.OrderWord.{OrderWord}
-use Rattle.spec_history.specs.Machine.{Reply, changed, refused, moved, nothing_to_undo, nothing_to_redo, not_top, tile_of, stale, no_stack, outside_tile, top_is, saved, save_fault, save_memory, history_full}
+use Rattle.spec_history.specs.Machine.{Reply, changed, refused, moved, nothing_to_undo, nothing_to_redo, not_top}
+use Rattle.spec_history.specs.Machine.{tile_of, stale, no_stack, outside_tile, top_is, saved, save_fault, save_memory}
+use Rattle.spec_history.specs.Machine.{history_full}
 use Rattle.spec_history.specs.History.{Entry, is_end_kind}
 
 abbrev pub spaced : ℕ → List ℕ

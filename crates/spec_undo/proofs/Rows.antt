@@ -36,13 +36,37 @@ abbrev channel : (value : ℕ) → Channel
 channel value = record { name = []; kept = []; plane = pixel value }
 
 abbrev layer : (opacity value : ℕ) → Option Channel → Layer
-layer opacity value mask = record { name = []; opacity = opacity; mode = Normal; visible = true; kept = []; kind = 2; x = pos 0; y = pos 0; plane = pixel value; mask = mask; apply_mask = true }
+layer opacity value mask = record {
+  name = [];
+  opacity = opacity;
+  mode = Normal;
+  visible = true;
+  kept = [];
+  kind = 2;
+  x = pos 0;
+  y =
+      pos 0;
+  plane = pixel value;
+  mask = mask;
+  apply_mask = true;
+}
 
 abbrev folder : doc.Group
 folder = record { name = []; opacity = 255; mode = Normal; visible = true; kept = [] }
 
 abbrev with_parts : Nodes → List Channel → Option Channel → Document
-with_parts nodes channels selection = record { width = 1; height = 1; base = Grey; compression = 0; colours = []; kept = []; nodes = nodes; channels = channels; selection = selection }
+with_parts nodes channels selection =
+    record {
+      width = 1;
+      height = 1;
+      base = Grey;
+      compression = 0;
+      colours = [];
+      kept = [];
+      nodes = nodes;
+      channels = channels;
+      selection = selection;
+    }
 
 -- a layer with a mask
 abbrev one : Document
@@ -53,7 +77,8 @@ unfolding changed_tiles
 nothing_changes = refl
 
 -- neither the opacity nor the place counts
-no_pixels : changed_in one (with_parts (group 2 folder (leaf 1 (layer 100 7 (Some (channel 3))) none) none) (channel 5 ∷ []) None) ≡ 0
+no_pixels : changed_in one (with_parts (group 2 folder (leaf 1 (layer 100 7 (Some (channel 3))) none) none) (channel 5 ∷ []) None)
+    ≡ 0
 unfolding changed_tiles
 no_pixels = refl
 

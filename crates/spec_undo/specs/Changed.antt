@@ -61,4 +61,5 @@ changed_nodes before after = over_layers changed_layer after before + over_layer
 -- the tiles of layers, masks, channels and selections that differ, and all tiles of those that only one of the documents has
 abbrev pub changed_in : (before after : Document) → ℕ
 changed_in before after =
-    (changed_nodes before.nodes after.nodes + changed_channels before.channels after.channels) + changed_if_any before.selection after.selection
+    (changed_nodes before.nodes after.nodes + changed_channels before.channels after.channels)
+    + changed_if_any before.selection after.selection

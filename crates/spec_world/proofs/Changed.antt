@@ -1,5 +1,6 @@
 -- A new version leaves a world that stands.
-use Rattle.std.proofs.Common.{◌≡◌, ℕ, suc, ◌+◌, ◌-◌, Bool, true, false, cond, not, ◌&&◌, ◌||◌, map, filter, refl, sym, ◌∙◌, ap, subst, true≢false, arith}
+use Rattle.std.proofs.Common.{◌≡◌, ℕ, suc, ◌+◌, ◌-◌, Bool, true, false, cond, not, ◌&&◌, ◌||◌, map, filter, refl, sym}
+use Rattle.std.proofs.Common.{◌∙◌, ap, subst, true≢false, arith}
 use Rattle.std.specs.Prelude.{Option, Some, None, IfSome, is_some, option_map, option_and_then, unwrap_or, slice_get}
 use Rattle.std.specs.List.{list_any}
 use Rattle.std.proofs.lemmas.Bool.{and_right}
@@ -38,13 +39,16 @@ or-none b c e = ap (λ x. x || c) e
 
 -- the slots of the stacks that stay, marked
 staying : Document → Option Cause → (version : ℕ) → Cache → Cache
-staying new cause version cache = record cache { held = map (mark_held cause version) (filter (λ h. has_stack new h.stack) cache.held) }
+staying new cause version cache =
+    record cache { held = map (mark_held cause version) (filter (λ h. has_stack new h.stack) cache.held) }
 
 slots_of-staying : (new : Document) (cause : Option Cause) (version : ℕ) (cache : Cache) (stack : ℕ)
-    → slots_of (staying new cause version cache) stack ≡ option_map (mark_slots (rects_of cause stack) version) (cond (has_stack new stack) (slots_of cache stack) None)
+    → slots_of (staying new cause version cache) stack
+    ≡ option_map (mark_slots (rects_of cause stack) version) (cond (has_stack new stack) (slots_of cache stack) None)
 unfolding staying
 slots_of-staying new cause version cache stack =
-    slots_in-map (mark_held cause version) (λ k s. mark_slots (rects_of cause k) version s) (λ h. refl) (λ h. refl) (filter (λ h. has_stack new h.stack) cache.held) stack
+    slots_in-map (mark_held cause version) (λ k s. mark_slots (rects_of cause k) version s) (λ h. refl) (λ h. refl)
+    (filter (λ h. has_stack new h.stack) cache.held) stack
     ∙ ap (option_map (mark_slots (rects_of cause stack) version)) (slots_in-filter (has_stack new) cache.held stack)
 
 -- all stacks
@@ -55,24 +59,31 @@ pub slots_of-between : (base old new : Document) (cause : Option Cause) (version
 unfolding staying
 slots_of-between base old new cause version cache stack =
     slots_of-added base version (filter (λ k. not (has_stack old k)) (stack_ids new)) (staying new cause version cache) stack
-    ∙ (λ i. cond (came-listed old new stack i) (Some (blank_slots base.width base.height version)) (slots_of-staying new cause version cache stack i))
+    ∙ (λ i. cond (came-listed old new stack i) (Some (blank_slots base.width base.height version))
+    (slots_of-staying new cause version cache stack i))
 
-is_cache-between : (base old new : Document) (cause : Option Cause) (version : ℕ) (cache : Cache) → IsCache base.width base.height cache
+is_cache-between : (base old new : Document) (cause : Option Cause) (version : ℕ) (cache : Cache)
+    → IsCache base.width base.height cache
     → IsCache base.width base.height (cache_between base old new cause version cache)
 is_cache-between base old new cause version cache is =
     let stay : Cache = record cache { held = filter (λ h. has_stack new h.stack) cache.held } in
-    is_cache-all-added base version (filter (λ k. not (has_stack old k)) (stack_ids new)) (record stay { held = map (mark_held cause version) stay.held })
+    is_cache-all-added base version (filter (λ k. not (has_stack old k)) (stack_ids new))
+    (record stay { held = map (mark_held cause version) stay.held })
     (is_cache-map base.width base.height (mark_held cause version) stay (λ h. refl)
-    (λ h of_canvas. of_canvas-changed base.width base.height (λ tile slot. cond (meets cause h.stack h.slots.width h.slots.height tile) (mark_slot version slot) slot) h.slots of_canvas)
+    (λ h of_canvas. of_canvas-changed base.width base.height
+    (λ tile slot. cond (meets cause h.stack h.slots.width h.slots.height tile) (mark_slot version slot) slot) h.slots of_canvas)
     (is_cache-filter base.width base.height (λ h. has_stack new h.stack) cache is))
 
-stacks-between : (base old new : Document) (cause : Option Cause) (version : ℕ) (cache : Cache) (stack : ℕ) → has_slots cache stack ≡ has_stack old stack
+stacks-between : (base old new : Document) (cause : Option Cause) (version : ℕ) (cache : Cache) (stack : ℕ)
+    → has_slots cache stack ≡ has_stack old stack
     → has_slots (cache_between base old new cause version cache) stack ≡ has_stack new stack
 stacks-between base old new cause version cache stack same =
-    ap is_some (slots_of-between base old new cause version cache stack) ∙ go (has_stack old stack) (has_stack new stack) (slots_of cache stack) same
+    ap is_some (slots_of-between base old new cause version cache stack)
+    ∙ go (has_stack old stack) (has_stack new stack) (slots_of cache stack) same
   where
     go : (was is : Bool) (o : Option Slots) → is_some o ≡ was
-        → is_some (cond (not was && is) (Some (blank_slots base.width base.height version)) (option_map (mark_slots (rects_of cause stack) version) (cond is o None))) ≡ is
+        → is_some (cond (not was && is) (Some (blank_slots base.width base.height version))
+        (option_map (mark_slots (rects_of cause stack) version) (cond is o None))) ≡ is
     go true true None e = absurd (true≢false (sym e))
     go true true (Some s) e = refl
     go true false o e = refl
@@ -85,9 +96,11 @@ stacks-between base old new cause version cache stack same =
 staying-slot : (base : Document) (w : World) (e : Entry) (stack : ℕ) (at : TileAt) (slots : Slots) (slot : Slot) → IsStanding base w
     → OneMore base w.state (after_entry base w.state e) → DamageIsSound base (after_entry base w.state e)
     → slots_of w.cache stack ≡ Some slots → has_stack (document_now base (after_entry base w.state e)) stack ≡ true
-    → slot_at (mark_slots (rects_of (slice_get (after_entry base w.state e).causes (latest (after_entry base w.state e) - 1)) stack) (latest (after_entry base w.state e)) slots) at ≡ Some slot
+    → slot_at (mark_slots (rects_of (slice_get (after_entry base w.state e).causes (latest (after_entry base w.state e) - 1)) stack)
+    (latest (after_entry base w.state e)) slots) at ≡ Some slot
     → IsRightSlot base (after_entry base w.state e) stack at (last_tile stack at w.entries) slot
-staying-slot base w e stack at slots slot is more sound there has found = go (slot_at slots at) refl (sym (slot_at-changed change slots at) ∙ found)
+staying-slot base w e stack at slots slot is more sound there has found =
+    go (slot_at slots at) refl (sym (slot_at-changed change slots at) ∙ found)
   where
     s : State
     s = w.state
@@ -108,7 +121,8 @@ staying-slot base w e stack at slots slot is more sound there has found = go (sl
     of_canvas = canvas-found base.width base.height w.cache.held stack slots is.slots.of_canvas there
 
     stayed : came_at base t stack (latest t) ≡ false
-    stayed = and_right (has_stack (document_now base t) stack) (not (has_stack (document_at base t (latest t - 1)) stack)) (ap not (ap (λ d. has_stack d stack) (before base s t more) ∙ had))
+    stayed = and_right (has_stack (document_now base t) stack) (not (has_stack (document_at base t (latest t - 1)) stack))
+        (ap not (ap (λ d. has_stack d stack) (before base s t more) ∙ had))
 
     test : meets cause stack slots.width slots.height at ≡ marks base t stack at (latest t)
     test =
@@ -116,12 +130,15 @@ staying-slot base w e stack at slots slot is more sound there has found = go (sl
         ∙ (meets-same cause stack base.width base.height at
         ∙ sym (or-none (came_at base t stack (latest t)) (damaged_at base t stack at (latest t)) stayed))
 
-    go : (o : Option Slot) → slot_at slots at ≡ o → option_map (change at) o ≡ Some slot → IsRightSlot base t stack at (last_tile stack at w.entries) slot
+    go : (o : Option Slot) → slot_at slots at ≡ o → option_map (change at) o ≡ Some slot
+        → IsRightSlot base t stack at (last_tile stack at w.entries) slot
     go None p q = absurd (true≢false (sym (ap is_some q)))
     go (Some x) p q =
         let here : slot_of w.cache stack at ≡ Some x = ap (option_and_then (λ k. slot_at k at)) there ∙ p in
-        let right = right-version base s t stack at (last_tile stack at w.entries) x sound more (seen-bound base s at (last_tile stack at w.entries) (is.seen stack at)) had has (is.each stack at x here) in
-        let same : slot_after base t stack at x ≡ slot = ap (λ b. cond b (mark_slot (latest t) x) x) (sym test) ∙ ap (λ o. unwrap_or o slot) q in
+        let right = right-version base s t stack at (last_tile stack at w.entries) x sound more
+        (seen-bound base s at (last_tile stack at w.entries) (is.seen stack at)) had has (is.each stack at x here) in
+        let same : slot_after base t stack at x ≡ slot = ap (λ b. cond b (mark_slot (latest t) x) x) (sym test)
+        ∙ ap (λ o. unwrap_or o slot) q in
         subst (IsRightSlot base t stack at (last_tile stack at w.entries)) same right
 
 changed-each : (base : Document) (w : World) (e : Entry) (stack : ℕ) (at : TileAt) (slot : Slot) → IsStanding base w
@@ -145,11 +162,15 @@ changed-each base w e stack at slot is more sound found =
     cause = slice_get t.causes (latest t - 1)
 
     go : (was has : Bool) (o : Option Slots) → has_stack old stack ≡ was → has_stack new stack ≡ has → slots_of w.cache stack ≡ o
-        → option_and_then (λ k. slot_at k at) (cond (not was && has) (Some (blank_slots base.width base.height (latest t))) (option_map (mark_slots (rects_of cause stack) (latest t)) (cond has o None))) ≡ Some slot
+        → option_and_then (λ k. slot_at k at)
+        (cond (not was && has) (Some (blank_slots base.width base.height (latest t)))
+        (option_map (mark_slots (rects_of cause stack) (latest t)) (cond has o None))) ≡ Some slot
         → IsRightSlot base t stack at (last_tile stack at w.entries) slot
     go false true o p q r f =
-        subst (IsRightSlot base t stack at (last_tile stack at w.entries)) (sym (slot_at-blank base.width base.height (latest t) at slot f))
-        (right-came base w.state t stack at (last_tile stack at w.entries) more (seen-bound base w.state at (last_tile stack at w.entries) (is.seen stack at)) p q)
+        subst (IsRightSlot base t stack at (last_tile stack at w.entries))
+        (sym (slot_at-blank base.width base.height (latest t) at slot f))
+        (right-came base w.state t stack at (last_tile stack at w.entries) more
+        (seen-bound base w.state at (last_tile stack at w.entries) (is.seen stack at)) p q)
     go true true (Some slots) p q r f = staying-slot base w e stack at slots slot is more sound r q f
     go true true None p q r f = absurd (true≢false (sym (ap is_some f)))
     go true false o p q r f = absurd (true≢false (sym (ap is_some f)))
@@ -157,21 +178,28 @@ changed-each base w e stack at slot is more sound found =
 
 -- ---- the world
 
-pub standing-version : (base : Document) (w : World) (e : Entry) → IsStanding base w → Enters base w.entries e w.state (after_entry base w.state e)
-    → DamageIsSound base (after_entry base w.state e) → is_changed e.reply ≡ true → ((stack : ℕ) (at : TileAt) → shown_version e.kind e.reply stack at ≡ None)
+pub standing-version : (base : Document) (w : World) (e : Entry) → IsStanding base w
+    → Enters base w.entries e w.state (after_entry base w.state e)
+    → DamageIsSound base (after_entry base w.state e) → is_changed e.reply ≡ true
+    → ((stack : ℕ) (at : TileAt) → shown_version e.kind e.reply stack at ≡ None)
     → IsStanding base (record (with_entry base w e) { cache = cache_after base w.state (after_entry base w.state e) w.cache })
 standing-version base w e is enters sound changed silent =
     let t : State = after_entry base w.state e in
-    let next : latest t ≡ suc (latest w.state) = enters.versions ∙ (ap (λ b. latest w.state + cond b 1 0) changed ∙ (let one_more : latest w.state + 1 ≡ suc (latest w.state) = omega arith in one_more)) in
+    let next : latest t ≡ suc (latest w.state) = enters.versions
+    ∙ (ap (λ b. latest w.state + cond b 1 0) changed
+    ∙ (let one_more : latest w.state + 1 ≡ suc (latest w.state) = omega arith in one_more)) in
     let more : OneMore base w.state t = record { lasts = enters.lasts; next = next } in
     record {
       legal = enters.legal;
       replayed = enters.replayed;
-      slots = is_cache-between base (document_now base w.state) (document_now base t) (slice_get t.causes (latest t - 1)) (latest t) w.cache is.slots;
-      stacks = λ stack. stacks-between base (document_now base w.state) (document_now base t) (slice_get t.causes (latest t - 1)) (latest t) w.cache stack (is.stacks stack);
+      slots = is_cache-between base (document_now base w.state) (document_now base t) (slice_get t.causes (latest t - 1))
+          (latest t) w.cache is.slots;
+      stacks = λ stack. stacks-between base (document_now base w.state) (document_now base t) (slice_get t.causes (latest t - 1))
+          (latest t) w.cache stack (is.stacks stack);
       seen = λ stack at. subst (λ o. IfSome o (WasShown base t at)) (sym (last-same stack at w.entries e (silent stack at)))
           (shown-lasts base w.state t at (last_tile stack at w.entries) enters.lasts.versions (is.seen stack at));
-      each = λ stack at slot found. subst (λ o. IsRightSlot base t stack at o slot) (sym (last-same stack at w.entries e (silent stack at)))
+      each = λ stack at slot found. subst (λ o. IsRightSlot base t stack at o slot)
+          (sym (last-same stack at w.entries e (silent stack at)))
           (changed-each base w e stack at slot is more sound found);
       jobs = jobs-last base w.state t w.jobs enters.lasts is.jobs;
     }

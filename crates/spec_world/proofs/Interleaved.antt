@@ -8,11 +8,13 @@ use Rattle.spec_document.specs.Document.{Document}
 use Rattle.spec_edit.specs.declared.EditRefused.TheVariants.{NoNode, IsGroup}
 use Rattle.spec_edit.specs.Edit as edits
 use Rattle.spec_cache.specs.declared.Finished.TheVariants.{Installed, Late}
-use Rattle.spec_history.specs.Machine.{edit, undo, redo, tile, peek, top, changed, refused, moved, nothing_to_undo, nothing_to_redo, tile_of, stale, outside_tile, top_is}
+use Rattle.spec_history.specs.Machine.{edit, undo, redo, tile, peek, top, changed, refused, moved, nothing_to_undo}
+use Rattle.spec_history.specs.Machine.{nothing_to_redo, tile_of, stale, outside_tile, top_is}
 use Rattle.spec_world.specs.declared.SaveEnd.TheVariants.{Done, Memory}
 use Rattle.spec_world.specs.World.{first_world}
 use Rattle.spec_world.specs.Events.{Event, submits, takes, finishes, begins_save, ends_save}
-use Rattle.spec_world.proofs.Shown.{replied, took, came, silent, all_said, all_after, Short, in_short, picture_sums, all_kept, all_right}
+use Rattle.spec_world.proofs.Shown.{replied, took, came, silent, all_said, all_after, Short, in_short, picture_sums}
+use Rattle.spec_world.proofs.Shown.{all_kept, all_right}
 use Rattle.spec_world.proofs.Rows.{canvas, layer_of, plain_group}
 
 abbrev at : (col row : ℕ) → TileAt
@@ -37,7 +39,8 @@ abbrev first_events : List Event
 first_events =
     submits 1 (edit None (edits.fill 5 (record { x = pos 0; y = pos 0; w = 1; h = 1 }) (240 ∷ 132 ∷ 119 ∷ 98 ∷ []) ∷ [])) 0 []
     ∷ submits 2 (tile 1 (at 1 0)) 0 []
-    ∷ submits 1 (edit (Some 0) (edits.set_opacity 1 0 ∷ edits.fill 1 (record { x = pos 1; y = pos 0; w = 3; h = 1 }) (198 ∷ 218 ∷ 202 ∷ 227 ∷ []) ∷ [])) 0 []
+    ∷ submits 1 (edit (Some 0) (edits.set_opacity 1 0
+    ∷ edits.fill 1 (record { x = pos 1; y = pos 0; w = 3; h = 1 }) (198 ∷ 218 ∷ 202 ∷ 227 ∷ []) ∷ [])) 0 []
     ∷ submits 1 (edit None (edits.delete 99 ∷ [])) 0 []
     ∷ submits 2 (top) 1 []
     ∷ submits 0 (undo None) 0 []
@@ -47,7 +50,8 @@ first_events =
     ∷ takes
     ∷ takes
     ∷ submits 2 (undo None) 1 []
-    ∷ submits 0 (edit None (edits.fill 1 (record { x = pos 0; y = pos 0; w = 3; h = 1 }) (247 ∷ 45 ∷ 176 ∷ 34 ∷ []) ∷ edits.new_group 1 0 [] ∷ [])) 0 []
+    ∷ submits 0 (edit None (edits.fill 1 (record { x = pos 0; y = pos 0; w = 3; h = 1 }) (247 ∷ 45 ∷ 176 ∷ 34 ∷ [])
+    ∷ edits.new_group 1 0 [] ∷ [])) 0 []
     ∷ submits 1 (peek 1 (at 2 0)) 1 []
     ∷ submits 0 (tile 3 (at 3 0)) 0 []
     ∷ submits 2 (undo None) 1 []
@@ -74,7 +78,8 @@ first_events =
     ∷ submits 1 (tile 1 (at 2 0)) 7 []
     ∷ submits 2 (edit None (edits.set_opacity 5 255 ∷ [])) 8 []
     ∷ finishes 0
-    ∷ submits 1 (edit None (edits.fill 99 (record { x = pos 1; y = pos 0; w = 1; h = 1 }) (34 ∷ 146 ∷ 61 ∷ 125 ∷ []) ∷ edits.set_opacity 6 255 ∷ [])) 0 []
+    ∷ submits 1 (edit None (edits.fill 99 (record { x = pos 1; y = pos 0; w = 1; h = 1 }) (34 ∷ 146 ∷ 61 ∷ 125 ∷ [])
+    ∷ edits.set_opacity 6 255 ∷ [])) 0 []
     ∷ submits 2 (peek 3 (at 0 0)) 0 []
     ∷ submits 2 (undo None) 8 []
     ∷ submits 0 (redo) 9 []
@@ -205,7 +210,8 @@ second_events =
     ∷ submits 0 (edit (Some 7) (edits.set_offset 6 (pos 0) (pos 1) ∷ edits.new_group 0 0 [] ∷ [])) 0 []
     ∷ submits 2 (edit (Some 7) (edits.new_group 1 0 [] ∷ edits.set_visible 4 false ∷ [])) 6 []
     ∷ submits 0 (edit None (edits.set_opacity 4 100 ∷ [])) 0 []
-    ∷ submits 0 (edit None (edits.fill 99 (record { x = pos 0; y = pos 0; w = 3; h = 1 }) (70 ∷ 230 ∷ 169 ∷ 71 ∷ []) ∷ edits.fill 1 (record { x = pos 1; y = pos 0; w = 3; h = 1 }) (159 ∷ 17 ∷ 10 ∷ 38 ∷ []) ∷ [])) 9 []
+    ∷ submits 0 (edit None (edits.fill 99 (record { x = pos 0; y = pos 0; w = 3; h = 1 }) (70 ∷ 230 ∷ 169 ∷ 71 ∷ [])
+    ∷ edits.fill 1 (record { x = pos 1; y = pos 0; w = 3; h = 1 }) (159 ∷ 17 ∷ 10 ∷ 38 ∷ []) ∷ [])) 9 []
     ∷ takes
     ∷ submits 1 (undo (Some 8)) 0 []
     ∷ submits 0 (tile 1 (at 2 0)) 10 []
@@ -228,7 +234,8 @@ second_events =
     ∷ submits 2 (peek 3 (at 1 0)) 13 []
     ∷ submits 2 (edit None (edits.set_offset 5 (pos 0) (negsuc 0) ∷ [])) 0 []
     ∷ submits 2 (edit None (edits.set_mode 6 0 ∷ edits.set_mode 9 3 ∷ [])) 0 []
-    ∷ submits 1 (edit None (edits.set_opacity 5 100 ∷ edits.fill 3 (record { x = pos 1; y = pos 0; w = 1; h = 1 }) (44 ∷ 210 ∷ 198 ∷ 66 ∷ []) ∷ [])) 16 []
+    ∷ submits 1 (edit None (edits.set_opacity 5 100
+    ∷ edits.fill 3 (record { x = pos 1; y = pos 0; w = 1; h = 1 }) (44 ∷ 210 ∷ 198 ∷ 66 ∷ []) ∷ [])) 16 []
     ∷ submits 1 (edit (Some 16) (edits.fill 6 (record { x = pos 1; y = pos 0; w = 3; h = 1 }) (104 ∷ 50 ∷ 63 ∷ 109 ∷ []) ∷ [])) 0 []
     ∷ begins_save 1
     ∷ submits 0 (tile 3 (at 2 0)) 15 []
@@ -262,7 +269,8 @@ second_events =
     ∷ submits 0 (edit None (edits.set_visible 8 false ∷ [])) 26 []
     ∷ takes
     ∷ submits 0 (peek 1 (at 0 0)) 27 []
-    ∷ submits 2 (edit None (edits.fill 11 (record { x = pos 0; y = pos 0; w = 1; h = 1 }) (94 ∷ 58 ∷ 104 ∷ 88 ∷ []) ∷ edits.set_visible 99 false ∷ [])) 0 []
+    ∷ submits 2 (edit None (edits.fill 11 (record { x = pos 0; y = pos 0; w = 1; h = 1 }) (94 ∷ 58 ∷ 104 ∷ 88 ∷ [])
+    ∷ edits.set_visible 99 false ∷ [])) 0 []
     ∷ submits 1 (edit (Some 26) (edits.set_visible 11 true ∷ [])) 27 []
     ∷ submits 2 (edit None (edits.set_opacity 3 100 ∷ edits.new_layer 1 0 (pos 0) (pos 0) 6 2 1 [] ∷ [])) 0 []
     ∷ takes

@@ -1,5 +1,6 @@
 -- What stays of the earlier versions when a history grows, and what the last mark of a slot says.
-use Rattle.std.proofs.Common.{◌≡◌, ℕ, zero, suc, ◌-◌, ◌≤◌, Bool, true, false, cond, not, ◌&&◌, ◌||◌, List, refl, sym, ◌∙◌, ap, subst, true≢false, inl, inr, arith}
+use Rattle.std.proofs.Common.{◌≡◌, ℕ, zero, suc, ◌-◌, ◌≤◌, Bool, true, false, cond, not, ◌&&◌, ◌||◌, List, refl, sym}
+use Rattle.std.proofs.Common.{◌∙◌, ap, subst, true≢false, inl, inr, arith}
 use Rattle.std.specs.Prelude.{slice_get}
 use Rattle.std.proofs.lemmas.Bool.{or_parts, cases_lt}
 use Rattle.spec_grid.specs.declared.TileAt.{TileAt}
@@ -26,7 +27,8 @@ pub stack-lasts : (base : Document) (s t : State) (stack v : ℕ) → Lasts base
     → has_stack (document_at base t v) stack ≡ has_stack (document_at base s v) stack
 stack-lasts base s t stack v l within = ap (λ d. has_stack d stack) (l.documents v within)
 
-come-lasts : (base : Document) (s t : State) (stack v : ℕ) → Lasts base s t → v ≤ latest s → came_at base t stack v ≡ came_at base s stack v
+come-lasts : (base : Document) (s t : State) (stack v : ℕ) → Lasts base s t → v ≤ latest s
+    → came_at base t stack v ≡ came_at base s stack v
 come-lasts base s t stack v l within =
     λ i. stack-lasts base s t stack v l within i && not (stack-lasts base s t stack (v - 1) l (omega arith) i)
 
@@ -46,7 +48,8 @@ picture-lasts base s t stack at v picture l is =
       is = is.is ∙ ap (λ d. project d stack at) (sym (l.documents v there));
     }
 
-pub was_there-before : (base : Document) (s t : State) (stack a : ℕ) → Lasts base s t → StackStays base t stack a (latest t) → StackStays base s stack a (latest s)
+pub was_there-before : (base : Document) (s t : State) (stack a : ℕ) → Lasts base s t → StackStays base t stack a (latest t)
+    → StackStays base s stack a (latest s)
 was_there-before base s t stack a l there v from within =
     let more = l.versions in sym (stack-lasts base s t stack v l within) ∙ there v from (omega arith)
 
@@ -69,18 +72,22 @@ good_enough-lasts base s t stack at a good_to l w =
 pub last_of-same : (p q : ℕ → Bool) (n : ℕ) → ((v : ℕ) → 1 ≤ v → v ≤ n → p v ≡ q v) → last_of p n ≡ last_of q n
 last_of-same p q zero same = refl
 last_of-same p q (suc n) same =
-    λ i. cond (same (suc n) (omega arith) (omega arith) i) (suc n) (last_of-same p q n (λ v some within. same v some (omega (arith, within))) i)
+    λ i. cond (same (suc n) (omega arith) (omega arith) i) (suc n)
+    (last_of-same p q n (λ v some within. same v some (omega (arith, within))) i)
 
 pub marked_at-lasts : (base : Document) (s t : State) (stack : ℕ) (at : TileAt) → Lasts base s t → latest t ≡ latest s
     → marked_at base t stack at ≡ marked_at base s stack at
 marked_at-lasts base s t stack at l same =
-    ap (last_of (marks base t stack at)) same ∙ last_of-same (marks base t stack at) (marks base s stack at) (latest s) (λ v some within. marks-last base s t stack at v l some within)
+    ap (last_of (marks base t stack at)) same
+    ∙ last_of-same (marks base t stack at) (marks base s stack at) (latest s)
+    (λ v some within. marks-last base s t stack at v l some within)
 
 -- of one version more
 pub marked_at-next : (base : Document) (s t : State) (stack : ℕ) (at : TileAt) → Lasts base s t → latest t ≡ suc (latest s)
     → marked_at base t stack at ≡ cond (marks base t stack at (latest t)) (latest t) (marked_at base s stack at)
 marked_at-next base s t stack at l next =
-    let old = last_of-same (marks base t stack at) (marks base s stack at) (latest s) (λ v some within. marks-last base s t stack at v l some within) in
+    let old = last_of-same (marks base t stack at) (marks base s stack at) (latest s)
+    (λ v some within. marks-last base s t stack at v l some within) in
     let P : ℕ → Type 0 = λ n. last_of (marks base t stack at) n ≡ cond (marks base t stack at n) n (marked_at base s stack at) in
     subst P (sym next) (ap (λ n. cond (marks base t stack at (suc (latest s))) (suc (latest s)) n) old)
 
@@ -110,16 +117,25 @@ pub unchanged : (base : Document) (s : State) (stack : ℕ) (at : TileAt) (j n :
     → has_stack (document_at base s n) stack ≡ true → last_of (marks base s stack at) n ≤ j → Unchanged base s stack at j n
 unchanged base s stack at j zero sound within le has last =
     let e : j ≡ 0 = omega arith in
-    record { has = ap (λ k. has_stack (document_at base s k) stack) e ∙ has; same = ap (λ k. project (document_at base s k) stack at) e }
-unchanged base s stack at j (suc n) sound within le has last = elim (cases_lt j (suc n)) as (λ _. Unchanged base s stack at j (suc n)) [
-  | inl below ↦
-      let above = last-above (marks base s stack at (suc n)) n (last_of (marks base s stack at) n) j last (omega arith) in
-      let e : suc n - 1 ≡ n = omega arith in
-      let P : ℕ → Type 0 = λ k. Unchanged base s stack at k (suc n) in
-      let step = subst P e (unmarked-same base s stack at (suc n) sound (omega arith) within has above.0) in
-      let before = unchanged base s stack at j n sound (omega arith) (omega arith) step.has above.1 in
-      record { has = before.has; same = before.same ∙ step.same }
-  | inr above ↦
-      let e : j ≡ suc n = omega arith in
-      record { has = ap (λ k. has_stack (document_at base s k) stack) e ∙ has; same = ap (λ k. project (document_at base s k) stack at) e }
-]
+    record {
+      has = ap (λ k. has_stack (document_at base s k) stack) e ∙ has;
+      same =
+          ap (λ k. project (document_at base s k) stack at) e;
+    }
+unchanged base s stack at j (suc n) sound within le has last =
+    elim (cases_lt j (suc n)) as (λ _. Unchanged base s stack at j (suc n)) [
+      | inl below ↦
+          let above = last-above (marks base s stack at (suc n)) n (last_of (marks base s stack at) n) j last (omega arith) in
+          let e : suc n - 1 ≡ n = omega arith in
+          let P : ℕ → Type 0 = λ k. Unchanged base s stack at k (suc n) in
+          let step = subst P e (unmarked-same base s stack at (suc n) sound (omega arith) within has above.0) in
+          let before = unchanged base s stack at j n sound (omega arith) (omega arith) step.has above.1 in
+          record { has = before.has; same = before.same ∙ step.same }
+      | inr above ↦
+          let e : j ≡ suc n = omega arith in
+          record {
+            has = ap (λ k. has_stack (document_at base s k) stack) e ∙ has;
+            same =
+                ap (λ k. project (document_at base s k) stack at) e;
+          }
+    ]

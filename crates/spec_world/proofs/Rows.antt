@@ -15,10 +15,33 @@ use Rattle.spec_world.specs.Events.{Event, submits, takes, finishes}
 use Rattle.spec_world.proofs.Shown.{Said, replied, took, came, all_said, all_after, Short, shorts, stacks, all_clean}
 
 abbrev pub canvas : (width height : ℕ) → Nodes → Document
-canvas w h nodes = record { width = w; height = h; base = Rgb; compression = 0; colours = []; kept = []; nodes = nodes; channels = []; selection = None }
+canvas w h nodes = record {
+  width = w;
+  height = h;
+  base = Rgb;
+  compression = 0;
+  colours = [];
+  kept = [];
+  nodes = nodes;
+  channels =
+      [];
+  selection = None;
+}
 
 abbrev pub layer_of : Plane → Layer
-layer_of plane = record { name = []; opacity = 255; mode = Normal; visible = true; kept = []; kind = 1; x = pos 0; y = pos 0; plane = plane; mask = None; apply_mask = true }
+layer_of plane = record {
+  name = [];
+  opacity = 255;
+  mode = Normal;
+  visible = true;
+  kept = [];
+  kind = 1;
+  x = pos 0;
+  y = pos 0;
+  plane = plane;
+  mask = None;
+  apply_mask = true;
+}
 
 abbrev pub pixel : Plane
 pixel = record { width = 1; height = 1; bpp = 4; bytes = 200 ∷ 100 ∷ 50 ∷ 255 ∷ [] }
@@ -55,7 +78,8 @@ late : all_said one (first_world one) late_run ≡
     ∷ replied (stale (Some 3) 5) ∷ replied (tile_of 5) ∷ replied (tile_of 5) ∷ []
 late = refl
 
-late_slots : shorts (all_after one (first_world one) late_run) 0 ≡ record { has = true; marked = false; good_to = 3; marked_at = 5 } ∷ []
+late_slots : shorts (all_after one (first_world one) late_run) 0 ≡ record { has = true; marked = false; good_to = 3; marked_at = 5 }
+    ∷ []
 late_slots = refl
 
 -- a job of an older version does not come onto a slot that was cleaned since its mark
@@ -66,7 +90,8 @@ late_on_clean = refl
 -- ---- a fresh document has no picture
 
 fresh : all_said one (first_world one)
-    (call (peek 0 first) ∷ call (tile 0 first) ∷ call (peek 0 first) ∷ call (tile 7 first) ∷ call (tile 0 (record { col = 1; row = 0 })) ∷ []) ≡
+    (call (peek 0 first) ∷ call (tile 0 first) ∷ call (peek 0 first) ∷ call (tile 7 first)
+    ∷ call (tile 0 (record { col = 1; row = 0 })) ∷ []) ≡
     replied (stale None 0) ∷ replied (tile_of 0) ∷ replied (tile_of 0) ∷ replied (no_stack 7) ∷ replied outside_tile ∷ []
 fresh = refl
 
@@ -76,12 +101,14 @@ after_own_edit : all_said one (first_world one) (edits_one (edits.set_opacity 1 
 after_own_edit = refl
 
 -- what a tile call composed is kept
-shown_again : all_said one (first_world one) (edits_one (edits.set_opacity 1 0) ∷ call (tile 0 first) ∷ submits 0 (peek 0 first) 1 [] ∷ []) ≡
+shown_again : all_said one (first_world one) (edits_one (edits.set_opacity 1 0) ∷ call (tile 0 first)
+    ∷ submits 0 (peek 0 first) 1 [] ∷ []) ≡
     replied (changed 1 1 2) ∷ replied (tile_of 1) ∷ replied (tile_of 1) ∷ []
 shown_again = refl
 
 two_versions_old : all_said one (first_world one)
-    (call (tile 0 first) ∷ edits_one (edits.set_opacity 1 10) ∷ edits_one (edits.set_opacity 1 20) ∷ submits 0 (peek 0 first) 2 [] ∷ []) ≡
+    (call (tile 0 first) ∷ edits_one (edits.set_opacity 1 10) ∷ edits_one (edits.set_opacity 1 20) ∷ submits 0 (peek 0 first) 2 []
+    ∷ []) ≡
     replied (tile_of 0) ∷ replied (changed 1 1 2) ∷ replied (changed 2 2 2) ∷ replied (stale (Some 0) 2) ∷ []
 two_versions_old = refl
 
@@ -94,18 +121,21 @@ abbrev group_run : List Event
 group_run = takes ∷ takes ∷ takes ∷ takes ∷ takes ∷ edits_one (edits.delete 5) ∷ finishes 1 ∷ call (undo None) ∷ finishes 3 ∷ []
 
 group_goes : all_said (nested 1 1) (first_world (nested 1 1)) group_run ≡
-    place 0 ∷ place 5 ∷ place 6 ∷ place 0 ∷ place 5 ∷ replied (changed 1 1 8) ∷ came Gone ∷ replied (changed 2 1 8) ∷ came (Late 2) ∷ []
+    place 0 ∷ place 5 ∷ place 6 ∷ place 0 ∷ place 5 ∷ replied (changed 1 1 8) ∷ came Gone ∷ replied (changed 2 1 8) ∷ came (Late 2)
+    ∷ []
 group_goes = refl
 
 group_came : (stacks (all_after (nested 1 1) (first_world (nested 1 1)) group_run) ≡ 0 ∷ 5 ∷ 6 ∷ [])
-    × (shorts (all_after (nested 1 1) (first_world (nested 1 1)) group_run) 6 ≡ record { has = false; marked = true; good_to = 0; marked_at = 2 } ∷ [])
+    × (shorts (all_after (nested 1 1) (first_world (nested 1 1)) group_run) 6
+    ≡ record { has = false; marked = true; good_to = 0; marked_at = 2 } ∷ [])
 group_came = (refl, refl)
 
 -- ---- marks
 
 -- hiding the bottommost layer marks every tile
 abbrev two : Document
-two = canvas 200 200 (leaf 2 (record (layer_of (record { width = 200; height = 200; bpp = 4; bytes = replicate 160000 100 })) { mode = Multiply }) (leaf 3 (layer_of pixel) none))
+two = canvas 200 200 (leaf 2 (record (layer_of (record { width = 200; height = 200; bpp = 4; bytes = replicate 160000 100 }))
+    { mode = Multiply }) (leaf 3 (layer_of pixel) none))
 
 all_marked : shorts (all_after two (all_clean (first_world two)) (edits_one (edits.set_visible 3 false) ∷ [])) 0 ≡
     replicate 16 (record { has = true; marked = true; good_to = 0; marked_at = 1 })
@@ -132,7 +162,11 @@ once_more = refl
 
 -- what lies off the canvas marks nothing
 abbrev away : Document
-away = canvas 64 64 (leaf 1 (record (layer_of (record { width = 10; height = 10; bpp = 4; bytes = replicate 400 9 })) { x = negsuc 99; y = negsuc 99 }) none)
+away = canvas 64 64 (leaf 1 (record (layer_of (record { width = 10; height = 10; bpp = 4; bytes = replicate 400 9 })) {
+  x =
+      negsuc 99;
+  y = negsuc 99;
+}) none)
 
 abbrev filled_away : List Event
 filled_away = edits_one (edits.fill 1 (record { x = pos 0; y = pos 0; w = 10; h = 10 }) (1 ∷ 2 ∷ 3 ∷ 4 ∷ [])) ∷ []

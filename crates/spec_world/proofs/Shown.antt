@@ -1,5 +1,6 @@
 -- Worlds in short, for worked rows.
-use Rattle.std.specs.Prelude.{ℕ, ◌+◌, ◌*◌, ◌%◌, Bool, true, false, ◌&&◌, ◌==◌, nat_le, if◌then◌else◌, List, [], ◌∷◌, length, map, fold, Option, Some, None, option_map, is_some, unwrap_or}
+use Rattle.std.specs.Prelude.{ℕ, ◌+◌, ◌*◌, ◌%◌, Bool, true, false, ◌&&◌, ◌==◌, nat_le, if◌then◌else◌, List, [], ◌∷◌}
+use Rattle.std.specs.Prelude.{length, map, fold, Option, Some, None, option_map, is_some, unwrap_or}
 use Rattle.std.specs.List.{list_all}
 use Rattle.std.specs.Str.{bytes_eq}
 use Rattle.spec_grid.specs.declared.TileAt.{TileAt}
@@ -103,7 +104,9 @@ is_right_slot base w stack at s =
     && is_at_least shown (history.kept base w.entries stack at))
 
 abbrev pub has_right_slots : Document → World → Held → Bool
-has_right_slots base w h = has_stack (document_now base w.state) h.stack && list_all (λ p. is_right_slot base w h.stack p.0 p.1) (with_tiles h.slots)
+has_right_slots base w h =
+    has_stack (document_now base w.state) h.stack && list_all (λ p. is_right_slot base w h.stack p.0 p.1) (with_tiles h.slots)
 
 abbrev pub all_right : Document → World → Bool
-all_right base w = length w.cache.held == length (stack_ids (document_now base w.state)) && list_all (has_right_slots base w) w.cache.held
+all_right base w =
+    length w.cache.held == length (stack_ids (document_now base w.state)) && list_all (has_right_slots base w) w.cache.held

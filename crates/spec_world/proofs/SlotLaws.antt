@@ -1,5 +1,6 @@
 -- What each event makes of a slot that is right.
-use Rattle.std.proofs.Common.{◌≡◌, ℕ, zero, suc, ◌+◌, ◌-◌, ◌<◌, ◌≤◌, Bool, true, false, cond, not, ◌&&◌, ◌||◌, List, refl, sym, ◌∙◌, ap, subst, true≢false, inl, inr, arith}
+use Rattle.std.proofs.Common.{◌≡◌, ℕ, zero, suc, ◌+◌, ◌-◌, ◌<◌, ◌≤◌, Bool, true, false, cond, not, ◌&&◌, ◌||◌, List}
+use Rattle.std.proofs.Common.{refl, sym, ◌∙◌, ap, subst, true≢false, inl, inr, arith}
 use Rattle.std.specs.Prelude.{Option, Some, None, IfSome, IsSome, IsSomeAnd, is_some, option_map, unwrap_or, find}
 use Rattle.std.proofs.lemmas.Bool.{or_left, and_parts, cases_lt}
 use Rattle.std.specs.List.{list_all}
@@ -16,7 +17,8 @@ use Rattle.spec_history.specs.Marks.{came_at, marks, marked_at}
 use Rattle.spec_world.specs.Right.{slot_after, IsPictureAt}
 use Rattle.spec_world.specs.Events.{show_slot}
 use Rattle.spec_world.specs.RightSlot.{DamageIsSound, WasGoodEnough, IsRightSlot}
-use Rattle.spec_world.proofs.Lasting.{Lasts, stack-lasts, picture-lasts, was_there-before, good_enough-lasts, marked_at-lasts, marked_at-next, unmarked-same, unchanged}
+use Rattle.spec_world.proofs.Lasting.{Lasts, stack-lasts, picture-lasts, was_there-before, good_enough-lasts}
+use Rattle.spec_world.proofs.Lasting.{marked_at-lasts, marked_at-next, unmarked-same, unchanged}
 
 no-some : {A : Type 0} (x : A) → None ≡ Some x → ⊥
 no-some x e = true≢false (sym (ap is_some e))
@@ -50,7 +52,8 @@ pub right-lasts : (base : Document) (s t : State) (stack : ℕ) (at : TileAt) (l
     → Lasts base s t → latest t ≡ latest s → IsRightSlot base s stack at last slot → IsRightSlot base t stack at last slot
 right-lasts base s t stack at last slot l same right = record {
   mark = right.mark ∙ sym (marked_at-lasts base s t stack at l same);
-  clean = λ e. right.clean e ∙ ap (λ d. Some (project d stack at)) (sym (ap (document_at base t) same ∙ l.documents (latest s) (omega arith)));
+  clean = λ e. right.clean e ∙ ap (λ d. Some (project d stack at))
+      (sym (ap (document_at base t) same ∙ l.documents (latest s) (omega arith)));
   marked = λ e. if-picture-lasts base s t stack at slot.good_to slot.picture l (right.marked e);
   enough = λ a e there m.
       let old = right.enough a e (was_there-before base s t stack a l there) m in
@@ -111,30 +114,38 @@ before base s t more =
     ap (document_at base t) e ∙ more.lasts.documents (latest s) (omega arith)
 
 -- a stack that came has blank slots
-pub right-came : (base : Document) (s t : State) (stack : ℕ) (at : TileAt) (last : Option ℕ) → OneMore base s t → IfSome last (λ a. a ≤ latest s)
+pub right-came : (base : Document) (s t : State) (stack : ℕ) (at : TileAt) (last : Option ℕ) → OneMore base s t
+    → IfSome last (λ a. a ≤ latest s)
     → has_stack (document_at base s (latest s)) stack ≡ false → has_stack (document_at base t (latest t)) stack ≡ true
     → IsRightSlot base t stack at last (blank_slot (latest t))
 right-came base s t stack at last more seen gone has =
-    let come : came_at base t stack (latest t) ≡ true = λ i. has i && not ((ap (λ d. has_stack d stack) (before base s t more) ∙ gone) i) in
+    let come : came_at base t stack (latest t) ≡ true =
+    λ i. has i && not ((ap (λ d. has_stack d stack) (before base s t more) ∙ gone) i) in
     let marked = or_left (came_at base t stack (latest t)) (damaged_at base t stack at (latest t)) come in
     let next = more.next in
     record {
-      mark = sym (marked_at-next base s t stack at more.lasts more.next ∙ ap (λ b. cond b (latest t) (marked_at base s stack at)) marked);
+      mark = sym (marked_at-next base s t stack at more.lasts more.next
+          ∙ ap (λ b. cond b (latest t) (marked_at base s stack at)) marked);
       clean = λ e. absurd (true≢false e);
       marked = λ e. tt;
       enough = λ a e there m.
           let bound : a ≤ latest s = subst (λ o. IfSome o (λ b. b ≤ latest s)) e seen in
-          absurd (true≢false (sym (there (latest s) bound (omega arith)) ∙ (stack-lasts base s t stack (latest s) more.lasts (omega arith) ∙ gone)));
+          absurd (true≢false (sym (there (latest s) bound (omega arith))
+          ∙ (stack-lasts base s t stack (latest s) more.lasts (omega arith) ∙ gone)));
     }
 
-marked-picture : (base : Document) (t : State) (stack : ℕ) (at : TileAt) (old_good good : ℕ) (was : Bool) (picture : Option (List ℕ))
-    → (was ≡ true → IfSome picture (IsPictureAt base t stack at old_good)) → (was ≡ false → IfSome picture (IsPictureAt base t stack at good))
+marked-picture : (base : Document) (t : State) (stack : ℕ) (at : TileAt) (old_good good : ℕ) (was : Bool)
+    (picture : Option (List ℕ))
+    → (was ≡ true → IfSome picture (IsPictureAt base t stack at old_good))
+    → (was ≡ false → IfSome picture (IsPictureAt base t stack at good))
     → IfSome picture (IsPictureAt base t stack at (cond was old_good good))
 marked-picture base t stack at old_good good true picture old new = old refl
 marked-picture base t stack at old_good good false picture old new = new refl
 
-enough-marked : (base : Document) (t : State) (stack : ℕ) (at : TileAt) (a old_good good : ℕ) (was : Bool) (picture : Option (List ℕ))
-    → (was ≡ true → IsSome picture × WasGoodEnough base t stack at a old_good) → (was ≡ false → IsSome picture × WasGoodEnough base t stack at a good)
+enough-marked : (base : Document) (t : State) (stack : ℕ) (at : TileAt) (a old_good good : ℕ) (was : Bool)
+    (picture : Option (List ℕ))
+    → (was ≡ true → IsSome picture × WasGoodEnough base t stack at a old_good)
+    → (was ≡ false → IsSome picture × WasGoodEnough base t stack at a good)
     → IsSome picture × WasGoodEnough base t stack at a (cond was old_good good)
 enough-marked base t stack at a old_good good true picture old new = old refl
 enough-marked base t stack at a old_good good false picture old new = new refl
@@ -152,22 +163,31 @@ right-version base s t stack at last slot sound more seen had has right = go (ma
     was : document_at base t (latest t - 1) ≡ document_at base s (latest s)
     was = before base s t more
 
-    go : (b : Bool) → marks base t stack at (latest t) ≡ b → IsRightSlot base t stack at last (cond b (mark_slot (latest t) slot) slot)
+    go : (b : Bool) → marks base t stack at (latest t) ≡ b
+        → IsRightSlot base t stack at last (cond b (mark_slot (latest t) slot) slot)
     go true e =
         let stayed : came_at base t stack (latest t) ≡ false =
-        ap (λ b. has_stack (document_at base t (latest t)) stack && not b) (ap (λ d. has_stack d stack) was ∙ had) ∙ (λ i. has i && false) in
-        let damaged : damaged_at base t stack at (latest t) ≡ true = damage-alone (came_at base t stack (latest t)) (damaged_at base t stack at (latest t)) e stayed in
+        ap (λ b. has_stack (document_at base t (latest t)) stack && not b) (ap (λ d. has_stack d stack) was ∙ had)
+        ∙ (λ i. has i && false) in
+        let damaged : damaged_at base t stack at (latest t) ≡ true =
+        damage-alone (came_at base t stack (latest t)) (damaged_at base t stack at (latest t)) e stayed in
         record {
           mark = sym (marked_at-next base s t stack at more.lasts next ∙ ap (λ b. cond b (latest t) (marked_at base s stack at)) e);
           clean = λ m. absurd (true≢false m);
           marked = λ m. marked-picture base t stack at slot.good_to (latest t - 1) slot.marked slot.picture
               (λ w. if-picture-lasts base s t stack at slot.good_to slot.picture more.lasts (right.marked w))
               (λ w. subst (λ o. IfSome o (IsPictureAt base t stack at (latest t - 1))) (sym (right.clean w))
-              (record { there = omega arith; has = ap (λ d. has_stack d stack) was ∙ had; is = ap (λ d. project d stack at) (sym was) }));
+              (record {
+                there = omega arith;
+                has = ap (λ d. has_stack d stack) was ∙ had;
+                is =
+                    ap (λ d. project d stack at) (sym was);
+              }));
           enough = λ a l there m.
               let bound : a ≤ latest s = subst (λ o. IfSome o (λ b. b ≤ latest s)) l seen in
               enough-marked base t stack at a slot.good_to (latest t - 1) slot.marked slot.picture
-              (λ w. let old = right.enough a l (was_there-before base s t stack a more.lasts there) w in (old.0, good_enough-lasts base s t stack at a slot.good_to more.lasts old.1))
+              (λ w. let old = right.enough a l (was_there-before base s t stack a more.lasts there) w in
+              (old.0, good_enough-lasts base s t stack at a slot.good_to more.lasts old.1))
               (λ w. (
                 is-some slot.picture (project (document_at base s (latest s)) stack at) (right.clean w),
                 record { version = latest t; later = omega arith; there = omega arith; damaged = damaged; good = omega arith },
@@ -175,9 +195,11 @@ right-version base s t stack at last slot sound more seen had has right = go (ma
         }
     go false e =
         let same = unmarked-same base t stack at (latest t) sound (omega arith) (omega arith) has e in
-        let shows : project (document_at base s (latest s)) stack at ≡ project (document_at base t (latest t)) stack at = ap (λ d. project d stack at) (sym was) ∙ same.same in
+        let shows : project (document_at base s (latest s)) stack at ≡ project (document_at base t (latest t)) stack at =
+        ap (λ d. project d stack at) (sym was) ∙ same.same in
         record {
-          mark = right.mark ∙ sym (marked_at-next base s t stack at more.lasts next ∙ ap (λ b. cond b (latest t) (marked_at base s stack at)) e);
+          mark = right.mark ∙ sym (marked_at-next base s t stack at more.lasts next
+              ∙ ap (λ b. cond b (latest t) (marked_at base s stack at)) e);
           clean = λ m. right.clean m ∙ ap Some shows;
           marked = λ m. if-picture-lasts base s t stack at slot.good_to slot.picture more.lasts (right.marked m);
           enough = λ a l there m.
@@ -196,9 +218,15 @@ shown-is base s stack at last slot has right = go slot.marked slot.picture refl 
         → IfSome (shown_as (cond b slot.good_to (latest s)) picture) (λ k. IsPictureAt base s stack at k.version k.picture)
     go b None e p = tt
     go true (Some picture) e p = subst (λ o. IfSome o (IsPictureAt base s stack at slot.good_to)) p (right.marked e)
-    go false (Some picture) e p = record { there = omega arith; has = has; is = some-same picture (project (document_at base s (latest s)) stack at) (sym p ∙ right.clean e) }
+    go false (Some picture) e p = record {
+      there = omega arith;
+      has = has;
+      is =
+          some-same picture (project (document_at base s (latest s)) stack at) (sym p ∙ right.clean e);
+    }
 
-pub all-there : (p : ℕ → Bool) (first n : ℕ) → list_all p (count_from first n) ≡ true → (v : ℕ) → first ≤ v → v < first + n → p v ≡ true
+pub all-there : (p : ℕ → Bool) (first n : ℕ) → list_all p (count_from first n) ≡ true → (v : ℕ) → first ≤ v → v < first + n
+    → p v ≡ true
 all-there p first zero all v from below = absurd (omega (arith, from, below))
 all-there p first (suc n) all v from below =
     let parts = and_parts (p first) (list_all p (count_from (suc first) n)) all in
@@ -211,10 +239,11 @@ found-step : (p : ℕ → Bool) (first w top : ℕ) (b : Bool) (rest : Option �
     → (suc first ≤ w → unwrap_or (option_map (λ x. x - 1) rest) top ≤ w - 1)
     → unwrap_or (option_map (λ x. x - 1) (cond b (Some first) rest)) top ≤ w - 1
 found-step p first w top true rest e from passes later = omega (arith, from)
-found-step p first w top false rest e from passes later = elim (cases_lt first w) as (λ _. unwrap_or (option_map (λ x. x - 1) rest) top ≤ w - 1) [
-  | inl above ↦ later (omega (arith, above))
-  | inr not_above ↦ let same : w ≡ first = omega (arith, from, not_above) in absurd (true≢false (sym passes ∙ (ap p same ∙ e)))
-]
+found-step p first w top false rest e from passes later =
+    elim (cases_lt first w) as (λ _. unwrap_or (option_map (λ x. x - 1) rest) top ≤ w - 1) [
+      | inl above ↦ later (omega (arith, above))
+      | inr not_above ↦ let same : w ≡ first = omega (arith, from, not_above) in absurd (true≢false (sym passes ∙ (ap p same ∙ e)))
+    ]
 
 -- the first that passes is no later than one that does
 found-before : (p : ℕ → Bool) (first n w top : ℕ) → first ≤ w → w < first + n → p w ≡ true
@@ -224,17 +253,20 @@ found-before p first (suc n) w top from below passes =
     found-step p first w top (p first) (find p (count_from (suc first) n)) refl from passes
     (λ above. found-before p (suc first) n w top above (omega (arith, below)) passes)
 
-shown-late : (slot : Slot) (now least : ℕ) (b : Bool) (picture : Option (List ℕ)) → slot.marked ≡ b → slot.picture ≡ picture → IsSome slot.picture
+shown-late : (slot : Slot) (now least : ℕ) (b : Bool) (picture : Option (List ℕ)) → slot.marked ≡ b → slot.picture ≡ picture
+    → IsSome slot.picture
     → least ≤ cond b slot.good_to now → IsSomeAnd (shown_as (cond b slot.good_to now) picture) (λ k. least ≤ k.version)
 shown-late slot now least b None e p some le = absurd (true≢false (sym some ∙ ap is_some p))
 shown-late slot now least b (Some picture) e p some le = le
 
 -- what the slot keeps is no older than what the history keeps of its tile
-pub kept-shown : (base : Document) (s : State) (stack : ℕ) (at : TileAt) (last : Option ℕ) (slot : Slot) → IfSome last (λ a. a ≤ latest s)
+pub kept-shown : (base : Document) (s : State) (stack : ℕ) (at : TileAt) (last : Option ℕ) (slot : Slot)
+    → IfSome last (λ a. a ≤ latest s)
     → IsRightSlot base s stack at last slot
     → IfSome (kept_in base s stack at last) (λ least. IsSomeAnd (shown_by (latest s) slot) (λ k. least ≤ k.version))
 kept-shown base s stack at None slot seen right = tt
-kept-shown base s stack at (Some a) slot seen right = go (list_all (λ v. has_stack (document_at base s v) stack) (count_from a (latest s + 1 - a))) refl
+kept-shown base s stack at (Some a) slot seen right =
+    go (list_all (λ v. has_stack (document_at base s v) stack) (count_from a (latest s + 1 - a))) refl
   where
     least : ℕ
     least = unwrap_or (option_map (λ w. w - 1) (find (damaged_at base s stack at) (count_from (a + 1) (latest s - a)))) (latest s)
@@ -242,14 +274,16 @@ kept-shown base s stack at (Some a) slot seen right = go (list_all (λ v. has_st
     now : least ≤ latest s
     now = found_before (damaged_at base s stack at) (a + 1) (latest s - a) (latest s) (omega arith)
 
-    late : (there : StackStays base s stack a (latest s)) (b : Bool) → slot.marked ≡ b → IsSome slot.picture × (least ≤ cond b slot.good_to (latest s))
+    late : (there : StackStays base s stack a (latest s)) (b : Bool) → slot.marked ≡ b
+        → IsSome slot.picture × (least ≤ cond b slot.good_to (latest s))
     late there true m =
         let enough = right.enough a refl there m in
         let w = enough.1 in
         let later = w.later in
         let within = w.there in
         let good = w.good in
-        let first = found-before (damaged_at base s stack at) (a + 1) (latest s - a) w.version (latest s) (omega arith) (omega arith) w.damaged in
+        let first = found-before (damaged_at base s stack at) (a + 1) (latest s - a) w.version (latest s) (omega arith)
+        (omega arith) w.damaged in
         (enough.0, omega (arith, first, good))
     late there false m = (is-some slot.picture (project (document_at base s (latest s)) stack at) (right.clean m), now)
 
@@ -257,6 +291,8 @@ kept-shown base s stack at (Some a) slot seen right = go (list_all (λ v. has_st
         → IfSome (cond b (Some least) None) (λ k. IsSomeAnd (shown_by (latest s) slot) (λ x. k ≤ x.version))
     go false e = tt
     go true e =
-        let there : StackStays base s stack a (latest s) = λ v from within. all-there (λ v. has_stack (document_at base s v) stack) a (latest s + 1 - a) e v from (omega (arith, from, within)) in
+        let there : StackStays base s stack a (latest s) =
+        λ v from within. all-there (λ v. has_stack (document_at base s v) stack) a (latest s + 1 - a) e v from
+        (omega (arith, from, within)) in
         let both = late there slot.marked refl in
         shown-late slot (latest s) least slot.marked slot.picture refl refl both.0 both.1

@@ -1,5 +1,6 @@
 -- Each event but the result of a job leaves exact slots.
-use Rattle.std.proofs.Common.{◌≡◌, ℕ, ◌≤◌, Bool, true, false, cond, not, ◌&&◌, ◌==◌, nat_lt, List, [], ◌∷◌, ◌++◌, refl, sym, ◌∙◌, ap, subst, true≢false, arith, eq-eqb}
+use Rattle.std.proofs.Common.{◌≡◌, ℕ, ◌≤◌, Bool, true, false, cond, not, ◌&&◌, ◌==◌, nat_lt, List, [], ◌∷◌, ◌++◌, refl}
+use Rattle.std.proofs.Common.{sym, ◌∙◌, ap, subst, true≢false, arith, eq-eqb}
 use Rattle.std.specs.Prelude.{Option, Some, None, IfSome, is_some, option_and_then, unwrap_or}
 use Rattle.std.proofs.lemmas.Bool.{eqb-true}
 use Rattle.spec_grid.specs.declared.TileAt.{TileAt}
@@ -11,7 +12,9 @@ use Rattle.spec_cache.specs.Slots.{Slot, Slots, slot_at, change_slot, fill_slot,
 use Rattle.spec_cache.specs.Cache as cache
 use Rattle.spec_cache.specs.Cache.{Place, slots_of, slot_of, change_stack, next_place, with_last}
 use Rattle.spec_cache.proofs.Found.{canvas-found, slot-there}
-use Rattle.spec_history.specs.Machine.{Call, edit, undo, redo, tile, peek, top, Reply, changed, tile_of, no_stack, outside_tile, saved, save_fault, save_memory, history_full, tile_reply, State, Saving, latest, document_at, answer, has_stack}
+use Rattle.spec_history.specs.Machine.{Call, edit, undo, redo, tile, peek, top, Reply, changed, tile_of, no_stack}
+use Rattle.spec_history.specs.Machine.{outside_tile, saved, save_fault, save_memory, history_full, tile_reply, State}
+use Rattle.spec_history.specs.Machine.{Saving, latest, document_at, answer, has_stack}
 use Rattle.spec_history.specs.History.{Entry, asked, starts, ends, next_index, after_entry, is_changed, IsStep, PeekAnswers}
 use Rattle.spec_history.specs.Kept as history
 use Rattle.spec_history.specs.Kept.{shown_version, PeekMeetsKept}
@@ -21,19 +24,23 @@ use Rattle.spec_history.proofs.SlotsExact.{exact-shown, exact-peek}
 use Rattle.spec_world.specs.declared.SaveEnd.{SaveEnd}
 use Rattle.spec_world.specs.declared.SaveEnd.TheVariants.{Done, Fault, Memory}
 use Rattle.spec_world.specs.World.{World, document_now, free_entries, cache_after}
-use Rattle.spec_world.specs.Events.{submits, takes, finishes, begins_save, ends_save, peek_reply, where_tile, reply_to, show_slot, cache_of, with_entry, with_call, Outcome, submit, add_job, take_job, save_starts, start_where, end_where}
+use Rattle.spec_world.specs.Events.{submits, takes, finishes, begins_save, ends_save, peek_reply, where_tile, reply_to}
+use Rattle.spec_world.specs.Events.{show_slot, cache_of, with_entry, with_call, Outcome, submit, add_job, take_job}
+use Rattle.spec_world.specs.Events.{save_starts, start_where, end_where}
 use Rattle.spec_world.specs.Right.{IsPictureAt, IsRight}
 use Rattle.spec_world.specs.Exact.{SlotIsExact, SlotsAreExact, StaysExact, AnswersExactly}
 use Rattle.spec_world.proofs.Standing.{same-tile, changed-slot}
 use Rattle.spec_world.proofs.Filled.{eq-swap, tile_entry, slots-of-slot}
-use Rattle.spec_world.proofs.Submitted.{Keeps, keeps-edit, keeps-undo, keeps-redo, keeps-top, keeps-peek, entry_of, peek-allowed, meets-plain}
+use Rattle.spec_world.proofs.Submitted.{Keeps, keeps-edit, keeps-undo, keeps-redo, keeps-top, keeps-peek, entry_of}
+use Rattle.spec_world.proofs.Submitted.{peek-allowed, meets-plain}
 use Rattle.spec_world.proofs.AllRight.{may-end}
 use Rattle.spec_world.proofs.Exact.{IsNext, next-entry, plain-step, slot-stays, stays-exact, changes-exact}
 
 -- ---- calls that show no tile
 
 -- with a reply that makes no version
-kept-exact : (base : Document) (w : World) (session : ℕ) (call : Call) (tables : List (List ℕ)) (reply : Reply) → IsDocument base → IsRight base w → SlotsAreExact base w
+kept-exact : (base : Document) (w : World) (session : ℕ) (call : Call) (tables : List (List ℕ)) (reply : Reply) → IsDocument base
+    → IsRight base w → SlotsAreExact base w
     → IsStep base w.state w.entries (entry_of w session call tables reply) → PeekMeetsKept base w.entries (asked call tables) reply
     → is_changed reply ≡ false → ((stack : ℕ) (at : TileAt) → shown_version (asked call tables) reply stack at ≡ None)
     → cache_of base w.state (after_entry base w.state (entry_of w session call tables reply)) call reply w.cache ≡ w.cache
@@ -44,24 +51,29 @@ kept-exact base w session call tables reply within is exact step peeks unchanged
     (stays-exact base w e (next-entry base w e within is exact step peeks) unchanged silent)
 
 -- with any reply of the machine
-plain-exact : (base : Document) (w : World) (session : ℕ) (call : Call) (tables : List (List ℕ)) (reply : Reply) → IsDocument base → IsRight base w → SlotsAreExact base w
+plain-exact : (base : Document) (w : World) (session : ℕ) (call : Call) (tables : List (List ℕ)) (reply : Reply) → IsDocument base
+    → IsRight base w → SlotsAreExact base w
     → IsStep base w.state w.entries (entry_of w session call tables reply) → PeekMeetsKept base w.entries (asked call tables) reply
     → ((r : Reply) (stack : ℕ) (at : TileAt) → shown_version (asked call tables) r stack at ≡ None)
-    → ((t : State) → Keeps base w.state t call w.cache) → ((v g n : ℕ) (t : State) → cache_of base w.state t call (changed v g n) w.cache ≡ cache_after base w.state t w.cache)
+    → ((t : State) → Keeps base w.state t call w.cache)
+    → ((v g n : ℕ) (t : State) → cache_of base w.state t call (changed v g n) w.cache ≡ cache_after base w.state t w.cache)
     → SlotsAreExact base (with_call base w session call tables reply)
 plain-exact base w session call tables (changed v g n) within is exact step peeks silent keeps follows =
     let e = entry_of w session call tables (changed v g n) in
     subst (λ c. SlotsAreExact base (record (with_entry base w e) { cache = c })) (sym (follows v g n (after_entry base w.state e)))
     (changes-exact base w e (next-entry base w e within is exact step peeks) refl (λ stack at. silent (changed v g n) stack at))
 plain-exact base w session call tables reply within is exact step peeks silent keeps follows =
-    kept-exact base w session call tables reply within is exact step peeks refl (λ stack at. silent reply stack at) (keeps (after_entry base w.state (entry_of w session call tables reply)) reply refl)
+    kept-exact base w session call tables reply within is exact step peeks refl (λ stack at. silent reply stack at)
+    (keeps (after_entry base w.state (entry_of w session call tables reply)) reply refl)
 
 -- ---- a tile
 
 -- the slot of the tile that is shown
 shown-exact : (base : Document) (w : World) (session stack : ℕ) (at : TileAt) (tables : List (List ℕ)) (old : Slot)
-    → IsNext base w (tile_entry session (next_index w.entries session) stack at tables (latest w.state)) → slot_of w.cache stack at ≡ Some old
-    → SlotIsExact base (w.entries ++ tile_entry session (next_index w.entries session) stack at tables (latest w.state) ∷ []) stack at
+    → IsNext base w (tile_entry session (next_index w.entries session) stack at tables (latest w.state))
+    → slot_of w.cache stack at ≡ Some old
+    → SlotIsExact base (w.entries ++ tile_entry session (next_index w.entries session) stack at tables (latest w.state)
+    ∷ []) stack at
     (show_slot (project (document_now base w.state) stack at) old)
 shown-exact base w session stack at tables old n found = go old.marked refl
   where
@@ -76,23 +88,27 @@ shown-exact base w session stack at tables old n found = go old.marked refl
 
     shown : IsExactSlot base (w.entries ++ e ∷ []) stack at (Some picture) old.good_to false old.marked_at
     shown =
-        exact-shown base w.entries e stack at old.picture old.good_to old.marked old.marked_at picture (latest w.state) n.is.legal.run (plain-step base w e n) (n.exact stack at old found)
+        exact-shown base w.entries e stack at old.picture old.good_to old.marked old.marked_at picture
+        (latest w.state) n.is.legal.run (plain-step base w e n) (n.exact stack at old found)
         (λ i. cond (same stack i && (same at.col i && same at.row i)) (Some (latest w.state)) None)
         (ap (λ s. project (document_now base s) stack at) n.is.replayed)
 
     go : (b : Bool) → old.marked ≡ b → SlotIsExact base (w.entries ++ e ∷ []) stack at (cond b (fill_slot picture old) old)
     go true m = shown
     go false m =
-        let E : Option (List ℕ) → Bool → Type 0 = λ o b. IsExactSlot base (w.entries ++ e ∷ []) stack at o old.good_to b old.marked_at in
+        let E : Option (List ℕ) → Bool → Type 0 =
+        λ o b. IsExactSlot base (w.entries ++ e ∷ []) stack at o old.good_to b old.marked_at in
         subst (λ o. E o old.marked) (sym (n.is.clean stack at old found m)) (subst (E (Some picture)) (sym m) shown)
 
 tile-exact : (base : Document) (w : World) (session k : ℕ) (place : TileAt) (tables : List (List ℕ))
     → IsNext base w (tile_entry session (next_index w.entries session) k place tables (latest w.state))
-    → SlotsAreExact base (record (with_entry base w (tile_entry session (next_index w.entries session) k place tables (latest w.state))) {
+    → SlotsAreExact base (record (with_entry base w
+    (tile_entry session (next_index w.entries session) k place tables (latest w.state))) {
       cache = change_stack k (change_slot place (show_slot (project (document_now base w.state) k place))) w.cache;
     })
 tile-exact base w session k place tables n stack at slot found =
-    changed-slot stack k at place (show_slot (project (document_now base w.state) k place)) w.cache slot (SlotIsExact base (w.entries ++ entry k place ∷ []) stack at) found
+    changed-slot stack k at place (show_slot (project (document_now base w.state) k place)) w.cache slot
+    (SlotIsExact base (w.entries ++ entry k place ∷ []) stack at) found
     (λ old p q r.
     let t : at ≡ place = same-tile at place r in
     let s : stack ≡ k = eqb-true stack k q in
@@ -107,9 +123,12 @@ tile-exact base w session k place tables n stack at slot found =
     entry : ℕ → TileAt → Entry
     entry x y = tile_entry session (next_index w.entries session) x y tables (latest w.state)
 
-tiles-exact : (base : Document) (w : World) (session k : ℕ) (place : TileAt) (tables : List (List ℕ)) (here on : Bool) → IsDocument base → IsRight base w → SlotsAreExact base w
-    → tile_reply (document_now base w.state) k place (tile_of (latest w.state)) ≡ cond here (no_stack k) (cond on outside_tile (tile_of (latest w.state)))
-    → SlotsAreExact base (with_call base w session (tile k place) tables (cond here (no_stack k) (cond on outside_tile (tile_of (latest w.state)))))
+tiles-exact : (base : Document) (w : World) (session k : ℕ) (place : TileAt) (tables : List (List ℕ)) (here on : Bool)
+    → IsDocument base → IsRight base w → SlotsAreExact base w
+    → tile_reply (document_now base w.state) k place (tile_of (latest w.state))
+    ≡ cond here (no_stack k) (cond on outside_tile (tile_of (latest w.state)))
+    → SlotsAreExact base (with_call base w session (tile k place) tables
+    (cond here (no_stack k) (cond on outside_tile (tile_of (latest w.state)))))
 tiles-exact base w session k place tables true on within is exact e =
     kept-exact base w session (tile k place) tables (no_stack k) within is exact (refl, sym e) tt refl (λ stack at. refl) refl
 tiles-exact base w session k place tables false true within is exact e =
@@ -125,10 +144,13 @@ right-picture : (base : Document) (w : World) (stack : ℕ) (at : TileAt) → Is
     → IfSome (cache.kept w.cache stack at (latest w.state)) (λ k. IsPictureAt base w.state stack at k.version k.picture)
 right-picture base w stack at is = go (slot_of w.cache stack at) refl
   where
-    shown : (slot : Slot) (b : Bool) (picture : Option (List ℕ)) → slot_of w.cache stack at ≡ Some slot → slot.marked ≡ b → slot.picture ≡ picture
-        → IfSome (shown_as (cond b slot.good_to (latest w.state)) picture) (λ k. IsPictureAt base w.state stack at k.version k.picture)
+    shown : (slot : Slot) (b : Bool) (picture : Option (List ℕ)) → slot_of w.cache stack at ≡ Some slot → slot.marked ≡ b
+        → slot.picture ≡ picture
+        → IfSome (shown_as (cond b slot.good_to (latest w.state)) picture)
+        (λ k. IsPictureAt base w.state stack at k.version k.picture)
     shown slot b None p m q = tt
-    shown slot true (Some picture) p m q = subst (λ o. IfSome o (IsPictureAt base w.state stack at slot.good_to)) q (is.marked stack at slot p m)
+    shown slot true (Some picture) p m q =
+        subst (λ o. IfSome o (IsPictureAt base w.state stack at slot.good_to)) q (is.marked stack at slot p m)
     shown slot false (Some picture) p m q = record {
       there = omega arith;
       has = sym (is.stacks stack) ∙ slots-of-slot w.cache stack at slot p;
@@ -140,56 +162,90 @@ right-picture base w stack at is = go (slot_of w.cache stack at) refl
     go None p = tt
     go (Some slot) p = shown slot slot.marked slot.picture p refl refl
 
-peeks-exact : (base : Document) (w : World) (session stack : ℕ) (at : TileAt) (seen : ℕ) (tables : List (List ℕ)) (here on : Bool) → IsDocument base → IsRight base w → SlotsAreExact base w
+peeks-exact : (base : Document) (w : World) (session stack : ℕ) (at : TileAt) (seen : ℕ) (tables : List (List ℕ)) (here on : Bool)
+    → IsDocument base → IsRight base w → SlotsAreExact base w
     → seen ≤ latest w.state
-    → tile_reply (document_now base w.state) stack at (tile_of (latest w.state)) ≡ cond here (no_stack stack) (cond on outside_tile (tile_of (latest w.state)))
+    → tile_reply (document_now base w.state) stack at (tile_of (latest w.state))
+    ≡ cond here (no_stack stack) (cond on outside_tile (tile_of (latest w.state)))
     → SlotsAreExact base (with_call base w session (peek stack at) tables
-    (where_tile (cond here (no_stack stack) (cond on outside_tile (tile_of (latest w.state)))) (peek_reply (cache.kept w.cache stack at (latest w.state)) seen)))
+    (where_tile (cond here (no_stack stack) (cond on outside_tile (tile_of (latest w.state))))
+    (peek_reply (cache.kept w.cache stack at (latest w.state)) seen)))
 peeks-exact base w session stack at seen tables true on within is exact le e =
-    kept-exact base w session (peek stack at) tables (no_stack stack) within is exact (refl, subst (λ r. PeekAnswers base w.state stack r (no_stack stack)) (sym e) refl)
+    kept-exact base w session (peek stack at) tables (no_stack stack) within is exact (
+      refl,
+      subst (λ r. PeekAnswers base w.state stack r (no_stack stack)) (sym e) refl,
+    )
     (meets-plain (history.kept base w.entries stack at) stack).0 refl (λ k place. refl) refl
 peeks-exact base w session stack at seen tables false true within is exact le e =
-    kept-exact base w session (peek stack at) tables outside_tile within is exact (refl, subst (λ r. PeekAnswers base w.state stack r outside_tile) (sym e) refl)
+    kept-exact base w session (peek stack at) tables outside_tile within is exact (
+      refl,
+      subst (λ r. PeekAnswers base w.state stack r outside_tile) (sym e) refl,
+    )
     (meets-plain (history.kept base w.entries stack at) stack).1 refl (λ k place. refl) refl
 peeks-exact base w session stack at seen tables false false within is exact le e =
     let kept = cache.kept w.cache stack at (latest w.state) in
-    let allowed = peek-allowed base w.state stack at kept (history.kept base w.entries stack at) seen le (right-picture base w stack at is) (is.enough stack at) in
+    let allowed = peek-allowed base w.state stack at kept (history.kept base w.entries stack at) seen le
+    (right-picture base w stack at is) (is.enough stack at) in
     let reply = peek_reply kept seen in
-    kept-exact base w session (peek stack at) tables reply within is exact (refl, subst (λ r. PeekAnswers base w.state stack r reply) (sym e) allowed.0)
-    allowed.1 allowed.2 (λ k place. refl) (keeps-peek base w.state (after_entry base w.state (entry_of w session (peek stack at) tables reply)) stack at w.cache reply allowed.2)
+    kept-exact base w session (peek stack at) tables reply within is exact (
+      refl,
+      subst (λ r. PeekAnswers base w.state stack r reply) (sym e) allowed.0,
+    )
+    allowed.1 allowed.2 (λ k place. refl)
+    (keeps-peek base w.state (after_entry base w.state (entry_of w session (peek stack at) tables reply)) stack at w.cache reply
+    allowed.2)
 
 -- ---- any call
 
-call-exact : (base : Document) (w : World) (session : ℕ) (call : Call) (seen : ℕ) (tables : List (List ℕ)) → IsDocument base → IsRight base w → SlotsAreExact base w → seen ≤ latest w.state
+call-exact : (base : Document) (w : World) (session : ℕ) (call : Call) (seen : ℕ) (tables : List (List ℕ)) → IsDocument base
+    → IsRight base w → SlotsAreExact base w → seen ≤ latest w.state
     → SlotsAreExact base (with_call base w session call tables (reply_to base w call seen tables))
 call-exact base w session (edit guard es) seen tables within is exact le =
-    plain-exact base w session (edit guard es) tables (answer base w.state (edit guard es) tables).reply within is exact (refl, refl) tt (λ r k place. refl)
+    plain-exact base w session (edit guard es) tables (answer base w.state (edit guard es) tables).reply within is exact (
+      refl,
+      refl,
+    ) tt (λ r k place. refl)
     (λ t. keeps-edit base w.state t guard es w.cache) (λ v g n t. refl)
 call-exact base w session (undo named) seen tables within is exact le =
-    plain-exact base w session (undo named) tables (answer base w.state (undo named) tables).reply within is exact (refl, refl) tt (λ r k place. refl)
+    plain-exact base w session (undo named) tables (answer base w.state (undo named) tables).reply within is exact (
+      refl,
+      refl,
+    ) tt (λ r k place. refl)
     (λ t. keeps-undo base w.state t named w.cache) (λ v g n t. refl)
 call-exact base w session redo seen tables within is exact le =
-    plain-exact base w session redo tables (answer base w.state redo tables).reply within is exact (refl, refl) tt (λ r k place. refl)
+    plain-exact base w session redo tables (answer base w.state redo tables).reply within is exact (
+      refl,
+      refl,
+    ) tt (λ r k place. refl)
     (λ t. keeps-redo base w.state t w.cache) (λ v g n t. refl)
 call-exact base w session top seen tables within is exact le =
     plain-exact base w session top tables (answer base w.state top tables).reply within is exact (refl, refl) tt (λ r k place. refl)
     (λ t. keeps-top base w.state t w.cache) (λ v g n t. refl)
 call-exact base w session (tile k place) seen tables within is exact le =
-    tiles-exact base w session k place tables (not (has_stack (document_now base w.state) k)) (not (is_on_grid (document_now base w.state).width (document_now base w.state).height place)) within is exact refl
+    tiles-exact base w session k place tables (not (has_stack (document_now base w.state) k))
+    (not (is_on_grid (document_now base w.state).width (document_now base w.state).height place)) within is exact refl
 call-exact base w session (peek stack at) seen tables within is exact le =
-    peeks-exact base w session stack at seen tables (not (has_stack (document_now base w.state) stack)) (not (is_on_grid (document_now base w.state).width (document_now base w.state).height at)) within is exact le refl
+    peeks-exact base w session stack at seen tables (not (has_stack (document_now base w.state) stack))
+    (not (is_on_grid (document_now base w.state).width (document_now base w.state).height at)) within is exact le refl
 
-submit-exact : (base : Document) (w : World) (session : ℕ) (call : Call) (seen : ℕ) (tables : List (List ℕ)) → IsDocument base → IsRight base w → SlotsAreExact base w → seen ≤ latest w.state
+submit-exact : (base : Document) (w : World) (session : ℕ) (call : Call) (seen : ℕ) (tables : List (List ℕ)) → IsDocument base
+    → IsRight base w → SlotsAreExact base w → seen ≤ latest w.state
     → SlotsAreExact base (submit base w session call seen tables).world
-submit-exact base w session call seen tables within is exact le = go (free_entries w == 0) (call-exact base w session call seen tables within is exact le)
+submit-exact base w session call seen tables within is exact le =
+    go (free_entries w == 0) (call-exact base w session call seen tables within is exact le)
   where
     full : Outcome
     full = record { reply = history_full; world = w }
 
     done : Outcome
-    done = record { reply = reply_to base w call seen tables; world = with_call base w session call tables (reply_to base w call seen tables) }
+    done = record {
+      reply = reply_to base w call seen tables;
+      world =
+          with_call base w session call tables (reply_to base w call seen tables);
+    }
 
-    go : (b : Bool) → SlotsAreExact base (with_call base w session call tables (reply_to base w call seen tables)) → SlotsAreExact base (cond b full done).world
+    go : (b : Bool) → SlotsAreExact base (with_call base w session call tables (reply_to base w call seen tables))
+        → SlotsAreExact base (cond b full done).world
     go true next = exact
     go false next = next
 
@@ -198,15 +254,18 @@ submit-exact base w session call seen tables within is exact le = go (free_entri
 take-exact : (base : Document) (w : World) → SlotsAreExact base w → SlotsAreExact base (take_job w)
 take-exact base w exact = go (next_place w.cache)
   where
-    go : (o : Option Place) → SlotsAreExact base (record w { cache = with_last o w.cache; jobs = add_job o (latest w.state) w.jobs })
+    go : (o : Option Place) → SlotsAreExact base
+        (record w { cache = with_last o w.cache; jobs = add_job o (latest w.state) w.jobs })
     go None = exact
     go (Some p) = exact
 
-starts-save-exact : (base : Document) (w : World) (session : ℕ) (out : Option Saving) → IsDocument base → IsRight base w → SlotsAreExact base w → w.state.out ≡ out
+starts-save-exact : (base : Document) (w : World) (session : ℕ) (out : Option Saving) → IsDocument base → IsRight base w
+    → SlotsAreExact base w → w.state.out ≡ out
     → SlotsAreExact base (start_where base w session out)
 starts-save-exact base w session (Some out) within is exact e = exact
 starts-save-exact base w session None within is exact e =
-    go (nat_lt (free_entries w) 2) (stays-exact base w entry (next-entry base w entry within is exact (refl, e, refl) tt) refl (λ stack at. refl))
+    go (nat_lt (free_entries w) 2) (stays-exact base w entry (next-entry base w entry within is exact (refl, e, refl) tt) refl
+    (λ stack at. refl))
   where
     entry : Entry
     entry = record { session = session; index = next_index w.entries session; kind = starts; reply = saved (latest w.state) }
@@ -215,7 +274,8 @@ starts-save-exact base w session None within is exact e =
     go true next = exact
     go false next = next
 
-ends-save-exact : (base : Document) (w : World) (how : SaveEnd) (out : Option Saving) → IsDocument base → IsRight base w → SlotsAreExact base w → w.state.out ≡ out
+ends-save-exact : (base : Document) (w : World) (how : SaveEnd) (out : Option Saving) → IsDocument base → IsRight base w
+    → SlotsAreExact base w → w.state.out ≡ out
     → SlotsAreExact base (end_where base w how out)
 ends-save-exact base w how None within is exact e = exact
 ends-save-exact base w Done (Some out) within is exact e =
@@ -229,7 +289,8 @@ ends-save-exact base w Memory (Some out) within is exact e =
     stays-exact base w entry (next-entry base w entry within is exact (may-end base w out Memory e) tt) refl (λ stack at. refl)
 
 pub stays-so : (base : Document) → IsDocument base → StaysExact base
-stays-so base within w (submits session call seen tables) is exact may brings = submit-exact base w session call seen tables within is exact may
+stays-so base within w (submits session call seen tables) is exact may brings =
+    submit-exact base w session call seen tables within is exact may
 stays-so base within w takes is exact may brings = take-exact base w exact
 stays-so base within w (finishes number) is exact may brings = absurd brings
 stays-so base within w (begins_save session) is exact may brings = starts-save-exact base w session w.state.out within is exact refl
@@ -238,32 +299,41 @@ stays-so base within w (ends_save session how) is exact may brings = ends-save-e
 -- ---- what a peek answers
 
 -- the slot of a tile that is there
-there-slot : (base : Document) (w : World) (stack : ℕ) (at : TileAt) → IsRight base w → has_stack (document_now base w.state) stack ≡ true
+there-slot : (base : Document) (w : World) (stack : ℕ) (at : TileAt) → IsRight base w
+    → has_stack (document_now base w.state) stack ≡ true
     → is_on_grid base.width base.height at ≡ true → is_some (slot_of w.cache stack at) ≡ true
 there-slot base w stack at is has on = go (slots_of w.cache stack) refl (is.stacks stack ∙ has)
   where
-    go : (o : Option Slots) → slots_of w.cache stack ≡ o → is_some (slots_of w.cache stack) ≡ true → is_some (slot_of w.cache stack at) ≡ true
+    go : (o : Option Slots) → slots_of w.cache stack ≡ o → is_some (slots_of w.cache stack) ≡ true
+        → is_some (slot_of w.cache stack at) ≡ true
     go None p some = absurd (true≢false (sym some ∙ ap is_some p))
     go (Some slots) p some =
         ap (λ o. is_some (option_and_then (λ k. slot_at k at) o)) p
-        ∙ slot-there base.width base.height slots at (canvas-found base.width base.height w.cache.held stack slots is.slots.of_canvas p) on
+        ∙ slot-there base.width base.height slots at
+        (canvas-found base.width base.height w.cache.held stack slots is.slots.of_canvas p) on
 
-slot-answers : (base : Document) (w : World) (stack : ℕ) (at : TileAt) → IsRight base w → SlotsAreExact base w → is_some (slot_of w.cache stack at) ≡ true
-    → peek_reply (cache.kept w.cache stack at (latest w.state)) (latest w.state) ≡ kept_peek (history.kept base w.entries stack at) (latest w.state)
+slot-answers : (base : Document) (w : World) (stack : ℕ) (at : TileAt) → IsRight base w → SlotsAreExact base w
+    → is_some (slot_of w.cache stack at) ≡ true
+    → peek_reply (cache.kept w.cache stack at (latest w.state)) (latest w.state)
+    ≡ kept_peek (history.kept base w.entries stack at) (latest w.state)
 slot-answers base w stack at is exact some = go (slot_of w.cache stack at) refl some
   where
-    as-slot : (picture : Option (List ℕ)) (version seen : ℕ) → peek_reply (shown_as version picture) seen ≡ slot_peek picture version seen
+    as-slot : (picture : Option (List ℕ)) (version seen : ℕ)
+        → peek_reply (shown_as version picture) seen ≡ slot_peek picture version seen
     as-slot None version seen = refl
     as-slot (Some picture) version seen = refl
 
     go : (o : Option Slot) → slot_of w.cache stack at ≡ o → is_some o ≡ true
-        → peek_reply (cache.kept w.cache stack at (latest w.state)) (latest w.state) ≡ kept_peek (history.kept base w.entries stack at) (latest w.state)
+        → peek_reply (cache.kept w.cache stack at (latest w.state)) (latest w.state)
+        ≡ kept_peek (history.kept base w.entries stack at) (latest w.state)
     go None p t = absurd (true≢false (sym t))
     go (Some slot) p t =
-        let P : ℕ → Type 0 = λ n. slot_peek slot.picture (version_kept n slot.good_to slot.marked) n ≡ kept_peek (history.kept base w.entries stack at) n in
+        let P : ℕ → Type 0 = λ n. slot_peek slot.picture (version_kept n slot.good_to slot.marked) n
+        ≡ kept_peek (history.kept base w.entries stack at) n in
         ap (λ o. peek_reply (option_and_then (shown_by (latest w.state)) o) (latest w.state)) p
         ∙ (as-slot slot.picture (version_kept (latest w.state) slot.good_to slot.marked) (latest w.state)
-        ∙ subst P (ap latest (sym is.replayed)) (exact-peek base w.entries stack at slot.picture slot.good_to slot.marked slot.marked_at (exact stack at slot p)))
+        ∙ subst P (ap latest (sym is.replayed))
+        (exact-peek base w.entries stack at slot.picture slot.good_to slot.marked slot.marked_at (exact stack at slot p)))
 
 grid-now : (base : Document) (w : World) (at : TileAt) → IsRight base w
     → is_on_grid (document_now base w.state).width (document_now base w.state).height at ≡ is_on_grid base.width base.height at
@@ -273,7 +343,9 @@ grid-now base w at is =
     (λ i. is_on_grid (d i).width (d i).height at) ∙ (λ i. is_on_grid (c.width i) (c.height i) at)
 
 pub answers-so : (base : Document) → AnswersExactly base
-answers-so base w stack at tables is exact = go (has_stack (document_now base w.state) stack) (is_on_grid (document_now base w.state).width (document_now base w.state).height at) refl refl
+answers-so base w stack at tables is exact =
+    go (has_stack (document_now base w.state) stack)
+    (is_on_grid (document_now base w.state).width (document_now base w.state).height at) refl refl
   where
     shown : Reply
     shown = peek_reply (cache.kept w.cache stack at (latest w.state)) (latest w.state)
@@ -281,7 +353,8 @@ answers-so base w stack at tables is exact = go (has_stack (document_now base w.
     kept : Reply
     kept = kept_peek (history.kept base w.entries stack at) (latest w.state)
 
-    go : (here on : Bool) → has_stack (document_now base w.state) stack ≡ here → is_on_grid (document_now base w.state).width (document_now base w.state).height at ≡ on
+    go : (here on : Bool) → has_stack (document_now base w.state) stack ≡ here
+        → is_on_grid (document_now base w.state).width (document_now base w.state).height at ≡ on
         → where_tile (cond (not here) (no_stack stack) (cond (not on) outside_tile (tile_of (latest w.state)))) shown
         ≡ where_tile (cond (not here) (no_stack stack) (cond (not on) outside_tile (tile_of (latest w.state)))) kept
     go false on p q = refl

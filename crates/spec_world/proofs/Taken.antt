@@ -1,5 +1,7 @@
 -- A job that is taken is of a tile that is there.
-use Rattle.std.proofs.Common.{◌≡◌, ℕ, zero, suc, ◌+◌, ◌*◌, ◌/◌, ◌%◌, ◌<◌, ◌≤◌, Bool, true, false, cond, ◌==◌, nat_lt, List, [], ◌∷◌, length, map, filter, refl, sym, ◌∙◌, ap, subst, arith, lt-ltb, mod-lt, div-lt_iff_lt-mul, mul_comm, eq-eqb}
+use Rattle.std.proofs.Common.{◌≡◌, ℕ, zero, suc, ◌+◌, ◌*◌, ◌/◌, ◌%◌, ◌<◌, ◌≤◌, Bool, true, false, cond, ◌==◌, nat_lt}
+use Rattle.std.proofs.Common.{List, [], ◌∷◌, length, map, filter, refl, sym, ◌∙◌, ap, subst, arith, lt-ltb, mod-lt}
+use Rattle.std.proofs.Common.{div-lt_iff_lt-mul, mul_comm, eq-eqb}
 use Rattle.std.specs.Prelude.{Option, Some, None, IfSome, is_some, option_map, slice_get, find}
 use Rattle.std.specs.List.{AllByRecursion}
 use Rattle.std.proofs.lemmas.Bool.{and_from}
@@ -47,42 +49,51 @@ tiled-on w h first (s ∷ ss) within =
   where
     go : (b : Bool) → is_on_grid w h (tile_numbered w first) ≡ true
         → AllByRecursion (λ at. is_on_grid w h at ≡ true) (map (λ p. p.0) (filter (λ p. p.1.marked) (tiled_from w (suc first) ss)))
-        → AllByRecursion (λ at. is_on_grid w h at ≡ true) (map (λ p. p.0) (cond b ((tile_numbered w first, s) ∷ filter (λ p. p.1.marked) (tiled_from w (suc first) ss)) (filter (λ p. p.1.marked) (tiled_from w (suc first) ss))))
+        → AllByRecursion (λ at. is_on_grid w h at ≡ true)
+        (map (λ p. p.0) (cond b ((tile_numbered w first, s) ∷ filter (λ p. p.1.marked) (tiled_from w (suc first) ss))
+        (filter (λ p. p.1.marked) (tiled_from w (suc first) ss))))
     go true here rest = (here, rest)
     go false here rest = rest
 
 marked-on : (w h : ℕ) (s : Slots) → AreOfCanvas w h s → AllByRecursion (λ at. is_on_grid w h at ≡ true) (marked_tiles s)
 marked-on w h s of_canvas =
-    let P : ℕ → Type 0 = λ n. AllByRecursion (λ at. is_on_grid w h at ≡ true) (map (λ p. p.0) (filter (λ p. p.1.marked) (tiled_from n 0 s.each))) in
+    let P : ℕ → Type 0 = λ n. AllByRecursion (λ at. is_on_grid w h at ≡ true)
+    (map (λ p. p.0) (filter (λ p. p.1.marked) (tiled_from n 0 s.each))) in
     let full = of_canvas.full in
     subst P (sym of_canvas.width_is) (tiled-on w h 0 s.each (omega arith))
 
 -- ---- the places of a cache
 
-places-of : (w h : ℕ) (held : List Held) (stack : ℕ) (tiles : List TileAt) → is_some (slots_in held stack) ≡ true → AllByRecursion (λ at. is_on_grid w h at ≡ true) tiles
+places-of : (w h : ℕ) (held : List Held) (stack : ℕ) (tiles : List TileAt) → is_some (slots_in held stack) ≡ true
+    → AllByRecursion (λ at. is_on_grid w h at ≡ true) tiles
     → AllByRecursion (IsPlace w h held) (map (λ at. record { stack = stack; at = at }) tiles)
 places-of w h held stack [] has all = tt
 places-of w h held stack (at ∷ tiles) has all = (record { has = has; on_grid = all.0 }, places-of w h held stack tiles has all.1)
 
-places-in : (w h : ℕ) (held ks : List Held) → AllByRecursion (λ k. is_some (slots_in held k.stack) ≡ true) ks → AllByRecursion (λ k. AreOfCanvas w h k.slots) ks
+places-in : (w h : ℕ) (held ks : List Held) → AllByRecursion (λ k. is_some (slots_in held k.stack) ≡ true) ks
+    → AllByRecursion (λ k. AreOfCanvas w h k.slots) ks
     → AllByRecursion (IsPlace w h held) (marked_places ks)
 places-in w h held [] has all = tt
 places-in w h held (k ∷ ks) has all =
     all-behind (IsPlace w h held) (map (λ at. record { stack = k.stack; at = at }) (marked_tiles k.slots)) (marked_places ks)
     (places-of w h held k.stack (marked_tiles k.slots) has.0 (marked-on w h k.slots all.0)) (places-in w h held ks has.1 all.1)
 
-found-still : (h : Held) (held ks : List Held) → AllByRecursion (λ k. is_some (slots_in held k.stack) ≡ true) ks → AllByRecursion (λ k. is_some (slots_in (h ∷ held) k.stack) ≡ true) ks
+found-still : (h : Held) (held ks : List Held) → AllByRecursion (λ k. is_some (slots_in held k.stack) ≡ true) ks
+    → AllByRecursion (λ k. is_some (slots_in (h ∷ held) k.stack) ≡ true) ks
 found-still h held [] all = tt
 found-still h held (k ∷ ks) all = (go (h.stack == k.stack) all.0, found-still h held ks all.1)
   where
-    go : (b : Bool) → is_some (slots_in held k.stack) ≡ true → is_some (option_map (λ x. x.slots) (cond b (Some h) (find (λ x. x.stack == k.stack) held))) ≡ true
+    go : (b : Bool) → is_some (slots_in held k.stack) ≡ true
+        → is_some (option_map (λ x. x.slots) (cond b (Some h) (find (λ x. x.stack == k.stack) held))) ≡ true
     go true e = refl
     go false e = e
 
 each-found : (held : List Held) → AllByRecursion (λ k. is_some (slots_in held k.stack) ≡ true) held
 each-found [] = tt
-each-found (h ∷ hs) =
-    (ap (λ b. is_some (option_map (λ x. x.slots) (cond b (Some h) (find (λ x. x.stack == h.stack) hs)))) (same-eqb h.stack), found-still h hs hs (each-found hs))
+each-found (h ∷ hs) = (
+  ap (λ b. is_some (option_map (λ x. x.slots) (cond b (Some h) (find (λ x. x.stack == h.stack) hs)))) (same-eqb h.stack),
+  found-still h hs hs (each-found hs),
+)
 
 if-found : {A : Type 0} (P : A → Type 0) (q : A → Bool) (xs : List A) → AllByRecursion P xs → IfSome (find q xs) P
 if-found P q [] all = tt
@@ -107,7 +118,8 @@ if-next P (Some l) xs all = if-either P (find (λ p. comes_after p l) xs) xs (if
 -- ---- the world
 
 pub standing-take : (base : Document) (w : World) → IsStanding base w → IsStanding base (take_job w)
-standing-take base w is = go (next_place w.cache) (if-next (IsPlace base.width base.height w.cache.held) w.cache.last (marked_places w.cache.held)
+standing-take base w is =
+    go (next_place w.cache) (if-next (IsPlace base.width base.height w.cache.held) w.cache.last (marked_places w.cache.held)
     (places-in base.width base.height w.cache.held w.cache.held (each-found w.cache.held) is.slots.of_canvas))
   where
     go : (o : Option Place) → IfSome o (IsPlace base.width base.height w.cache.held)

@@ -1,12 +1,14 @@
 -- What may happen to a world, and the world after it.
-use Rattle.std.specs.Prelude.{◌≡◌, ℕ, ◌<◌, ◌≤◌, ◌==◌, nat_lt, if◌then◌else◌, List, [], ◌∷◌, ◌++◌, length, remove, slice_get, Option, Some, None}
+use Rattle.std.specs.Prelude.{◌≡◌, ℕ, ◌<◌, ◌≤◌, ◌==◌, nat_lt, if◌then◌else◌, List, [], ◌∷◌, ◌++◌, length, remove}
+use Rattle.std.specs.Prelude.{slice_get, Option, Some, None}
 use Rattle.spec_document.specs.Document.{Document}
 use Rattle.spec_picture.specs.Picture.{project}
 use Rattle.spec_cache.specs.declared.Finished.{Finished}
 use Rattle.spec_cache.specs.declared.Finished.TheVariants.{Gone}
 use Rattle.spec_cache.specs.Slots.{Slot, Shown, fill_slot, change_slot}
 use Rattle.spec_cache.specs.Cache.{Cache, Place, kept, change_stack, next_place, after_take, finish, install}
-use Rattle.spec_history.specs.Machine.{Call, tile, peek, Reply, changed, tile_of, stale, saved, save_fault, save_memory, history_full, State, Saving, latest, answer}
+use Rattle.spec_history.specs.Machine.{Call, tile, peek, Reply, changed, tile_of, stale, saved, save_fault}
+use Rattle.spec_history.specs.Machine.{save_memory, history_full, State, Saving, latest, answer}
 use Rattle.spec_history.specs.History.{asked, starts, ends, Entry, next_index, after_entry}
 use Rattle.spec_world.specs.declared.SaveEnd.{SaveEnd}
 use Rattle.spec_world.specs.declared.SaveEnd.TheVariants.{Done, Fault, Memory}
@@ -95,7 +97,13 @@ finish_job base w number = record w { cache = cache_with_result base w (slice_ge
 
 abbrev pub save_starts : Document → World → (session : ℕ) → World
 save_starts base w session =
-    with_entry base w (record { session = session; index = next_index w.entries session; kind = starts; reply = saved (latest w.state) })
+    with_entry base w (record {
+      session = session;
+      index = next_index w.entries session;
+      kind = starts;
+      reply =
+          saved (latest w.state);
+    })
 
 -- A save starts, unless one is out or fewer than two entries are free; then nothing changes.
 abbrev pub start_where : Document → World → (session : ℕ) → Option Saving → World

@@ -97,7 +97,8 @@ WorldsAreRight base = (events : List Event) (w : World) → Happen base (first_w
 abbrev pub slot_after : Document → State → (stack : ℕ) → TileAt → Slot → Slot
 slot_after base s stack at slot = if marks base s stack at (latest s) then mark_slot (latest s) slot else slot
 
--- After a version, each slot of a stack that was there before is marked where that version marks it, and is as before else; each slot of a
+-- After a version, each slot of a stack that was there before is marked where that version marks it, and is as before
+-- else; each slot of a
 -- stack that came is blank.
 abbrev pub SlotIsMarked : Document → (s : State) → (stack : ℕ) → TileAt → Option Slot → (new : Slot) → Type 0
 SlotIsMarked base s stack at None new = new ≡ blank_slot (latest s)

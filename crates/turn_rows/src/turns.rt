@@ -33,7 +33,8 @@ impl Chronicle for Tally {
 
 impl Tally {
     fn add(&mut self, who: u64) -> bool
-        ensures { MatchBool result (self.new.turns.items ≡ self.old.turns.items ++ who ∷ []) (self.new.turns.items ≡ self.old.turns.items) }
+        ensures { MatchBool result (self.new.turns.items ≡ self.old.turns.items
+            ++ who ∷ []) (self.new.turns.items ≡ self.old.turns.items) }
     {
         self.turns.push(who).is_ok()
     }
@@ -109,7 +110,8 @@ fn by_four<R: Threads + Wait + Sync>(
     requires who { who < 90 }
     requires left { IsOf lock.now left.0 × IsIdle left.0 × IsOf lock.now left.1 × IsIdle left.1 }
     requires right { IsOf lock.now right.0 × IsIdle right.0 × IsOf lock.now right.1 × IsIdle right.1 }
-    ensures { IsOf lock.now result × IsIdle result × (weight_of result ≡ (weight_of left.0 + weight_of left.1) + (weight_of right.0 + weight_of right.1)) }
+    ensures { IsOf lock.now result × IsIdle result
+        × (weight_of result ≡ (weight_of left.0 + weight_of left.1) + (weight_of right.0 + weight_of right.1)) }
 {
     let (mut seat, other) = join(
         rt,
@@ -159,12 +161,16 @@ fn eight_threads(rt: HostRuntime) -> Result<(), Fail> {
     let (mut seat, other) = join(
         &rt,
         || -> Seat<Tally>
-            requires { IsOf shared.now seat × IsIdle seat × IsOf shared.now e × IsIdle e × IsOf shared.now c.0 × IsIdle c.0 × IsOf shared.now c.1 × IsIdle c.1 }
-            ensures { IsOf shared.entry.now result × IsIdle result × (weight_of result ≡ (weight_of seat + weight_of e) + (weight_of c.0 + weight_of c.1)) }
+            requires { IsOf shared.now seat × IsIdle seat × IsOf shared.now e × IsIdle e × IsOf shared.now c.0 × IsIdle c.0
+                × IsOf shared.now c.1 × IsIdle c.1 }
+            ensures { IsOf shared.entry.now result × IsIdle result
+                × (weight_of result ≡ (weight_of seat + weight_of e) + (weight_of c.0 + weight_of c.1)) }
         { by_four(handle, shared, (seat, e), c, 0, 500) },
         || -> Seat<Tally>
-            requires { IsOf shared.now a × IsIdle a × IsOf shared.now b × IsIdle b × IsOf shared.now d.0 × IsIdle d.0 × IsOf shared.now d.1 × IsIdle d.1 }
-            ensures { IsOf shared.entry.now result × IsIdle result × (weight_of result ≡ (weight_of a + weight_of b) + (weight_of d.0 + weight_of d.1)) }
+            requires { IsOf shared.now a × IsIdle a × IsOf shared.now b × IsIdle b × IsOf shared.now d.0 × IsIdle d.0
+                × IsOf shared.now d.1 × IsIdle d.1 }
+            ensures { IsOf shared.entry.now result × IsIdle result
+                × (weight_of result ≡ (weight_of a + weight_of b) + (weight_of d.0 + weight_of d.1)) }
         { by_four(handle, shared, (a, b), d, 4, 500) },
     );
     lock.join(&mut seat, other);

@@ -1,5 +1,6 @@
 -- One pixel over another, where one of them is opaque or clear.
-use Rattle.std.proofs.Common.{◌≡◌, ℕ, ◌+◌, ◌-◌, ◌*◌, ◌/◌, ◌%◌, ◌≤◌, ◌<◌, Bool, true, false, cond, nat_eq, min, max, refl, sym, ◌∙◌, ap, arith}
+use Rattle.std.proofs.Common.{◌≡◌, ℕ, ◌+◌, ◌-◌, ◌*◌, ◌/◌, ◌%◌, ◌≤◌, ◌<◌, Bool, true, false, cond, nat_eq, min, max}
+use Rattle.std.proofs.Common.{refl, sym, ◌∙◌, ap, arith}
 use Rattle.std.proofs.Math.Nat.{mul-add}
 use Rattle.std.proofs.lemmas.Bool.{eqb-true, eqb-false}
 use Rattle.std.proofs.lemmas.Nat.{div-mul-add}
@@ -11,7 +12,8 @@ use Rattle.spec_blend.proofs.OverLemmas.{mean-is_byte, mul-le_left}
 use Rattle.xl_blend.specs.Shown.{shown}
 use Rattle.xl_blend.specs.Words.{pair, mixed_pair, alpha_over, weight}
 
-pub mixed_pair-pairs : (part x y u v : ℕ) → x < 65536 → u < 65536 → mixed_pair part (pair x y) (pair u v) ≡ pair (mean 255 part x u) (mean 255 part y v)
+pub mixed_pair-pairs : (part x y u v : ℕ) → x < 65536 → u < 65536
+    → mixed_pair part (pair x y) (pair u v) ≡ pair (mean 255 part x u) (mean 255 part y v)
 mixed_pair-pairs part x y u v x_small u_small =
     let a : pair x y % 65536 ≡ x = omega arith in
     let b : pair x y / 65536 ≡ y = omega arith in
@@ -34,7 +36,13 @@ abbrev pixel_by : (r g b a : ℕ) → Pixel
 pixel_by r g b a = record { r = r; g = g; b = b; a = a }
 
 pub over_opaque_is : (below above : Pixel) → above.a ≤ 255 → below.a ≡ 255
-    → over_normal below above ≡ record { r = mean 255 above.a above.r below.r; g = mean 255 above.a above.g below.g; b = mean 255 above.a above.b below.b; a = 255 }
+    → over_normal below above ≡ record {
+      r = mean 255 above.a above.r below.r;
+      g = mean 255 above.a above.g below.g;
+      b =
+          mean 255 above.a above.b below.b;
+      a = 255;
+    }
 over_opaque_is below above small opaque = rw (opaque, opaque_stays above.a small) refl
 
 of_halves : (outer inner r g b : ℕ) → r ≤ 255 → g ≤ 255 → outer ≡ pair r b → inner ≡ pair g 255
@@ -61,7 +69,9 @@ over_opaque_by_pairs below above result outer inner pb pa opaque outer_is inner_
     let whole : mean 255 above.a 255 below.a ≡ 255 = rw opaque (mean-same above.a 255 pa.a) in
     let inner_pairs : inner ≡ pair (mean 255 above.a above.g below.g) (mean 255 above.a 255 below.a) =
     inner_is ∙ mixed_pair-pairs above.a above.g 255 below.g below.a (omega arith) (omega arith) in
-    result_is ∙ of_halves outer inner (mean 255 above.a above.r below.r) (mean 255 above.a above.g below.g) (mean 255 above.a above.b below.b) red green outer_pairs (inner_pairs ∙ ap (λ n. pair (mean 255 above.a above.g below.g) n) whole)
+    result_is ∙ of_halves outer inner (mean 255 above.a above.r below.r) (mean 255 above.a above.g below.g)
+    (mean 255 above.a above.b below.b) red green outer_pairs (inner_pairs
+    ∙ ap (λ n. pair (mean 255 above.a above.g below.g) n) whole)
     ∙ sym (over_opaque_is below above pa.a opaque)
 
 chosen_second : (test : Bool) (p q : Pixel) → (test ≡ true → q ≡ p) → cond test p q ≡ q
@@ -80,14 +90,17 @@ pub over_by_means : (below above result : Pixel) (whole r g b : ℕ) → whole �
     → result ≡ record { r = r; g = g; b = b; a = whole }
     → result ≡ over_normal below above
 over_by_means below above result whole r g b whole_is r_is g_is b_is result_is =
-    let made = pixel_by (mean whole above.a above.r below.r) (mean whole above.a above.g below.g) (mean whole above.a above.b below.b) whole in
+    let made = pixel_by (mean whole above.a above.r below.r) (mean whole above.a above.g below.g)
+    (mean whole above.a above.b below.b) whole in
     let parts : pixel_by r g b whole ≡ made = rw (r_is, g_is, b_is) refl in
     let chosen : cond (nat_eq whole 0) clear made ≡ made =
     chosen_second (nat_eq whole 0) clear made (λ test.
     let none : whole ≡ 0 = eqb-true whole 0 test in
     let bare : above.a ≡ 0 = omega arith in
     rw none (by_none above.a above.r above.g above.b below.r below.g below.b bare)) in
-    result_is ∙ parts ∙ sym chosen ∙ ap (λ n. cond (nat_eq n 0) clear (pixel_by (mean n above.a above.r below.r) (mean n above.a above.g below.g) (mean n above.a above.b below.b) n)) whole_is
+    result_is ∙ parts ∙ sym chosen ∙ ap
+    (λ n. cond (nat_eq n 0) clear (pixel_by (mean n above.a above.r below.r) (mean n above.a above.g below.g)
+    (mean n above.a above.b below.b) n)) whole_is
 
 -- ---- where one of the two is opaque or clear, nothing is mixed
 chosen_same : (test : Bool) (p q r : Pixel) → (test ≡ false → q ≡ r) → cond test p q ≡ cond test p r
@@ -114,9 +127,12 @@ positive_of n h = let some : (n ≡ 0 → ⊥) = eqb-false n 0 h in omega (arith
 
 -- the rule at a known alpha and a known weight
 abbrev by_alpha : (whole part : ℕ) → Pixel → Pixel → Pixel
-by_alpha whole part below above = cond (nat_eq whole 0) clear (pixel_by (mean whole part above.r below.r) (mean whole part above.g below.g) (mean whole part above.b below.b) whole)
+by_alpha whole part below above =
+    cond (nat_eq whole 0) clear (pixel_by (mean whole part above.r below.r) (mean whole part above.g below.g)
+    (mean whole part above.b below.b) whole)
 
-laid_at : (whole part : ℕ) (below above : Pixel) → alpha_over below above ≡ whole → above.a ≡ part → over_normal below above ≡ by_alpha whole part below above
+laid_at : (whole part : ℕ) (below above : Pixel) → alpha_over below above ≡ whole → above.a ≡ part
+    → over_normal below above ≡ by_alpha whole part below above
 laid_at whole part below above whole_is part_is =
     let first : over_normal below above ≡ by_alpha whole above.a below above = ap (λ n. by_alpha n above.a below above) whole_is in
     first ∙ ap (λ n. by_alpha whole n below above) part_is
@@ -126,28 +142,46 @@ over_by_opaque below above opaque =
     let some : 0 < 255 = omega arith in
     let whole : alpha_over below above ≡ 255 = rw opaque (omega arith) in
     let colours : by_alpha 255 255 below above ≡ pixel_by above.r above.g above.b 255 =
-    rw (mean-all_above 255 above.r below.r some, mean-all_above 255 above.g below.g some, mean-all_above 255 above.b below.b some) refl in
+    rw (
+      mean-all_above 255 above.r below.r some,
+      mean-all_above 255 above.g below.g some,
+      mean-all_above 255 above.b below.b some,
+    ) refl in
     laid_at 255 255 below above whole opaque ∙ colours ∙ ap (λ n. pixel_by above.r above.g above.b n) (sym opaque)
 
 pub over_by_clear : (below above : Pixel) → above.a ≡ 0 → over_normal below above ≡ shown below
 over_by_clear below above bare =
     let whole : alpha_over below above ≡ below.a = rw bare (omega arith) in
     laid_at below.a 0 below above whole bare
-    ∙ chosen_same (nat_eq below.a 0) clear (pixel_by (mean below.a 0 above.r below.r) (mean below.a 0 above.g below.g) (mean below.a 0 above.b below.b) below.a) below (λ test.
+    ∙ chosen_same (nat_eq below.a 0) clear
+    (pixel_by (mean below.a 0 above.r below.r) (mean below.a 0 above.g below.g) (mean below.a 0 above.b below.b) below.a) below
+    (λ test.
     let some : 0 < below.a = positive_of below.a test in
-    rw (mean-all_below below.a above.r below.r some, mean-all_below below.a above.g below.g some, mean-all_below below.a above.b below.b some) refl)
+    rw (
+      mean-all_below below.a above.r below.r some,
+      mean-all_below below.a above.g below.g some,
+      mean-all_below below.a above.b below.b some,
+    ) refl)
 
 pub over_clear : (below above : Pixel) → below.a ≡ 0 → over_normal below above ≡ shown above
 over_clear below above bare =
     let whole : alpha_over below above ≡ above.a = rw bare (omega arith) in
     laid_at above.a above.a below above whole refl
-    ∙ chosen_same (nat_eq above.a 0) clear (pixel_by (mean above.a above.a above.r below.r) (mean above.a above.a above.g below.g) (mean above.a above.a above.b below.b) above.a) above (λ test.
+    ∙ chosen_same (nat_eq above.a 0) clear
+    (pixel_by (mean above.a above.a above.r below.r) (mean above.a above.a above.g below.g)
+    (mean above.a above.a above.b below.b) above.a) above (λ test.
     let some : 0 < above.a = positive_of above.a test in
-    rw (mean-all_above above.a above.r below.r some, mean-all_above above.a above.g below.g some, mean-all_above above.a above.b below.b some) refl)
+    rw (
+      mean-all_above above.a above.r below.r some,
+      mean-all_above above.a above.g below.g some,
+      mean-all_above above.a above.b below.b some,
+    ) refl)
 
 -- ---- any other mode
 abbrev by_part : Mode → (total part : ℕ) → Pixel → Pixel → Pixel
-by_part mode total part below above = cond (nat_eq part 0) below (pixel_by (mean total part (blend mode below.r above.r) below.r) (mean total part (blend mode below.g above.g) below.g) (mean total part (blend mode below.b above.b) below.b) below.a)
+by_part mode total part below above =
+    cond (nat_eq part 0) below (pixel_by (mean total part (blend mode below.r above.r) below.r)
+    (mean total part (blend mode below.g above.g) below.g) (mean total part (blend mode below.b above.b) below.b) below.a)
 
 pub blended_by_clear : (mode : Mode) (below above : Pixel) → above.a ≡ 0 → over_blended mode below above ≡ below
 blended_by_clear mode below above bare =
@@ -155,36 +189,61 @@ blended_by_clear mode below above bare =
     ap (λ n. by_part mode (below.a + mul (255 - below.a) n) n below above) none
 
 pub blended_over_opaque : (mode : Mode) (below above : Pixel) → above.a ≤ 255 → below.a ≡ 255
-    → over_blended mode below above ≡ record { r = mean 255 above.a (blend mode below.r above.r) below.r; g = mean 255 above.a (blend mode below.g above.g) below.g; b = mean 255 above.a (blend mode below.b above.b) below.b; a = 255 }
+    → over_blended mode below above ≡ record {
+      r = mean 255 above.a (blend mode below.r above.r) below.r;
+      g =
+          mean 255 above.a (blend mode below.g above.g) below.g;
+      b = mean 255 above.a (blend mode below.b above.b) below.b;
+      a = 255;
+    }
 blended_over_opaque mode below above small opaque =
     let some : 0 < 255 = omega arith in
     let part : min above.a below.a ≡ above.a = omega arith in
     let none : 255 - below.a ≡ 0 = omega arith in
     let total : below.a + mul (255 - below.a) above.a ≡ 255 = rw none (omega arith) in
-    let made = pixel_by (mean 255 above.a (blend mode below.r above.r) below.r) (mean 255 above.a (blend mode below.g above.g) below.g) (mean 255 above.a (blend mode below.b above.b) below.b) below.a in
-    let first : over_blended mode below above ≡ by_part mode (below.a + mul (255 - below.a) above.a) above.a below above = ap (λ n. by_part mode (below.a + mul (255 - below.a) n) n below above) part in
-    let second : by_part mode (below.a + mul (255 - below.a) above.a) above.a below above ≡ by_part mode 255 above.a below above = ap (λ n. by_part mode n above.a below above) total in
+    let made = pixel_by (mean 255 above.a (blend mode below.r above.r) below.r)
+    (mean 255 above.a (blend mode below.g above.g) below.g) (mean 255 above.a (blend mode below.b above.b) below.b) below.a in
+    let first : over_blended mode below above ≡ by_part mode (below.a + mul (255 - below.a) above.a) above.a below above =
+    ap (λ n. by_part mode (below.a + mul (255 - below.a) n) n below above) part in
+    let second : by_part mode (below.a + mul (255 - below.a) above.a) above.a below above ≡ by_part mode 255 above.a below above =
+    ap (λ n. by_part mode n above.a below above) total in
     let third : by_part mode 255 above.a below above ≡ made = chosen_second (nat_eq above.a 0) below made (λ test.
     let bare : above.a ≡ 0 = eqb-true above.a 0 test in
-    rw (bare, mean-all_below 255 (blend mode below.r above.r) below.r some, mean-all_below 255 (blend mode below.g above.g) below.g some, mean-all_below 255 (blend mode below.b above.b) below.b some) refl) in
-    first ∙ second ∙ third ∙ ap (λ n. pixel_by (mean 255 above.a (blend mode below.r above.r) below.r) (mean 255 above.a (blend mode below.g above.g) below.g) (mean 255 above.a (blend mode below.b above.b) below.b) n) opaque
+    rw (
+      bare,
+      mean-all_below 255 (blend mode below.r above.r) below.r some,
+      mean-all_below 255 (blend mode below.g above.g) below.g some,
+      mean-all_below 255 (blend mode below.b above.b) below.b some,
+    ) refl) in
+    first ∙ second ∙ third ∙ ap (λ n.
+    pixel_by (mean 255 above.a (blend mode below.r above.r) below.r) (mean 255 above.a (blend mode below.g above.g) below.g)
+    (mean 255 above.a (blend mode below.b above.b) below.b) n) opaque
 
 -- the same as the blended colours in the normal mode
 pub blended_by_normal : (mode : Mode) (below above blended result : Pixel) → above.a ≤ 255 → below.a ≡ 255
-    → blended ≡ record { r = blend mode below.r above.r; g = blend mode below.g above.g; b = blend mode below.b above.b; a = above.a }
+    → blended ≡ record {
+      r = blend mode below.r above.r;
+      g = blend mode below.g above.g;
+      b = blend mode below.b above.b;
+      a =
+          above.a;
+    }
     → result ≡ over_normal below blended
     → result ≡ over_blended mode below above
 blended_by_normal mode below above blended result small opaque blended_is result_is =
     let colours = pixel_by (blend mode below.r above.r) (blend mode below.g above.g) (blend mode below.b above.b) above.a in
-    result_is ∙ ap (over_normal below) blended_is ∙ over_opaque_is below colours small opaque ∙ sym (blended_over_opaque mode below above small opaque)
+    result_is ∙ ap (over_normal below) blended_is ∙ over_opaque_is below colours small opaque
+    ∙ sym (blended_over_opaque mode below above small opaque)
 
 -- the same by three means
 pub blended_by_bytes : (mode : Mode) (below above result : Pixel) (r g b : ℕ) → above.a ≤ 255 → below.a ≡ 255
-    → r ≡ mean 255 above.a (blend mode below.r above.r) below.r → g ≡ mean 255 above.a (blend mode below.g above.g) below.g → b ≡ mean 255 above.a (blend mode below.b above.b) below.b
+    → r ≡ mean 255 above.a (blend mode below.r above.r) below.r → g ≡ mean 255 above.a (blend mode below.g above.g) below.g
+    → b ≡ mean 255 above.a (blend mode below.b above.b) below.b
     → result ≡ record { r = r; g = g; b = b; a = 255 }
     → result ≡ over_blended mode below above
 blended_by_bytes mode below above result r g b small opaque r_is g_is b_is result_is =
-    let made = pixel_by (mean 255 above.a (blend mode below.r above.r) below.r) (mean 255 above.a (blend mode below.g above.g) below.g) (mean 255 above.a (blend mode below.b above.b) below.b) 255 in
+    let made = pixel_by (mean 255 above.a (blend mode below.r above.r) below.r)
+    (mean 255 above.a (blend mode below.g above.g) below.g) (mean 255 above.a (blend mode below.b above.b) below.b) 255 in
     let parts : pixel_by r g b 255 ≡ made = rw (r_is, g_is, b_is) refl in
     result_is ∙ parts ∙ sym (blended_over_opaque mode below above small opaque)
 
@@ -197,19 +256,27 @@ one_at_least total whole is = (omega arith, λ some. omega arith)
 
 -- over any pixel by three means, by what weighs the colours
 pub blended_by_weight : (mode : Mode) (below above result : Pixel) (whole r g b : ℕ) → whole ≡ weight below above
-    → r ≡ mean whole (min above.a below.a) (blend mode below.r above.r) below.r → g ≡ mean whole (min above.a below.a) (blend mode below.g above.g) below.g → b ≡ mean whole (min above.a below.a) (blend mode below.b above.b) below.b
+    → r ≡ mean whole (min above.a below.a) (blend mode below.r above.r) below.r
+    → g ≡ mean whole (min above.a below.a) (blend mode below.g above.g) below.g
+    → b ≡ mean whole (min above.a below.a) (blend mode below.b above.b) below.b
     → result ≡ record { r = r; g = g; b = b; a = below.a }
     → result ≡ over_blended mode below above
 blended_by_weight mode below above result whole r g b whole_is r_is g_is b_is result_is =
     let part = min above.a below.a in
     let total = below.a + mul (255 - below.a) part in
-    let by = λ (n : ℕ). pixel_by (mean n part (blend mode below.r above.r) below.r) (mean n part (blend mode below.g above.g) below.g) (mean n part (blend mode below.b above.b) below.b) below.a in
+    let by = λ (n : ℕ). pixel_by (mean n part (blend mode below.r above.r) below.r)
+    (mean n part (blend mode below.g above.g) below.g) (mean n part (blend mode below.b above.b) below.b) below.a in
     let least = one_at_least total whole whole_is in
     let parts : pixel_by r g b below.a ≡ by whole = rw (r_is, g_is, b_is) refl in
     let chosen : cond (nat_eq part 0) below (by total) ≡ by whole = chosen_either (nat_eq part 0) below (by total) (by whole)
     (λ test.
     let bare : part ≡ 0 = eqb-true part 0 test in
-    rw (bare, mean-all_below whole (blend mode below.r above.r) below.r least.0, mean-all_below whole (blend mode below.g above.g) below.g least.0, mean-all_below whole (blend mode below.b above.b) below.b least.0) refl)
+    rw (
+      bare,
+      mean-all_below whole (blend mode below.r above.r) below.r least.0,
+      mean-all_below whole (blend mode below.g above.g) below.g least.0,
+      mean-all_below whole (blend mode below.b above.b) below.b least.0,
+    ) refl)
     (λ test.
     let some : 0 < part = positive_of part test in
     ap by (least.1 (omega arith))) in

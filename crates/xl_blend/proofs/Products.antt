@@ -18,7 +18,8 @@ screen_at : (i j m k : ℕ) → i + j ≡ 255 → m + k ≡ 255 → i + m - mul 
 screen_at i j m k ij mk =
     let small : i * m ≤ i * 255 = mul-le-mul_left i (omega arith) in
     let is : j * k + 255 * (i + m) ≡ 65025 + i * m = lacking i j m k ij mk in
-    let at : i + m - (2 * (i * m) + 255) / 510 ≡ 255 - (2 * (j * k) + 255) / 510 = screen_of i m (i * m) (j * k) is (omega (arith, small)) in
+    let at : i + m - (2 * (i * m) + 255) / 510 ≡ 255 - (2 * (j * k) + 255) / 510 =
+    screen_of i m (i * m) (j * k) is (omega (arith, small)) in
     omega (arith, at)
 
 pub screen_by_product : (i m : ℕ) → i ≤ 255 → m ≤ 255 → i + m - mul i m ≡ screen i m
@@ -42,10 +43,12 @@ rest_of_product i p small = rest_at i (255 - i) p (omega arith)
 twice : (p : ℕ) → p ≤ 65025 → (2 * p + 128 + (2 * p + 128) / 256 + (2 * p + 128) / 65536) / 256 ≡ (4 * p + 255) / 510
 twice p small = omega (arith, small)
 
-pub double_by_shifts : (a b : ℕ) → a ≤ 255 → b ≤ 255 → (2 * a * b + 128 + (2 * a * b + 128) / 256 + (2 * a * b + 128) / 65536) / 256 ≡ mul (2 * a) b
+pub double_by_shifts : (a b : ℕ) → a ≤ 255 → b ≤ 255
+    → (2 * a * b + 128 + (2 * a * b + 128) / 256 + (2 * a * b + 128) / 65536) / 256 ≡ mul (2 * a) b
 double_by_shifts a b a_small b_small =
     let small : a * b ≤ 255 * b = mul-le-mul_right b a_small in
-    let is : (2 * (a * b) + 128 + (2 * (a * b) + 128) / 256 + (2 * (a * b) + 128) / 65536) / 256 ≡ (4 * (a * b) + 255) / 510 = twice (a * b) (omega (arith, small)) in
+    let is : (2 * (a * b) + 128 + (2 * (a * b) + 128) / 256 + (2 * (a * b) + 128) / 65536) / 256 ≡ (4 * (a * b) + 255) / 510 =
+    twice (a * b) (omega (arith, small)) in
     omega (arith, is)
 
 pub double_part : (a b : ℕ) → a ≤ 255 → mul (2 * a) b ≤ 2 * b

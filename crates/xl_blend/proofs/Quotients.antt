@@ -1,6 +1,8 @@
 -- A quotient by a product with a reciprocal that was rounded up.
-use Rattle.std.proofs.Common.{◌≡◌, ℕ, zero, suc, ◌+◌, ◌-◌, ◌*◌, ◌/◌, ◌%◌, ◌≤◌, ◌<◌, min, arith, sym, ap, ◌∙◌, inl, inr, mul_comm, mul_assoc}
-use Rattle.std.proofs.Math.Nat.{add-mul, mul-add, mul-le-mul_right, div-mul-le_self, lt-div-mul-add, div-lt_iff_lt-mul, le-div_iff_mul-le}
+use Rattle.std.proofs.Common.{◌≡◌, ℕ, zero, suc, ◌+◌, ◌-◌, ◌*◌, ◌/◌, ◌%◌, ◌≤◌, ◌<◌, min, arith, sym, ap, ◌∙◌, inl, inr}
+use Rattle.std.proofs.Common.{mul_comm, mul_assoc}
+use Rattle.std.proofs.Math.Nat.{add-mul, mul-add, mul-le-mul_right, div-mul-le_self, lt-div-mul-add, div-lt_iff_lt-mul}
+use Rattle.std.proofs.Math.Nat.{le-div_iff_mul-le}
 use Rattle.std.proofs.lemmas.Bool.{cases_lt}
 use Rattle.xl_blend.specs.Words.{reciprocal_of}
 use Rattle.std.proofs.lemmas.Nat.{div-mul-add, div-add-mod'}
@@ -92,7 +94,10 @@ scaled_many n d m some more m_is =
 
 pub scaled_by_reciprocal : (n d m : ℕ) → 0 < d → d ≤ 256 → m ≡ reciprocal_of d → min 255 (n * m / 65536) ≡ min 255 (256 * n / d)
 scaled_by_reciprocal n d m some d_small m_is =
-    elim (cases_lt n d) [ inl less ↦ ap (λ q. min 255 q) (scaled_few n d m less d_small m_is) | inr more ↦ scaled_many n d m some more m_is ]
+    elim (cases_lt n d) [
+      | inl less ↦ ap (λ q. min 255 q) (scaled_few n d m less d_small m_is)
+      | inr more ↦ scaled_many n d m some more m_is
+    ]
 
 -- and the product fits 32 bits
 pub scaled_fits : (n d m : ℕ) → n ≤ 255 → 0 < d → m ≡ reciprocal_of d → n * m < 4294967296

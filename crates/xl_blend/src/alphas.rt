@@ -66,7 +66,8 @@ fn greatest_word(row: &[Pixel]) -> u32
 pub fn wholes_of(below: &[Pixel], above: &[Pixel], wholes: &mut [u32])
     requires above { length below.now ≡ length above.now }
     requires wholes { length below.now ≡ length wholes.old }
-    ensures each { (k : ℕ) → k < length below.now → slice_index wholes.new k ≡ alpha_over (slice_index_or below.now k clear) (slice_index_or above.now k clear) }
+    ensures each { (k : ℕ) → k < length below.now
+        → slice_index wholes.new k ≡ alpha_over (slice_index_or below.now k clear) (slice_index_or above.now k clear) }
     ensures bytes { (k : ℕ) → k < length below.now → slice_index wholes.new k ≤ 255 }
 {
     for i in 0..below.len() {
@@ -79,7 +80,8 @@ pub fn wholes_of(below: &[Pixel], above: &[Pixel], wholes: &mut [u32])
 pub fn weights_of(below: &[Pixel], above: &[Pixel], weights: &mut [u32])
     requires above { length below.now ≡ length above.now }
     requires weights { length below.now ≡ length weights.old }
-    ensures each { (k : ℕ) → k < length below.now → slice_index weights.new k ≡ weight (slice_index_or below.now k clear) (slice_index_or above.now k clear) }
+    ensures each { (k : ℕ) → k < length below.now
+        → slice_index weights.new k ≡ weight (slice_index_or below.now k clear) (slice_index_or above.now k clear) }
     ensures bytes { (k : ℕ) → k < length below.now → slice_index weights.new k ≤ 255 }
 {
     for i in 0..below.len() {

@@ -26,18 +26,21 @@ module _ (cause : EditRefused) where
   first_fails None rules e = cc
   first_fails (Some other) rules e = e
 
-  pub second_fails : (a b : Option EditRefused) (rules : List (Option EditRefused)) → a ≡ None → b ≡ Some cause → first (a ∷ b ∷ rules) ≡ Some cause
+  pub second_fails : (a b : Option EditRefused) (rules : List (Option EditRefused)) → a ≡ None → b ≡ Some cause
+      → first (a ∷ b ∷ rules) ≡ Some cause
   second_fails None b rules e f = first_fails b rules f
   second_fails (Some other) b rules e f = cc
 
   -- of the rules of one id, where those of the other stand between
-  pub third_fails : (a b c : Option EditRefused) (rules : List (Option EditRefused)) → a ≡ None → b ≡ None → first (a ∷ c ∷ []) ≡ Some cause → first (a ∷ b ∷ c ∷ rules) ≡ Some cause
+  pub third_fails : (a b c : Option EditRefused) (rules : List (Option EditRefused)) → a ≡ None → b ≡ None
+      → first (a ∷ c ∷ []) ≡ Some cause → first (a ∷ b ∷ c ∷ rules) ≡ Some cause
   third_fails None None None rules e f g = cc
   third_fails None None (Some other) rules e f g = g
   third_fails None (Some other) c rules e f g = cc
   third_fails (Some other) b c rules e f g = cc
 
-  pub fourth_fails : (a b c e : Option EditRefused) (rules : List (Option EditRefused)) → a ≡ None → c ≡ None → b ≡ None → first (b ∷ e ∷ []) ≡ Some cause
+  pub fourth_fails : (a b c e : Option EditRefused) (rules : List (Option EditRefused)) → a ≡ None → c ≡ None → b ≡ None
+      → first (b ∷ e ∷ []) ≡ Some cause
       → first (a ∷ b ∷ c ∷ e ∷ rules) ≡ Some cause
   fourth_fails None None None e rules p q r s = first_fails e rules (from e s) where
     from : (o : Option EditRefused) → first (None ∷ o ∷ []) ≡ Some cause → o ≡ Some cause
@@ -48,7 +51,8 @@ module _ (cause : EditRefused) where
   fourth_fails (Some other) b c e rules p q r s = cc
 
   -- more rules change nothing
-  pub four_fail : (a b c e : Option EditRefused) (rules : List (Option EditRefused)) → first (a ∷ b ∷ c ∷ e ∷ []) ≡ Some cause → first (a ∷ b ∷ c ∷ e ∷ rules) ≡ Some cause
+  pub four_fail : (a b c e : Option EditRefused) (rules : List (Option EditRefused)) → first (a ∷ b ∷ c ∷ e ∷ []) ≡ Some cause
+      → first (a ∷ b ∷ c ∷ e ∷ rules) ≡ Some cause
   four_fail (Some other) b c e rules h = h
   four_fail None (Some other) c e rules h = h
   four_fail None None (Some other) e rules h = h
@@ -86,6 +90,7 @@ module _ (id from : ℕ) (rect source_rect : Rect) (to source : Sheet) where
       ∷ unless (lies_on (q i).plane.width (q i).plane.height source_rect) OutsideLayer
       ∷ unless ((p i).kind == (q i).kind) OtherType ∷ [])
 
-pub copy_rules : (d : Document) (id from : ℕ) (rect : Rect) (u v : ℕ) (to source : Sheet) → sheet_found (node d id) ≡ Some to → sheet_found (node d from) ≡ Some source
+pub copy_rules : (d : Document) (id from : ℕ) (rect : Rect) (u v : ℕ) (to source : Sheet) → sheet_found (node d id) ≡ Some to
+    → sheet_found (node d from) ≡ Some source
     → refusal d (copy_rect id rect from u v) ≡ first (last_rules id from rect (rect_from u v rect) to source)
 copy_rules d id from rect u v to source a b = rules_of id from rect (rect_from u v rect) to source (node d id) (node d from) a b

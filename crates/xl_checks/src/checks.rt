@@ -1,12 +1,15 @@
 ghost use Rattle.std.specs.Bool.{OnTrue};
-ghost use Rattle.std.specs.Prelude.{◌≡◌, ◌+◌, ◌*◌, ◌^◌, ◌<◌, ◌≤◌, ◌==◌, [], ◌∷◌, length, is_none, false, None, Some, IfOk, IfErr, OnOk};
+ghost use Rattle.std.specs.Prelude.{◌≡◌, ◌+◌, ◌*◌, ◌^◌, ◌<◌, ◌≤◌, ◌==◌, [], ◌∷◌, length, is_none, false, None, Some};
+ghost use Rattle.std.specs.Prelude.{IfOk, IfErr, OnOk};
 ghost use Rattle.spec_document.specs.Document.{area, base_code, base_of_kind, bytes_of_kind};
 ghost use Rattle.spec_document.specs.Limits.{IsOffset, IsSide};
 ghost use Rattle.spec_edit.specs.declared.EditRefused.TheVariants.{OtherType};
 ghost use Rattle.spec_forest.specs.Forest.{size};
 ghost use Rattle.spec_grid.specs.Rect.{lies_on};
 ghost use Rattle.spec_edit.specs.Edit as edits;
-ghost use Rattle.spec_edit.specs.Refusal.{node, first, unless, no_node, is_group, no_mask, no_parent, not_group, bad_place, bad_name, offset_range, too_deep, too_large, too_many, selection_area, refusal};
+ghost use Rattle.spec_edit.specs.Refusal.{node, first, unless, no_node, is_group, no_mask, no_parent, not_group};
+ghost use Rattle.spec_edit.specs.Refusal.{bad_place, bad_name, offset_range, too_deep, too_large, too_many};
+ghost use Rattle.spec_edit.specs.Refusal.{selection_area, refusal};
 ghost use Rattle.xl_tiles.specs.Written.{IsWithin};
 ghost use Rattle.xl_tree.specs.Refusals.{put_refusal};
 ghost use Rattle.xl_checks.specs.Found.{outcome, sheet_found};
@@ -36,8 +39,10 @@ pub fn layer_at(doc: &Document, id: NodeId) -> Result<&Layer, EditRefused>
 pub fn masked_at(doc: &Document, id: NodeId) -> Result<&Layer, EditRefused>
     ensures found { IfOk result (λ layer. sheet_found (node doc.now id.0) ≡ Some layer.now) }
     ensures mask { IfOk result (λ layer. is_none layer.now.mask ≡ false) }
-    ensures allowed { IfOk result (λ layer. first (no_node doc.now id.0 ∷ is_group doc.now id.0 ∷ no_mask doc.now id.0 ∷ []) ≡ None) }
-    ensures refused { IfErr result (λ cause. first (no_node doc.now id.0 ∷ is_group doc.now id.0 ∷ no_mask doc.now id.0 ∷ []) ≡ Some cause) }
+    ensures allowed { IfOk result (λ layer. first (no_node doc.now id.0 ∷ is_group doc.now id.0 ∷ no_mask doc.now id.0 ∷ [])
+        ≡ None) }
+    ensures refused { IfErr result (λ cause. first (no_node doc.now id.0 ∷ is_group doc.now id.0 ∷ no_mask doc.now id.0 ∷ [])
+        ≡ Some cause) }
 {
     let layer = layer_at(doc, id)?;
     if layer.mask.is_none() {
@@ -143,8 +148,11 @@ pub fn check_colours(doc: &Document, bytes: &Bytes) -> Result<(), EditRefused>
 
 // Where a node may be put in. Errors: `NoNode`, `NotGroup`, `BadPlace`.
 fn check_spot(doc: &Document, parent: NodeId, place: u32) -> Result<(), EditRefused>
-    ensures refused { IfErr result (λ cause. first (no_parent doc.now parent.0 ∷ not_group doc.now parent.0 ∷ bad_place doc.now.nodes parent.0 place ∷ []) ≡ Some cause) }
-    ensures allowed { OnOk result (first (no_parent doc.now parent.0 ∷ not_group doc.now parent.0 ∷ bad_place doc.now.nodes parent.0 place ∷ []) ≡ None) }
+    ensures refused { IfErr result (λ cause.
+        first (no_parent doc.now parent.0 ∷ not_group doc.now parent.0 ∷ bad_place doc.now.nodes parent.0 place ∷ [])
+        ≡ Some cause) }
+    ensures allowed { OnOk result (first (no_parent doc.now parent.0 ∷ not_group doc.now parent.0
+        ∷ bad_place doc.now.nodes parent.0 place ∷ []) ≡ None) }
     ensures place { OnOk result (put_refusal parent.0 place doc.now.nodes ≡ None) }
 {
     check_parent(doc, parent)?;
@@ -155,8 +163,11 @@ fn check_spot(doc: &Document, parent: NodeId, place: u32) -> Result<(), EditRefu
 // Whether there is room for one node more, which takes so many pixels. Errors: `BadName`, `TooDeep`, `TooMany`, `TooLarge`.
 fn check_room(doc: &Document, parent: NodeId, name: &Bytes, pixels: u64) -> Result<(), EditRefused>
     requires pixels { pixels ≤ 2 ^ 26 }
-    ensures refused { IfErr result (λ cause. first (bad_name name.now ∷ too_deep doc.now.nodes parent.0 1 ∷ too_many (size doc.now.nodes + 1) MAX_NODES ∷ too_large (area doc.now + pixels) ∷ []) ≡ Some cause) }
-    ensures allowed { OnOk result (first (bad_name name.now ∷ too_deep doc.now.nodes parent.0 1 ∷ too_many (size doc.now.nodes + 1) MAX_NODES ∷ too_large (area doc.now + pixels) ∷ []) ≡ None) }
+    ensures refused { IfErr result (λ cause.
+        first (bad_name name.now ∷ too_deep doc.now.nodes parent.0 1 ∷ too_many (size doc.now.nodes + 1) MAX_NODES
+        ∷ too_large (area doc.now + pixels) ∷ []) ≡ Some cause) }
+    ensures allowed { OnOk result (first (bad_name name.now ∷ too_deep doc.now.nodes parent.0 1
+        ∷ too_many (size doc.now.nodes + 1) MAX_NODES ∷ too_large (area doc.now + pixels) ∷ []) ≡ None) }
     ensures deep { OnOk result (too_deep doc.now.nodes parent.0 1 ≡ None) }
     ensures few { OnOk result (size doc.now.nodes < MAX_NODES) }
 {
@@ -197,8 +208,10 @@ pub fn check_new_group(
 
 // Where a new layer may lie, and of which type. Errors: `OffsetRange`, `OtherType`.
 fn check_shape(doc: &Document, x: i32, y: i32, kind: u32) -> Result<(), EditRefused>
-    ensures refused { IfErr result (λ cause. first (offset_range x y ∷ unless (base_of_kind kind == base_code doc.now.base) OtherType ∷ []) ≡ Some cause) }
-    ensures allowed { OnOk result (first (offset_range x y ∷ unless (base_of_kind kind == base_code doc.now.base) OtherType ∷ []) ≡ None) }
+    ensures refused { IfErr result (λ cause.
+        first (offset_range x y ∷ unless (base_of_kind kind == base_code doc.now.base) OtherType ∷ []) ≡ Some cause) }
+    ensures allowed { OnOk result (first (offset_range x y ∷ unless (base_of_kind kind == base_code doc.now.base) OtherType ∷ [])
+        ≡ None) }
     ensures near { OnOk result (IsOffset x × IsOffset y) }
     ensures known { OnOk result (kind ≤ 5) }
 {

@@ -1,5 +1,6 @@
 //! Why edits of pixels, of masks and of channels are refused: for each kind of edit its rules, in their order.
-ghost use Rattle.std.specs.Prelude.{◌≡◌, ◌*◌, ◌<◌, ◌≤◌, ◌+◌, ◌&&◌, ◌==◌, false, not, [], ◌∷◌, length, pos, nat_le, is_none, None, Some, IfOk, IfErr, OnOk, OnErr};
+ghost use Rattle.std.specs.Prelude.{◌≡◌, ◌*◌, ◌<◌, ◌≤◌, ◌+◌, ◌&&◌, ◌==◌, false, not, [], ◌∷◌, length, pos, nat_le};
+ghost use Rattle.std.specs.Prelude.{is_none, None, Some, IfOk, IfErr, OnOk, OnErr};
 ghost use Rattle.std.specs.Bool.{OnTrue};
 ghost use Rattle.spec_document.specs.Document.{bytes_of_kind};
 ghost use Rattle.spec_grid.specs.Rect.{lies_on};
@@ -102,7 +103,8 @@ pub struct Layers<'a> {
 fn layers_at(doc: &Document, id: NodeId, from: NodeId) -> Result<Layers<'_>, EditRefused>
     ensures to { IfOk result (λ two. sheet_found (node doc.now id.0) ≡ Some two.to.now) }
     ensures from { IfOk result (λ two. sheet_found (node doc.now from.0) ≡ Some two.from.now) }
-    ensures refused { IfErr result (λ cause. first (no_node doc.now id.0 ∷ no_node doc.now from.0 ∷ is_group doc.now id.0 ∷ is_group doc.now from.0 ∷ []) ≡ Some cause) }
+    ensures refused { IfErr result (λ cause.
+        first (no_node doc.now id.0 ∷ no_node doc.now from.0 ∷ is_group doc.now id.0 ∷ is_group doc.now from.0 ∷ []) ≡ Some cause) }
 {
     check_node(doc, id)?;
     check_node(doc, from)?;
@@ -139,7 +141,10 @@ pub fn moved(rect: Rect, u: u32, v: u32) -> Rect
 
 // Why a rectangle of a layer may not be copied to another. Errors: `OutsideLayer`, `OtherType`.
 fn check_copy(to: &Layer, from: &Layer, rect: Rect, u: u32, v: u32) -> Result<(), EditRefused>
-    ensures value { result ≡ outcome (first (unless (lies_on to.now.plane.width to.now.plane.height rect) OutsideLayer ∷ unless (lies_on from.now.plane.width from.now.plane.height (rect_from u v rect)) OutsideLayer ∷ unless (to.now.kind == from.now.kind) OtherType ∷ [])) }
+    ensures value { result ≡ outcome
+        (first (unless (lies_on to.now.plane.width to.now.plane.height rect) OutsideLayer
+        ∷ unless (lies_on from.now.plane.width from.now.plane.height (rect_from u v rect)) OutsideLayer
+        ∷ unless (to.now.kind == from.now.kind) OtherType ∷ [])) }
     ensures within { OnOk result (IsWithin to.now.plane.width to.now.plane.height rect) }
     ensures source { OnOk result (IsWithin from.now.plane.width from.now.plane.height (rect_from u v rect)) }
     ensures bpp { OnOk result (from.now.plane.bpp ≡ to.now.plane.bpp) }

@@ -1,11 +1,14 @@
 //! The rules that edits are refused by, each for itself.
 ghost use Rattle.std.specs.Bool.{OnTrue};
-ghost use Rattle.std.specs.Prelude.{◌≡◌, ◌+◌, ◌^◌, ◌<◌, ◌≤◌, ◌&&◌, ◌==◌, not, is_none, [], ◌∷◌, length, pos, int_le, ◌+ℤ◌, None, Some, IfOk, IfErr, OnOk};
+ghost use Rattle.std.specs.Prelude.{◌≡◌, ◌+◌, ◌^◌, ◌<◌, ◌≤◌, ◌&&◌, ◌==◌, not, is_none, [], ◌∷◌, length, pos, int_le};
+ghost use Rattle.std.specs.Prelude.{◌+ℤ◌, None, Some, IfOk, IfErr, OnOk};
 ghost use Rattle.spec_blend.specs.Blend.{mode_of_code};
 ghost use Rattle.spec_document.specs.Document.{area, base_code, base_of_kind};
 ghost use Rattle.spec_document.specs.Limits.{IsDocument, is_offset, IsOffset};
 ghost use Rattle.spec_edit.specs.declared.EditRefused.TheVariants.{ModeRefused, OtherType};
-ghost use Rattle.spec_edit.specs.Refusal.{unless, first, no_node, no_channel, no_parent, not_group, bad_place, children, depth_below, too_deep, bad_name, offset_range, outside_canvas, too_large, too_many, is_indexed, canvas_area};
+ghost use Rattle.spec_edit.specs.Refusal.{unless, first, no_node, no_channel, no_parent, not_group, bad_place};
+ghost use Rattle.spec_edit.specs.Refusal.{children, depth_below, too_deep, bad_name, offset_range, outside_canvas};
+ghost use Rattle.spec_edit.specs.Refusal.{too_large, too_many, is_indexed, canvas_area};
 ghost use Rattle.spec_grid.specs.Rect.{is_empty, lies_on};
 ghost use Rattle.xl_tiles.specs.Written.{IsWithin};
 ghost use Rattle.xl_checks.specs.Found.{outcome};

@@ -1,6 +1,8 @@
-ghost use Rattle.std.specs.Prelude.{◌≡◌, nat_abs, ◌^◌, ◌-◌, ℕ, List, true, false, pos, Some, IfOk, IfSome, MatchOption, option_map, codes};
+ghost use Rattle.std.specs.Prelude.{◌≡◌, nat_abs, ◌^◌, ◌-◌, ℕ, List, true, false, pos, Some, IfOk, IfSome, MatchOption};
+ghost use Rattle.std.specs.Prelude.{option_map, codes};
 ghost use Rattle.clap.specs.Words.{app_of, found_of, rows_of, matches_of, first_of, is_simple_and_free, IsParsedFrom, IsSignedIn};
-ghost use Rattle.spec_command.specs.Grammar.{edit_app, edit_of, is_faultless, make_app, make_of, number_of, plain_app, plain_of, asked_in, asked_where};
+ghost use Rattle.spec_command.specs.Grammar.{edit_app, edit_of, is_faultless, make_app, make_of, number_of, plain_app};
+ghost use Rattle.spec_command.specs.Grammar.{plain_of, asked_in, asked_where};
 ghost use Rattle.spec_command.specs.Arguments.{Argument, Asked};
 ghost use Rattle.spec_command.specs.Arguments as definition;
 ghost use Rattle.std.specs.Str.Parse.{signed_digits_value};
@@ -126,7 +128,8 @@ fn info<'a>(
 }
 
 fn edit<'a>(alloc: Global, arguments: &'a [&'a str]) -> Result<Option<Command<'a>>, AllocError>
-    ensures asked { IfOk result (λ command. option_map asked_of command ≡ asked_where edit_app (arguments_of arguments.entry.now) edit_of) }
+    ensures asked { IfOk result (λ command. option_map asked_of command
+        ≡ asked_where edit_app (arguments_of arguments.entry.now) edit_of) }
     ensures few { IfOk result (λ command. IfSome command (λ command. HasFewWorkers (asked_of command))) }
 {
     let Some(matches) = matches_in(edit_command(alloc)?, arguments)? else {
@@ -139,7 +142,8 @@ fn edit<'a>(alloc: Global, arguments: &'a [&'a str]) -> Result<Option<Command<'a
 }
 
 fn make<'a>(alloc: Global, arguments: &'a [&'a str]) -> Result<Option<Command<'a>>, AllocError>
-    ensures asked { IfOk result (λ command. option_map asked_of command ≡ asked_where make_app (arguments_of arguments.entry.now) make_of) }
+    ensures asked { IfOk result (λ command. option_map asked_of command
+        ≡ asked_where make_app (arguments_of arguments.entry.now) make_of) }
     ensures few { IfOk result (λ command. IfSome command (λ command. HasFewWorkers (asked_of command))) }
 {
     let Some(matches) = matches_in(make_command(alloc)?, arguments)? else {

@@ -1,5 +1,6 @@
 -- The pieces of a node behind those of the nodes under it.
-use Rattle.std.proofs.Common.{◌≡◌, ℕ, ◌+◌, ◌<◌, Bool, true, false, cond, List, [], ◌∷◌, ◌++◌, refl, sym, ◌∙◌, ap, subst, arith, append-nil}
+use Rattle.std.proofs.Common.{◌≡◌, ℕ, ◌+◌, ◌<◌, Bool, true, false, cond, List, [], ◌∷◌, ◌++◌, refl, sym, ◌∙◌, ap}
+use Rattle.std.proofs.Common.{subst, arith, append-nil}
 use Rattle.spec_forest.specs.Forest.{none, leaf, group}
 use Rattle.spec_blend.specs.declared.Pixel.{Pixel}
 use Rattle.spec_blend.specs.Over.{over}
@@ -21,7 +22,8 @@ use Rattle.xl_compose.proofs.PieceRuns.{fit-push, shown-beside, shown-own, weigh
 
 module _ (deep : ℕ) (colours : List (List ℕ)) (band : Band) where
   -- no node
-  pub blank_added : (level : ℕ) (old : List Piece) → level + 1 < deep → AreAdded deep colours band level none old (old ++ blank_piece level ∷ [])
+  pub blank_added : (level : ℕ) (old : List Piece) → level + 1 < deep
+      → AreAdded deep colours band level none old (old ++ blank_piece level ∷ [])
   blank_added level old low = record {
     fit = λ all. fit-push deep band old (blank_piece level) (low, tt) all;
     cost = omega (arith, weights-push old (blank_piece level));
@@ -30,12 +32,14 @@ module _ (deep : ℕ) (colours : List (List ℕ)) (band : Band) where
   }
 
   -- a picture in place of the pieces of its nodes
-  pub clean_added : (level : ℕ) (nodes : Nodes) (old : List Piece) (bytes : List ℕ) → level + 1 < deep → IsPicture colours band nodes bytes
+  pub clean_added : (level : ℕ) (nodes : Nodes) (old : List Piece) (bytes : List ℕ) → level + 1 < deep
+      → IsPicture colours band nodes bytes
       → AreAdded deep colours band level nodes old (old ++ clean_piece level bytes ∷ [])
   clean_added level nodes old bytes low is =
       let kept : IsKept band bytes = record {
         size = is.size;
-        neat = λ v k hv hk. let P : Pixel → Type 0 = IsNeat in subst P (sym (is.each v k hv hk)) (stack_neat colours (band.x + k) (band.y + v) nodes);
+        neat = λ v k hv hk. let P : Pixel → Type 0 = IsNeat in
+            subst P (sym (is.each v k hv hk)) (stack_neat colours (band.x + k) (band.y + v) nodes);
       } in
       record {
         fit = λ all. fit-push deep band old (clean_piece level bytes) (low, kept) all;
@@ -58,8 +62,10 @@ module _ (deep : ℕ) (colours : List (List ℕ)) (band : Band) where
             let source = layer_source colours (layer_of n) (band.x + k) (band.y + v) in
             shown-own colours band v k mid level what
             ∙ (ap (λ q. over (mode_above (any_visible under) n.mode) q source) (is.here v k hv hk)
-            ∙ ap (λ b. laid b (mode_above (any_visible under) n.mode) (stack_pixel colours (band.x + k) (band.y + v) under) source) (sym visible));
-        below = λ v k l hv hk beneath. shown-beside colours band v k mid level what l (λ e. omega (arith, e, beneath)) ∙ is.below v k l hv hk beneath;
+            ∙ ap (λ b. laid b (mode_above (any_visible under) n.mode) (stack_pixel colours (band.x + k) (band.y + v) under) source)
+            (sym visible));
+        below = λ v k l hv hk beneath. shown-beside colours band v k mid level what l (λ e. omega (arith, e, beneath))
+            ∙ is.below v k l hv hk beneath;
       }
 
   hidden_leaf : (level id : ℕ) (n : Node) (under : Nodes) (old mid : List Piece) → n.visible ≡ false
@@ -69,17 +75,20 @@ module _ (deep : ℕ) (colours : List (List ℕ)) (band : Band) where
     cost = omega (arith, is.cost);
     here = λ v k hv hk.
         is.here v k hv hk
-        ∙ ap (λ b. laid b (mode_above (any_visible under) n.mode) (stack_pixel colours (band.x + k) (band.y + v) under) (layer_source colours (layer_of n) (band.x + k) (band.y + v))) (sym hidden);
+        ∙ ap (λ b. laid b (mode_above (any_visible under) n.mode) (stack_pixel colours (band.x + k) (band.y + v) under)
+        (layer_source colours (layer_of n) (band.x + k) (band.y + v))) (sym hidden);
     below = is.below;
   }
 
   leaf_by : (b : Bool) (level id : ℕ) (n : Node) (under : Nodes) (old mid : List Piece) → level + 1 < deep → n.visible ≡ b
       → AreAdded deep colours band level under old mid
       → AreAdded deep colours band level (leaf id (layer_of n) under) old
-      (mid ++ cond b (record { level = level; what = Leaf (mode_above (any_visible under) n.mode) n.opacity (sheet_of n.body) } ∷ []) [])
+      (mid ++ cond b (record { level = level; what = Leaf (mode_above (any_visible under) n.mode) n.opacity (sheet_of n.body) }
+      ∷ []) [])
   leaf_by true level id n under old mid low e is = shown_leaf level id n under old mid low e is
   leaf_by false level id n under old mid low e is =
-      subst (λ (new : List Piece). AreAdded deep colours band level (leaf id (layer_of n) under) old new) (sym (append-nil mid)) (hidden_leaf level id n under old mid e is)
+      subst (λ (new : List Piece). AreAdded deep colours band level (leaf id (layer_of n) under) old new) (sym (append-nil mid))
+      (hidden_leaf level id n under old mid e is)
 
   -- a layer
   pub leaf_added : (level id : ℕ) (n : Node) (under : Nodes) (old mid : List Piece) → level + 1 < deep
@@ -89,33 +98,39 @@ module _ (deep : ℕ) (colours : List (List ℕ)) (band : Band) where
 
   -- a group that is not shown
   pub hidden_added : (level id : ℕ) (n : Node) (children under : Nodes) (old mid : List Piece) → n.visible ≡ false
-      → AreAdded deep colours band level under old mid → AreAdded deep colours band level (group id (group_of n) children under) old mid
+      → AreAdded deep colours band level under old mid
+      → AreAdded deep colours band level (group id (group_of n) children under) old mid
   hidden_added level id n children under old mid hidden is = record {
     fit = is.fit;
     cost = omega (arith, is.cost);
     here = λ v k hv hk.
         is.here v k hv hk
-        ∙ ap (λ b. laid b (mode_above (any_visible under) n.mode) (stack_pixel colours (band.x + k) (band.y + v) under) (faded n.opacity (stack_pixel colours (band.x + k) (band.y + v) children))) (sym hidden);
+        ∙ ap (λ b. laid b (mode_above (any_visible under) n.mode) (stack_pixel colours (band.x + k) (band.y + v) under)
+        (faded n.opacity (stack_pixel colours (band.x + k) (band.y + v) children))) (sym hidden);
     below = is.below;
   }
 
   -- a group whose picture is at the next level
-  pub group_added : (level id : ℕ) (n : Node) (children under : Nodes) (old mid inner : List Piece) → level + 1 < deep → n.visible ≡ true
+  pub group_added : (level id : ℕ) (n : Node) (children under : Nodes) (old mid inner : List Piece) → level + 1 < deep
+      → n.visible ≡ true
       → AreAdded deep colours band level under old mid → AreAdded deep colours band (level + 1) children mid inner
-      → AreAdded deep colours band level (group id (group_of n) children under) old (inner ++ stack_piece level (any_visible under) n ∷ [])
+      → AreAdded deep colours band level (group id (group_of n) children under) old (inner
+      ++ stack_piece level (any_visible under) n ∷ [])
   group_added level id n children under old mid inner low visible is in_it =
       let mode = mode_above (any_visible under) n.mode in
       let what = Stack mode n.opacity in
       let p = stack_piece level (any_visible under) n in
       record {
         fit = λ all. fit-push deep band inner p (low, tt) (in_it.fit (is.fit all));
-        cost = let some : visible_with n.visible (visible_in children) ≡ 1 + visible_in children = ap (λ b. visible_with b (visible_in children)) visible in
+        cost = let some : visible_with n.visible (visible_in children) ≡ 1 + visible_in children =
+            ap (λ b. visible_with b (visible_in children)) visible in
             omega (arith, weights-push inner p, is.cost, in_it.cost, some);
         here = λ v k hv hk.
             let below = stack_pixel colours (band.x + k) (band.y + v) under in
             let above = stack_pixel colours (band.x + k) (band.y + v) children in
             shown-own colours band v k inner level what
-            ∙ (ap (λ q. over mode q (faded n.opacity (shown colours band v k inner (level + 1)))) (in_it.below v k level hv hk (omega arith) ∙ is.here v k hv hk)
+            ∙ (ap (λ q. over mode q (faded n.opacity (shown colours band v k inner (level + 1))))
+            (in_it.below v k level hv hk (omega arith) ∙ is.here v k hv hk)
             ∙ (ap (λ q. over mode below (faded n.opacity q)) (in_it.here v k hv hk)
             ∙ ap (λ b. laid b mode below (faded n.opacity above)) (sym visible)));
         below = λ v k l hv hk beneath.

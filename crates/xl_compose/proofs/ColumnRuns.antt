@@ -22,10 +22,12 @@ none_behind start from wide k before = grind (arith, nat_tests)
 none_in_front : (skip from done k : ℕ) → skip + done ≤ k → place_by skip from done k ≡ None
 none_in_front skip from done k past = grind (arith, nat_tests)
 
-same_test : (skip done wide k : ℕ) → skip + done ≤ k → (nat_le (skip + done) k && nat_lt k (skip + done + wide)) ≡ (nat_le skip k && nat_lt k (skip + (done + wide)))
+same_test : (skip done wide k : ℕ) → skip + done ≤ k
+    → (nat_le (skip + done) k && nat_lt k (skip + done + wide)) ≡ (nat_le skip k && nat_lt k (skip + (done + wide)))
 same_test skip done wide k past = grind (arith, nat_tests)
 
-behind : (skip from done wide k : ℕ) → skip + done ≤ k → place_by (skip + done) (from + done) wide k ≡ place_by skip from (done + wide) k
+behind : (skip from done wide k : ℕ) → skip + done ≤ k
+    → place_by (skip + done) (from + done) wide k ≡ place_by skip from (done + wide) k
 behind skip from done wide k past =
     let here : from + done + (k - (skip + done)) ≡ from + (k - skip) = omega (arith, past) in
     λ i. cond (same_test skip done wide k past i) (Some (here i)) None
@@ -45,7 +47,8 @@ more_here mode p q r skip from done wide k row of neat q_is r_is (inl before) =
     ∙ (over_clear mode q (laid_neat mode p q (at_place (place_by skip from done k) row of) neat q_is)
     ∙ (q_is ∙ ap (λ column. over mode p (at_place column row of)) (sym (in_front skip from done wide k before)))))
 more_here mode p q r skip from done wide k row of neat q_is r_is (inr past) =
-    let same : q ≡ p = q_is ∙ (ap (λ column. over mode p (at_place column row of)) (none_in_front skip from done k past) ∙ over_clear mode p neat) in
+    let same : q ≡ p = q_is ∙ (ap (λ column. over mode p (at_place column row of)) (none_in_front skip from done k past)
+    ∙ over_clear mode p neat) in
     r_is
     ∙ (ap (λ s. over mode s (at_place (place_by (skip + done) (from + done) wide k) row of)) same
     ∙ ap (λ column. over mode p (at_place column row of)) (behind skip from done wide k past))
@@ -54,36 +57,45 @@ either_side : (k n : ℕ) → (k < n) ⊎ (n ≤ k)
 either_side k n = grind (arith, nat_tests)
 
 -- before the first column
-pub no_columns : (mode : Mode) (skip from top y rows w h : ℕ) (of : ℕ → ℕ → Pixel) (old : List Pixel) → AreNeat w h old → AreLaidTo mode skip from 0 top y rows w h of old old
+pub no_columns : (mode : Mode) (skip from top y rows w h : ℕ) (of : ℕ → ℕ → Pixel) (old : List Pixel) → AreNeat w h old
+    → AreLaidTo mode skip from 0 top y rows w h of old old
 no_columns mode skip from top y rows w h of old neat v k hv hk =
     sym (ap (λ column. over mode (pixel old (v * w + k)) (at_place column (place_by top y rows v) of)) (no_common skip from k)
     ∙ over_clear mode (pixel old (v * w + k)) (neat v k hv hk))
 
 -- what is laid over a neat band leaves it neat
-pub still_neat : (mode : Mode) (left x n top y rows w h : ℕ) (of : ℕ → ℕ → Pixel) (old new : List Pixel) → AreNeat w h old → AreLaidTo mode left x n top y rows w h of old new → AreNeat w h new
+pub still_neat : (mode : Mode) (left x n top y rows w h : ℕ) (of : ℕ → ℕ → Pixel) (old new : List Pixel) → AreNeat w h old
+    → AreLaidTo mode left x n top y rows w h of old new → AreNeat w h new
 still_neat mode left x n top y rows w h of old new neat laid v k hv hk =
-    laid_neat mode (pixel old (v * w + k)) (pixel new (v * w + k)) (at_place (place_by left x n k) (place_by top y rows v) of) (neat v k hv hk) (laid v k hv hk)
+    laid_neat mode (pixel old (v * w + k)) (pixel new (v * w + k)) (at_place (place_by left x n k) (place_by top y rows v) of)
+    (neat v k hv hk) (laid v k hv hk)
 
 -- some columns more
-pub more_columns : (mode : Mode) (skip from done wide top y rows w h : ℕ) (of : ℕ → ℕ → Pixel) (old mid new : List Pixel) → AreNeat w h old
+pub more_columns : (mode : Mode) (skip from done wide top y rows w h : ℕ) (of : ℕ → ℕ → Pixel) (old mid new : List Pixel)
+    → AreNeat w h old
     → AreLaidTo mode skip from done top y rows w h of old mid
     → AreLaidTo mode (skip + done) (from + done) wide top y rows w h of mid new
     → AreLaidTo mode skip from (done + wide) top y rows w h of old new
 more_columns mode skip from done wide top y rows w h of old mid new neat before here v k hv hk =
-    more_here mode (pixel old (v * w + k)) (pixel mid (v * w + k)) (pixel new (v * w + k)) skip from done wide k (place_by top y rows v) of (neat v k hv hk)
+    more_here mode (pixel old (v * w + k)) (pixel mid (v * w + k)) (pixel new (v * w + k)) skip from done wide k
+    (place_by top y rows v) of (neat v k hv hk)
     (before v k hv hk) (here v k hv hk) (either_side k (skip + done))
 
 -- the same, where the columns and the rows that were laid have other names
-pub more_columns_at : (mode : Mode) (skip from done wide top y rows w h left x n yy high : ℕ) (of : ℕ → ℕ → Pixel) (old mid new : List Pixel) → AreNeat w h old
+pub more_columns_at : (mode : Mode) (skip from done wide top y rows w h left x n yy high : ℕ) (of : ℕ → ℕ
+    → Pixel) (old mid new : List Pixel) → AreNeat w h old
     → left ≡ skip + done → x ≡ from + done → n ≡ wide → yy ≡ y → high ≡ rows
     → AreLaidTo mode skip from done top y rows w h of old mid
     → AreLaidTo mode left x n top yy high w h of mid new
     → AreLaidTo mode skip from (done + wide) top y rows w h of old new
-more_columns_at mode skip from done wide top y rows w h left x n yy high of old mid new neat left_is x_is n_is y_is high_is before here =
+more_columns_at mode skip from done wide top y rows w h left x n yy high of old mid new neat left_is x_is n_is y_is high_is before
+    here =
     more_columns mode skip from done wide top y rows w h of old mid new neat before (λ v k hv hk.
-    here v k hv hk ∙ (λ i. over mode (pixel mid (v * w + k)) (at_place (place_by (left_is i) (x_is i) (n_is i) k) (place_by top (y_is i) (high_is i) v) of)))
+    here v k hv hk ∙ (λ i. over mode (pixel mid (v * w + k))
+    (at_place (place_by (left_is i) (x_is i) (n_is i) k) (place_by top (y_is i) (high_is i) v) of)))
 
-pub column_cost : (old mid new h done wide ph pw : ℕ) → mid ≡ old + h * done → new ≡ mid + ph * pw → ph ≡ h → pw ≡ wide → new ≡ old + h * (done + wide)
+pub column_cost : (old mid new h done wide ph pw : ℕ) → mid ≡ old + h * done → new ≡ mid + ph * pw → ph ≡ h → pw ≡ wide
+    → new ≡ old + h * (done + wide)
 column_cost old mid new h done wide ph pw before here high is =
     let part : ph * pw ≡ h * wide = (λ i. high i * is i) in
     let all : h * (done + wide) ≡ h * done + h * wide = omega arith in

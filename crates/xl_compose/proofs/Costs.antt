@@ -12,16 +12,19 @@ pub part_cost : (old new ph pw h w : ℕ) → new ≡ old + ph * pw → ph ≤ h
 part_cost old new ph pw h w is rows columns = omega (arith, is, mul-le ph pw h w rows columns)
 
 -- a node over what is under it
-pub leaf_cost : (old mid new under n : ℕ) (visible : Bool) → mid ≤ old + under * n → new ≤ mid + one_if visible * n → new ≤ old + (one_if visible + under) * n
+pub leaf_cost : (old mid new under n : ℕ) (visible : Bool) → mid ≤ old + under * n → new ≤ mid + one_if visible * n
+    → new ≤ old + (one_if visible + under) * n
 leaf_cost old mid new under n true below here = omega (arith, below, here)
 leaf_cost old mid new under n false below here = omega (arith, below, here)
 
-pub group_cost : (old mid inner new under inside n m : ℕ) (visible : Bool) → visible ≡ true → m ≡ n → mid ≤ old + under * n → inner ≤ mid + inside * n → new ≡ inner + m
+pub group_cost : (old mid inner new under inside n m : ℕ) (visible : Bool) → visible ≡ true → m ≡ n → mid ≤ old + under * n
+    → inner ≤ mid + inside * n → new ≡ inner + m
     → new ≤ old + (visible_with visible inside + under) * n
 group_cost old mid inner new under inside n m true e same below in_it here = omega (arith, same, below, in_it, here)
 group_cost old mid inner new under inside n m false e same below in_it here = cc
 
-pub hidden_cost : (old new under inside n : ℕ) (visible : Bool) → visible ≡ false → new ≤ old + under * n → new ≤ old + (visible_with visible inside + under) * n
+pub hidden_cost : (old new under inside n : ℕ) (visible : Bool) → visible ≡ false → new ≤ old + under * n
+    → new ≤ old + (visible_with visible inside + under) * n
 hidden_cost old new under inside n false e below = omega (arith, below)
 hidden_cost old new under inside n true e below = cc
 
@@ -32,13 +35,16 @@ spread : (count a x y w : ℕ) → a ≡ x + y → count * (a * w) ≡ count * (
 spread count a x y w e = ap (λ k. count * (k * w)) e ∙ spread_sum count x y w
 
 -- a band more
-pub band_cost : (old so_far new count w h b n : ℕ) → so_far ≤ old + count * (min (64 * b) h * w) → new ≤ so_far + count * (n * w) → n ≡ min 64 (h - 64 * b) → 64 * b < h
+pub band_cost : (old so_far new count w h b n : ℕ) → so_far ≤ old + count * (min (64 * b) h * w) → new ≤ so_far + count * (n * w)
+    → n ≡ min 64 (h - 64 * b) → 64 * b < h
     → new ≤ old + count * (min (64 * (b + 1)) h * w)
 band_cost old so_far new count w h b n before more is inside =
     let rows : min (64 * (b + 1)) h ≡ min (64 * b) h + n = omega (arith, is, inside) in
-    let sum : count * (min (64 * (b + 1)) h * w) ≡ count * (min (64 * b) h * w) + count * (n * w) = spread count (min (64 * (b + 1)) h) (min (64 * b) h) n w rows in
+    let sum : count * (min (64 * (b + 1)) h * w) ≡ count * (min (64 * b) h * w) + count * (n * w) =
+    spread count (min (64 * (b + 1)) h) (min (64 * b) h) n w rows in
     omega (arith, before, more, sum)
 
 -- a piece more
 pub piece_cost : (old mid new w x n total : ℕ) → total ≡ w + x → mid ≤ old + w * n → new ≤ mid + x * n → new ≤ old + total * n
-piece_cost old mid new w x n total sum before here = let all : total * n ≡ w * n + x * n = ap (λ t. t * n) sum ∙ omega arith in omega (arith, before, here, all)
+piece_cost old mid new w x n total sum before here =
+    let all : total * n ≡ w * n + x * n = ap (λ t. t * n) sum ∙ omega arith in omega (arith, before, here, all)

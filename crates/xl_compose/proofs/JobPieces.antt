@@ -1,5 +1,6 @@
 -- The pieces of a job, in their room.
-use Rattle.std.proofs.Common.{◌≡◌, ℕ, ◌+◌, ◌*◌, ◌≤◌, List, [], ◌∷◌, length, take, replicate, length-take-le, inl, inr, sym, ◌∙◌, ap, subst, arith, mul_comm, mul-le-mul_right}
+use Rattle.std.proofs.Common.{◌≡◌, ℕ, ◌+◌, ◌*◌, ◌≤◌, List, [], ◌∷◌, length, take, replicate, length-take-le, inl, inr}
+use Rattle.std.proofs.Common.{sym, ◌∙◌, ap, subst, arith, mul_comm, mul-le-mul_right}
 use Rattle.std.specs.Prelude.{Some}
 use Rattle.std.proofs.lemmas.Bool.{cases_lt}
 use Rattle.std.proofs.lemmas.List.{get_or-take, get_or-replicate, get_or_past, length-replicate}
@@ -24,7 +25,8 @@ use Rattle.xl_compose.proofs.PictureBytes.{rect_same}
 use Rattle.xl_compose.proofs.PictureRows.{band_bytes}
 
 -- pieces on so many levels are in the room for so many
-pub fit_in : (deep size : ℕ) (band : Band) (pieces : List Piece) → size ≡ deep * points band → AllFit deep band pieces → AreIn size band pieces
+pub fit_in : (deep size : ℕ) (band : Band) (pieces : List Piece) → size ≡ deep * points band → AllFit deep band pieces
+    → AreIn size band pieces
 fit_in deep size band [] is fit = tt
 fit_in deep size band (p ∷ pieces) is fit =
     let low : (p.level + 2) * points band ≤ deep * points band = mul-le-mul_right (points band) (omega (arith, fit.0.0)) in
@@ -42,10 +44,12 @@ all_clear n i room is = ap (λ r. pixel r i) is ∙ elim (cases_lt i n) [
 ]
 
 -- the picture of level 0 is that of the pieces
-pub composed_is : (colours : List (List ℕ)) (band : Band) (pieces : List Piece) (room : List Pixel) (n : ℕ) → n ≡ points band → points band ≤ length room
+pub composed_is : (colours : List (List ℕ)) (band : Band) (pieces : List Piece) (room : List Pixel) (n : ℕ) → n ≡ points band
+    → points band ≤ length room
     → AreShown colours band pieces room → row_bytes (take n room) ≡ composed colours band pieces
 composed_is colours band pieces room n same fits is =
-    band_bytes (λ k v. shown colours band v k pieces 0) 0 0 band.w band.h (take n room) (length-take-le n room (omega (arith, same, fits)) ∙ same)
+    band_bytes (λ k v. shown colours band v k pieces 0) 0 0 band.w band.h (take n room)
+    (length-take-le n room (omega (arith, same, fits)) ∙ same)
     (λ v k hv hk.
     let place : v * band.w + k ≡ 0 * points band + (v * band.w + k) = omega arith in
     let row : v ≡ 0 + v = omega arith in
@@ -54,7 +58,8 @@ composed_is colours band pieces room n same fits is =
     ∙ (ap (pixel room) place ∙ (is v k 0 hv hk (omega (arith, fits)) ∙ (λ i. shown colours band (row i) (column i) pieces 0))))
 
 -- the pieces of a stack make its picture
-pub are_for : (deep : ℕ) (d : Document) (stack : ℕ) (at : TileAt) (s : Nodes) (old pieces : List Piece) → old ≡ [] → stack_at stack d.nodes ≡ Some s
+pub are_for : (deep : ℕ) (d : Document) (stack : ℕ) (at : TileAt) (s : Nodes) (old pieces : List Piece) → old ≡ []
+    → stack_at stack d.nodes ≡ Some s
     → AreAdded deep d.colours (tile_band d at) 0 s old pieces → AreFor deep d stack at pieces
 are_for deep d stack at s old pieces none is added =
     let b = tile_band d at in
@@ -67,7 +72,8 @@ are_for deep d stack at s old pieces none is added =
           (λ v k hv hk.
           let row : 0 + v ≡ v = omega arith in
           let column : 0 + k ≡ k = omega arith in
-          (λ i. shown d.colours b (row i) (column i) pieces 0) ∙ (added.here v k hv hk ∙ sym (ap (pixel_of d.colours (b.x + k) (b.y + v)) is)));
+          (λ i. shown d.colours b (row i) (column i) pieces 0)
+          ∙ (added.here v k hv hk ∙ sym (ap (pixel_of d.colours (b.x + k) (b.y + v)) is)));
       cost = omega (arith, added.cost, counted, nothing);
     }
 
@@ -76,11 +82,14 @@ tile_size : (d : Document) (at : TileAt) (b : Band) → b ≡ tile_band d at →
 tile_size d at b is = ap points is ∙ mul_comm (tile_band d at).h (tile_band d at).w
 
 -- the job of these pieces stands for the document
-pub planned_stands : (deep : ℕ) (d : Document) (stack : ℕ) (at : TileAt) (version : ℕ) (colours : List (List ℕ)) (b : Band) (pieces : List Piece) (job : Job)
-    → job ≡ planned stack at version colours b pieces → colours ≡ d.colours → b ≡ tile_band d at → AreFor deep d stack at pieces → StandsFor d stack at version job
+pub planned_stands : (deep : ℕ) (d : Document) (stack : ℕ) (at : TileAt) (version : ℕ) (colours : List (List ℕ)) (b : Band)
+    (pieces : List Piece) (job : Job)
+    → job ≡ planned stack at version colours b pieces → colours ≡ d.colours → b ≡ tile_band d at → AreFor deep d stack at pieces
+    → StandsFor d stack at version job
 planned_stands deep d stack at version colours b pieces job is colours_are tile for_it =
     let few : weights pieces * points b ≤ visible_below d stack * points b = mul-le-mul_right (points b) for_it.cost in
-    let size : visible_below d stack * points b ≡ visible_below d stack * tile_points d at = ap (λ n. visible_below d stack * n) (tile_size d at b tile) in
+    let size : visible_below d stack * points b ≡ visible_below d stack * tile_points d at =
+    ap (λ n. visible_below d stack * n) (tile_size d at b tile) in
     let cost : job.cost ≡ weights pieces * points b = ap (λ j. j.cost) is in
     record {
       stack_is = ap (λ j. j.stack) is;
@@ -91,6 +100,9 @@ planned_stands deep d stack at version colours b pieces job is colours_are tile 
     }
 
 -- what it costs
-pub planned_costs : (d : Document) (stack : ℕ) (at : TileAt) (version : ℕ) (colours : List (List ℕ)) (b : Band) (pieces : List Piece) (job : Job) (count : ℕ)
-    → job ≡ planned stack at version colours b pieces → b ≡ tile_band d at → weights pieces ≡ count → job.cost ≡ count * tile_points d at
-planned_costs d stack at version colours b pieces job count is tile weighs = ap (λ j. j.cost) is ∙ (λ i. weighs i * tile_size d at b tile i)
+pub planned_costs : (d : Document) (stack : ℕ) (at : TileAt) (version : ℕ) (colours : List (List ℕ)) (b : Band)
+    (pieces : List Piece) (job : Job) (count : ℕ)
+    → job ≡ planned stack at version colours b pieces → b ≡ tile_band d at → weights pieces ≡ count
+    → job.cost ≡ count * tile_points d at
+planned_costs d stack at version colours b pieces job count is tile weighs =
+    ap (λ j. j.cost) is ∙ (λ i. weighs i * tile_size d at b tile i)

@@ -15,7 +15,8 @@ mul-255 a = omega arith
 mean_below : (total above below : ℕ) → 0 < total → mean total 0 above below ≡ below
 mean_below total above below h =
     let whole : total - 0 ≡ total = omega arith in
-    let all : 2 * (above * 0 + below * (total - 0)) + total ≡ below * (2 * total) + total = omega (arith, ap (λ t. below * t) whole) in
+    let all : 2 * (above * 0 + below * (total - 0)) + total ≡ below * (2 * total) + total =
+    omega (arith, ap (λ t. below * t) whole) in
     ap (λ n. n / (2 * total)) all ∙ div-mul-add below (2 * total) total (omega arith)
 
 blended_clear : (mode : Mode) (p : Pixel) → over_blended mode p clear ≡ p
@@ -26,11 +27,18 @@ normal_by : (p : Pixel) (alpha : ℕ) → IsNeat p → alpha ≡ p.a
     → cond (nat_eq alpha 0) clear (record { r = mean alpha 0 0 p.r; g = mean alpha 0 0 p.g; b = mean alpha 0 0 p.b; a = alpha }) ≡ p
 normal_by p alpha neat is = by (nat_eq alpha 0) refl
   where
-    by : (b : Bool) → nat_eq alpha 0 ≡ b → cond b clear (record { r = mean alpha 0 0 p.r; g = mean alpha 0 0 p.g; b = mean alpha 0 0 p.b; a = alpha }) ≡ p
+    by : (b : Bool) → nat_eq alpha 0 ≡ b
+        → cond b clear (record { r = mean alpha 0 0 p.r; g = mean alpha 0 0 p.g; b = mean alpha 0 0 p.b; a = alpha }) ≡ p
     by true e = let none : alpha ≡ 0 = eqb-true alpha 0 e in sym (neat (sym is ∙ none))
     by false e =
         let some : (alpha ≡ 0 → ⊥) = eqb-false alpha 0 e in
-        λ i. record { r = mean_below alpha 0 p.r (omega (arith, some)) i; g = mean_below alpha 0 p.g (omega (arith, some)) i; b = mean_below alpha 0 p.b (omega (arith, some)) i; a = is i }
+        λ i. record {
+          r = mean_below alpha 0 p.r (omega (arith, some)) i;
+          g = mean_below alpha 0 p.g (omega (arith, some)) i;
+          b =
+              mean_below alpha 0 p.b (omega (arith, some)) i;
+          a = is i;
+        }
 
 normal_clear : (p : Pixel) → IsNeat p → over_normal p clear ≡ p
 normal_clear p neat = normal_by p (0 + mul p.a (255 - 0)) neat (omega arith)

@@ -1,5 +1,6 @@
 -- A row of which a part was written.
-use Rattle.std.proofs.Common.{◌≡◌, ℕ, ◌+◌, ◌-◌, ◌<◌, ◌≤◌, cond, ◌&&◌, nat_lt, List, ◌++◌, length, take, drop, ◌∙◌, ap, arith, inl, inr, ◌⊎◌, length-take-le, length-drop, sym}
+use Rattle.std.proofs.Common.{◌≡◌, ℕ, ◌+◌, ◌-◌, ◌<◌, ◌≤◌, cond, ◌&&◌, nat_lt, List, ◌++◌, length, take, drop, ◌∙◌, ap}
+use Rattle.std.proofs.Common.{arith, inl, inr, ◌⊎◌, length-take-le, length-drop, sym}
 use Rattle.std.specs.Prelude.{nat_le}
 use Rattle.std.specs.List.{zip}
 use Rattle.std.proofs.lemmas.Bool.{le-leb, lt-ltb, cases_order}
@@ -22,7 +23,8 @@ chosen_out a n x y k (inl h) = grind (arith, nat_tests)
 chosen_out a n x y k (inr h) = grind (arith, nat_tests)
 
 chosen_in : (a n : ℕ) (x y : Pixel) (k : ℕ) → a ≤ k → k < a + n → chosen a n x y k ≡ x
-chosen_in a n x y k low high = ap (λ b. cond (b && nat_lt k (a + n)) x y) (le-leb a k low) ∙ ap (λ b. cond b x y) (lt-ltb k (a + n) high)
+chosen_in a n x y k low high =
+    ap (λ b. cond (b && nat_lt k (a + n)) x y) (le-leb a k low) ∙ ap (λ b. cond b x y) (lt-ltb k (a + n) high)
 
 module _ (xs ys : List Pixel) (a n : ℕ) (many : length ys ≡ n) (fits : a + n ≤ length xs) where
   front : length (take a xs) ≡ a
@@ -70,7 +72,10 @@ length-zip xs ys n p q = zip-length xs ys ∙ omega (arith, p, q)
 over_pixel : (mode : Mode) (below above : List Pixel) (n k : ℕ) → length below ≡ n → length above ≡ n → k < n
     → pixel (over_rows mode below above) k ≡ over mode (pixel below k) (pixel above k)
 over_pixel mode below above n k p q h =
-    get_or-map (λ (p : Pixel × Pixel). over mode p.0 p.1) (zip below above) k (clear, clear) clear (omega (arith, length-zip below above n p q))
+    get_or-map (λ (p : Pixel × Pixel). over mode p.0 p.1) (zip below above) k (
+      clear,
+      clear,
+    ) clear (omega (arith, length-zip below above n p q))
     ∙ ap (λ (p : Pixel × Pixel). over mode p.0 p.1) (get_or-zip below above k (clear, clear) (omega arith) (omega arith))
 
 chosen_same : (a n k : ℕ) (x z y : Pixel) → (a ≤ k → k < a + n → x ≡ z) → chosen a n x y k ≡ chosen a n z y k
@@ -97,7 +102,8 @@ pub laid_part : (mode : Mode) (row above part : List Pixel) (skip n : ℕ) → n
 laid_part mode row above part skip n many fits is k =
     let under = take n (drop skip row) in
     let size : length under ≡ n = length-take-le n (drop skip row) (omega (arith, length-drop skip row)) in
-    let made : length part ≡ n = ap length is ∙ (length-map (zip under above) (λ (p : Pixel × Pixel). over mode p.0 p.1) ∙ length-zip under above n size (omega arith)) in
+    let made : length part ≡ n = ap length is
+    ∙ (length-map (zip under above) (λ (p : Pixel × Pixel). over mode p.0 p.1) ∙ length-zip under above n size (omega arith)) in
     let ends : skip + n ≡ skip + length above = omega arith in
     put_pixel row part skip n made fits k
     ∙ (chosen_same skip n k (pixel part (k - skip)) (over mode (pixel row k) (pixel above (k - skip))) (pixel row k)

@@ -24,18 +24,22 @@ pub shown-own : (colours : List (List ℕ)) (band : Band) (v k : ℕ) (old : Lis
     ≡ changed colours band v k what (shown colours band v k old level) (shown colours band v k old (level + 1))
 shown-own colours band v k old level what =
     shown-push colours band v k old (record { level = level; what = what }) level
-    ∙ ap (λ b. cond b (changed colours band v k what (shown colours band v k old level) (shown colours band v k old (level + 1))) (shown colours band v k old level)) (eq-eqb level level refl)
+    ∙ ap (λ b. cond b (changed colours band v k what (shown colours band v k old level) (shown colours band v k old (level + 1)))
+    (shown colours band v k old level)) (eq-eqb level level refl)
 
-pub shown-beside : (colours : List (List ℕ)) (band : Band) (v k : ℕ) (old : List Piece) (level : ℕ) (what : What) (l : ℕ) → (l ≡ level → ⊥)
+pub shown-beside : (colours : List (List ℕ)) (band : Band) (v k : ℕ) (old : List Piece) (level : ℕ) (what : What) (l : ℕ)
+    → (l ≡ level → ⊥)
     → shown colours band v k (old ++ record { level = level; what = what } ∷ []) l ≡ shown colours band v k old l
 shown-beside colours band v k old level what l other =
     shown-push colours band v k old (record { level = level; what = what }) l
-    ∙ ap (λ b. cond b (changed colours band v k what (shown colours band v k old level) (shown colours band v k old (level + 1))) (shown colours band v k old l)) (ne_eqb l level other)
+    ∙ ap (λ b. cond b (changed colours band v k what (shown colours band v k old level) (shown colours band v k old (level + 1)))
+    (shown colours band v k old l)) (ne_eqb l level other)
 
 pub weights-push : (old : List Piece) (p : Piece) → weights (old ++ p ∷ []) ≡ weights old + weight p.what
 weights-push [] p = omega arith
 weights-push (q ∷ old) p = omega (arith, weights-push old p)
 
-pub fit-push : (deep : ℕ) (band : Band) (old : List Piece) (p : Piece) → Fits deep band p → AllFit deep band old → AllFit deep band (old ++ p ∷ [])
+pub fit-push : (deep : ℕ) (band : Band) (old : List Piece) (p : Piece) → Fits deep band p → AllFit deep band old
+    → AllFit deep band (old ++ p ∷ [])
 fit-push deep band [] p fits all = (fits, tt)
 fit-push deep band (q ∷ old) p fits all = (all.0, fit-push deep band old p fits all.1)

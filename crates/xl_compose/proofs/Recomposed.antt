@@ -25,7 +25,8 @@ picture_is d stack x y f s nodes is =
     ∙ ap (pixel_of d.colours x y) (stack-nodes_of stack f ∙ ap (option_map nodes_of) is)
 
 -- the visible nodes of the picture's stack
-pub count_is : (d : Document) (stack : ℕ) (f s : Forest Node Node) → d.nodes ≡ nodes_of f → stack_at stack f ≡ Some s → visible_below d stack ≡ visible_in (nodes_of s)
+pub count_is : (d : Document) (stack : ℕ) (f s : Forest Node Node) → d.nodes ≡ nodes_of f → stack_at stack f ≡ Some s
+    → visible_below d stack ≡ visible_in (nodes_of s)
 count_is d stack f s nodes is =
     ap (λ n. visible_of (stack_at stack n)) nodes
     ∙ ap visible_of (stack-nodes_of stack f ∙ ap (option_map nodes_of) is)

@@ -25,11 +25,17 @@ even_is_plane : (w h bpp : ℕ) (pixel : List ℕ) → AreBytes pixel → IsPlan
 even_is_plane w h bpp pixel bytes = plane_made (λ x y c. slice_index pixel c) w h bpp (λ x y c. index_byte pixel c bytes)
 
 sheet_is_channel : (owner : Owner) (w h value : ℕ) → value < 256 → IsChannel owner w h (sheet w h value)
-sheet_is_channel owner w h value byte = record { name = no_name; kept = none_kept owner; plane = even_is_plane w h 1 (value ∷ []) (byte, tt) }
+sheet_is_channel owner w h value byte =
+    record { name = no_name; kept = none_kept owner; plane = even_is_plane w h 1 (value ∷ []) (byte, tt) }
 
 one_two : AreIds (1 ∷ 2 ∷ [])
 unfolding IsDistinct
-one_two = record { distinct = ((refl, tt), (tt, tt)); positive = (omega arith, (omega arith, tt)); word = (omega arith, (omega arith, tt)) }
+one_two = record {
+  distinct = ((refl, tt), (tt, tt));
+  positive = (omega arith, (omega arith, tt));
+  word =
+      (omega arith, (omega arith, tt));
+}
 
 sample_is_document : IsDocument sample
 sample_is_document = record {
@@ -71,7 +77,8 @@ sample_is_document = record {
 }
 
 -- so is the document with this tree
-pub sample_sound : (tree : Forest Node Node) (d : Document) → tree ≡ group 1 outer (leaf 2 inner none) none → d ≡ record sample { nodes = nodes_of tree } → IsSound tree d
+pub sample_sound : (tree : Forest Node Node) (d : Document) → tree ≡ group 1 outer (leaf 2 inner none) none
+    → d ≡ record sample { nodes = nodes_of tree } → IsSound tree d
 sample_sound tree d tree_is d_is =
     let P : Forest Node Node → Type 0 = λ t. IsSound t (record sample { nodes = nodes_of t }) in
     let Q : Document → Type 0 = IsSound tree in

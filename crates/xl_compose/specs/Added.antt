@@ -11,7 +11,8 @@ use Rattle.xl_compose.specs.Pieces.{AllFit, kept_pixel, shown, weights}
 -- the bytes are those of a stack's picture over the band
 pub record IsPicture (colours : List (List ℕ)) (band : Band) (nodes : Nodes) (bytes : List ℕ) : Type 0 where
   pub size : length bytes ≡ 4 * (band.h * band.w)
-  pub each : (v k : ℕ) → v < band.h → k < band.w → kept_pixel bytes (v * band.w + k) ≡ stack_pixel colours (band.x + k) (band.y + v) nodes
+  pub each : (v k : ℕ) → v < band.h → k < band.w
+      → kept_pixel bytes (v * band.w + k) ≡ stack_pixel colours (band.x + k) (band.y + v) nodes
 
 -- each picture that is given for a group among the nodes, at any depth, is that group's
 abbrev pub AreRight : (clean : ℕ → Option (List ℕ)) → (colours : List (List ℕ)) → Band → Nodes → Type 0
@@ -22,8 +23,10 @@ AreRight clean colours band (group id g children under) =
     × (AreRight clean colours band children × AreRight clean colours band under)
 
 -- the pieces behind the old ones make the picture of the nodes, at a level, and leave those of the levels below it as they are
-pub record AreAdded (deep : ℕ) (colours : List (List ℕ)) (band : Band) (level : ℕ) (nodes : Nodes) (old new : List Piece) : Type 0 where
+pub record AreAdded (deep : ℕ) (colours : List (List ℕ)) (band : Band) (level : ℕ) (nodes : Nodes)
+    (old new : List Piece) : Type 0 where
   pub fit : AllFit deep band old → AllFit deep band new
   pub cost : weights new ≤ weights old + visible_in nodes
-  pub here : (v k : ℕ) → v < band.h → k < band.w → shown colours band v k new level ≡ stack_pixel colours (band.x + k) (band.y + v) nodes
+  pub here : (v k : ℕ) → v < band.h → k < band.w
+      → shown colours band v k new level ≡ stack_pixel colours (band.x + k) (band.y + v) nodes
   pub below : (v k l : ℕ) → v < band.h → k < band.w → l < level → shown colours band v k new l ≡ shown colours band v k old l

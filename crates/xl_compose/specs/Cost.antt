@@ -43,7 +43,8 @@ spared (Some picture) inside = 0
 abbrev pub laid_in : (clean : ℕ → Option (List ℕ)) → Nodes → ℕ
 laid_in clean none = 0
 laid_in clean (leaf id l under) = one_if l.visible + laid_in clean under
-laid_in clean (group id g children under) = visible_with g.visible (spared (clean id) (laid_in clean children)) + laid_in clean under
+laid_in clean (group id g children under) =
+    visible_with g.visible (spared (clean id) (laid_in clean children)) + laid_in clean under
 
 abbrev pub laid_of : (clean : ℕ → Option (List ℕ)) → Option Nodes → ℕ
 laid_of clean None = 0

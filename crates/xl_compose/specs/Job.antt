@@ -22,7 +22,14 @@ pub record Job : Type 0 where
 -- the job of these pieces
 abbrev pub planned : (stack : ℕ) → TileAt → (version : ℕ) → (colours : List (List ℕ)) → Band → List Piece → Job
 planned stack at version colours band pieces =
-    record { stack = stack; at = at; version = version; picture = composed colours band pieces; cost = weights pieces * points band }
+    record {
+      stack = stack;
+      at = at;
+      version = version;
+      picture = composed colours band pieces;
+      cost =
+          weights pieces * points band;
+    }
 
 -- it gives the picture of a document, in at most one step for each pixel of the tile and each visible node below the stack
 pub record StandsFor (d : Document) (stack : ℕ) (at : TileAt) (version : ℕ) (job : Job) : Type 0 where
@@ -42,4 +49,5 @@ pub record IsDone (job : Job) (done : Done) : Type 0 where
 -- each picture that is given for the tile of a group of a document is that group's
 abbrev pub AreClean : (clean : ℕ → TileAt → Option (List ℕ)) → Document → TileAt → Type 0
 AreClean clean d at =
-    (group : ℕ) (bytes : List ℕ) → 1 ≤ group → IsSome (stack_at group d.nodes) → clean group at ≡ Some bytes → bytes ≡ project d group at
+    (group : ℕ) (bytes : List ℕ) → 1 ≤ group → IsSome (stack_at group d.nodes) → clean group at ≡ Some bytes
+    → bytes ≡ project d group at

@@ -32,7 +32,8 @@ pub record IsReady (band : Band) (pieces : List Piece) (room source : List Pixel
 
 -- the tile of a document
 abbrev pub tile_band : Document → TileAt → Band
-tile_band d at = record { x = 64 * at.col; y = 64 * at.row; w = min 64 (d.width - 64 * at.col); h = min 64 (d.height - 64 * at.row) }
+tile_band d at =
+    record { x = 64 * at.col; y = 64 * at.row; w = min 64 (d.width - 64 * at.col); h = min 64 (d.height - 64 * at.row) }
 
 -- pieces on so many levels that make the picture of a stack of a document
 pub record AreFor (deep : ℕ) (d : Document) (stack : ℕ) (at : TileAt) (pieces : List Piece) : Type 0 where

@@ -10,4 +10,5 @@ pixel row k = slice_index_or row k clear
 -- each pixel of the part is laid over that of its column, and all others stay
 abbrev pub AreLaid : Mode → (skip : ℕ) → (above old new : List Pixel) → Type 0
 AreLaid mode skip above old new =
-    (k : ℕ) → pixel new k ≡ (if nat_le skip k && nat_lt k (skip + length above) then over mode (pixel old k) (pixel above (k - skip)) else pixel old k)
+    (k : ℕ) → pixel new k ≡ (if nat_le skip k
+    && nat_lt k (skip + length above) then over mode (pixel old k) (pixel above (k - skip)) else pixel old k)

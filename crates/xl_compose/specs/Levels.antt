@@ -20,12 +20,14 @@ pub record AreSet (band : Band) (at : ℕ) (of : (v k : ℕ) → Pixel) (old new
 abbrev pub IsLaid : (colours : List (List ℕ)) → Band → Piece → (old new : List Pixel) → Type 0
 IsLaid colours band piece old new =
     let at = piece.level * points band in
-    AreSet band at (λ v k. changed colours band v k piece.what (pixel old (at + (v * band.w + k))) (pixel old (at + points band + (v * band.w + k)))) old new
+    AreSet band at (λ v k. changed colours band v k piece.what (pixel old (at + (v * band.w + k)))
+    (pixel old (at + points band + (v * band.w + k)))) old new
 
 -- the pictures of the levels are those that pieces make
 abbrev pub AreShown : (colours : List (List ℕ)) → Band → List Piece → List Pixel → Type 0
 AreShown colours band pieces room =
-    (v k l : ℕ) → v < band.h → k < band.w → (l + 1) * points band ≤ length room → pixel room (l * points band + (v * band.w + k)) ≡ shown colours band v k pieces l
+    (v k l : ℕ) → v < band.h → k < band.w → (l + 1) * points band ≤ length room
+    → pixel room (l * points band + (v * band.w + k)) ≡ shown colours band v k pieces l
 
 -- the pictures of a piece and of the next level are in the room
 abbrev pub IsIn : (size : ℕ) → Band → Piece → Type 0

@@ -21,7 +21,8 @@ kept_pixel bytes i = pixel_at 1 [] bytes i
 -- the pixel of a level at column k of row v of the tile, where it and that of the next level are given
 abbrev pub changed : (colours : List (List ℕ)) → Band → (v k : ℕ) → What → (own next : Pixel) → Pixel
 changed colours band v k Blank own next = clear
-changed colours band v k (Leaf mode opacity layer) own next = over mode own (sheet_source colours opacity layer (band.x + k) (band.y + v))
+changed colours band v k (Leaf mode opacity layer) own next =
+    over mode own (sheet_source colours opacity layer (band.x + k) (band.y + v))
 changed colours band v k (Clean picture) own next = kept_pixel picture (v * band.w + k)
 changed colours band v k (Stack mode opacity) own next = over mode own (faded opacity next)
 

@@ -16,7 +16,14 @@ inner = record {
   mode = Multiply;
   visible = true;
   kept = [];
-  body = Leaf (record { kind = 0; x = pos 1; y = negsuc 0; plane = even 3 2 3 (10 ∷ 20 ∷ 30 ∷ []); mask = Some (sheet 3 2 100); apply_mask = true });
+  body = Leaf (record {
+    kind = 0;
+    x = pos 1;
+    y = negsuc 0;
+    plane = even 3 2 3 (10 ∷ 20 ∷ 30 ∷ []);
+    mask = Some (sheet 3 2 100);
+    apply_mask = true;
+  });
 }
 
 abbrev pub outer : Node

@@ -100,7 +100,8 @@ pub fn add_stack<K: CleanTiles>(
     requires agree { MarksAgree nodes }
     requires low { level + levels nodes ≤ MAX_DEPTH }
     ensures any { IfOk result (λ some. some ≡ any_visible (nodes_of nodes.entry)) }
-    ensures cost { OnOk result (weights pieces.new.items ≡ weights pieces.old.items + laid_in (λ id. K.clean_tile clean.now id at) (nodes_of nodes.entry)) }
+    ensures cost { OnOk result (weights pieces.new.items
+        ≡ weights pieces.old.items + laid_in (λ id. K.clean_tile clean.now id at) (nodes_of nodes.entry)) }
     ensures added { OnOk result ((deep : ℕ) (colours : List (List ℕ)) (band : Band) → level + levels nodes.entry + 2 ≤ deep
         → AreRight (λ id. K.clean_tile clean.now id at) colours band (nodes_of nodes.entry)
         → AreAdded deep colours band level (nodes_of nodes.entry) pieces.old.items pieces.new.items) }

@@ -69,7 +69,8 @@ pub fn job<K: CleanTiles>(
     requires on_grid { IsTrue (is_on_grid doc.now.width doc.now.height at) }
     requires clean { AreClean (K.clean_tile clean.now) doc.now at }
     ensures stands { IfOk result (λ job. StandsFor doc.now node.0 at version job) }
-    ensures cost { IfOk result (λ job. job.cost ≡ laid_below (λ id. K.clean_tile clean.now id at) doc.now node.0 * tile_points doc.now at) }
+    ensures cost { IfOk result (λ job. job.cost
+        ≡ laid_below (λ id. K.clean_tile clean.now id at) doc.now node.0 * tile_points doc.now at) }
 {
     let band = band_of(doc, at);
     let (pieces, deep) = pieces_of(alloc, doc, node, at, clean)?;

@@ -30,7 +30,8 @@ fn lay_next<L: Ledger>(
     requires room { at + n + n ≤ length room.old }
     requires source { n ≤ length source.old }
     ensures length { length room.new ≡ length room.old }
-    ensures here { (i : ℕ) → i < n → pixel room.new (at + i) ≡ over mode (pixel room.old (at + i)) (faded opacity (pixel room.old (at + n + i))) }
+    ensures here { (i : ℕ) → i < n → pixel room.new (at + i)
+        ≡ over mode (pixel room.old (at + i)) (faded opacity (pixel room.old (at + n + i))) }
     ensures beside { (i : ℕ) → (i < at) ⊎ (at + n ≤ i) → pixel room.new i ≡ pixel room.old i }
     ensures cost { steps.new ≡ steps.old + n }
 {
@@ -66,7 +67,8 @@ fn lay_piece<L: Ledger>(
     requires row { band.w ≤ length source.old }
     requires source { points band ≤ length source.old }
     requires bytes { 32768 + 320 * band.w ≤ length bytes.old }
-    requires neat { (v k : ℕ) → v < band.h → k < band.w → IsNeat (pixel room.old (piece.now.level * points band + (v * band.w + k))) }
+    requires neat { (v k : ℕ) → v < band.h → k < band.w
+        → IsNeat (pixel room.old (piece.now.level * points band + (v * band.w + k))) }
     ensures length { length room.new ≡ length room.old }
     ensures laid { IsLaid colours.now band piece.now room.old room.new }
     ensures cost { steps.new ≤ steps.old + weight piece.now.what * points band }
@@ -90,7 +92,8 @@ fn lay_piece<L: Ledger>(
     }
 }
 
-/// Lays pieces upon pictures without anything. The room holds the pictures of all levels, one after another, and `source` one picture.
+/// Lays pieces upon pictures without anything. The room holds the pictures of all levels, one after another, and
+/// `source` one picture.
 pub fn lay_pieces<L: Ledger>(
     colours: &[[u8; 3]],
     pieces: &[Piece],

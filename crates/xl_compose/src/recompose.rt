@@ -178,7 +178,8 @@ pub fn picture<L: Ledger>(
     requires stack { IsSome (stack_at stack.0 doc.now.nodes) }
     requires inside { IsInside doc.now.width doc.now.height rect }
     requires room { length out.old ≡ 4 * (rect.w * rect.h) }
-    ensures picture { OnOk result (out.new ≡ picture_bytes doc.now stack.0 (part_above_0 rect.x) (part_above_0 rect.y) rect.w rect.h) }
+    ensures picture { OnOk result (out.new
+        ≡ picture_bytes doc.now stack.0 (part_above_0 rect.x) (part_above_0 rect.y) rect.w rect.h) }
     ensures as_before { OnErr result (out.new ≡ out.old) }
     ensures no_steps { OnErr result (steps.new ≡ steps.old) }
     ensures cost { steps.new ≤ steps.old + visible_below doc.now stack.0 * (rect.w * rect.h) }

@@ -28,7 +28,9 @@ fn mask_row(layer: &Layer, part: Rect, masks: &[u8], y: u32, row: &mut [Pixel])
     requires row { y < part.h }
     requires wide { length row.old ≡ part.w }
     ensures length { length row.new ≡ length row.old }
-    ensures each { (k : ℕ) → k < length row.old → pixel row.new k ≡ mask_part layer.now.mask layer.now.apply_mask (part_above_0 part.x + k) (part_above_0 part.y + y) (pixel row.old k) }
+    ensures each { (k : ℕ) → k < length row.old
+        → pixel row.new k ≡ mask_part layer.now.mask layer.now.apply_mask (part_above_0 part.x + k) (part_above_0 part.y + y)
+        (pixel row.old k) }
 {
     if !layer.apply_mask {
         return;
@@ -55,7 +57,8 @@ fn source_row(
     requires row { y < part.h }
     requires wide { length row.old ≡ part.w }
     ensures length { length row.new ≡ length row.old }
-    ensures each { (k : ℕ) → k < length row.old → pixel row.new k ≡ sheet_pixel colours.now opacity layer.now (part_above_0 part.x + k) (part_above_0 part.y + y) }
+    ensures each { (k : ℕ) → k < length row.old
+        → pixel row.new k ≡ sheet_pixel colours.now opacity layer.now (part_above_0 part.x + k) (part_above_0 part.y + y) }
 {
     own_row(layer.kind, colours, layer.plane.row_in(part, bytes, y), row);
     if opacity < 255 {
@@ -107,7 +110,9 @@ fn lay_rows<L: Ledger>(
     requires neat { (v k : ℕ) → v < band.h → k < band.w → IsNeat (pixel picture.old (v * band.w + k)) }
     ensures length { length picture.new ≡ length picture.old }
     ensures each { (v k : ℕ) → v < band.h → k < band.w → pixel picture.new (v * band.w + k)
-        ≡ over mode (pixel picture.old (v * band.w + k)) (at_place (place_by left (part_above_0 part.x) part.w k) (place_by top (part_above_0 part.y) part.h v) (sheet_pixel colours.now opacity layer.now)) }
+        ≡ over mode (pixel picture.old (v * band.w + k))
+        (at_place (place_by left (part_above_0 part.x) part.w k) (place_by top (part_above_0 part.y) part.h v)
+        (sheet_pixel colours.now opacity layer.now)) }
     ensures cost { steps.new ≡ steps.old + part.h * part.w }
 {
     let row = &mut source[..part.w as usize];
@@ -178,7 +183,9 @@ fn lay_rect<L: Ledger>(
     requires neat { (v k : ℕ) → v < band.h → k < band.w → IsNeat (pixel picture.old (v * band.w + k)) }
     ensures length { length picture.new ≡ length picture.old }
     ensures each { (v k : ℕ) → v < band.h → k < band.w → pixel picture.new (v * band.w + k)
-        ≡ over mode (pixel picture.old (v * band.w + k)) (at_place (place_by left (part_above_0 part.x) part.w k) (place_by top (part_above_0 part.y) part.h v) (sheet_pixel colours.now opacity layer.now)) }
+        ≡ over mode (pixel picture.old (v * band.w + k))
+        (at_place (place_by left (part_above_0 part.x) part.w k) (place_by top (part_above_0 part.y) part.h v)
+        (sheet_pixel colours.now opacity layer.now)) }
     ensures cost { steps.new ≡ steps.old + part.h * part.w }
 {
     let (tile, rest) = bytes.split_at_mut(ROOM);
@@ -196,7 +203,8 @@ fn lay_rect<L: Ledger>(
 // are laid; those of a whole row of tiles are not.
 const COLUMNS: u32 = 512;
 
-// How many of the columns that are left are laid at a time, from a column of a layer on: up to the edge of a tile, so that no tile is
+// How many of the columns that are left are laid at a time, from a column of a layer on: up to the edge of a tile, so
+// that no tile is
 // unpacked twice.
 fn columns_at(from: u32, left: u32) -> u32
     requires some { 0 < left }
@@ -232,7 +240,9 @@ fn lay_columns<L: Ledger>(
     requires neat { (v k : ℕ) → v < band.h → k < band.w → IsNeat (pixel picture.old (v * band.w + k)) }
     ensures length { length picture.new ≡ length picture.old }
     ensures each { (v k : ℕ) → v < band.h → k < band.w → pixel picture.new (v * band.w + k)
-        ≡ over mode (pixel picture.old (v * band.w + k)) (at_place (place_by across.skip across.from across.count k) (place_by down.skip down.from down.count v) (sheet_pixel colours.now opacity layer.now)) }
+        ≡ over mode (pixel picture.old (v * band.w + k))
+        (at_place (place_by across.skip across.from across.count k) (place_by down.skip down.from down.count v)
+        (sheet_pixel colours.now opacity layer.now)) }
     ensures cost { steps.new ≡ steps.old + down.count * across.count }
 {
     prove!(layer.plane.width() <= MAX_SIDE);
@@ -273,7 +283,9 @@ pub fn lay_layer<L: Ledger>(
     requires bytes { 32768 + 320 * band.w ≤ length bytes.old }
     requires neat { (v k : ℕ) → v < band.h → k < band.w → IsNeat (pixel picture.old (v * band.w + k)) }
     ensures length { length picture.new ≡ length picture.old }
-    ensures each { (v k : ℕ) → v < band.h → k < band.w → pixel picture.new (v * band.w + k) ≡ over mode (pixel picture.old (v * band.w + k)) (sheet_source colours.now opacity layer.now (band.x + k) (band.y + v)) }
+    ensures each { (v k : ℕ) → v < band.h → k < band.w
+        → pixel picture.new (v * band.w + k)
+        ≡ over mode (pixel picture.old (v * band.w + k)) (sheet_source colours.now opacity layer.now (band.x + k) (band.y + v)) }
     ensures cost { steps.new ≤ steps.old + band.h * band.w }
 {
     let down = overlap(layer.y, layer.plane.height(), band.y, band.h);

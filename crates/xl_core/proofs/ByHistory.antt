@@ -28,10 +28,12 @@ use Rattle.xl_core.specs.Now.{Now, world_of, Stands}
 -- ---- which tile is clean
 
 -- a slot is clean where the last version is kept of its tile
-clean_slot : (base : Document) (s : State) (stack : ℕ) (at : TileAt) (last : Option ℕ) (slot : Slot) → IfSome last (λ a. a ≤ latest s) → IsRightSlot base s stack at last slot
+clean_slot : (base : Document) (s : State) (stack : ℕ) (at : TileAt) (last : Option ℕ) (slot : Slot)
+    → IfSome last (λ a. a ≤ latest s) → IsRightSlot base s stack at last slot
     → kept_in base s stack at last ≡ Some (latest s) → slot.marked ≡ false
 clean_slot base s stack at None slot seen right is = absurd (true≢false (sym (ap is_some is)))
-clean_slot base s stack at (Some a) slot seen right is = go slot.marked refl (subst (λ o. IfSome o (KeptTo base s stack at a)) is (kept_to base s stack at a seen))
+clean_slot base s stack at (Some a) slot seen right is =
+    go slot.marked refl (subst (λ o. IfSome o (KeptTo base s stack at a)) is (kept_to base s stack at a seen))
   where
     go : (b : Bool) → slot.marked ≡ b → KeptTo base s stack at a (latest s) → slot.marked ≡ false
     go false e to = e
@@ -39,11 +41,13 @@ clean_slot base s stack at (Some a) slot seen right is = go slot.marked refl (su
         let good = (right.enough a refl to.there e).1 in
         absurd (true≢false (sym good.damaged ∙ to.whole good.version good.later good.there))
 
-pub kept_clean : (base : Document) (entries : List Entry) (kept_tiles : Cache) (stack : ℕ) (at : TileAt) → IsStanding base (world_of base entries kept_tiles)
+pub kept_clean : (base : Document) (entries : List Entry) (kept_tiles : Cache) (stack : ℕ) (at : TileAt)
+    → IsStanding base (world_of base entries kept_tiles)
     → kept base entries stack at ≡ Some (latest_of entries) → is_clean kept_tiles stack at ≡ true
 kept_clean base entries kept_tiles stack at is last =
     go (slot_of kept_tiles stack at) refl
-    (subst (λ o. IfSome o (λ least. IsSomeAnd (cache.kept kept_tiles stack at (latest s)) (λ k. least ≤ k.version))) now (keeps-enough base (world_of base entries kept_tiles) stack at is))
+    (subst (λ o. IfSome o (λ least. IsSomeAnd (cache.kept kept_tiles stack at (latest s)) (λ k. least ≤ k.version))) now
+    (keeps-enough base (world_of base entries kept_tiles) stack at is))
   where
     s : State
     s = replay base entries
@@ -51,15 +55,18 @@ kept_clean base entries kept_tiles stack at is last =
     now : kept base entries stack at ≡ Some (latest s)
     now = last ∙ ap Some (latest_of-legal base entries is.legal)
 
-    go : (o : Option Slot) → slot_of kept_tiles stack at ≡ o → IsSomeAnd (option_and_then (shown_by (latest s)) o) (λ k. latest s ≤ k.version)
+    go : (o : Option Slot) → slot_of kept_tiles stack at ≡ o
+        → IsSomeAnd (option_and_then (shown_by (latest s)) o) (λ k. latest s ≤ k.version)
         → unwrap_or (option_map (λ slot. not slot.marked) o) false ≡ true
     go None e some = absurd some
-    go (Some slot) e some = ap not (clean_slot base s stack at (last_tile stack at entries) slot (seen-bound base s at (last_tile stack at entries) (is.seen stack at)) (is.each stack at slot e) now)
+    go (Some slot) e some = ap not (clean_slot base s stack at (last_tile stack at entries) slot
+        (seen-bound base s at (last_tile stack at entries) (is.seen stack at)) (is.each stack at slot e) now)
 
 -- so a call that needs no step takes none
 pub needs_none : (base : Document) (entries : List Entry) (now : Now) (made : List ℕ) (call : Call) → Stands base entries now made
     → NeedsNoStep (record { base = base; entries = entries }) call → TakesNoStep now.cache call
-needs_none base entries now made (machine.tile stack at) stands needs = kept_clean base entries now.cache stack at stands.pictures needs
+needs_none base entries now made (machine.tile stack at) stands needs =
+    kept_clean base entries now.cache stack at stands.pictures needs
 needs_none base entries now made (machine.edit guard edits) stands needs = tt
 needs_none base entries now made (machine.undo named) stands needs = tt
 needs_none base entries now made machine.redo stands needs = tt
@@ -68,7 +75,8 @@ needs_none base entries now made machine.top stands needs = tt
 
 -- ---- what becomes of a picture
 
-pub finish-by_history : (base : Document) (entries : List Entry) (kept_tiles : Cache) (place : Place) (version : ℕ) → IsStanding base (world_of base entries kept_tiles)
+pub finish-by_history : (base : Document) (entries : List Entry) (kept_tiles : Cache) (place : Place) (version : ℕ)
+    → IsStanding base (world_of base entries kept_tiles)
     → is_on_grid base.width base.height place.at ≡ true → finish kept_tiles place version ≡ finished_by base entries place version
 finish-by_history base entries kept_tiles place version is on = of_stack (slots_of kept_tiles place.stack) refl
   where
@@ -87,7 +95,8 @@ finish-by_history base entries kept_tiles place version is on = of_stack (slots_
     of_slot (Some slot) e some = ap (λ n. cond (nat_lt version n) (Late n) Installed) (is.each place.stack place.at slot e).mark
 
     of_stack : (o : Option Slots) → slots_of kept_tiles place.stack ≡ o
-        → finish_at version (slot_of kept_tiles place.stack place.at) ≡ cond has (cond (nat_lt version mark) (Late mark) Installed) Gone
+        → finish_at version (slot_of kept_tiles place.stack place.at)
+        ≡ cond has (cond (nat_lt version mark) (Late mark) Installed) Gone
     of_stack None e =
         let none : slot_of kept_tiles place.stack place.at ≡ None = ap (option_and_then (λ slots. slot_at slots place.at)) e in
         let gone : has ≡ false = sym (is.stacks place.stack) ∙ ap is_some e in
@@ -95,6 +104,8 @@ finish-by_history base entries kept_tiles place version is on = of_stack (slots_
     of_stack (Some slots) e =
         let there : is_some (slot_of kept_tiles place.stack place.at) ≡ true =
         ap (λ o. is_some (option_and_then (λ k. slot_at k place.at) o)) e
-        ∙ slot-there base.width base.height slots place.at (canvas-found base.width base.height kept_tiles.held place.stack slots is.slots.of_canvas e) on in
+        ∙ slot-there base.width base.height slots place.at
+        (canvas-found base.width base.height kept_tiles.held place.stack slots is.slots.of_canvas e) on in
         let found : has ≡ true = sym (is.stacks place.stack) ∙ ap is_some e in
-        of_slot (slot_of kept_tiles place.stack place.at) refl there ∙ sym (ap (λ b. cond b (cond (nat_lt version mark) (Late mark) Installed) Gone) found)
+        of_slot (slot_of kept_tiles place.stack place.at) refl there
+        ∙ sym (ap (λ b. cond b (cond (nat_lt version mark) (Late mark) Installed) Gone) found)

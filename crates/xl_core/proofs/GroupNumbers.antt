@@ -24,27 +24,35 @@ groups-made old damage (Err r) = omega arith
 groups-undone : (old : Now) (named : Option ℕ) (us : List Step) → (undone_of old named us).now.next_group ≤ old.next_group + 1
 groups-undone old named [] = omega arith
 groups-undone old named (u ∷ us) =
-    few_either (old.next_group + 1) (names named u.group) (taken_back old u us) (stays old (not_top u.group)) (omega arith) (omega arith)
+    few_either (old.next_group + 1) (names named u.group) (taken_back old u us) (stays old (not_top u.group)) (omega arith)
+    (omega arith)
 
 groups-redone : (old : Now) (rs : List Step) → (redone_of old rs).now.next_group ≤ old.next_group + 1
 groups-redone old [] = omega arith
 groups-redone old (r ∷ rs) = omega arith
 
 -- an answer about a tile
-groups-tile : (old : Now) (stack : ℕ) (at : TileAt) (there : Told) → there.now.next_group ≤ old.next_group + 1 → (where_tile old stack at there).now.next_group ≤ old.next_group + 1
+groups-tile : (old : Now) (stack : ℕ) (at : TileAt) (there : Told) → there.now.next_group ≤ old.next_group + 1
+    → (where_tile old stack at there).now.next_group ≤ old.next_group + 1
 groups-tile old stack at there few =
     let n = old.next_group + 1 in
-    let on = few_either n (not (is_on_grid old.document.width old.document.height at)) (stays old outside_tile) there (omega arith) few in
-    few_either n (not (has_stack old.document stack)) (stays old (no_stack stack)) (cond (not (is_on_grid old.document.width old.document.height at)) (stays old outside_tile) there)
+    let on = few_either n (not (is_on_grid old.document.width old.document.height at)) (stays old outside_tile) there
+    (omega arith) few in
+    few_either n (not (has_stack old.document stack)) (stays old (no_stack stack))
+    (cond (not (is_on_grid old.document.width old.document.height at)) (stays old outside_tile) there)
     (omega arith) on
 
-pub groups-told : (old : Now) (call : Call) (seen : ℕ) (tables : List (List ℕ)) → (told old call seen tables).now.next_group ≤ old.next_group + 1
+pub groups-told : (old : Now) (call : Call) (seen : ℕ) (tables : List (List ℕ))
+    → (told old call seen tables).now.next_group ≤ old.next_group + 1
 groups-told old (machine.edit guard edits) seen tables =
     let r = apply_group (at_now old) edits tables in
     let damage = damage_along (at_now old) edits tables in
-    few_either (old.next_group + 1) (names guard old.version) (made_now old damage r) (stays old (moved old.version)) (groups-made old damage r) (omega arith)
+    few_either (old.next_group + 1) (names guard old.version) (made_now old damage r) (stays old (moved old.version))
+    (groups-made old damage r) (omega arith)
 groups-told old (machine.undo named) seen tables = groups-undone old named old.undo
 groups-told old machine.redo seen tables = groups-redone old old.redo
-groups-told old (machine.tile stack at) seen tables = groups-tile old stack at (record { reply = tile_of old.version; now = with_tile old stack at }) (omega arith)
-groups-told old (machine.peek stack at) seen tables = groups-tile old stack at (stays old (peek_reply (kept old.cache stack at old.version) seen)) (omega arith)
+groups-told old (machine.tile stack at) seen tables =
+    groups-tile old stack at (record { reply = tile_of old.version; now = with_tile old stack at }) (omega arith)
+groups-told old (machine.peek stack at) seen tables =
+    groups-tile old stack at (stays old (peek_reply (kept old.cache stack at old.version) seen)) (omega arith)
 groups-told old machine.top seen tables = omega arith

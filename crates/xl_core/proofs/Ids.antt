@@ -9,7 +9,8 @@ use Rattle.spec_history.proofs.VersionsLimited.{short_asks, short_next, version_
 use Rattle.xl_core.specs.Now.{Now, at_now, now_of, Stands}
 use Rattle.xl_core.specs.Group.{HasIds}
 
-pub has_ids : (base : Document) (entries : List Entry) (now : Now) (made : List ℕ) → Stands base entries now made → HasIds (at_now now) most_edits
+pub has_ids : (base : Document) (entries : List Entry) (now : Now) (made : List ℕ) → Stands base entries now made
+    → HasIds (at_now now) most_edits
 has_ids base entries now made stands =
     let P : Now → Type 0 = λ n. HasIds (at_now n) most_edits in
     let s = replay base entries in

@@ -14,7 +14,8 @@ use Rattle.xl_core.specs.declared.group.GroupRefusedOrMemory.{GroupRefusedOrMemo
 use Rattle.xl_core.specs.declared.group.GroupRefusedOrMemory.TheVariants.{Memory, Refused}
 
 -- what is refused with some tables is refused with any
-pub refused_same : (old : At) (edits : List Edit) (tables others : List (List ℕ)) (r : apply.Refused) → apply_group old edits tables ≡ Err r → apply_group old edits others ≡ Err r
+pub refused_same : (old : At) (edits : List Edit) (tables others : List (List ℕ)) (r : apply.Refused)
+    → apply_group old edits tables ≡ Err r → apply_group old edits others ≡ Err r
 refused_same old edits tables others r e =
     is_refused (apply_group old edits others) r (sym (same_refused 0 old old edits tables others refl refl) ∙ ap refused_in e) where
       is_refused : (a : Result At apply.Refused) (r : apply.Refused) → refused_in a ≡ Some r → a ≡ Err r
@@ -22,12 +23,15 @@ refused_same old edits tables others r e =
       is_refused (Err q) r h = let same : q ≡ r = cc in ap Err same
 
 -- so it is with what is answered
-pub refusal_same : (old : At) (edits : List Edit) (tables others : List (List ℕ)) (e : GroupRefusedOrMemory) → IsRefusal old edits tables e → IsRefusal old edits others e
+pub refusal_same : (old : At) (edits : List Edit) (tables others : List (List ℕ)) (e : GroupRefusedOrMemory)
+    → IsRefusal old edits tables e → IsRefusal old edits others e
 refusal_same old edits tables others Memory h = tt
-refusal_same old edits tables others (Refused index cause) h = refused_same old edits tables others (record { index = index; cause = cause }) h
+refusal_same old edits tables others (Refused index cause) h =
+    refused_same old edits tables others (record { index = index; cause = cause }) h
 
 -- what is accepted with some tables is accepted with any
-pub accepted_same : (old new : At) (edits : List Edit) (tables others : List (List ℕ)) → apply_group old edits tables ≡ Ok new → refused_in (apply_group old edits others) ≡ None
+pub accepted_same : (old new : At) (edits : List Edit) (tables others : List (List ℕ)) → apply_group old edits tables ≡ Ok new
+    → refused_in (apply_group old edits others) ≡ None
 accepted_same old new edits tables others e = sym (same_refused 0 old old edits tables others refl refl) ∙ ap refused_in e
 
 -- and so it is not refused
@@ -39,16 +43,20 @@ no_tables [] e = refl
 no_tables (t ∷ ts) e = cc
 
 -- a group that was accepted is not made where memory runs out, and then all its filters were asked
-pub leaves : (chest after : List (Option FilterState)) (old : At) (edits : List Edit) (tables : List (List ℕ)) (e : GroupRefusedOrMemory)
-    → refused_in (apply_group old edits tables) ≡ None → AreAsked chest after edits tables → IsRefusal old edits tables e → LeavesChest chest after edits e
+pub leaves : (chest after : List (Option FilterState)) (old : At) (edits : List Edit) (tables : List (List ℕ))
+    (e : GroupRefusedOrMemory)
+    → refused_in (apply_group old edits tables) ≡ None → AreAsked chest after edits tables → IsRefusal old edits tables e
+    → LeavesChest chest after edits e
 leaves chest after old edits tables Memory allowed asked h =
     (length edits, subst (IsUsed chest after) (sym (take_all (length edits) edits (omega arith))) asked.used)
 leaves chest after old edits tables (Refused index cause) allowed asked h =
     absurd (not_refused (apply_group old edits tables) (record { index = index; cause = cause }) allowed h)
 
 -- all of the filters were asked
-pub all_part : (chest after : List (Option FilterState)) (edits : List Edit) (tables : List (List ℕ)) → AreAsked chest after edits tables → IsPartUsed chest after edits
-all_part chest after edits tables asked = (length edits, subst (IsUsed chest after) (sym (take_all (length edits) edits (omega arith))) asked.used)
+pub all_part : (chest after : List (Option FilterState)) (edits : List Edit) (tables : List (List ℕ))
+    → AreAsked chest after edits tables → IsPartUsed chest after edits
+all_part chest after edits tables asked =
+    (length edits, subst (IsUsed chest after) (sym (take_all (length edits) edits (omega arith))) asked.used)
 
 -- none of the filters was asked
 pub none_part : (chest : List (Option FilterState)) (edits : List Edit) → IsPartUsed chest chest edits
@@ -58,7 +66,8 @@ none_part chest edits = (0, subst (IsUsed chest chest) (sym (take_none edits)) (
   take_none (e ∷ es) = refl
 
 -- the edits under another name
-pub part_same : {A E : Type 0} (r : Result A E) (old new : List (Option FilterState)) (edits others : List Edit) → edits ≡ others → OnErr r (IsPartUsed old new others)
+pub part_same : {A E : Type 0} (r : Result A E) (old new : List (Option FilterState)) (edits others : List Edit) → edits ≡ others
+    → OnErr r (IsPartUsed old new others)
     → OnErr r (IsPartUsed old new edits)
 part_same r old new edits others same part = subst (λ es. OnErr r (IsPartUsed old new es)) (sym same) part
 

@@ -42,4 +42,5 @@ pub stands_opened : (d base : Document) (entries : List Entry) (now : Now) → b
     → AreNumbered d.nodes → IsDocument d → Stands base entries now (0 ∷ 0 ∷ 0 ∷ 0 ∷ 0 ∷ 0 ∷ 0 ∷ 0 ∷ [])
 stands_opened d base entries now same none first numbered within =
     subst (λ b. Stands b entries now none_made) (sym same)
-    (subst (λ es. Stands d es now none_made) (sym none) (subst (λ n. Stands d [] n none_made) (sym first) (opened d numbered within)))
+    (subst (λ es. Stands d es now none_made) (sym none)
+    (subst (λ n. Stands d [] n none_made) (sym first) (opened d numbered within)))

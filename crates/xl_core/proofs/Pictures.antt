@@ -24,7 +24,8 @@ use Rattle.spec_world.proofs.Taken.{standing-take}
 use Rattle.xl_core.specs.Now.{Now, IsTileOf, with_cache, world_of, Stands}
 
 -- what stands, with other pictures that are right
-pub stands-with : (base : Document) (entries : List Entry) (now : Now) (made : List ℕ) (cache : Cache) → Stands base entries now made → IsStanding base (world_of base entries cache)
+pub stands-with : (base : Document) (entries : List Entry) (now : Now) (made : List ℕ) (cache : Cache)
+    → Stands base entries now made → IsStanding base (world_of base entries cache)
     → Stands base entries (with_cache now cache) made
 stands-with base entries now made cache stands pictures = record {
   within = stands.within;
@@ -39,20 +40,31 @@ stands-with base entries now made cache stands pictures = record {
 }
 
 -- and what stands is right
-pub is_right : (base : Document) (entries : List Entry) (now : Now) (made : List ℕ) → Stands base entries now made → IsRight base (world_of base entries now.cache)
+pub is_right : (base : Document) (entries : List Entry) (now : Now) (made : List ℕ) → Stands base entries now made
+    → IsRight base (world_of base entries now.cache)
 is_right base entries now made stands = right base (world_of base entries now.cache) stands.within stands.pictures
 
 -- an entry that makes no version and shows no tile
-pub pictures-entry : (base : Document) (entries : List Entry) (now : Now) (made : List ℕ) (e : Entry) → Stands base entries now made → IsStep base (replay base entries) entries e
-    → PeekMeetsKept base entries e.kind e.reply → is_changed e.reply ≡ false → ((stack : ℕ) (at : TileAt) → shown_version e.kind e.reply stack at ≡ None)
+pub pictures-entry : (base : Document) (entries : List Entry) (now : Now) (made : List ℕ) (e : Entry) → Stands base entries now made
+    → IsStep base (replay base entries) entries e
+    → PeekMeetsKept base entries e.kind e.reply → is_changed e.reply ≡ false
+    → ((stack : ℕ) (at : TileAt) → shown_version e.kind e.reply stack at ≡ None)
     → IsStanding base (world_of base (entries ++ e ∷ []) now.cache)
 pictures-entry base entries now made e stands step peek unchanged silent =
-    subst (IsStanding base) (λ i. record { entries = entries ++ e ∷ []; state = sym (replay-snoc base entries e) i; cache = now.cache; jobs = [] })
-    (standing-entry base (world_of base entries now.cache) e stands.pictures (enters base entries e (replay base entries) stands.legal refl step peek) unchanged silent)
+    subst (IsStanding base) (λ i. record {
+      entries = entries ++ e ∷ [];
+      state = sym (replay-snoc base entries e) i;
+      cache =
+          now.cache;
+      jobs = [];
+    })
+    (standing-entry base (world_of base entries now.cache) e stands.pictures
+    (enters base entries e (replay base entries) stands.legal refl step peek) unchanged silent)
 
 -- ---- jobs
 
-pub stands-taken : (base : Document) (entries : List Entry) (now : Now) (made : List ℕ) → Stands base entries now made → Stands base entries (with_cache now (after_take now.cache)) made
+pub stands-taken : (base : Document) (entries : List Entry) (now : Now) (made : List ℕ) → Stands base entries now made
+    → Stands base entries (with_cache now (after_take now.cache)) made
 stands-taken base entries now made stands =
     let t = standing-take base (world_of base entries now.cache) stands.pictures in
     stands-with base entries now made (after_take now.cache) stands (record {
@@ -66,7 +78,8 @@ stands-taken base entries now made stands =
     })
 
 -- the tile that is taken next is there
-pub next-there : (base : Document) (entries : List Entry) (now : Now) (made : List ℕ) → Stands base entries now made → IfSome (next_place now.cache) (IsTileOf now.document)
+pub next-there : (base : Document) (entries : List Entry) (now : Now) (made : List ℕ) → Stands base entries now made
+    → IfSome (next_place now.cache) (IsTileOf now.document)
 next-there base entries now made stands =
     let document : now.document ≡ document_now base s = ap (λ n. n.document) stands.is_now in
     subst (λ d. IfSome (next_place now.cache) (IsTileOf d)) (sym document)
@@ -82,8 +95,10 @@ next-there base entries now made stands =
         record { has = all.0.has; on_grid = (λ i. is_on_grid (c.width i) (c.height i) p.at) ∙ all.0.on_grid }
 
 -- a picture that is right is handed in
-pub stands-finished : (base : Document) (entries : List Entry) (now : Now) (made : List ℕ) (place : Place) (version : ℕ) (picture : List ℕ) → Stands base entries now made
-    → version ≤ latest (replay base entries) → has_stack (document_at base (replay base entries) version) place.stack ≡ true → is_on_grid base.width base.height place.at ≡ true
+pub stands-finished : (base : Document) (entries : List Entry) (now : Now) (made : List ℕ) (place : Place) (version : ℕ)
+    (picture : List ℕ) → Stands base entries now made
+    → version ≤ latest (replay base entries) → has_stack (document_at base (replay base entries) version) place.stack ≡ true
+    → is_on_grid base.width base.height place.at ≡ true
     → picture ≡ project (document_at base (replay base entries) version) place.stack place.at
     → Stands base entries (with_cache now (install place version picture now.cache)) made
 stands-finished base entries now made place version picture stands there has on is =

@@ -1,10 +1,12 @@
 -- A history goes on by a save's start and its end, and the shelf stays right.
-use Rattle.std.proofs.Common.{◌≡◌, ℕ, ◌+◌, ◌<◌, ◌≤◌, Bool, true, false, cond, List, [], ◌∷◌, ◌++◌, length, refl, sym, ◌∙◌, ap, subst, arith, length-append, add-zero}
+use Rattle.std.proofs.Common.{◌≡◌, ℕ, ◌+◌, ◌<◌, ◌≤◌, Bool, true, false, cond, List, [], ◌∷◌, ◌++◌, length, refl, sym}
+use Rattle.std.proofs.Common.{◌∙◌, ap, subst, arith, length-append, add-zero}
 use Rattle.std.specs.Prelude.{◌==◌, ◌&&◌, not, slice_index, slice_set, Option, Some, None, IsSome}
 use Rattle.std.specs.declared.snapshot.Snapshot.{Snapshot}
 use Rattle.spec_document.specs.Document.{Document}
 use Rattle.spec_history.specs.Machine.{Call, Reply, saved, State, Saving, latest, document_at}
-use Rattle.spec_history.specs.History.{Entry, asked, starts, ends, replay, next_index, is_end_kind, is_changed, latest_of, document_of, EndsWith, MayEnd}
+use Rattle.spec_history.specs.History.{Entry, asked, starts, ends, replay, next_index, is_end_kind, is_changed}
+use Rattle.spec_history.specs.History.{latest_of, document_of, EndsWith, MayEnd}
 use Rattle.spec_history.proofs.Growing.{replay-snoc, next_index-snoc}
 use Rattle.spec_history.proofs.Versions.{latest_of-legal}
 use Rattle.spec_world.specs.declared.SaveEnd.{SaveEnd}
@@ -30,9 +32,16 @@ use Rattle.xl_core.proofs.Pictures.{pictures-entry}
 -- ---- what stands
 
 -- a save starts with the last version
-pub stands_started : (base : Document) (entries : List Entry) (now : Now) (made : List ℕ) (session : ℕ) → Stands base entries now made → length made ≡ 8 → session < 8
+pub stands_started : (base : Document) (entries : List Entry) (now : Now) (made : List ℕ) (session : ℕ)
+    → Stands base entries now made → length made ≡ 8 → session < 8
     → (replay base entries).out ≡ None → length entries + 2 ≤ most_entries
-    → Stands base (entries ++ record { session = session; index = slice_index made session; kind = starts; reply = saved now.version } ∷ []) now
+    → Stands base (entries ++ record {
+      session = session;
+      index = slice_index made session;
+      kind = starts;
+      reply =
+          saved now.version;
+    } ∷ []) now
     (slice_set made session (slice_index made session + 1))
 stands_started base entries now made session stands eight within none few =
     let s = replay base entries in
@@ -60,7 +69,8 @@ ends_with Done version = refl
 ends_with Fault version = refl
 ends_with Memory version = refl
 
-may_end : (out : Option Saving) (session : ℕ) (how : SaveEnd) → IsOutOf out session → MayEnd out session (index_out out) (end_reply how (version_out out))
+may_end : (out : Option Saving) (session : ℕ) (how : SaveEnd) → IsOutOf out session
+    → MayEnd out session (index_out out) (end_reply how (version_out out))
 may_end None session how is = absurd is
 may_end (Some out) session how is = (is, refl, ends_with how out.version)
 
@@ -85,10 +95,12 @@ not_counted : (entries : List Entry) (e : Entry) → e.kind ≡ ends → (s : �
 not_counted entries e kind s =
     let test : one_where (e.session == s && not (is_end_kind e.kind)) ≡ one_where (e.session == s && false) =
     ap (λ k. one_where (e.session == s && not (is_end_kind k))) kind in
-    next_index-snoc entries e s ∙ (ap (λ n. next_index entries s + n) (test ∙ never (e.session == s)) ∙ add-zero (next_index entries s))
+    next_index-snoc entries e s ∙ (ap (λ n. next_index entries s + n) (test ∙ never (e.session == s))
+    ∙ add-zero (next_index entries s))
 
 -- the save that is out ends with its version
-pub stands_ended : (base : Document) (entries : List Entry) (now : Now) (made : List ℕ) (session : ℕ) (how : SaveEnd) → Stands base entries now made
+pub stands_ended : (base : Document) (entries : List Entry) (now : Now) (made : List ℕ) (session : ℕ) (how : SaveEnd)
+    → Stands base entries now made
     → IsOutOf (replay base entries).out session
     → Stands base (entries ++ end_entry base entries session (index_out (replay base entries).out) how ∷ []) now made
 stands_ended base entries now made session how stands out =
@@ -99,7 +111,8 @@ stands_ended base entries now made session how stands out =
     let before = owed_out s.out session out in
     let few = stands.few in
     let groups = stands.groups in
-    let pictures = pictures-entry base entries now made e stands (may_end s.out session how out) tt (end_unchanged how (version_out s.out)) (λ stack at. refl) in
+    let pictures = pictures-entry base entries now made e stands (may_end s.out session how out) tt
+    (end_unchanged how (version_out s.out)) (λ stack at. refl) in
     record {
       within = stands.within;
       small = stands.small;
@@ -113,13 +126,15 @@ stands_ended base entries now made session how stands out =
     }
 
 -- the last version and its document are those of the history
-pub version_is : (base : Document) (entries : List Entry) (now : Now) (made : List ℕ) → Stands base entries now made → now.version ≡ latest_of entries
+pub version_is : (base : Document) (entries : List Entry) (now : Now) (made : List ℕ) → Stands base entries now made
+    → now.version ≡ latest_of entries
 version_is base entries now made stands = ap (λ n. n.version) stands.is_now ∙ sym (latest_of-legal base entries stands.legal)
 
 pub document_is : (base : Document) (entries : List Entry) (now : Now) (made : List ℕ) → Stands base entries now made
     → now.document ≡ document_of base entries (latest_of entries)
 document_is base entries now made stands =
-    ap (λ n. n.document) stands.is_now ∙ ap (document_at base (replay base entries)) (sym (latest_of-legal base entries stands.legal))
+    ap (λ n. n.document) stands.is_now
+    ∙ ap (document_at base (replay base entries)) (sym (latest_of-legal base entries stands.legal))
 
 -- ---- where the shelf is
 
@@ -130,7 +145,8 @@ none_out place out k is there = go out (subst (λ p. IsPlace p out) is there)
     go None there = refl
     go (Some out) there = absurd there
 
-pub which_out : (K : Type 0) (index version : ℕ) (out : Option Saving) → IsPlace {K = K} (Out index version) out → (index ≡ index_out out) × (version ≡ version_out out)
+pub which_out : (K : Type 0) (index version : ℕ) (out : Option Saving) → IsPlace {K = K} (Out index version) out
+    → (index ≡ index_out out) × (version ≡ version_out out)
 which_out K index version None there = absurd there
 which_out K index version (Some out) there = there
 
@@ -141,7 +157,8 @@ owed_is K (In k) (Some out) there = absurd there
 owed_is K (Out index version) None there = absurd there
 owed_is K (Out index version) (Some out) there = refl
 
-pub seen-snoc : {K : Type 0} (seen : List (Snapshot K)) (s : Snapshot K) (k : K) → s.value ≡ k → all_seen (seen ++ s ∷ []) ≡ all_seen seen ++ k ∷ []
+pub seen-snoc : {K : Type 0} (seen : List (Snapshot K)) (s : Snapshot K) (k : K) → s.value ≡ k
+    → all_seen (seen ++ s ∷ []) ≡ all_seen seen ++ k ∷ []
 seen-snoc [] s k is = ap (λ x. x ∷ []) is
 seen-snoc (x ∷ seen) s k is = ap (λ xs. x.value ∷ xs) (seen-snoc seen s k is)
 
@@ -149,15 +166,19 @@ pub last-snoc : {K : Type 0} (first : K) (ks : List K) (k : K) → last_of first
 last-snoc first [] k = refl
 last-snoc first (x ∷ ks) k = last-snoc x ks k
 
-module _ {K : Type 0} (see : K → Known) (base : Document) (entries : List Entry) (now : Now) (made : List ℕ) (stands : Stands base entries now made) (opening : K) (handed : List K) where
+module _ {K : Type 0} (see : K → Known) (base : Document) (entries : List Entry) (now : Now) (made : List ℕ)
+    (stands : Stands base entries now made) (opening : K) (handed : List K) where
   -- a call leaves the shelf where it is
-  pub holds_called : (place : Place K) (room more : ℕ) (session index : ℕ) (call : Call) (tables : List (List ℕ)) (reply : Reply) → Holds see base entries opening handed place room
+  pub holds_called : (place : Place K) (room more : ℕ) (session index : ℕ) (call : Call) (tables : List (List ℕ)) (reply : Reply)
+      → Holds see base entries opening handed place room
       → length entries + 1 + entries_owed (replay base entries).out ≤ more
-      → Holds see base (entries ++ record { session = session; index = index; kind = asked call tables; reply = reply } ∷ []) opening handed place more
+      → Holds see base (entries ++ record { session = session; index = index; kind = asked call tables; reply = reply }
+      ∷ []) opening handed place more
   holds_called place room more session index call tables reply holds enough =
       let e : Entry = record { session = session; index = index; kind = asked call tables; reply = reply } in
       let out = out-call base entries session index call tables reply in
-      let owed : entries_owed (replay base (entries ++ e ∷ [])).out ≡ entries_owed (replay base entries).out = ap entries_owed out in
+      let owed : entries_owed (replay base (entries ++ e ∷ [])).out ≡ entries_owed (replay base entries).out =
+      ap entries_owed out in
       let len : length (entries ++ e ∷ []) ≡ length entries + 1 = length-append entries (e ∷ []) in
       record {
         place_is = subst (IsPlace place) (sym out) holds.place_is;
@@ -169,7 +190,8 @@ module _ {K : Type 0} (see : K → Known) (base : Document) (entries : List Entr
   -- a start hands it out
   pub holds_started : (k : K) (room more : ℕ) (session index version : ℕ) → Holds see base entries opening handed (In k) room
       → version ≡ latest (replay base entries) → length entries + 2 ≤ more
-      → Holds see base (entries ++ record { session = session; index = index; kind = starts; reply = saved version } ∷ []) opening (handed ++ k ∷ []) (Out index version) more
+      → Holds see base (entries ++ record { session = session; index = index; kind = starts; reply = saved version } ∷ []) opening
+      (handed ++ k ∷ []) (Out index version) more
   holds_started k room more session index version holds last enough =
       let e : Entry = record { session = session; index = index; kind = starts; reply = saved version } in
       let state = replay-snoc base entries e in
@@ -188,15 +210,18 @@ module _ {K : Type 0} (see : K → Known) (base : Document) (entries : List Entr
   some_out None session is = absurd is
   some_out (Some out) session is = refl
 
-  out_handed : (place : Place K) (out : Option Saving) (session : ℕ) → IsPlace place out → IsOutOf out session → at_hand opening handed place ≡ last_of opening handed
+  out_handed : (place : Place K) (out : Option Saving) (session : ℕ) → IsPlace place out → IsOutOf out session
+      → at_hand opening handed place ≡ last_of opening handed
   out_handed (In k) None session is of = absurd of
   out_handed (In k) (Some out) session is of = absurd is
   out_handed (Out index version) out session is of = refl
 
   -- an end takes it back
-  pub holds_ended : (place : Place K) (k : K) (room : ℕ) (session : ℕ) (how : SaveEnd) → Holds see base entries opening handed place room
+  pub holds_ended : (place : Place K) (k : K) (room : ℕ) (session : ℕ) (how : SaveEnd)
+      → Holds see base entries opening handed place room
       → IsOutOf (replay base entries).out session → Returns (see opening) (see (last_of opening handed)) base entries how (see k)
-      → Holds see base (entries ++ end_entry base entries session (index_out (replay base entries).out) how ∷ []) opening handed (In k) room
+      → Holds see base (entries ++ end_entry base entries session (index_out (replay base entries).out) how ∷ []) opening handed
+      (In k) room
   holds_ended place k room session how holds out back =
       let e = end_entry base entries session (index_out (replay base entries).out) how in
       let state = replay-snoc base entries e in
@@ -206,9 +231,11 @@ module _ {K : Type 0} (see : K → Known) (base : Document) (entries : List Entr
       let enough = holds.room_owed in
       record {
         place_is = subst (λ (t : State). IsPlace (In k) t.out) (sym state) tt;
-        right = comes_back_right (see opening) (see (last_of opening handed)) (see k) base entries session (index_out (replay base entries).out) how stands.legal.run
+        right = comes_back_right (see opening) (see (last_of opening handed)) (see k) base entries session
+            (index_out (replay base entries).out) how stands.legal.run
             (some_out (replay base entries).out session out)
-            (subst (λ (x : K). ShelfIsRight (see opening) base entries (see x)) (out_handed place (replay base entries).out session holds.place_is out) holds.right) back;
+            (subst (λ (x : K). ShelfIsRight (see opening) base entries (see x))
+            (out_handed place (replay base entries).out session holds.place_is out) holds.right) back;
         each_start = holds.each_start ∙ sym (saves_started-snoc entries e ∙ add-zero (saves_started entries));
         room_owed = omega (arith, owed, len, enough, before);
       }

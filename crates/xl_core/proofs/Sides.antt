@@ -39,7 +39,8 @@ sides_effect d next table (edits.add_channel name) = record { width = refl; heig
 sides_effect d next table (edits.drop_channel index) = record { width = refl; height = refl }
 sides_effect d next table (edits.set_colours bytes) = record { width = refl; height = refl }
 
-sides_from : (index : ℕ) (old new : At) (es : List Edit) (tables : List (List ℕ)) → apply_from index old es tables ≡ Ok new → SameSides old.document new.document
+sides_from : (index : ℕ) (old new : At) (es : List Edit) (tables : List (List ℕ)) → apply_from index old es tables ≡ Ok new
+    → SameSides old.document new.document
 sides_from index old new [] tables e =
     let same : old ≡ new = cc in
     record { width = ap (λ a. a.document.width) (sym same); height = ap (λ a. a.document.height) (sym same) }
@@ -54,5 +55,6 @@ sides_from index old new (edit ∷ es) tables e =
       height = rest.height ∙ (ap (λ d. d.height) made.1 ∙ one.height);
     }
 
-pub sides_same : (old new : At) (es : List Edit) (tables : List (List ℕ)) → apply_group old es tables ≡ Ok new → SameSides old.document new.document
+pub sides_same : (old new : At) (es : List Edit) (tables : List (List ℕ)) → apply_group old es tables ≡ Ok new
+    → SameSides old.document new.document
 sides_same old new es tables e = sides_from 0 old new es tables e

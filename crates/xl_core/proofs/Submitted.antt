@@ -1,5 +1,6 @@
 -- A call of a core as the event of its world, and as the machine answers it.
-use Rattle.std.proofs.Common.{◌≡◌, ℕ, ◌+◌, ◌-◌, ◌≤◌, Bool, true, false, cond, ◌==◌, nat_le, List, [], ◌∷◌, ◌++◌, length, refl, sym, ◌∙◌, subst, arith}
+use Rattle.std.proofs.Common.{◌≡◌, ℕ, ◌+◌, ◌-◌, ◌≤◌, Bool, true, false, cond, ◌==◌, nat_le, List, [], ◌∷◌, ◌++◌}
+use Rattle.std.proofs.Common.{length, refl, sym, ◌∙◌, subst, arith}
 use Rattle.std.specs.Prelude.{MatchBool, Option, Result, IfOk, IfSome}
 use Rattle.std.proofs.lemmas.Bool.Decides.{nat_tests}
 use Rattle.spec_document.specs.Document.{Document}
@@ -22,18 +23,22 @@ use Rattle.xl_core.specs.Now.{Now, with_cache, Stands}
 use Rattle.xl_core.proofs.Pictures.{stands-finished}
 
 -- the history and the pictures are what a call makes of those of a core
-abbrev pub IsMadeOf : {K : Type 0} → Editing K → (base : Document) (new : World) (session : ℕ) → Call → (seen : ℕ) → (tables : List (List ℕ)) → Reply → Type 0
+abbrev pub IsMadeOf : {K : Type 0} → Editing K → (base : Document) (new : World) (session : ℕ) → Call → (seen : ℕ)
+    → (tables : List (List ℕ)) → Reply → Type 0
 IsMadeOf old base new session call seen tables reply =
     let o = events.submit old.history.base (world old) session call seen tables in
     (base ≡ old.history.base) × (reply ≡ o.reply) × (new ≡ o.world)
 
 -- what is said of a core is said of it by another name
-pub submitted_same : {K : Type 0} (one old : Editing K) → one ≡ old → (base : Document) (new : World) (session : ℕ) (call : Call) (seen : ℕ) (tables : List (List ℕ)) (reply : Reply)
+pub submitted_same : {K : Type 0} (one old : Editing K) → one ≡ old
+    → (base : Document) (new : World) (session : ℕ) (call : Call) (seen : ℕ) (tables : List (List ℕ)) (reply : Reply)
     → IsMadeOf one base new session call seen tables reply → IsMadeOf old base new session call seen tables reply
-submitted_same one old same base new session call seen tables reply is = subst (λ c. IsMadeOf c base new session call seen tables reply) same is
+submitted_same one old same base new session call seen tables reply is =
+    subst (λ c. IsMadeOf c base new session call seen tables reply) same is
 
 -- where a core stays, it stays right
-pub right_same : {K : Type 0} (one old : Editing K) → one ≡ old → worlds.IsRight one.history.base (world one) → worlds.IsRight old.history.base (world old)
+pub right_same : {K : Type 0} (one old : Editing K) → one ≡ old → worlds.IsRight one.history.base (world one)
+    → worlds.IsRight old.history.base (world old)
 right_same one old same is = subst (λ c. worlds.IsRight c.history.base (world c)) same is
 
 -- ---- calls that are no peeks
@@ -48,7 +53,8 @@ built_is (machine.peek stack at) built = tt
 built_is machine.top built = tt
 
 -- they are answered as the machine answers them
-machine_reply : (base : Document) (w : World) (call : Call) (seen : ℕ) (tables : List (List ℕ)) → IsBuilt call → events.reply_to base w call seen tables ≡ (answer base w.state call tables).reply
+machine_reply : (base : Document) (w : World) (call : Call) (seen : ℕ) (tables : List (List ℕ)) → IsBuilt call
+    → events.reply_to base w call seen tables ≡ (answer base w.state call tables).reply
 machine_reply base w (machine.edit guard edits) seen tables built = refl
 machine_reply base w (machine.undo named) seen tables built = refl
 machine_reply base w machine.redo seen tables built = refl
@@ -60,10 +66,12 @@ same_full : (most n : ℕ) → (most - n == 0) ≡ nat_le most n
 same_full most n = grind (arith, nat_tests)
 
 -- so the history goes on as the machine does
-pub submitted_answers : {K : Type 0} (old new : Editing K) (session : ℕ) (call : Call) (seen : ℕ) (tables : List (List ℕ)) (reply : Reply) → IsBuilt call
+pub submitted_answers : {K : Type 0} (old new : Editing K) (session : ℕ) (call : Call) (seen : ℕ) (tables : List (List ℕ))
+    (reply : Reply) → IsBuilt call
     → IsSubmitted old session call seen tables reply new → Answers old.history session call tables reply new.history
 submitted_answers old new session call seen tables reply built is =
-    subst (λ b. MatchBool b full went) (same_full most_entries (length old.history.entries + entries_owed (replay old.history.base old.history.entries).out))
+    subst (λ b. MatchBool b full went)
+    (same_full most_entries (length old.history.entries + entries_owed (replay old.history.base old.history.entries).out))
     (go (free_entries (world old) == 0) is.1 is.2)
   where
     w : World
@@ -79,7 +87,11 @@ submitted_answers old new session call seen tables reply built is =
     stays = record { reply = machine.history_full; world = w }
 
     made : Outcome
-    made = record { reply = events.reply_to old.history.base w call seen tables; world = events.with_call old.history.base w session call tables (events.reply_to old.history.base w call seen tables) }
+    made = record {
+      reply = events.reply_to old.history.base w call seen tables;
+      world =
+          events.with_call old.history.base w session call tables (events.reply_to old.history.base w call seen tables);
+    }
 
     go : (b : Bool) → reply ≡ (cond b stays made).reply → world new ≡ (cond b stays made).world → MatchBool b full went
     go true says same = (says, λ i. record { base = is.0 i; entries = (same i).entries })
@@ -88,7 +100,13 @@ submitted_answers old new session call seen tables reply built is =
       (λ i. record { base = is.0 i; entries = (same i).entries })
           ∙ (λ i. record {
             base = old.history.base;
-            entries = old.history.entries ++ record { session = session; index = next_index old.history.entries session; kind = asked call tables; reply = sym says i } ∷ [];
+            entries = old.history.entries ++ record {
+              session = session;
+              index = next_index old.history.entries session;
+              kind =
+                  asked call tables;
+              reply = sym says i;
+            } ∷ [];
           }),
     )
 
@@ -103,7 +121,9 @@ stands_handed h now made done stands is =
 
 -- ---- a job that is taken
 
-pub job_same : {E : Type 0} (r : Result (Option Job) E) (d e : Document) (v n : ℕ) → d ≡ e → v ≡ n → IfOk r (λ job. IfSome job (λ j. StandsFor d j.stack j.at v j))
+pub job_same : {E : Type 0} (r : Result (Option Job) E) (d e : Document) (v n : ℕ) → d ≡ e → v ≡ n
+    → IfOk r (λ job. IfSome job (λ j. StandsFor d j.stack j.at v j))
     → IfOk r (λ job. IfSome job (λ j. StandsFor e j.stack j.at n j))
 job_same r d e v n document version is =
-    subst (λ x. IfOk r (λ job. IfSome job (λ j. StandsFor e j.stack j.at x j))) version (subst (λ x. IfOk r (λ job. IfSome job (λ j. StandsFor x j.stack j.at v j))) document is)
+    subst (λ x. IfOk r (λ job. IfSome job (λ j. StandsFor e j.stack j.at x j))) version
+    (subst (λ x. IfOk r (λ job. IfSome job (λ j. StandsFor x j.stack j.at v j))) document is)

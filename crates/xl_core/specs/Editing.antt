@@ -22,7 +22,8 @@ use Rattle.xl_compose.specs.declared.clean.Done.{Done}
 use Rattle.xl_core.specs.declared.saving.Begun.{Begun}
 use Rattle.xl_core.specs.declared.saving.Begun.TheVariants.{Snapshot, Out, Full}
 
--- The history and the pictures that are kept; the shelf as the document was opened, as each save's start has handed it out, and as it
+-- The history and the pictures that are kept; the shelf as the document was opened, as each save's start has handed
+-- it out, and as it
 -- is where no save is out; and for how many calls, undos and redos among them, there is room without more memory.
 pub record Editing (K : Type 0) : Type 0 where
   pub history : History
@@ -39,7 +40,8 @@ abbrev pub world : {K : Type 0} → Editing K → World
 world c = world_of c.history.base c.history.entries c.cache
 
 -- a session's call is the event of the world
-abbrev pub IsSubmitted : {K : Type 0} → (old : Editing K) → (session : ℕ) → Call → (seen : ℕ) → (tables : List (List ℕ)) → Reply → (new : Editing K) → Type 0
+abbrev pub IsSubmitted : {K : Type 0} → (old : Editing K) → (session : ℕ) → Call → (seen : ℕ) → (tables : List (List ℕ)) → Reply
+    → (new : Editing K) → Type 0
 IsSubmitted old session call seen tables reply new =
     let o = submit old.history.base (world old) session call seen tables in
     (new.history.base ≡ old.history.base) × (reply ≡ o.reply) × (world new ≡ o.world)
@@ -139,11 +141,18 @@ with_entry h e = record h { entries = h.entries ++ e ∷ [] }
 -- the shelf is handed out, and the start is the last entry
 abbrev pub with_start : {K : Type 0} → Editing K → (session : ℕ) → K → (spare : ℕ) → Editing K
 with_start c session k spare =
-    record c { history = with_entry c.history (start_of c.history session); handed = c.handed ++ k ∷ []; shelf = None; spare = spare }
+    record c {
+      history = with_entry c.history (start_of c.history session);
+      handed = c.handed ++ k ∷ [];
+      shelf = None;
+      spare =
+          spare;
+    }
 
 -- the shelf is there again, and the end is the last entry
 abbrev pub with_end : {K : Type 0} → Editing K → (session : ℕ) → Reply → K → (spare : ℕ) → Editing K
-with_end c session reply k spare = record c { history = with_entry c.history (end_of c.history session reply); shelf = Some k; spare = spare }
+with_end c session reply k spare =
+    record c { history = with_entry c.history (end_of c.history session reply); shelf = Some k; spare = spare }
 
 -- A save begins with the last version, its document and the shelf, where that is in and two entries are free.
 abbrev pub Begins : {K : Type 0} → (old : Editing K) → (session : ℕ) → Begun K → (new : Editing K) → Type 0
@@ -158,7 +167,8 @@ Begins old session Full new = IsSome old.shelf × (most_entries < length old.his
 
 -- A save ends with the version that it started with.
 abbrev pub Ends : {K : Type 0} → (old : Editing K) → (session : ℕ) → SaveEnd → K → Reply → (new : Editing K) → Type 0
-Ends old session how k reply new = (reply ≡ end_reply how (version_out (out_of old.history))) × (new ≡ with_end old session reply k new.spare)
+Ends old session how k reply new =
+    (reply ≡ end_reply how (version_out (out_of old.history))) × (new ≡ with_end old session reply k new.spare)
 
 -- of a shelf that is handed out
 abbrev pub HandsOut : {K : Type 0} → (K → Type 0) → Begun K → Type 0

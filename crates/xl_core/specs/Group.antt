@@ -25,7 +25,8 @@ IsAppliedOne old new edit table (Err edits.Memory) = Unit {0}
 -- what is left.
 abbrev pub AppliesGroup : (old new : At) → List Edit → (tables : List (List ℕ)) → Result (Unit {0}) GroupRefusedOrMemory → Type 0
 AppliesGroup old new edits tables (Ok done) = apply_group old edits tables ≡ Ok new
-AppliesGroup old new edits tables (Err (Refused index cause)) = apply_group old edits tables ≡ Err (record { index = index; cause = cause })
+AppliesGroup old new edits tables (Err (Refused index cause)) =
+    apply_group old edits tables ≡ Err (record { index = index; cause = cause })
 AppliesGroup old new edits tables (Err Memory) = Unit {0}
 
 -- where a group is not made with these tables, the edit that is refused is named, or memory ran out
@@ -33,7 +34,8 @@ abbrev pub IsRefusal : (old : At) → List Edit → (tables : List (List ℕ)) �
 IsRefusal old edits tables (Refused index cause) = apply_group old edits tables ≡ Err (record { index = index; cause = cause })
 IsRefusal old edits tables Memory = Unit {0}
 
--- what a group that is not made leaves of a chest: all where it is refused; where memory ran out its first filters may have been asked
+-- what a group that is not made leaves of a chest: all where it is refused; where memory ran out its first filters
+-- may have been asked
 abbrev pub LeavesChest : (old new : List (Option FilterState)) → List Edit → GroupRefusedOrMemory → Type 0
 LeavesChest old new edits (Refused index cause) = new ≡ old
 LeavesChest old new edits Memory = IsPartUsed old new edits

@@ -28,7 +28,8 @@ reply_to h call tables = (answer h.base (replay h.base h.entries) call tables).r
 -- the history with a call, its tables and its reply
 abbrev pub with_call : History → (session : ℕ) → Call → (tables : List (List ℕ)) → Reply → History
 with_call h session call tables reply = record h {
-  entries = h.entries ++ record { session = session; index = next_index h.entries session; kind = asked call tables; reply = reply } ∷ [];
+  entries =
+      h.entries ++ record { session = session; index = next_index h.entries session; kind = asked call tables; reply = reply } ∷ [];
 }
 
 -- no entry is free beside the end that is owed where a save is out

@@ -33,7 +33,8 @@ IsPlace (Out index version) None = ⊥
 IsPlace (Out index version) (Some out) = (index ≡ out.index) × (version ≡ out.version)
 
 -- The shelf is in its place and is right, or was as it was handed out; and there is room for the entry that a save owes.
-pub record Holds {K : Type 0} (see : K → Known) (base : Document) (entries : List Entry) (opening : K) (handed : List K) (place : Place K) (room : ℕ) : Type 0 where
+pub record Holds {K : Type 0} (see : K
+    → Known) (base : Document) (entries : List Entry) (opening : K) (handed : List K) (place : Place K) (room : ℕ) : Type 0 where
   pub place_is : IsPlace place (replay base entries).out
   pub right : ShelfIsRight (see opening) base entries (see (at_hand opening handed place))
   pub each_start : length handed ≡ saves_started entries

@@ -1,5 +1,6 @@
 -- What stands now, as far as calls ask for it.
-use Rattle.std.specs.Prelude.{◌≡◌, ℕ, ◌+◌, ◌-◌, ◌^◌, ◌≤◌, ◌<◌, not, if◌then◌else◌, List, [], ◌∷◌, true, false, length, map, slice_index, slice_get, Option, Some, None, IsSomeAnd, Result, Ok, Err}
+use Rattle.std.specs.Prelude.{◌≡◌, ℕ, ◌+◌, ◌-◌, ◌^◌, ◌≤◌, ◌<◌, not, if◌then◌else◌, List, [], ◌∷◌, true, false, length}
+use Rattle.std.specs.Prelude.{map, slice_index, slice_get, Option, Some, None, IsSomeAnd, Result, Ok, Err}
 use Rattle.std.specs.List.{AllByRecursion}
 use Rattle.spec_grid.specs.declared.TileAt.{TileAt}
 use Rattle.spec_grid.specs.Grid.{is_on_grid}
@@ -14,7 +15,9 @@ use Rattle.spec_damage.specs.Damage.{Pair}
 use Rattle.spec_cache.specs.Slots.{Slot, Shown, change_slot}
 use Rattle.spec_cache.specs.Cache.{Cache, Place, no_slots, slot_of, change_stack, kept}
 use Rattle.spec_history.specs.Machine as machine
-use Rattle.spec_history.specs.Machine.{Call, Reply, changed, refused, moved, nothing_to_undo, nothing_to_redo, not_top, tile_of, stale, no_stack, outside_tile, top_is, saved, save_fault, save_memory, history_full, names, Cause, State, Done, latest, document_at, has_stack}
+use Rattle.spec_history.specs.Machine.{Call, Reply, changed, refused, moved, nothing_to_undo, nothing_to_redo, not_top}
+use Rattle.spec_history.specs.Machine.{tile_of, stale, no_stack, outside_tile, top_is, saved, save_fault, save_memory}
+use Rattle.spec_history.specs.Machine.{history_full, names, Cause, State, Done, latest, document_at, has_stack}
 use Rattle.spec_history.specs.History.{Entry, replay, next_index}
 use Rattle.spec_history.specs.Kept.{IsLegal}
 use Rattle.spec_history.specs.Limited.{AreCalls}
@@ -37,7 +40,16 @@ pub record Now : Type 0 where
   pub cache : Cache
 
 abbrev pub first_now : Document → Now
-first_now d = record { document = d; undo = []; redo = []; next_id = next_id d; next_group = 1; version = 0; cache = add_stacks (stack_ids d) d 0 no_slots }
+first_now d = record {
+  document = d;
+  undo = [];
+  redo = [];
+  next_id = next_id d;
+  next_group = 1;
+  version = 0;
+  cache =
+      add_stacks (stack_ids d) d 0 no_slots;
+}
 
 -- what the next edit begins with
 abbrev pub at_now : Now → At
@@ -59,7 +71,8 @@ stays now reply = record { reply = reply; now = now }
 
 -- what stands is the next version, which this group, or its undo or redo, has left
 abbrev pub next_version : Now → (group : ℕ) → Told
-next_version now group = record { reply = changed (now.version + 1) group now.next_id; now = record now { version = now.version + 1 } }
+next_version now group =
+    record { reply = changed (now.version + 1) group now.next_id; now = record now { version = now.version + 1 } }
 
 -- the pictures that are kept when a step was taken
 abbrev pub kept_after : Now → Step → Cache
@@ -95,7 +108,8 @@ edited old guard edits tables =
 
 -- the document before a group stands again, which can be redone
 abbrev pub taken_back : Now → Step → List Step → Told
-taken_back old s ss = next_version (record old { document = s.to; undo = ss; redo = stepped s ∷ old.redo; cache = kept_after old s }) s.group
+taken_back old s ss =
+    next_version (record old { document = s.to; undo = ss; redo = stepped s ∷ old.redo; cache = kept_after old s }) s.group
 
 abbrev pub undone_of : Now → (named : Option ℕ) → List Step → Told
 undone_of old named [] = stays old nothing_to_undo
@@ -107,7 +121,8 @@ undone old named = undone_of old named old.undo
 
 -- the document after a group stands again, which can be undone
 abbrev pub made_again : Now → Step → List Step → Told
-made_again old s ss = next_version (record old { document = s.to; undo = stepped s ∷ old.undo; redo = ss; cache = kept_after old s }) s.group
+made_again old s ss =
+    next_version (record old { document = s.to; undo = stepped s ∷ old.undo; redo = ss; cache = kept_after old s }) s.group
 
 abbrev pub redone_of : Now → List Step → Told
 redone_of old [] = stays old nothing_to_redo
@@ -129,7 +144,8 @@ with_cache old cache = record old { cache = cache }
 
 -- the slot of a tile is clean
 abbrev pub with_tile : Now → (stack : ℕ) → TileAt → Now
-with_tile old stack at = record old { cache = change_stack stack (change_slot at (show_slot (project old.document stack at))) old.cache }
+with_tile old stack at =
+    record old { cache = change_stack stack (change_slot at (show_slot (project old.document stack at))) old.cache }
 
 abbrev pub shown : Now → (stack : ℕ) → TileAt → Told
 shown old stack at = where_tile old stack at (record { reply = tile_of old.version; now = with_tile old stack at })
@@ -193,7 +209,8 @@ KeepsDesk history_full old new = new ≡ old
 -- What is kept is of the document, a clean slot's picture is the document's, and no slot was marked after this version.
 pub record IsKept (d : Document) (cache : Cache) (version : ℕ) : Type 0 where
   pub of : IsCacheOf d cache
-  pub clean : (stack : ℕ) (at : TileAt) (slot : Slot) → slot_of cache stack at ≡ Some slot → slot.marked ≡ false → slot.picture ≡ Some (project d stack at)
+  pub clean : (stack : ℕ) (at : TileAt) (slot : Slot) → slot_of cache stack at ≡ Some slot → slot.marked ≡ false
+      → slot.picture ≡ Some (project d stack at)
   pub marks : (stack : ℕ) (at : TileAt) (slot : Slot) → slot_of cache stack at ≡ Some slot → slot.marked_at ≤ version
 
 abbrev pub IsKeptNow : Now → Type 0
@@ -216,11 +233,13 @@ damage_at s version = damage_behind (slice_get s.causes (version - 1))
 
 -- the step back over a group
 abbrev pub undo_of : Document → State → Done → Step
-undo_of base s d = record { group = d.group; from = document_at base s d.after; to = document_at base s d.before; damage = damage_at s d.after }
+undo_of base s d =
+    record { group = d.group; from = document_at base s d.after; to = document_at base s d.before; damage = damage_at s d.after }
 
 -- the step forth over it
 abbrev pub redo_of : Document → State → Done → Step
-redo_of base s d = record { group = d.group; from = document_at base s d.before; to = document_at base s d.after; damage = damage_at s d.after }
+redo_of base s d =
+    record { group = d.group; from = document_at base s d.before; to = document_at base s d.after; damage = damage_at s d.after }
 
 -- what stands in a state of the machine, beside the pictures that are kept
 abbrev pub now_of : Document → State → Cache → Now

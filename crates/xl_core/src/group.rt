@@ -1,5 +1,6 @@
 //! Edits that are made together.
-ghost use Rattle.std.specs.Prelude.{◌≡◌, ℕ, ◌+◌, ◌-◌, ◌≤◌, ◌++◌, true, cond, List, [], None, Ok, drop, length, IfOk, IfErr, OnOk, OnErr};
+ghost use Rattle.std.specs.Prelude.{◌≡◌, ℕ, ◌+◌, ◌-◌, ◌≤◌, ◌++◌, true, cond, List, [], None, Ok, drop, length, IfOk};
+ghost use Rattle.std.specs.Prelude.{IfErr, OnOk, OnErr};
 ghost use Rattle.std.specs.List.{AllByRecursion};
 ghost use Rattle.spec_damage.specs.Damage as pairs;
 ghost use Rattle.spec_document.specs.Limits.{AreBytes};
@@ -37,7 +38,8 @@ impl From<AllocError> for GroupRefusedOrMemory {
     }
 }
 
-/// What a group of edits leaves: a document and its next id, the tables that the group's filters answered, and what of which pictures
+/// What a group of edits leaves: a document and its next id, the tables that the group's filters answered, and what
+/// of which pictures
 /// the group may have changed.
 #[derive(Drop)]
 pub(crate) struct Made {
@@ -61,10 +63,12 @@ pub(crate) fn make_group(
     requires ids { HasIds (at document.now next_id) (length edits.now) }
     requires there { AreThere (states_in state chest.old) (edits_of edits.now) }
 
-    ensures made { IfOk result (λ made. apply_group (at document.now next_id) (edits_of edits.now) made.tables ≡ Ok (at made.document made.next_id)) }
+    ensures made { IfOk result (λ made. apply_group (at document.now next_id) (edits_of edits.now) made.tables
+        ≡ Ok (at made.document made.next_id)) }
     ensures damage { IfOk result (λ made. made.damage ≡ damage_along (at document.now next_id) (edits_of edits.now) made.tables) }
     ensures bytes { IfOk result (λ made. AllByRecursion AreBytes made.tables) }
-    ensures asked { IfOk result (λ made. AreAsked (states_in state chest.old) (states_in state chest.new) (edits_of edits.now) made.tables) }
+    ensures asked { IfOk result (λ made.
+        AreAsked (states_in state chest.old) (states_in state chest.new) (edits_of edits.now) made.tables) }
 
     ensures refused { IfErr result (IsRefusal (at document.now next_id) (edits_of edits.now) []) }
     ensures chest { IfErr result (LeavesChest (states_in state chest.old) (states_in state chest.new) (edits_of edits.now)) }
@@ -90,7 +94,8 @@ fn check_group(
     requires each { AllByRecursion IsEdit (edits_of edits.now) }
     requires ids { HasIds (at document.now next_id) (length edits.now) }
     requires tables { length tables ≡ filter_count (edits_of edits.now) }
-    ensures allowed { (others : List (List ℕ)) → OnOk result (refused_in (apply_group (at document.now next_id) (edits_of edits.now) others) ≡ None) }
+    ensures allowed { (others : List (List ℕ))
+        → OnOk result (refused_in (apply_group (at document.now next_id) (edits_of edits.now) others) ≡ None) }
     ensures refused { IfErr result (IsRefusal (at document.now next_id) (edits_of edits.now) []) }
 {
     match try_group(alloc, document, next_id, edits, tables) {
@@ -112,7 +117,8 @@ fn try_group(
     requires each { AllByRecursion IsEdit (edits_of edits.now) }
     requires ids { HasIds (at document.now next_id) (length edits.now) }
     requires tables { length tables ≡ filter_count (edits_of edits.now) }
-    ensures made { IfOk result (λ made. apply_group (at document.now next_id) (edits_of edits.now) tables ≡ Ok (at made.document made.next_id)) }
+    ensures made { IfOk result (λ made. apply_group (at document.now next_id) (edits_of edits.now) tables
+        ≡ Ok (at made.document made.next_id)) }
     ensures tables { IfOk result (λ made. made.tables ≡ tables) }
     ensures damage { IfOk result (λ made. made.damage ≡ damage_along (at document.now next_id) (edits_of edits.now) tables) }
     ensures refused { IfErr result (IsRefusal (at document.now next_id) (edits_of edits.now) tables) }
@@ -136,7 +142,8 @@ fn try_group(
     })
 }
 
-// Applies the edits in turn, each filter with the next table. `next_id` is the id that the next new node gets, and `damage` what the
+// Applies the edits in turn, each filter with the next table. `next_id` is the id that the next new node gets, and
+// `damage` what the
 // edits so far may have changed.
 //
 // A refusal and out of memory leave what the edits before have made, which the caller drops.
@@ -154,7 +161,8 @@ fn apply_group(
     requires ids { HasIds (at document.old next_id.old) (length edits.now) }
     requires tables { length tables.now ≡ filter_count (edits_of edits.now) }
     requires none { damage.old ≡ [] }
-    ensures applied { AppliesGroup (at document.old next_id.old) (at document.new next_id.new) (edits_of edits.now) tables.now result }
+    ensures applied { AppliesGroup (at document.old next_id.old) (at document.new next_id.new)
+        (edits_of edits.now) tables.now result }
     ensures damage { OnOk result (damage.new ≡ damage_along (at document.old next_id.old) (edits_of edits.now) tables.now) }
 {
     let blank = blank_table();
@@ -279,7 +287,8 @@ fn blank_tables(alloc: Global, edits: &[Edit]) -> Result<Tables, AllocError>
 // The tables that the filters of the edits answer, each asked once for each of its edits, in order.
 fn ask_filters(alloc: Global, edits: &[Edit], chest: &mut Chest) -> Result<Tables, AllocError>
     requires there { AreThere (states_in state chest.old) (edits_of edits.now) }
-    ensures asked { IfOk result (λ tables. AreAsked (states_in state chest.old) (states_in state chest.new) (edits_of edits.now) tables) }
+    ensures asked { IfOk result (λ tables.
+        AreAsked (states_in state chest.old) (states_in state chest.new) (edits_of edits.now) tables) }
     ensures count { IfOk result (λ tables. length tables ≡ filter_count (edits_of edits.now)) }
     ensures bytes { IfOk result (λ tables. AllByRecursion AreBytes tables) }
     ensures part { OnErr result (IsPartUsed (states_in state chest.old) (states_in state chest.new) (edits_of edits.now)) }

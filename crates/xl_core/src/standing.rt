@@ -1,5 +1,6 @@
 //! What stands now: the last document, what an undo or a redo gives, and the pictures that are kept.
-ghost use Rattle.std.specs.Prelude.{◌≡◌, ◌+◌, ◌<◌, ◌≤◌, ◌^◌, true, [], length, option_map, IfOk, IfSome, IsOk, OnOk, OnErr, Some, None};
+ghost use Rattle.std.specs.Prelude.{◌≡◌, ◌+◌, ◌<◌, ◌≤◌, ◌^◌, true, [], length, option_map, IfOk, IfSome, IsOk, OnOk};
+ghost use Rattle.std.specs.Prelude.{OnErr, Some, None};
 ghost use Rattle.std.specs.List.{AllByRecursion};
 ghost use Rattle.spec_cache.specs.Cache.{no_slots, is_clean, kept, next_place, after_take, finish, install};
 ghost use Rattle.spec_document.specs.Limits.{AreBytes, IsDocument};
@@ -12,7 +13,9 @@ ghost use Rattle.spec_world.specs.World.{add_stacks, stack_ids};
 ghost use Rattle.xl_compose.specs.Job.{StandsFor};
 ghost use Rattle.xl_core.specs.Editing.{TakesNoStep, place_of_job, place_done};
 ghost use Rattle.xl_core.specs.Group.{HasIds};
-ghost use Rattle.xl_core.specs.Now.{first_now, at_now, with_cache, accepted, edited, undone, taken_back, redone, next_version, shown, peeked, top_of, told, Tells, ShowsTile, ShowsKept, ShowsNow, KeepsDesk, IsKeptNow, IsTileOf};
+ghost use Rattle.xl_core.specs.Now.{first_now, at_now, with_cache, accepted, edited, undone, taken_back, redone};
+ghost use Rattle.xl_core.specs.Now.{next_version, shown, peeked, top_of, told, Tells, ShowsTile, ShowsKept, ShowsNow};
+ghost use Rattle.xl_core.specs.Now.{KeepsDesk, IsKeptNow, IsTileOf};
 ghost use Rattle.xl_core.specs.Room.{IsUndoOrRedo};
 ghost use Rattle.xl_core.specs.Steps.{IsChange};
 ghost use Rattle.xl_doc.specs.Numbered.{AreNumbered};
@@ -147,8 +150,11 @@ impl Standing {
         requires versions { self.old.what.version < 2 ^ 31 }
         requires groups { self.old.what.next_group < 2 ^ 31 }
         requires ids { HasIds (at_now self.old.what) most_edits }
-        ensures told { IfOk result (λ a. Tells (told self.old.what (call_of call.now) seen a.tables) (reply_of a.reply) self.new.what) }
-        ensures asked { IfOk result (λ a. AreAsked (states_in state desk.old.chest) (states_in state desk.new.chest) (edits_made (call_of call.now) (reply_of a.reply)) a.tables) }
+        ensures told { IfOk result (λ a.
+            Tells (told self.old.what (call_of call.now) seen a.tables) (reply_of a.reply) self.new.what) }
+        ensures asked { IfOk result (λ a.
+            AreAsked (states_in state desk.old.chest) (states_in state desk.new.chest)
+            (edits_made (call_of call.now) (reply_of a.reply)) a.tables) }
         ensures bytes { IfOk result (λ a. AllByRecursion AreBytes a.tables) }
         ensures shown { IfOk result (λ a. ShowsNow self.new.what (call_of call.now) (reply_of a.reply) desk.new.out) }
         ensures desk { IfOk result (λ a. KeepsDesk (reply_of a.reply) desk.old.out desk.new.out) }
@@ -156,7 +162,8 @@ impl Standing {
         ensures as_before { OnErr result (self.new.what ≡ self.old.what) }
         ensures room { self.old.room ≤ self.new.room + 1 }
         ensures room_as_before { OnErr result (self.old.room ≤ self.new.room) }
-        ensures chest { OnErr result (IsPartUsed (states_in state desk.old.chest) (states_in state desk.new.chest) (limited.edits_of (call_of call.now))) }
+        ensures chest { OnErr result (IsPartUsed (states_in state desk.old.chest) (states_in state desk.new.chest)
+            (limited.edits_of (call_of call.now))) }
         ensures out_as_before { OnErr result (desk.new.out ≡ desk.old.out) }
         ensures succeeds { 1 ≤ self.old.room → IsUndoOrRedo (call_of call.now) → IsOk result }
     {
@@ -194,8 +201,11 @@ impl Standing {
         requires versions { self.old.what.version < 2 ^ 31 }
         requires groups { self.old.what.next_group < 2 ^ 31 }
         requires ids { HasIds (at_now self.old.what) most_edits }
-        ensures told { IfOk result (λ a. Tells (edited self.old.what guard (edits_of edits.now) a.tables) (reply_of a.reply) self.new.what) }
-        ensures asked { IfOk result (λ a. AreAsked (states_in state chest.old) (states_in state chest.new) (edits_made (machine.edit guard (edits_of edits.now)) (reply_of a.reply)) a.tables) }
+        ensures told { IfOk result (λ a.
+            Tells (edited self.old.what guard (edits_of edits.now) a.tables) (reply_of a.reply) self.new.what) }
+        ensures asked { IfOk result (λ a.
+            AreAsked (states_in state chest.old) (states_in state chest.new)
+            (edits_made (machine.edit guard (edits_of edits.now)) (reply_of a.reply)) a.tables) }
         ensures bytes { IfOk result (λ a. AllByRecursion AreBytes a.tables) }
         ensures chest { OnErr result (IsPartUsed (states_in state chest.old) (states_in state chest.new) (edits_of edits.now)) }
         ensures as_before { OnErr result (self.new.what ≡ self.old.what) }
@@ -376,7 +386,8 @@ impl Standing {
         requires kept { IsKeptNow self.old.what }
         requires place { IfSome (next_place self.old.what.cache) (IsTileOf self.old.what.document) }
         ensures place { IfOk result (λ job. option_map place_of_job job ≡ next_place self.old.what.cache) }
-        ensures stands { IfOk result (λ job. IfSome job (λ j. StandsFor self.old.what.document j.stack j.at self.old.what.version j)) }
+        ensures stands { IfOk result (λ job.
+            IfSome job (λ j. StandsFor self.old.what.document j.stack j.at self.old.what.version j)) }
         ensures what { self.new.what ≡ with_cache self.old.what (after_take self.old.what.cache) }
         ensures room { self.new.room ≡ self.old.room }
         ensures none { next_place self.old.what.cache ≡ None → IsOk result }
@@ -391,7 +402,8 @@ impl Standing {
     /// Keeps a picture, unless its tile was marked at a later version or its stack is gone.
     pub(crate) fn finish(&mut self, done: Done) -> Finished
         ensures finished { result ≡ finish self.old.what.cache (place_done done) done.version }
-        ensures what { self.new.what ≡ with_cache self.old.what (install (place_done done) done.version done.picture self.old.what.cache) }
+        ensures what { self.new.what ≡ with_cache self.old.what
+            (install (place_done done) done.version done.picture self.old.what.cache) }
         ensures room { self.new.room ≡ self.old.room }
     {
         self.cache.install(done)

@@ -1,4 +1,5 @@
-ghost use Rattle.std.specs.Prelude.{◌≡◌, ◌+◌, ◌<◌, ◌≤◌, ◌^◌, true, List, length, [], Some, None, option_map, IfOk, IfErr, IfSome, IsOk, OnOk, OnErr, IsSome};
+ghost use Rattle.std.specs.Prelude.{◌≡◌, ◌+◌, ◌<◌, ◌≤◌, ◌^◌, true, List, length, [], Some, None, option_map, IfOk};
+ghost use Rattle.std.specs.Prelude.{IfErr, IfSome, IsOk, OnOk, OnErr, IsSome};
 ghost use Rattle.spec_history.specs.Kept.{IsLegal};
 ghost use Rattle.spec_cache.specs.Cache.{no_slots, next_place, finish};
 ghost use Rattle.spec_world.specs.World.{stack_ids, add_stacks};
@@ -7,7 +8,9 @@ ghost use Rattle.spec_world.specs.Right as worlds;
 ghost use Rattle.xl_compose.specs.Job.{StandsFor};
 ghost use Rattle.spec_history.specs.Calls.{IsCall, most_entries};
 ghost use Rattle.xl_core.specs.History.{version, document, is_full, Shows, NeedsNoStep};
-ghost use Rattle.xl_core.specs.Editing.{known, world, IsSubmitted, TakesNoStep, taken, place_of_job, place_done, IsPictureOf, handed_in, out_of, IsRight, ComesBack, KeepsShelf, IsAsBefore, Begins, HandsOut, Ends};
+ghost use Rattle.xl_core.specs.Editing.{known, world, IsSubmitted, TakesNoStep, taken, place_of_job, place_done};
+ghost use Rattle.xl_core.specs.Editing.{IsPictureOf, handed_in, out_of, IsRight, ComesBack, KeepsShelf, IsAsBefore};
+ghost use Rattle.xl_core.specs.Editing.{Begins, HandsOut, Ends};
 ghost use Rattle.xl_core.specs.Now.{KeepsDesk, IsTileOf};
 ghost use Rattle.xl_core.specs.Jobs.{finished_by};
 ghost use Rattle.xl_core.specs.Room.{IsUndoOrRedo};
@@ -81,7 +84,8 @@ impl<D: Shelf> Model for Core<D> {
     } };
 
     ghost invariant = { λ c. Stands c.base c.entries.items c.standing.what c.made
-        × Holds (known D.selected D.disk D.reading_faults D.saving_faults) c.base c.entries.items c.opening.value (all_seen c.handed.items) c.place (vec_capacity c.entries) };
+        × Holds (known D.selected D.disk D.reading_faults D.saving_faults) c.base c.entries.items c.opening.value
+        (all_seen c.handed.items) c.place (vec_capacity c.entries) };
 }
 
 // A share of a document, and the slots of its stacks.
@@ -103,7 +107,16 @@ impl<D: Shelf> Core<D> {
     ) -> Result<Core<D>, AllocFailed<(Document, D)>>
         requires numbered { AreNumbered doc.nodes }
         requires selected { IsSome (D.selected shelf) }
-        ensures ok { IfOk result (λ core. core ≡ record { history = record { base = doc; entries = [] }; cache = add_stacks (stack_ids doc) doc 0 no_slots; opening = shelf; handed = []; shelf = Some shelf; spare = core.spare }) }
+        ensures ok { IfOk result (λ core. core
+            ≡ record {
+              history = record { base = doc; entries = [] };
+              cache = add_stacks (stack_ids doc) doc 0 no_slots;
+              opening =
+                  shelf;
+              handed = [];
+              shelf = Some shelf;
+              spare = core.spare;
+            }) }
         ensures right { IfOk result (λ core. worlds.IsRight doc (world core)) }
         ensures back { IfErr result (λ failed. failed.value ≡ (doc, shelf)) }
     {
@@ -168,12 +181,14 @@ impl<D: Shelf> Core<D> {
         requires there { AreThere (states_in state desk.old.chest) (edits_of (call_of call)) }
 
         ensures answered { (filters : List FilterState) → Agrees (states_in state desk.old.chest) filters
-            → IfOk result (λ reply. IsSubmitted self.old session (call_of call) seen (expected_tables filters (asked (call_of call) []) (reply_of reply)) (reply_of reply) self.new) }
+            → IfOk result (λ reply. IsSubmitted self.old session (call_of call) seen
+            (expected_tables filters (asked (call_of call) []) (reply_of reply)) (reply_of reply) self.new) }
         ensures right { IfOk result (λ reply. worlds.IsRight self.new.history.base (world self.new)) }
         ensures steps { TakesNoStep self.old.cache (call_of call) → steps.new ≡ steps.old }
         ensures no_step { NeedsNoStep self.old.history (call_of call) → steps.new ≡ steps.old }
         ensures full { is_full self.old.history ≡ true → steps.new ≡ steps.old }
-        ensures chest { IfOk result (λ reply. IsAfter (states_in state desk.old.chest) (states_in state desk.new.chest) (call_of call) (reply_of reply)) }
+        ensures chest { IfOk result (λ reply.
+            IsAfter (states_in state desk.old.chest) (states_in state desk.new.chest) (call_of call) (reply_of reply)) }
         ensures shown { IfOk result (λ reply. Shows self.new.history (call_of call) (reply_of reply) desk.new.out) }
         ensures shelf { KeepsShelf self.old self.new }
         ensures legal { IsLegal self.new.history.base self.new.history.entries }
@@ -208,7 +223,8 @@ impl<D: Shelf> Core<D> {
     /// picture. None exactly where no slot is marked, and that takes no memory. After out of memory the slot counts as taken.
     pub fn take_job(&mut self, alloc: Global) -> Result<Option<Job>, AllocError>
         ensures place { IfOk result (λ job. option_map place_of_job job ≡ next_place self.old.cache) }
-        ensures stands { IfOk result (λ job. IfSome job (λ j. StandsFor (document self.old.history) j.stack j.at (version self.old.history) j)) }
+        ensures stands { IfOk result (λ job.
+            IfSome job (λ j. StandsFor (document self.old.history) j.stack j.at (version self.old.history) j)) }
         ensures there { IfSome (next_place self.old.cache) (IsTileOf (document self.old.history)) }
         ensures after { self.new ≡ taken self.old }
         ensures none { next_place self.old.cache ≡ None → IsOk result }
@@ -235,7 +251,8 @@ impl<D: Shelf> Core<D> {
     pub fn begin_save(&mut self, alloc: Global, session: u8) -> Result<Begun<D>, AllocError>
         requires session { session < 8 }
         ensures begun { IfOk result (λ begun. Begins self.old session begun self.new) }
-        ensures right { IfOk result (λ begun. HandsOut (IsRight (known D.selected D.disk D.reading_faults D.saving_faults) self.old) begun) }
+        ensures right { IfOk result (λ begun.
+            HandsOut (IsRight (known D.selected D.disk D.reading_faults D.saving_faults) self.old) begun) }
         ensures legal { IsLegal self.new.history.base self.new.history.entries }
         ensures pictures { IfOk result (λ begun. worlds.IsRight self.new.history.base (world self.new)) }
         ensures few { length self.new.history.entries ≤ most_entries }
@@ -363,7 +380,8 @@ impl<D: Shelf> JobSource for Core<D> {
 
     fn next_job(&mut self, alloc: Global) -> Result<Option<Job>, AllocError>
         ensures place { IfOk result (λ job. option_map place_of_job job ≡ next_place self.old.cache) }
-        ensures stands { IfOk result (λ job. IfSome job (λ j. StandsFor (document self.old.history) j.stack j.at (version self.old.history) j)) }
+        ensures stands { IfOk result (λ job.
+            IfSome job (λ j. StandsFor (document self.old.history) j.stack j.at (version self.old.history) j)) }
         ensures there { IfSome (next_place self.old.cache) (IsTileOf (document self.old.history)) }
         ensures after { self.new ≡ taken self.old }
         ensures none { next_place self.old.cache ≡ None → IsOk result }

@@ -10,7 +10,8 @@ use xl_doc::Document;
 use xl_marks::Change;
 use xl_undo::Record;
 
-/// A group of edits that was made, or undone: its number, the record that leads back, and what that does to the pictures that are kept.
+/// A group of edits that was made, or undone: its number, the record that leads back, and what that does to the
+/// pictures that are kept.
 #[derive(Drop)]
 pub(crate) struct Step {
     group: u32,

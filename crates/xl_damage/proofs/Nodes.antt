@@ -1,10 +1,12 @@
 -- Stacks and bottommost nodes, in a tree and in the document that it stands for.
-use Rattle.std.proofs.Common.{Bor, ◌≡◌, ℕ, zero, suc, ◌≤◌, length, take, arith, Bool, true, false, cond, eqb, List, [], ◌∷◌, ◌++◌, refl, sym, ◌∙◌, ap, subst}
+use Rattle.std.proofs.Common.{Bor, ◌≡◌, ℕ, zero, suc, ◌≤◌, length, take, arith, Bool, true, false, cond, eqb, List, []}
+use Rattle.std.proofs.Common.{◌∷◌, ◌++◌, refl, sym, ◌∙◌, ap, subst}
 use Rattle.std.specs.Prelude.{Option, Some, None, is_some, IsSome, slice_get, option_map, option_and_then, unwrap_or}
 use Rattle.std.proofs.lemmas.Bool.{ne_eqb}
 use Rattle.std.specs.List.{AllByRecursion}
 use Rattle.std.specs.Option.{option_copied}
-use Rattle.spec_forest.specs.Forest.{Forest, none, leaf, group, Found, nothing, a_leaf, a_group, or_else, find, ids, ancestors, first_of, children_of, stack_at}
+use Rattle.spec_forest.specs.Forest.{Forest, none, leaf, group, Found, nothing, a_leaf, a_group, or_else, find, ids}
+use Rattle.spec_forest.specs.Forest.{ancestors, first_of, children_of, stack_at}
 use Rattle.spec_forest.proofs.Distinct.{IsNot, nothing_from_ids}
 use Rattle.spec_document.specs.Document.{Nodes, Group}
 use Rattle.spec_damage.specs.Damage.{or_lower, bottom_of, first_or, stack_of, stacks_above}
@@ -20,7 +22,8 @@ pub ancestors-nodes_of : (id : ℕ) (f : Forest Node Node) → ancestors id (nod
 ancestors-nodes_of id none = refl
 ancestors-nodes_of id (leaf i n u) = ap (λ o. cond (eqb id i) (Some []) o) (ancestors-nodes_of id u)
 ancestors-nodes_of id (group i n c u) =
-    λ j. cond (eqb id i) (Some []) (first_of (option_map (λ above. above ++ i ∷ []) (ancestors-nodes_of id c j)) (ancestors-nodes_of id u j))
+    λ j. cond (eqb id i) (Some []) (first_of (option_map (λ above. above ++ i ∷ []) (ancestors-nodes_of id c j))
+    (ancestors-nodes_of id u j))
 
 lower : (o : Option ℕ) (visible : Bool) (id : ℕ) → or_lower o visible id ≡ first_some o (cond visible (Some id) None)
 lower (Some k) visible id = refl
@@ -36,15 +39,18 @@ bottom-nodes_of (group i n c u) =
 
 -- of a stack, where there is one
 pub bottom-stack : (stack : ℕ) (f : Forest Node Node)
-    → unwrap_or (option_map bottom_of (stack_at stack (nodes_of f))) None ≡ option_and_then (bottom_shown (λ n. n.visible)) (stack_at stack f)
+    → unwrap_or (option_map bottom_of (stack_at stack (nodes_of f))) None
+    ≡ option_and_then (bottom_shown (λ n. n.visible)) (stack_at stack f)
 bottom-stack stack f = ap (λ o. unwrap_or (option_map bottom_of o) None) (stack-nodes_of stack f) ∙ step (stack_at stack f) where
-  step : (o : Option (Forest Node Node)) → unwrap_or (option_map bottom_of (option_map nodes_of o)) None ≡ option_and_then (bottom_shown (λ n. n.visible)) o
+  step : (o : Option (Forest Node Node))
+      → unwrap_or (option_map bottom_of (option_map nodes_of o)) None ≡ option_and_then (bottom_shown (λ n. n.visible)) o
   step None = refl
   step (Some s) = bottom-nodes_of s
 
 -- ---- the stacks above one
 
-known_both : (a b : Option (List ℕ)) (i : ℕ) (x y : Found Node Node) → is_some a ≡ is_some (node_of x) → is_some b ≡ is_some (node_of y)
+known_both : (a b : Option (List ℕ)) (i : ℕ) (x y : Found Node Node) → is_some a ≡ is_some (node_of x)
+    → is_some b ≡ is_some (node_of y)
     → is_some (first_of (option_map (λ above. above ++ i ∷ []) a) b) ≡ is_some (node_of (or_else x y))
 known_both None b i nothing y p q = q
 known_both None b i (a_leaf n) y p q = cc
@@ -61,12 +67,14 @@ known id (leaf i n u) = step (eqb id i) (known id u) where
       → is_some (cond b (Some []) (ancestors id u)) ≡ is_some (node_of (cond b (a_leaf n) (find id u)))
   step true e = refl
   step false e = e
-known id (group i n c u) = step (eqb id i) (known_both (ancestors id c) (ancestors id u) i (find id c) (find id u) (known id c) (known id u)) where
-  step : (b : Bool) → is_some (first_of (option_map (λ above. above ++ i ∷ []) (ancestors id c)) (ancestors id u)) ≡ is_some (node_of (or_else (find id c) (find id u)))
-      → is_some (cond b (Some []) (first_of (option_map (λ above. above ++ i ∷ []) (ancestors id c)) (ancestors id u)))
-      ≡ is_some (node_of (cond b (a_group n c) (or_else (find id c) (find id u))))
-  step true e = refl
-  step false e = e
+known id (group i n c u) =
+    step (eqb id i) (known_both (ancestors id c) (ancestors id u) i (find id c) (find id u) (known id c) (known id u)) where
+      step : (b : Bool) → is_some (first_of (option_map (λ above. above ++ i ∷ []) (ancestors id c)) (ancestors id u))
+          ≡ is_some (node_of (or_else (find id c) (find id u)))
+          → is_some (cond b (Some []) (first_of (option_map (λ above. above ++ i ∷ []) (ancestors id c)) (ancestors id u)))
+          ≡ is_some (node_of (cond b (a_group n c) (or_else (find id c) (find id u))))
+      step true e = refl
+      step false e = e
 
 abbrev to_image : Option (List ℕ) → List ℕ
 to_image o = unwrap_or (option_map (λ above. above ++ 0 ∷ []) o) []
@@ -77,7 +85,8 @@ above-tree id f e = ap (λ b. cond b [] (to_image (ancestors id (nodes_of f)))) 
 pub above_image : (nodes : Nodes) (id : ℕ) → eqb id 0 ≡ true → stacks_above nodes id ≡ []
 above_image nodes id e = ap (λ b. cond b [] (to_image (ancestors id nodes))) e
 
-pub above_absent : (id : ℕ) (f : Forest Node Node) → eqb id 0 ≡ false → is_some (node_of (find id f)) ≡ false → stacks_above (nodes_of f) id ≡ []
+pub above_absent : (id : ℕ) (f : Forest Node Node) → eqb id 0 ≡ false → is_some (node_of (find id f)) ≡ false
+    → stacks_above (nodes_of f) id ≡ []
 above_absent id f e lacks = above-tree id f e ∙ step (ancestors id f) (known id f ∙ lacks) where
   step : (o : Option (List ℕ)) → is_some o ≡ false → to_image o ≡ []
   step None h = refl
@@ -93,7 +102,8 @@ above_known id f gs e there is = above-tree id f e ∙ step (ancestors id f) (kn
 pub stack_of-image : (nodes : Nodes) (id : ℕ) → eqb id 0 ≡ true → stack_of nodes id ≡ 0
 stack_of-image nodes id e = ap (first_or 0) (above_image nodes id e)
 
-pub stack_of-tree : (id : ℕ) (f : Forest Node Node) (gs : List NodeId) → eqb id 0 ≡ false → numbers gs ≡ unwrap_or (ancestors id f) []
+pub stack_of-tree : (id : ℕ) (f : Forest Node Node) (gs : List NodeId) → eqb id 0 ≡ false
+    → numbers gs ≡ unwrap_or (ancestors id f) []
     → stack_of (nodes_of f) id ≡ first_or 0 (numbers gs)
 stack_of-tree id f gs e is = ap (first_or 0) (above-tree id f e) ∙ (step (ancestors id f) ∙ ap (first_or 0) (sym is)) where
   step : (o : Option (List ℕ)) → first_or 0 (to_image o) ≡ first_or 0 (unwrap_or o [])
@@ -129,12 +139,14 @@ is_not_0 : (xs : List ℕ) → AllByRecursion (λ id. 1 ≤ id) xs → AllByRecu
 is_not_0 [] h = tt
 is_not_0 (x ∷ xs) h = (ne_eqb 0 x (λ e. omega (arith, e, h.0)), is_not_0 xs h.1)
 
-pub group_not_0 : (id : ℕ) (nodes : Nodes) (g : Group) (children : Nodes) → AllByRecursion (λ i. 1 ≤ i) (ids nodes) → find id nodes ≡ a_group g children → id ≡ 0 → ⊥
+pub group_not_0 : (id : ℕ) (nodes : Nodes) (g : Group) (children : Nodes) → AllByRecursion (λ i. 1 ≤ i) (ids nodes)
+    → find id nodes ≡ a_group g children → id ≡ 0 → ⊥
 group_not_0 id nodes g children positive is top =
     let none_there : find 0 nodes ≡ nothing = nothing_from_ids 0 nodes (is_not_0 (ids nodes) positive) in
     let both : nothing ≡ a_group g children = sym none_there ∙ (ap (λ i. find i nodes) (sym top) ∙ is) in cc
 
-pub group_stack : (id : ℕ) (nodes : Nodes) (g : Group) (children : Nodes) → find id nodes ≡ a_group g children → IsSome (stack_at id nodes)
+pub group_stack : (id : ℕ) (nodes : Nodes) (g : Group) (children : Nodes) → find id nodes ≡ a_group g children
+    → IsSome (stack_at id nodes)
 group_stack id nodes g children is = step (eqb id 0) (children_of (find id nodes)) (ap children_of is) where
   step : (b : Bool) (o : Option Nodes) → o ≡ Some children → IsSome (cond b (Some nodes) o)
   step true o e = refl

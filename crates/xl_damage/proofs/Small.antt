@@ -16,10 +16,17 @@ use Rattle.xl_doc.proofs.Hulls.{hull_reach}
 use Rattle.spec_grid.specs.declared.TheConstants.{MAX_SIDE}
 
 no_reach : IsReach no_rect
-no_reach = record { x = (omega (arith, ints), omega (arith, ints)); y = (omega (arith, ints), omega (arith, ints)); right = omega (arith, ints); bottom = omega (arith, ints) }
+no_reach = record {
+  x = (omega (arith, ints), omega (arith, ints));
+  y = (omega (arith, ints), omega (arith, ints));
+  right =
+      omega (arith, ints);
+  bottom = omega (arith, ints);
+}
 
 layer_reach : (base : Base) (l : Layer) → IsLayer base l → IsReach (layer_rect l)
-layer_reach base l h = record { x = h.x; y = h.y; right = omega (arith, ints, h.x.1, h.width.1); bottom = omega (arith, ints, h.y.1, h.height.1) }
+layer_reach base l h =
+    record { x = h.x; y = h.y; right = omega (arith, ints, h.x.1, h.width.1); bottom = omega (arith, ints, h.y.1, h.height.1) }
 
 nodes_reach : (base : Base) (f : Nodes) → AreNodes base f → IsReach (hull_of f)
 nodes_reach base none h = no_reach
@@ -31,13 +38,15 @@ or_reach nothing b p q = q
 or_reach (a_leaf l) b p q = p
 or_reach (a_group g c) b p q = p
 
-cond_reach : (test : Bool) (a b : Found Layer Group) → IsReach (rect_found a) → IsReach (rect_found b) → IsReach (rect_found (cond test a b))
+cond_reach : (test : Bool) (a b : Found Layer Group) → IsReach (rect_found a) → IsReach (rect_found b)
+    → IsReach (rect_found (cond test a b))
 cond_reach true a b p q = p
 cond_reach false a b p q = q
 
 found_reach : (base : Base) (id : ℕ) (f : Nodes) → AreNodes base f → IsReach (rect_found (find id f))
 found_reach base id none h = no_reach
-found_reach base id (leaf i l u) h = cond_reach (eqb id i) (a_leaf l) (find id u) (layer_reach base l h.0) (found_reach base id u h.1)
+found_reach base id (leaf i l u) h =
+    cond_reach (eqb id i) (a_leaf l) (find id u) (layer_reach base l h.0) (found_reach base id u h.1)
 found_reach base id (group i g c u) h =
     cond_reach (eqb id i) (a_group g c) (or_else (find id c) (find id u)) (nodes_reach base c h.1.0)
     (or_reach (find id c) (find id u) (found_reach base id c h.1.0) (found_reach base id u h.1.1))
@@ -60,7 +69,8 @@ cut_small w h r wide high reach = record {
 }
 
 pub extent_small : (d : Document) (id : ℕ) → IsDocument d → IsSmall (extent d id)
-extent_small d id h = cut_small d.width d.height (rect_found (find id d.nodes)) h.width.1 h.height.1 (found_reach d.base id d.nodes h.nodes)
+extent_small d id h =
+    cut_small d.width d.height (rect_found (find id d.nodes)) h.width.1 h.height.1 (found_reach d.base id d.nodes h.nodes)
 
 -- ---- a rectangle of a layer
 
@@ -81,10 +91,16 @@ pub record Lies (w h : ℕ) (r : Rect) : Type 0 where
 pub lies : (w h : ℕ) (r : Rect) → lies_on w h r ≡ true → Lies w h r
 lies w h r e =
     let all = both_true (not (is_empty r)) _ e in
-    let halves = both_true (int_le (pos 0) r.x && int_le (right r) (pos w)) (int_le (pos 0) r.y && int_le (bottom r) (pos h)) all.1 in
+    let halves = both_true (int_le (pos 0) r.x && int_le (right r) (pos w)) (int_le (pos 0) r.y
+    && int_le (bottom r) (pos h)) all.1 in
     let across = both_true (int_le (pos 0) r.x) (int_le (right r) (pos w)) halves.0 in
     let down = both_true (int_le (pos 0) r.y) (int_le (bottom r) (pos h)) halves.1 in
-    record { left = le_from (pos 0) r.x across.0; right = le_from (right r) (pos w) across.1; top = le_from (pos 0) r.y down.0; bottom = le_from (bottom r) (pos h) down.1 }
+    record {
+      left = le_from (pos 0) r.x across.0;
+      right = le_from (right r) (pos w) across.1;
+      top = le_from (pos 0) r.y down.0;
+      bottom = le_from (bottom r) (pos h) down.1;
+    }
 
 -- the sides of a layer
 far : (a : ℤ) (w : ℕ) → IsOffset a → (a +ℤ pos w) ≤ℤ last_end → w ≤ 2 ^ 20
@@ -108,7 +124,8 @@ own_small whole r h l = record {
   h = short_side r.y r.h whole.h l.top l.bottom (far whole.y whole.h h.y h.bottom);
 }
 
-pub placed_small : (whole r : Rect) → IsReach whole → Lies whole.w whole.h r → IsSmall (record { x = whole.x +ℤ r.x; y = whole.y +ℤ r.y; w = r.w; h = r.h })
+pub placed_small : (whole r : Rect) → IsReach whole → Lies whole.w whole.h r
+    → IsSmall (record { x = whole.x +ℤ r.x; y = whole.y +ℤ r.y; w = r.w; h = r.h })
 placed_small whole r h l = record {
   x = near_sum whole.x r.x r.w whole.w h.x h.right l.left l.right;
   y = near_sum whole.y r.y r.h whole.h h.y h.bottom l.top l.bottom;

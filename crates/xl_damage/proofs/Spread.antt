@@ -31,7 +31,8 @@ added_none list = sym (append-nil (pairs_of list))
 pub added : (a b c : List (NodeId × Rect)) (ps qs : List Pair) → Adds a b ps → Adds b c qs → Adds a c (ps ++ qs)
 added a b c ps qs p q = q ∙ (ap (λ z. z ++ qs) p ∙ append_assoc (pairs_of a) ps qs)
 
-pub added_both : (old new : Document) (a b c : List (NodeId × Rect)) (ps qs : List Pair) → Adds a b (spread old new ps) → Adds b c (spread old new qs)
+pub added_both : (old new : Document) (a b c : List (NodeId × Rect)) (ps qs : List Pair) → Adds a b (spread old new ps)
+    → Adds b c (spread old new qs)
     → Adds a c (spread old new (ps ++ qs))
 added_both old new a b c ps qs p q =
     added a b c (spread old new ps) (spread old new qs) p q ∙ ap (λ z. pairs_of a ++ z) (sym (spread-append old new ps qs))
@@ -47,15 +48,20 @@ map-append f (x ∷ xs) ys = ap (λ z. f x ∷ z) (map-append f xs ys)
 -- a pair with points on it
 pub spread_one : (old new : Document) (p : Pair) (os ns : List ℕ) → is_empty (cut old p).rect ≡ false
     → os ≡ stacks_above old.nodes p.stack → ns ≡ stacks_above new.nodes p.stack
-    → spread old new (p ∷ []) ≡ cut old p ∷ (copies (cut old p).rect os ++ copies (cut old p).rect (filter (λ n. not (list_any (λ m. eqb m n) os)) ns))
+    → spread old new (p ∷ []) ≡ cut old p
+    ∷ (copies (cut old p).rect os ++ copies (cut old p).rect (filter (λ n. not (list_any (λ m. eqb m n) os)) ns))
 spread_one old new p os ns e is_old is_new =
     let rect = (cut old p).rect in
-    let whole : spread old new (p ∷ []) ≡ with_above old new (cut old p) ++ [] = ap (λ b. flat_map (with_above old new) (cond (not b) (cut old p ∷ []) [])) e in
-    let there : copies rect (joined (stacks_above old.nodes p.stack) (stacks_above new.nodes p.stack)) ≡ copies rect (joined os ns) = λ i. copies rect (joined (sym is_old i) (sym is_new i)) in
+    let whole : spread old new (p ∷ []) ≡ with_above old new (cut old p) ++ [] =
+    ap (λ b. flat_map (with_above old new) (cond (not b) (cut old p ∷ []) [])) e in
+    let there : copies rect (joined (stacks_above old.nodes p.stack) (stacks_above new.nodes p.stack))
+    ≡ copies rect (joined os ns) = λ i. copies rect (joined (sym is_old i) (sym is_new i)) in
     whole ∙ (append-nil (with_above old new (cut old p))
-    ∙ ap (λ z. cut old p ∷ z) (there ∙ map-append (λ stack. record { stack = stack; rect = rect }) os (filter (λ n. not (list_any (λ m. eqb m n) os)) ns)))
+    ∙ ap (λ z. cut old p ∷ z) (there
+    ∙ map-append (λ stack. record { stack = stack; rect = rect }) os (filter (λ n. not (list_any (λ m. eqb m n) os)) ns)))
 
-pub pushed : (list : List (NodeId × Rect)) (stack : NodeId) (rect : Rect) → Adds list (list ++ (stack, rect) ∷ []) (record { stack = stack.0; rect = rect } ∷ [])
+pub pushed : (list : List (NodeId × Rect)) (stack : NodeId) (rect : Rect)
+    → Adds list (list ++ (stack, rect) ∷ []) (record { stack = stack.0; rect = rect } ∷ [])
 pushed list stack rect = map-append (λ e. record { stack = e.0.0; rect = e.1 }) list ((stack, rect) ∷ [])
 
 -- a pair with points on the canvas, and then its copies
@@ -70,5 +76,7 @@ added_one old new a b c d stack rect part os ns is some is_old is_new push first
     let own : Adds a b (record { stack = stack.0; rect = part } ∷ []) = ap pairs_of push ∙ pushed a stack part in
     let more = added a b c (record { stack = stack.0; rect = part } ∷ []) (copies part (numbers os)) own first in
     let all = added a c d (record { stack = stack.0; rect = part } ∷ copies part (numbers os)) (copies part others) more second in
-    let shown = spread_one old new (record { stack = stack.0; rect = rect }) (numbers os) (numbers ns) (sym (ap is_empty is) ∙ some) is_old is_new in
-    all ∙ (ap (λ r. pairs_of a ++ record { stack = stack.0; rect = r } ∷ (copies r (numbers os) ++ copies r others)) is ∙ ap (λ z. pairs_of a ++ z) (sym shown))
+    let shown = spread_one old new (record { stack = stack.0; rect = rect }) (numbers os) (numbers ns) (sym (ap is_empty is)
+    ∙ some) is_old is_new in
+    all ∙ (ap (λ r. pairs_of a ++ record { stack = stack.0; rect = r } ∷ (copies r (numbers os) ++ copies r others)) is
+    ∙ ap (λ z. pairs_of a ++ z) (sym shown))

@@ -27,7 +27,8 @@ blank width height base compression colours = record {
   selection = None;
 }
 
-pub blank_is_document : (width height : ℕ) (base : Base) (compression : ℕ) (colours : List (List ℕ)) → IsSide width → IsSide height → compression ≤ 1 → AreColours base colours
+pub blank_is_document : (width height : ℕ) (base : Base) (compression : ℕ) (colours : List (List ℕ)) → IsSide width → IsSide height
+    → compression ≤ 1 → AreColours base colours
     → IsDocument (blank width height base compression colours)
 blank_is_document width height base compression colours wide high known are = record {
   width = wide;
@@ -46,9 +47,13 @@ blank_is_document width height base compression colours wide high known are = re
   kept_bytes = omega arith;
 }
 
-pub blank_sound : (tree : Forest Node Node) (d : Document) (width height : ℕ) (base : Base) (compression : ℕ) (colours : List (List ℕ))
-    → tree ≡ none → d ≡ record (blank width height base compression colours) { nodes = nodes_of tree } → IsSide width → IsSide height → compression ≤ 1 → AreColours base colours → IsSound tree d
+pub blank_sound : (tree : Forest Node Node) (d : Document) (width height : ℕ) (base : Base) (compression : ℕ)
+    (colours : List (List ℕ))
+    → tree ≡ none → d ≡ record (blank width height base compression colours) { nodes = nodes_of tree } → IsSide width
+    → IsSide height → compression ≤ 1 → AreColours base colours → IsSound tree d
 blank_sound tree d width height base compression colours empty d_is wide high known are =
-    let P : Forest Node Node → Type 0 = λ t. IsSound t (record (blank width height base compression colours) { nodes = nodes_of t }) in
+    let P : Forest Node Node → Type 0 =
+    λ t. IsSound t (record (blank width height base compression colours) { nodes = nodes_of t }) in
     let Q : Document → Type 0 = IsSound tree in
-    subst Q (sym d_is) (subst P (sym empty) (record { marks = tt; limits = blank_is_document width height base compression colours wide high known are }))
+    subst Q (sym d_is) (subst P (sym empty)
+    (record { marks = tt; limits = blank_is_document width height base compression colours wide high known are }))

@@ -1,7 +1,8 @@
 -- The layers and groups of a tree, found by their ids.
 use Rattle.std.proofs.Common.{◌≡◌, ℕ, Bool, true, false, cond, refl, ◌∙◌, ap, subst}
 use Rattle.std.specs.Prelude.{Option, Some, None, option_map, ◌==◌}
-use Rattle.spec_forest.specs.Forest.{Forest, none, leaf, group, Found, nothing, a_leaf, a_group, or_else, find, children_of, stack_at}
+use Rattle.spec_forest.specs.Forest.{Forest, none, leaf, group, Found, nothing, a_leaf, a_group, or_else, find}
+use Rattle.spec_forest.specs.Forest.{children_of, stack_at}
 use Rattle.spec_document.specs.Document as doc
 use Rattle.xl_doc.specs.declared.node.Node.{Node}
 use Rattle.xl_doc.specs.Nodes.{nodes_of, layer_of, group_of, MarksAgree}
@@ -26,7 +27,8 @@ find-nodes_of id none = refl
 find-nodes_of id (leaf i n under) =
     ap (λ r. cond (id == i) (a_leaf (layer_of n)) r) (find-nodes_of id under) ∙ seen-cond (id == i) (a_leaf n) (find id under)
 find-nodes_of id (group i n children under) =
-    (λ j. cond (id == i) (a_group (group_of n) (nodes_of children)) (or_else (find-nodes_of id children j) (find-nodes_of id under j)))
+    (λ j. cond (id == i) (a_group (group_of n) (nodes_of children))
+    (or_else (find-nodes_of id children j) (find-nodes_of id under j)))
     ∙ (ap (λ r. cond (id == i) (a_group (group_of n) (nodes_of children)) r) (seen-or_else (find id children) (find id under))
     ∙ seen-cond (id == i) (a_group n children) (or_else (find id children) (find id under)))
 
@@ -83,7 +85,8 @@ choice_agrees true a b p q = p
 choice_agrees false a b p q = q
 
 stack_agrees : (stack : ℕ) (f : Forest Node Node) → MarksAgree f → StackAgrees (stack_at stack f)
-stack_agrees stack f h = choice_agrees (stack == 0) (Some f) (children_of (find stack f)) h (children_agree (find stack f) (find_agrees stack f h))
+stack_agrees stack f h =
+    choice_agrees (stack == 0) (Some f) (children_of (find stack f)) h (children_agree (find stack f) (find_agrees stack f h))
 
 pub agrees_in : (stack : ℕ) (f s : Forest Node Node) → MarksAgree f → stack_at stack f ≡ Some s → MarksAgree s
 agrees_in stack f s h e = let P : Option (Forest Node Node) → Type 0 = StackAgrees in subst P e (stack_agrees stack f h)

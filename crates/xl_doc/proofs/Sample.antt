@@ -26,7 +26,8 @@ even_is_plane : (w h bpp : ℕ) (pixel : List ℕ) → AreBytes pixel → IsPlan
 even_is_plane w h bpp pixel bytes = plane_made (λ x y c. slice_index pixel c) w h bpp (λ x y c. index_byte pixel c bytes)
 
 sheet_is_channel : (owner : Owner) (w h value : ℕ) → value < 256 → IsChannel owner w h (sheet w h value)
-sheet_is_channel owner w h value byte = record { name = no_name; kept = none_kept owner; plane = even_is_plane w h 1 (value ∷ []) (byte, tt) }
+sheet_is_channel owner w h value byte =
+    record { name = no_name; kept = none_kept owner; plane = even_is_plane w h 1 (value ∷ []) (byte, tt) }
 
 seven : AreIds (7 ∷ [])
 unfolding IsDistinct
@@ -71,9 +72,11 @@ sample_is_document = record {
 
 -- so is the document with this tree
 pub sample_sound : (old tree : Forest Node Node) (node : Node) (d : Document) → old ≡ none → node ≡ hat
-    → put_last [] (alone (is_group_body node.body) 7 node) old ≡ Some tree → d ≡ record sample { nodes = nodes_of tree } → IsSound tree d
+    → put_last [] (alone (is_group_body node.body) 7 node) old ≡ Some tree → d ≡ record sample { nodes = nodes_of tree }
+    → IsSound tree d
 sample_sound old tree node d empty node_is put d_is =
-    let e : Some (leaf 7 hat none) ≡ Some tree = sym (λ i. put_last [] (alone (is_group_body (node_is i).body) 7 (node_is i)) (empty i)) ∙ put in
+    let e : Some (leaf 7 hat none) ≡ Some tree =
+    sym (λ i. put_last [] (alone (is_group_body (node_is i).body) 7 (node_is i)) (empty i)) ∙ put in
     let is : leaf 7 hat none ≡ tree = cc in
     let P : Forest Node Node → Type 0 = λ t. IsSound t (record sample { nodes = nodes_of t }) in
     let Q : Document → Type 0 = IsSound tree in

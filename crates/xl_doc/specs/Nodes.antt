@@ -9,7 +9,14 @@ use Rattle.xl_doc.specs.declared.node.Body.TheVariants.{Leaf, Group}
 
 -- a layer without pixels; no node of a document stands for it
 abbrev pub no_sheet : Sheet
-no_sheet = record { kind = 0; x = pos 0; y = pos 0; plane = record { width = 0; height = 0; bpp = 0; bytes = [] }; mask = None; apply_mask = true }
+no_sheet = record {
+  kind = 0;
+  x = pos 0;
+  y = pos 0;
+  plane = record { width = 0; height = 0; bpp = 0; bytes = [] };
+  mask = None;
+  apply_mask = true;
+}
 
 abbrev pub is_group_body : Body → Bool
 is_group_body (Leaf sheet) = false

@@ -24,7 +24,14 @@ hat = record {
   mode = SoftLight;
   visible = false;
   kept = [];
-  body = Leaf (record { kind = 0; x = pos 1; y = negsuc 0; plane = even 3 2 3 (10 ∷ 20 ∷ 30 ∷ []); mask = Some (sheet 3 2 255); apply_mask = true });
+  body = Leaf (record {
+    kind = 0;
+    x = pos 1;
+    y = negsuc 0;
+    plane = even 3 2 3 (10 ∷ 20 ∷ 30 ∷ []);
+    mask = Some (sheet 3 2 255);
+    apply_mask = true;
+  });
 }
 
 -- the layer on a canvas of ten times ten pixels, of which none is selected

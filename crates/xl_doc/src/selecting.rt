@@ -36,7 +36,8 @@ fn below_0(z: i32) -> u32
 fn put(out: &mut [u8], at: usize, row: &[u8])
     requires { at + length row.now ≤ length out.old }
     ensures size { length out.new ≡ length out.old }
-    ensures each { (k : ℕ) → slice_index out.new k ≡ byte_after at (length row.now) (slice_index out.old k) (slice_index row.now (k - at)) k }
+    ensures each { (k : ℕ) → slice_index out.new k
+        ≡ byte_after at (length row.now) (slice_index out.old k) (slice_index row.now (k - at)) k }
 {
     out[at..at + row.len()].copy_from_slice(row);
 }
@@ -52,7 +53,8 @@ fn row_of<'a>(plane: &Plane, x: u32, y: u32, n: u32, room: &'a mut [u8]) -> &'a 
     requires few { n ≤ MAX_SIDE }
     requires room { length room.old ≡ ROW_ROOM }
     ensures length { length result.now ≡ n * plane.now.bpp }
-    ensures each { (k c : ℕ) → k < n → c < plane.now.bpp → slice_index result.now (k * plane.now.bpp + c) ≡ byte_at plane.now (x + k) y c }
+    ensures each { (k c : ℕ) → k < n → c < plane.now.bpp
+        → slice_index result.now (k * plane.now.bpp + c) ≡ byte_at plane.now (x + k) y c }
 {
     let (line, tile) = room.split_at_mut(MAX_SIDE as usize);
     let row = &mut line[..n as usize];

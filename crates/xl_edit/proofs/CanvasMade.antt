@@ -1,5 +1,6 @@
 -- The selection that an edit leaves.
-use Rattle.std.proofs.Common.{◌≡◌, ℕ, ◌+◌, ◌-◌, ◌*◌, ◌<◌, ◌≤◌, nat_lt, List, [], ◌∷◌, slice_index, sym, ◌∙◌, ap, arith, ℤ, pos, negsuc, ◌+ℤ◌, ◌^◌}
+use Rattle.std.proofs.Common.{◌≡◌, ℕ, ◌+◌, ◌-◌, ◌*◌, ◌<◌, ◌≤◌, nat_lt, List, [], ◌∷◌, slice_index, sym, ◌∙◌, ap, arith}
+use Rattle.std.proofs.Common.{ℤ, pos, negsuc, ◌+ℤ◌, ◌^◌}
 use Rattle.std.specs.Prelude.{Some, nat_le, ◌≤ℤ◌}
 use Rattle.std.proofs.lemmas.Bool.{leb-true, ltb-true}
 use Rattle.std.proofs.lemmas.Int.{ints}
@@ -27,7 +28,8 @@ module _ (p : Plane) (value : ℕ) (bytes : List ℕ) (w h : ℕ) where
       let n = p.bpp in
       let place : i * n + c ≡ i = omega (arith, one, hc, (ap (λ k. i * k) one)) in
       (λ j. slice_index bytes ((edge_is y Y top j * w + edge_is x X left j) * n + c))
-      ∙ (ap (slice_index bytes) place ∙ flat.each i (inside (x - X) (y - Y) w h (omega (arith, left, right)) (omega (arith, top, bottom))))
+      ∙ (ap (slice_index bytes) place ∙ flat.each i
+      (inside (x - X) (y - Y) w h (omega (arith, left, right)) (omega (arith, top, bottom))))
 
   abbrev rect_at : (x y : ℤ) → Rect
   rect_at x y = record { x = x; y = y; w = w; h = h }
@@ -40,21 +42,26 @@ module _ (p : Plane) (value : ℕ) (bytes : List ℕ) (w h : ℕ) where
       choose (has_point (rect_at (pos X) (pos Y)) (pos x) (pos y)) _ value (byte_at p x y c)
       (λ on.
       let inside = all_four (nat_le X x) (nat_lt x (X + w)) (nat_le Y y) (nat_lt y (Y + h)) on in
-      point_flat X Y one flat x y c (leb-true X x inside.0) (ltb-true x (X + w) inside.1) (leb-true Y y inside.2) (ltb-true y (Y + h) inside.3) hc))
+      point_flat X Y one flat x y c (leb-true X x inside.0) (ltb-true x (X + w) inside.1) (leb-true Y y inside.2)
+      (ltb-true y (Y + h) inside.3) hc))
   flat_at (pos X) (negsuc Y) one within flat = absurd (omega (arith, ints, within.top))
   flat_at (negsuc X) Y one within flat = absurd (omega (arith, ints, within.left))
 
 -- a rectangle of alike bytes in a plane of one byte per pixel
-pub channel_written : (ch : Channel) (rect : Rect) (value : ℕ) (bytes : List ℕ) → ch.plane.bpp ≡ 1 → IsWithin ch.plane.width ch.plane.height rect
-    → AreFlat (rect.w * rect.h) value bytes → record ch { plane = written ch.plane rect bytes } ≡ with_plane (with_rect rect (λ x y c. value)) ch
+pub channel_written : (ch : Channel) (rect : Rect) (value : ℕ) (bytes : List ℕ) → ch.plane.bpp ≡ 1
+    → IsWithin ch.plane.width ch.plane.height rect
+    → AreFlat (rect.w * rect.h) value bytes
+    → record ch { plane = written ch.plane rect bytes } ≡ with_plane (with_rect rect (λ x y c. value)) ch
 channel_written ch rect value bytes one within flat =
     ap (λ p. record ch { plane = p }) (flat_at ch.plane value bytes rect.w rect.h rect.x rect.y one within flat)
 
 -- the selection that there was, or the one that is made, with new bytes
-pub selection_written : (d : Document) (s w : Channel) (rect : Rect) (value next : ℕ) (table : List ℕ) → s ≡ selection_of d d.selection → w ≡ with_plane (with_rect rect (λ x y c. value)) s
+pub selection_written : (d : Document) (s w : Channel) (rect : Rect) (value next : ℕ) (table : List ℕ)
+    → s ≡ selection_of d d.selection → w ≡ with_plane (with_rect rect (λ x y c. value)) s
     → effect d next table (select rect value) ≡ record d { selection = Some w }
 selection_written d s w rect value next table is e =
-    ap (λ x. record d { selection = Some (with_plane (with_rect rect (λ x y c. value)) x) }) (sym is) ∙ ap (λ x. record d { selection = Some x }) (sym e)
+    ap (λ x. record d { selection = Some (with_plane (with_rect rect (λ x y c. value)) x) }) (sym is)
+    ∙ ap (λ x. record d { selection = Some x }) (sym e)
 
 -- a byte that stands so many times
 pub repeated_flat : (n value : ℕ) (bytes : List ℕ) → AreAlike (value ∷ []) n bytes → AreFlat n value bytes
@@ -70,4 +77,5 @@ span_within (negsuc X) n w low high = absurd (omega (arith, ints, low))
 -- a rectangle of a canvas has so few pixels
 pub few_within : (w h : ℕ) (r : Rect) → IsWithin w h r → w ≤ MAX_SIDE → h ≤ MAX_SIDE → r.w * r.h ≤ 2 ^ 26
 few_within w h r within wide high =
-    mul-le r.w r.h MAX_SIDE MAX_SIDE (omega (arith, span_within r.x r.w w within.left within.right, wide)) (omega (arith, span_within r.y r.h h within.top within.bottom, high))
+    mul-le r.w r.h MAX_SIDE MAX_SIDE (omega (arith, span_within r.x r.w w within.left within.right, wide))
+    (omega (arith, span_within r.y r.h h within.top within.bottom, high))

@@ -18,14 +18,17 @@ use Rattle.xl_edit.proofs.Limited.{made_limits}
 
 module _ {A : Type 0} where
   -- an element in the place of one is that one changed
-  pub set_changed : (change : A → A) (place : ℕ) (xs : List A) (was now : A) → was ≡ get_or xs place was → place < length xs → now ≡ change was
+  pub set_changed : (change : A → A) (place : ℕ) (xs : List A) (was now : A) → was ≡ get_or xs place was → place < length xs
+      → now ≡ change was
       → set xs place now ≡ changed_at place change xs
   set_changed change place [] was now at there is = absurd (omega (arith, there))
   set_changed change zero (x ∷ xs) was now at there is = ap (λ y. y ∷ xs) (is ∙ ap change at)
-  set_changed change (suc place) (x ∷ xs) was now at there is = ap (λ ys. x ∷ ys) (set_changed change place xs was now at (omega (arith, there)) is)
+  set_changed change (suc place) (x ∷ xs) was now at there is =
+      ap (λ ys. x ∷ ys) (set_changed change place xs was now at (omega (arith, there)) is)
 
   -- changes that come to the same at the element
-  pub same_changed : (a b : A → A) (place : ℕ) (xs : List A) → ((x : A) → get_or xs place x ≡ x → a x ≡ b x) → changed_at place a xs ≡ changed_at place b xs
+  pub same_changed : (a b : A → A) (place : ℕ) (xs : List A) → ((x : A) → get_or xs place x ≡ x → a x ≡ b x)
+      → changed_at place a xs ≡ changed_at place b xs
   same_changed a b place [] same = refl
   same_changed a b zero (x ∷ xs) same = ap (λ y. y ∷ xs) (same x refl)
   same_changed a b (suc place) (x ∷ xs) same = ap (λ ys. x ∷ ys) (same_changed a b place xs same)
@@ -36,7 +39,8 @@ module _ {A : Type 0} where
   one_there zero (z ∷ xs) x y there a b = a ∙ b
   one_there (suc place) (z ∷ xs) x y there a b = one_there place xs x y (omega (arith, there)) a b
 
-pub channel_fits : (d : Document) (index : ℕ) (rect : Rect) (value : ℕ) (bytes : List ℕ) → PaintsChannel d index rect value bytes → IsChannelPiece rect bytes index d.channels
+pub channel_fits : (d : Document) (index : ℕ) (rect : Rect) (value : ℕ) (bytes : List ℕ) → PaintsChannel d index rect value bytes
+    → IsChannelPiece rect bytes index d.channels
 channel_fits d index rect value bytes paints = λ c at. (paints c at).piece
 
 -- The document is seen as its fields, and as what they stand for.
@@ -49,7 +53,8 @@ module _ (before d : Document) (index : ℕ) (rect : Rect) (value : ℕ) (bytes 
       let b : Channel → Channel = with_plane (through d false (pos 0) (pos 0) rect (λ x y c. value)) in
       let filled : changed_at index a d.channels ≡ changed_at index b d.channels =
       same_changed a b index d.channels (λ c at. ap (λ p. record c { plane = p }) (paints c at).painted) in
-      let here : channels ≡ changed_at index b d.channels = is ∙ (ap (λ (x : Document). changed_at index a x.channels) same ∙ filled) in
+      let here : channels ≡ changed_at index b d.channels = is
+      ∙ (ap (λ (x : Document). changed_at index a x.channels) same ∙ filled) in
       let all : effect d next table (fill_channel index rect value) ≡ record before { channels = channels } =
       ap (λ xs. record d { channels = xs }) (sym here) ∙ ap (λ (x : Document). record x { channels = channels }) (sym same) in
       λ i. edits.unless_refused (allowed i) (at (all i) next)
@@ -58,10 +63,12 @@ module _ (before d : Document) (index : ℕ) (rect : Rect) (value : ℕ) (bytes 
       → channels ≡ changed_at index (with_plane (λ p. written p rect bytes)) before.channels → IsDocument before → value ≤ 255
       → IsDocument (record before { channels = channels })
   channel_limits same allowed paints is whole byte =
-      made_limits d (record before { channels = channels }) (fill_channel index rect value) (subst IsDocument same whole) byte refl (channel_made same allowed paints is)
+      made_limits d (record before { channels = channels }) (fill_channel index rect value) (subst IsDocument same whole) byte refl
+      (channel_made same allowed paints is)
 
 -- where the channels are as before, all is as before
-pub channels_kept : (tree : Forest Node Node) (before : Document) (channels : List Channel) → channels ≡ before.channels → IsSound tree before
+pub channels_kept : (tree : Forest Node Node) (before : Document) (channels : List Channel) → channels ≡ before.channels
+    → IsSound tree before
     → IsSound tree (record before { channels = channels })
 channels_kept tree before channels same s =
     let P : List Channel → Type 0 = λ x. IsSound tree (record before { channels = x }) in

@@ -1,5 +1,6 @@
 -- A plane after an edit of its pixels.
-use Rattle.std.proofs.Common.{◌≡◌, ℕ, ◌+◌, ◌-◌, ◌*◌, ◌<◌, ◌≤◌, Bool, true, false, ◌&&◌, cond, nat_lt, List, slice_index, refl, sym, ◌∙◌, ap, arith, ℤ, pos, negsuc, ◌+ℤ◌, ◌-ℤ◌}
+use Rattle.std.proofs.Common.{◌≡◌, ℕ, ◌+◌, ◌-◌, ◌*◌, ◌<◌, ◌≤◌, Bool, true, false, ◌&&◌, cond, nat_lt, List}
+use Rattle.std.proofs.Common.{slice_index, refl, sym, ◌∙◌, ap, arith, ℤ, pos, negsuc, ◌+ℤ◌, ◌-ℤ◌}
 use Rattle.std.specs.Prelude.{nat_le, if◌then◌else◌, ◌≤ℤ◌}
 use Rattle.std.proofs.lemmas.Bool.{leb-true, ltb-true, false≢true}
 use Rattle.std.proofs.lemmas.Int.{ints}
@@ -19,10 +20,13 @@ use Rattle.xl_edit.proofs.MixedRows.{old_byte}
 use Rattle.xl_edit.proofs.Weights.{weighed}
 
 -- planes of bytes that agree within the sides are one
-pub plane_of-same : (w h n : ℕ) (f g : ℕ → ℕ → ℕ → ℕ) → ((x y c : ℕ) → x < w → y < h → c < n → f x y c ≡ g x y c) → plane_of w h n f ≡ plane_of w h n g
+pub plane_of-same : (w h n : ℕ) (f g : ℕ → ℕ → ℕ → ℕ) → ((x y c : ℕ) → x < w → y < h → c < n → f x y c ≡ g x y c)
+    → plane_of w h n f ≡ plane_of w h n g
 plane_of-same w h n f g same =
-    plane-ext (plane_of w h n f) (plane_of w h n g) refl refl refl (omega (arith, length-plane_of f w h n)) (omega (arith, length-plane_of g w h n))
-    (λ x y c hx hy hc. byte_at-plane_of f w h n x y c hx hy hc ∙ (same x y c hx hy hc ∙ sym (byte_at-plane_of g w h n x y c hx hy hc)))
+    plane-ext (plane_of w h n f) (plane_of w h n g) refl refl refl (omega (arith, length-plane_of f w h n))
+    (omega (arith, length-plane_of g w h n))
+    (λ x y c hx hy hc. byte_at-plane_of f w h n x y c hx hy hc
+    ∙ (same x y c hx hy hc ∙ sym (byte_at-plane_of g w h n x y c hx hy hc)))
 
 pub choose : (t : Bool) (a b old : ℕ) → (t ≡ true → a ≡ b) → cond t a old ≡ cond t b old
 choose true a b old h = h refl
@@ -39,7 +43,8 @@ all_four true false c d e = absurd (false≢true e)
 all_four false b c d e = absurd (false≢true e)
 
 -- the byte at a point of the rectangle
-byte_there : (X Y W H n x y c : ℕ) (byte : ℕ → ℕ → ℕ → ℕ) (bytes : List ℕ) → AreRows W H n byte bytes → X ≤ x → x < X + W → Y ≤ y → y < Y + H → c < n
+byte_there : (X Y W H n x y c : ℕ) (byte : ℕ → ℕ → ℕ → ℕ) (bytes : List ℕ) → AreRows W H n byte bytes → X ≤ x → x < X + W → Y ≤ y
+    → y < Y + H → c < n
     → slice_index bytes ((from_edge y (pos Y) * W + from_edge x (pos X)) * n + c) ≡ byte (x - X) (y - Y) c
 byte_there X Y W H n x y c byte bytes rows left right top bottom hc =
     let place : ((y - Y) * W + (x - X)) * n + c ≡ (y - Y) * (W * n) + ((x - X) * n + c) = omega arith in
@@ -64,12 +69,15 @@ module _ (d : Document) (site : Site) (p : Plane) (new byte : ℕ → ℕ → �
       let column : X + (x - X) ≡ x = omega (arith, left) in
       let row : Y + (y - Y) ≡ y = omega (arith, top) in
       byte_there X Y w h n x y c (byte_in d site p (rect_at (pos X) (pos Y) w h) new) bytes rows left right top bottom hc
-      ∙ (ap (λ v. mixed (weight_at d site (X + (x - X)) (Y + (y - Y))) v (byte_at p (X + (x - X)) (Y + (y - Y)) c)) (same (x - X) (y - Y) c (omega (arith, left, right)) (omega (arith, top, bottom)) hc)
+      ∙ (ap (λ v. mixed (weight_at d site (X + (x - X)) (Y + (y - Y))) v (byte_at p (X + (x - X)) (Y + (y - Y)) c))
+      (same (x - X) (y - Y) c (omega (arith, left, right)) (omega (arith, top, bottom)) hc)
       ∙ ((λ i. mixed (weight_at d site (column i) (row i)) (byte (column i) (row i) c) (byte_at p (column i) (row i) c))
       ∙ sym (weighed site.indexed (selected d (site.x +ℤ pos x) (site.y +ℤ pos y)) (byte x y c) (byte_at p x y c))))
 
-  painted_at : (X Y : ℤ) → IsWithin p.width p.height (rect_at X Y w h) → AreRows w h p.bpp (byte_in d site p (rect_at X Y w h) new) bytes
-      → ((column row c : ℕ) → column < w → row < h → c < p.bpp → new column row c ≡ byte (part_above_0 X + column) (part_above_0 Y + row) c)
+  painted_at : (X Y : ℤ) → IsWithin p.width p.height (rect_at X Y w h)
+      → AreRows w h p.bpp (byte_in d site p (rect_at X Y w h) new) bytes
+      → ((column row c : ℕ) → column < w → row < h → c < p.bpp
+      → new column row c ≡ byte (part_above_0 X + column) (part_above_0 Y + row) c)
       → written p (rect_at X Y w h) bytes ≡ through d site.indexed site.x site.y (rect_at X Y w h) byte p
   painted_at (pos X) (pos Y) within rows same =
       plane_of-same p.width p.height p.bpp _ _
@@ -77,13 +85,16 @@ module _ (d : Document) (site : Site) (p : Plane) (new byte : ℕ → ℕ → �
       choose (has_point (rect_at (pos X) (pos Y) w h) (pos x) (pos y)) _ (painted_byte x y c) (byte_at p x y c)
       (λ on.
       let inside = all_four (nat_le X x) (nat_lt x (X + w)) (nat_le Y y) (nat_lt y (Y + h)) on in
-      point_painted X Y p.bpp rows same x y c (leb-true X x inside.0) (ltb-true x (X + w) inside.1) (leb-true Y y inside.2) (ltb-true y (Y + h) inside.3) hc))
+      point_painted X Y p.bpp rows same x y c (leb-true X x inside.0) (ltb-true x (X + w) inside.1) (leb-true Y y inside.2)
+      (ltb-true y (Y + h) inside.3) hc))
   painted_at (pos X) (negsuc Y) within rows same = absurd (omega (arith, ints, within.top))
   painted_at (negsuc X) Y within rows same = absurd (omega (arith, ints, within.left))
 
 -- the rows that are written are the plane after the edit, of which these are the new bytes
-pub painted : (d : Document) (site : Site) (p : Plane) (rect : Rect) (new byte : ℕ → ℕ → ℕ → ℕ) (bytes : List ℕ) → IsWithin p.width p.height rect
-    → ((column row c : ℕ) → column < rect.w → row < rect.h → c < p.bpp → new column row c ≡ byte (part_above_0 rect.x + column) (part_above_0 rect.y + row) c)
+pub painted : (d : Document) (site : Site) (p : Plane) (rect : Rect) (new byte : ℕ → ℕ → ℕ → ℕ) (bytes : List ℕ)
+    → IsWithin p.width p.height rect
+    → ((column row c : ℕ) → column < rect.w → row < rect.h → c < p.bpp
+    → new column row c ≡ byte (part_above_0 rect.x + column) (part_above_0 rect.y + row) c)
     → AreRows rect.w rect.h p.bpp (byte_in d site p rect new) bytes
     → written p rect bytes ≡ through d site.indexed site.x site.y rect byte p
 painted d site p rect new byte bytes within same rows =
@@ -100,10 +111,12 @@ pub listed_is : (w h n : ℕ) (rect : Rect) (bytes : List ℕ) → IsWithin w h 
 listed_is w h n rect bytes within column row c =
     let place : row * (rect.w * n) + (column * n + c) ≡ (row * rect.w + column) * n + c = omega arith in
     ap (slice_index bytes) place
-    ∙ (λ i. slice_index bytes ((sym (from_edge_is rect.y row within.top) i * rect.w + sym (from_edge_is rect.x column within.left) i) * n + c))
+    ∙ (λ i. slice_index bytes ((sym (from_edge_is rect.y row within.top) i * rect.w
+    + sym (from_edge_is rect.x column within.left) i) * n + c))
 
 -- bytes that stand at u and v of another plane
-pub copied_is : (w h : ℕ) (rect : Rect) (source : Plane) (u v : ℕ) (bytes : List ℕ) → IsWithin w h rect → bytes ≡ bytes_in source (rect_at (pos u) (pos v) rect.w rect.h)
+pub copied_is : (w h : ℕ) (rect : Rect) (source : Plane) (u v : ℕ) (bytes : List ℕ) → IsWithin w h rect
+    → bytes ≡ bytes_in source (rect_at (pos u) (pos v) rect.w rect.h)
     → (column row c : ℕ) → column < rect.w → row < rect.h → c < source.bpp
     → in_rows (rect.w * source.bpp) source.bpp bytes column row c
     ≡ byte_at source (u + from_edge (part_above_0 rect.x + column) rect.x) (v + from_edge (part_above_0 rect.y + row) rect.y) c

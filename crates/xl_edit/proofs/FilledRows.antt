@@ -13,13 +13,16 @@ use Rattle.xl_edit.specs.Filling.{AreRows, HasRows, byte_in, in_rows, weight_at}
 use Rattle.xl_edit.proofs.Weights.{no_selection, pixel_fits}
 
 -- rows of pixels that are all alike
-pub alike_are_rows : (w h : ℕ) (pixel row all : List ℕ) → AreAlike pixel w row → AreAlike row h all → AreRows w h (length pixel) (λ x y c. slice_index pixel c) all
+pub alike_are_rows : (w h : ℕ) (pixel row all : List ℕ) → AreAlike pixel w row → AreAlike row h all
+    → AreRows w h (length pixel) (λ x y c. slice_index pixel c) all
 alike_are_rows w h pixel row all across down = record {
   size = down.size ∙ ap (λ n. h * n) across.size;
   each = λ column y c hx hy hc.
-      let start : y * (w * length pixel) + (column * length pixel + c) ≡ y * length row + (column * length pixel + c) = ap (λ n. y * n + (column * length pixel + c)) (sym across.size) in
+      let start : y * (w * length pixel) + (column * length pixel + c) ≡ y * length row + (column * length pixel + c) =
+      ap (λ n. y * n + (column * length pixel + c)) (sym across.size) in
       ap (slice_index all) start
-      ∙ (down.each y (column * length pixel + c) hy (omega (arith, across.size, mul-add-lt column (length pixel) c w hx hc)) ∙ across.each column c hx hc);
+      ∙ (down.each y (column * length pixel + c) hy (omega (arith, across.size, mul-add-lt column (length pixel) c w hx hc))
+      ∙ across.each column c hx hc);
 }
 
 -- bytes that are given row by row
@@ -41,7 +44,8 @@ one_row_is w n pixel row size across column y c hx hc =
     ap (slice_index row) start ∙ across.each column c hx (omega (arith, size))
 
 -- rows of which each byte has another name
-pub same_rows : (w h n : ℕ) (a b : ℕ → ℕ → ℕ → ℕ) (bytes : List ℕ) → ((column row c : ℕ) → column < w → row < h → c < n → a column row c ≡ b column row c)
+pub same_rows : (w h n : ℕ) (a b : ℕ → ℕ → ℕ → ℕ) (bytes : List ℕ)
+    → ((column row c : ℕ) → column < w → row < h → c < n → a column row c ≡ b column row c)
     → AreRows w h n a bytes → AreRows w h n b bytes
 same_rows w h n a b bytes same rows = record {
   size = rows.size;
@@ -49,7 +53,8 @@ same_rows w h n a b bytes same rows = record {
 }
 
 -- without a selection all bytes are the new ones
-pub whole_rows : (d : Document) (site : Site) (p : Plane) (rect : Rect) (new : ℕ → ℕ → ℕ → ℕ) (bytes : List ℕ) → is_none d.selection ≡ true
+pub whole_rows : (d : Document) (site : Site) (p : Plane) (rect : Rect) (new : ℕ → ℕ → ℕ → ℕ) (bytes : List ℕ)
+    → is_none d.selection ≡ true
     → AreRows rect.w rect.h p.bpp new bytes → AreRows rect.w rect.h p.bpp (byte_in d site p rect new) bytes
 whole_rows d site p rect new bytes none rows =
     same_rows rect.w rect.h p.bpp new (byte_in d site p rect new) bytes

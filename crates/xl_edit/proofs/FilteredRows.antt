@@ -1,5 +1,6 @@
 -- Pixels whose first bytes go through a table, in place.
-use Rattle.std.proofs.Common.{◌≡◌, ℕ, ◌+◌, ◌-◌, ◌*◌, ◌<◌, ◌≤◌, Bool, true, false, ◌&&◌, ◌==◌, cond, nat_lt, List, ◌++◌, take, drop, length, slice_index, refl, sym, ◌∙◌, ap, subst, arith, inl, inr}
+use Rattle.std.proofs.Common.{◌≡◌, ℕ, ◌+◌, ◌-◌, ◌*◌, ◌<◌, ◌≤◌, Bool, true, false, ◌&&◌, ◌==◌, cond, nat_lt, List, ◌++◌}
+use Rattle.std.proofs.Common.{take, drop, length, slice_index, refl, sym, ◌∙◌, ap, subst, arith, inl, inr}
 use Rattle.std.proofs.lemmas.Bool.{cases_lt}
 use Rattle.std.proofs.lemmas.List.{append-nil, drop_all, take_all}
 use Rattle.std.proofs.lemmas.Bool.Decides.{nat_tests}
@@ -25,7 +26,9 @@ use Rattle.xl_edit.proofs.Weights.{after_out, after_behind}
 -- the pixels before one are done, and all else is as it was
 pub record AreThrough (table : List ℕ) (k n colours : ℕ) (old new : List ℕ) : Type 0 where
   pub size : length new ≡ length old
-  pub done : (j c : ℕ) → j < k → c < n → slice_index new (j * n + c) ≡ cond (nat_lt c colours) (slice_index table (slice_index old (j * n + c))) (slice_index old (j * n + c))
+  pub done : (j c : ℕ) → j < k → c < n
+      → slice_index new (j * n + c) ≡ cond (nat_lt c colours) (slice_index table (slice_index old (j * n + c)))
+      (slice_index old (j * n + c))
   pub left : (m : ℕ) → k * n ≤ m → slice_index new m ≡ slice_index old m
 
 pub none_through : (table : List ℕ) (n colours : ℕ) (old : List ℕ) → AreThrough table 0 n colours old old
@@ -35,7 +38,8 @@ after_at : (at n old new c : ℕ) → byte_after at n old new (at + c) ≡ cond 
 after_at at n old new c = grind (arith, nat_tests)
 
 -- one pixel more
-pub pixel_through : (table : List ℕ) (k n colours : ℕ) (old now next : List ℕ) → colours ≤ n → AreThrough table k n colours old now → length next ≡ length now
+pub pixel_through : (table : List ℕ) (k n colours : ℕ) (old now next : List ℕ) → colours ≤ n → AreThrough table k n colours old now
+    → length next ≡ length now
     → ((m : ℕ) → slice_index next m ≡ byte_after (k * n) colours (slice_index now m) (slice_index table (slice_index now m)) m)
     → AreThrough table (k + 1) n colours old next
 pixel_through table k n colours old now next few so_far same put = record {
@@ -59,9 +63,11 @@ pixel_through table k n colours old now next few so_far same put = record {
 }
 
 -- the bytes of a rectangle of a plane, of which each pixel went through the table
-pub rows_through : (table : List ℕ) (colours : ℕ) (rect : Rect) (p : Plane) (old new : List ℕ) → old ≡ bytes_in p rect → length new ≡ length old
+pub rows_through : (table : List ℕ) (colours : ℕ) (rect : Rect) (p : Plane) (old new : List ℕ) → old ≡ bytes_in p rect
+    → length new ≡ length old
     → ((k c : ℕ) → k < rect.w * rect.h → c < p.bpp
-    → slice_index new (k * p.bpp + c) ≡ cond (nat_lt c colours) (slice_index table (slice_index old (k * p.bpp + c))) (slice_index old (k * p.bpp + c)))
+    → slice_index new (k * p.bpp + c)
+    ≡ cond (nat_lt c colours) (slice_index table (slice_index old (k * p.bpp + c))) (slice_index old (k * p.bpp + c)))
     → AreFiltered table colours rect p new
 rows_through table colours rect p old new is same each = record {
   size = same ∙ (old_length p rect old is ∙ omega arith);
@@ -76,24 +82,29 @@ rows_through table colours rect p old new is same each = record {
 }
 
 -- bytes that were lent whole come back whole
-pub whole_taken : (len : ℕ) (new old : List ℕ) → len ≡ length old → length new ≡ length old → take len (new ++ drop (length new) old) ≡ new
+pub whole_taken : (len : ℕ) (new old : List ℕ) → len ≡ length old → length new ≡ length old
+    → take len (new ++ drop (length new) old) ≡ new
 whole_taken len new old full same =
     ap (λ rest. take len (new ++ rest)) (drop_all (length new) old (omega (arith, same)))
     ∙ (ap (take len) (append-nil new) ∙ take_all len new (omega (arith, full, same)))
 
 -- the colour bytes are those before the last, where that is alpha
-through_is : (alpha : Bool) (n c new old : ℕ) → c < n → cond (nat_lt c (cond alpha (n - 1) n)) new old ≡ cond (alpha && c == n - 1) old new
+through_is : (alpha : Bool) (n c new old : ℕ) → c < n
+    → cond (nat_lt c (cond alpha (n - 1) n)) new old ≡ cond (alpha && c == n - 1) old new
 through_is true n c new old h = grind (arith, nat_tests)
 through_is false n c new old h = grind (arith, nat_tests)
 
 -- what went through the table, and through the selection, is the layer after the filter
-pub filter_painted : (d : Document) (s : Sheet) (rect : Rect) (table new bytes : List ℕ) → IsWithin s.plane.width s.plane.height rect
+pub filter_painted : (d : Document) (s : Sheet) (rect : Rect) (table new bytes : List ℕ)
+    → IsWithin s.plane.width s.plane.height rect
     → AreFiltered table (colours_of s) rect s.plane new
-    → AreRows rect.w rect.h s.plane.bpp (byte_in d (site_of_sheet d s) s.plane rect (in_rows (rect.w * s.plane.bpp) s.plane.bpp new)) bytes
+    → AreRows rect.w rect.h s.plane.bpp
+    (byte_in d (site_of_sheet d s) s.plane rect (in_rows (rect.w * s.plane.bpp) s.plane.bpp new)) bytes
     → (l : Layer) → sheet_of_layer l ≡ s → Paints Pixels rect bytes (filters d rect table) l
 filter_painted d s rect table new bytes within through rows l is =
     let P : Sheet → Type 0 = λ q. (column row c : ℕ) → column < rect.w → row < rect.h → c < q.plane.bpp
-    → in_rows (rect.w * s.plane.bpp) s.plane.bpp new column row c ≡ byte_through table (colours_of q) q.plane (part_above_0 rect.x + column) (part_above_0 rect.y + row) c in
+    → in_rows (rect.w * s.plane.bpp) s.plane.bpp new column row c
+    ≡ byte_through table (colours_of q) q.plane (part_above_0 rect.x + column) (part_above_0 rect.y + row) c in
     let each : P (sheet_of_layer l) = subst P (sym is) through.each in
     let fits : Sheet → ℕ → Type 0 = λ q c. c < q.plane.bpp in
     pixels_painted d s rect (in_rows (rect.w * s.plane.bpp) s.plane.bpp new) (filtered table l) bytes (filters d rect table) within
@@ -102,4 +113,5 @@ filter_painted d s rect table new bytes within through rows l is =
     let x = part_above_0 rect.x + column in
     let y = part_above_0 rect.y + row in
     each column row c hx hy less
-    ∙ through_is (has_alpha l.kind) l.plane.bpp c (slice_index table (byte_at l.plane x y c)) (byte_at l.plane x y c) less) rows l is refl
+    ∙ through_is (has_alpha l.kind) l.plane.bpp c (slice_index table (byte_at l.plane x y c)) (byte_at l.plane x y c) less) rows l
+    is refl

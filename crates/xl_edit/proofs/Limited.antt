@@ -15,9 +15,11 @@ use Rattle.xl_edit.specs.Applied.{at, Makes}
 use Rattle.xl_checks.proofs.Seen.{ids-nodes_of}
 
 -- Any next id does that is above all ids, and these are words.
-pub made_limits : (d new : Document) (edit : Edit) → IsDocument d → IsEdit edit → makes_node edit ≡ false → Makes d new edit (Ok tt) → IsDocument new
+pub made_limits : (d new : Document) (edit : Edit) → IsDocument d → IsEdit edit → makes_node edit ≡ false → Makes d new edit (Ok tt)
+    → IsDocument new
 made_limits d new edit is kept none made =
-    (apply_goes (at d (2 ^ 32)) (at new (2 ^ 32)) edit [] (record { document = is; positive = omega arith; below = is.ids.word }) kept tt
+    (apply_goes (at d (2 ^ 32)) (at new (2 ^ 32)) edit []
+    (record { document = is; positive = omega arith; below = is.ids.word }) kept tt
     (λ makes. let wrong : false ≡ true = sym none ∙ makes in cc) (made [] (2 ^ 32))).at.document
 
 -- the tree of a document has ids of its own
@@ -27,7 +29,8 @@ distinct_in tree d same is =
     subst P (ap ids (sym same) ∙ ids-nodes_of tree) is.ids.distinct
 
 -- where all is as before, a document is sound as before
-pub sound_kept : (old new : Forest Node Node) (d : Document) → nodes_of old ≡ d.nodes → new ≡ old → IsSound old d → IsSound new (record d { nodes = nodes_of new })
+pub sound_kept : (old new : Forest Node Node) (d : Document) → nodes_of old ≡ d.nodes → new ≡ old → IsSound old d
+    → IsSound new (record d { nodes = nodes_of new })
 sound_kept old new d is same s =
     let P : Forest Node Node → Type 0 = λ t. IsSound t (record d { nodes = nodes_of t }) in
     let Q : Nodes → Type 0 = λ nodes. IsSound old (record d { nodes = nodes }) in

@@ -22,12 +22,14 @@ use Rattle.xl_edit.specs.Nodes.{one_node}
 use Rattle.xl_checks.proofs.Seen.{Sees, sees}
 
 -- the document is what the edit makes of it, and the next id is taken
-pub node_made : (d new : Document) (next : ℕ) (table : List ℕ) (e : Edit) → makes_node e ≡ true → refusal d e ≡ None → effect d next table e ≡ new
+pub node_made : (d new : Document) (next : ℕ) (table : List ℕ) (e : Edit) → makes_node e ≡ true → refusal d e ≡ None
+    → effect d next table e ≡ new
     → edits.apply (at d next) e table ≡ Ok (at new (next + 1))
 node_made d new next table e makes allowed is = λ i. edits.unless_refused (allowed i) (at (is i) (cond (makes i) (next + 1) next))
 
 -- a document with a new node is within its limits
-pub limits_with_node : (d : Document) (next : ℕ) (e : Edit) → IsEdit e → HasNext d next e → makes_node e ≡ true → refusal d e ≡ None → KeepsLimits d (effect d next [] e)
+pub limits_with_node : (d : Document) (next : ℕ) (e : Edit) → IsEdit e → HasNext d next e → makes_node e ≡ true → refusal d e ≡ None
+    → KeepsLimits d (effect d next [] e)
 limits_with_node d next e kept has makes allowed is =
     (keeps d next [] e (record { document = is; positive = has.positive; below = has.below }) kept tt
     (λ takes. omega (arith, has.another takes)) allowed).at.document
@@ -59,5 +61,6 @@ pub one_layer : (id : ℕ) (n : Node) (l : Layer) → is_group_body n.body ≡ f
 one_layer id n l mark e = (λ i. nodes_of (alone (mark i) id n)) ∙ ap (λ x. leaf id x none) e
 
 -- and else a group
-pub one_group : (id : ℕ) (n : Node) (g : Group) → is_group_body n.body ≡ true → group_of n ≡ g → one_node id n ≡ group id g none none
+pub one_group : (id : ℕ) (n : Node) (g : Group) → is_group_body n.body ≡ true → group_of n ≡ g
+    → one_node id n ≡ group id g none none
 one_group id n g mark e = (λ i. nodes_of (alone (mark i) id n)) ∙ ap (λ x. group id x none none) e

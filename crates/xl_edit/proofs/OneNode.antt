@@ -5,7 +5,8 @@ use Rattle.spec_forest.specs.Forest.{Forest, none, leaf, group, ids, Found, noth
 use Rattle.spec_forest.specs.Changes.{with_leaf, with_group}
 use Rattle.spec_forest.specs.Holes.{Hole, plug}
 use Rattle.spec_forest.proofs.Standing.{Fresh, Standing, nowhere, at_leaf, at_group, standing, find-at_leaf, find-at_group}
-use Rattle.spec_forest.proofs.Distinct.{untouched, walks-with_leaf, walks-with_group, lone_leaf, lone_group, with_leaf-at_leaf, with_leaf-at_group, with_group-at_leaf, with_group-at_group}
+use Rattle.spec_forest.proofs.Distinct.{untouched, walks-with_leaf, walks-with_group, lone_leaf, lone_group}
+use Rattle.spec_forest.proofs.Distinct.{with_leaf-at_leaf, with_leaf-at_group, with_group-at_leaf, with_group-at_group}
 
 -- two changes come to the same at what is found
 abbrev pub Agree : {L G : Type 0} → (a b : L → L) (c d : G → G) → Found L G → Type 0
@@ -43,12 +44,16 @@ module _ {L G : Type 0} where
       ap (with_group id c) (untouched id (with_leaf id a) (walks-with_leaf id a) f n)
       ∙ untouched id (with_group id c) (walks-with_group id c) f n
 
-  leaf_changed : (id : ℕ) (a : L → L) (c : G → G) (h : Hole L G) (w : L) (u : Forest L G) → IsDistinct nat_eq (ids (plug h (leaf id w u))) → Fresh id h → with_group id c (with_leaf id a (plug h (leaf id w u))) ≡ plug h (leaf id (a w) u)
+  leaf_changed : (id : ℕ) (a : L → L) (c : G → G) (h : Hole L G) (w : L) (u : Forest L G)
+      → IsDistinct nat_eq (ids (plug h (leaf id w u))) → Fresh id h
+      → with_group id c (with_leaf id a (plug h (leaf id w u))) ≡ plug h (leaf id (a w) u)
   leaf_changed id a c h w u d fresh =
       let l = lone_leaf id h w u d in
       ap (with_group id c) (with_leaf-at_leaf id a h w u fresh l) ∙ with_group-at_leaf id c h (a w) u fresh l
 
-  group_changed : (id : ℕ) (a : L → L) (c : G → G) (h : Hole L G) (w : G) (k u : Forest L G) → IsDistinct nat_eq (ids (plug h (group id w k u))) → Fresh id h → with_group id c (with_leaf id a (plug h (group id w k u))) ≡ plug h (group id (c w) k u)
+  group_changed : (id : ℕ) (a : L → L) (c : G → G) (h : Hole L G) (w : G) (k u : Forest L G)
+      → IsDistinct nat_eq (ids (plug h (group id w k u))) → Fresh id h
+      → with_group id c (with_leaf id a (plug h (group id w k u))) ≡ plug h (group id (c w) k u)
   group_changed id a c h w k u d fresh =
       let l = lone_group id h w k u d in
       ap (with_group id c) (with_leaf-at_group id a h w k u fresh l) ∙ with_group-at_group id c h w k u fresh l
@@ -81,19 +86,22 @@ module _ {L G : Type 0} where
         ∙ sym (ap (λ x. with_group id d (with_leaf id b x)) is))))
 
   -- at a leaf the change of groups does nothing
-  pub only_leaf : (id : ℕ) (a b : L → L) (c : G → G) (f : Forest L G) (w : L) → IsDistinct nat_eq (ids f) → find id f ≡ a_leaf w → a w ≡ b w
+  pub only_leaf : (id : ℕ) (a b : L → L) (c : G → G) (f : Forest L G) (w : L) → IsDistinct nat_eq (ids f) → find id f ≡ a_leaf w
+      → a w ≡ b w
       → with_group id c (with_leaf id a f) ≡ with_leaf id b f
   only_leaf id a b c f w distinct is e =
       let P : Found L G → Type 0 = Agree a b c (λ v. v) in
       same_changes id a b c (λ v. v) f distinct (subst P (sym is) e) ∙ with_group-same id (with_leaf id b f)
 
   -- at a group the change of leaves does nothing
-  pub only_group : (id : ℕ) (a : L → L) (c d : G → G) (f : Forest L G) (w : G) (k : Forest L G) → IsDistinct nat_eq (ids f) → find id f ≡ a_group w k → c w ≡ d w
+  pub only_group : (id : ℕ) (a : L → L) (c d : G → G) (f : Forest L G) (w : G) (k : Forest L G) → IsDistinct nat_eq (ids f)
+      → find id f ≡ a_group w k → c w ≡ d w
       → with_group id c (with_leaf id a f) ≡ with_group id d f
   only_group id a c d f w k distinct is e =
       let P : Found L G → Type 0 = Agree a (λ v. v) c d in
       same_changes id a (λ v. v) c d f distinct (subst P (sym is) e) ∙ ap (with_group id d) (with_leaf-same id f)
 
   -- changes of leaves alone that come to the same at the leaf with the id
-  pub same_leaf : (id : ℕ) (a b : L → L) (f : Forest L G) (w : L) → IsDistinct nat_eq (ids f) → find id f ≡ a_leaf w → a w ≡ b w → with_leaf id a f ≡ with_leaf id b f
+  pub same_leaf : (id : ℕ) (a b : L → L) (f : Forest L G) (w : L) → IsDistinct nat_eq (ids f) → find id f ≡ a_leaf w → a w ≡ b w
+      → with_leaf id a f ≡ with_leaf id b f
   same_leaf id a b f w distinct is e = sym (with_group-same id (with_leaf id a f)) ∙ only_leaf id a b (λ v. v) f w distinct is e

@@ -1,5 +1,6 @@
 -- What is painted is what the edit makes.
-use Rattle.std.proofs.Common.{◌≡◌, ℕ, ◌+◌, ◌*◌, ◌<◌, true, false, cond, nat_eq, List, [], ◌∷◌, length, slice_index, refl, sym, ◌∙◌, ap, subst, arith}
+use Rattle.std.proofs.Common.{◌≡◌, ℕ, ◌+◌, ◌*◌, ◌<◌, true, false, cond, nat_eq, List, [], ◌∷◌, length, slice_index}
+use Rattle.std.proofs.Common.{refl, sym, ◌∙◌, ap, subst, arith}
 use Rattle.std.specs.Prelude.{Option, Some, None, option_map, is_none, Ok}
 use Rattle.std.specs.List.{IsDistinct}
 use Rattle.spec_grid.specs.declared.Rect.{Rect}
@@ -21,32 +22,42 @@ use Rattle.xl_edit.specs.declared.places.Part.TheVariants.{Pixels, Mask}
 use Rattle.xl_edit.specs.Applied.{at, MakesBy}
 use Rattle.xl_edit.specs.Filling.{AreRows, byte_in, in_rows}
 use Rattle.xl_checks.specs.Found.{IsLayer, sheet_of_layer, sheet_found}
-use Rattle.xl_edit.specs.Paint.{IsPieceOf, IsPiece, IsMaskPiece, PaintsPlane, PaintsMask, Paints, with_piece, site_of_sheet, site_of_mask, writes, copies, fills_mask}
+use Rattle.xl_edit.specs.Paint.{IsPieceOf, IsPiece, IsMaskPiece, PaintsPlane, PaintsMask, Paints, with_piece}
+use Rattle.xl_edit.specs.Paint.{site_of_sheet, site_of_mask, writes, copies, fills_mask}
 use Rattle.xl_checks.specs.Rects.{rect_from}
 use Rattle.xl_edit.proofs.OneNode.{same_leaf}
 use Rattle.xl_checks.proofs.LayerFound.{is_layer-weaker}
 use Rattle.xl_edit.proofs.FilledRows.{given_are_rows, whole_rows}
 use Rattle.xl_edit.proofs.FilledPlanes.{painted, listed_is, copied_is}
 
-piece_painted : (id : ℕ) (d : Document) (part : Part) (rect : Rect) (bytes : List ℕ) (change : Layer → Layer) (found : Found Layer Group) → find id d.nodes ≡ found
-    → IsDistinct nat_eq (ids d.nodes) → IsLayer (Paints part rect bytes change) found → with_leaf id (with_piece part rect bytes) d.nodes ≡ with_leaf id change d.nodes
+piece_painted : (id : ℕ) (d : Document) (part : Part) (rect : Rect) (bytes : List ℕ) (change : Layer
+    → Layer) (found : Found Layer Group) → find id d.nodes ≡ found
+    → IsDistinct nat_eq (ids d.nodes) → IsLayer (Paints part rect bytes change) found
+    → with_leaf id (with_piece part rect bytes) d.nodes ≡ with_leaf id change d.nodes
 piece_painted id d part rect bytes change nothing is distinct h = absurd h
-piece_painted id d part rect bytes change (a_leaf l) is distinct h = same_leaf id (with_piece part rect bytes) change d.nodes l distinct is h.painted
+piece_painted id d part rect bytes change (a_leaf l) is distinct h =
+    same_leaf id (with_piece part rect bytes) change d.nodes l distinct is h.painted
 piece_painted id d part rect bytes change (a_group g c) is distinct h = absurd h
 
 -- the edit is the change of the layer
-pub paint_made : (d new : Document) (edit : Edit) (id : ℕ) (part : Part) (rect : Rect) (bytes : List ℕ) (change : Layer → Layer) → makes_node edit ≡ false
-    → refusal d edit ≡ None → (table : List ℕ) → ((next : ℕ) → effect d next table edit ≡ change_leaf d id change) → IsDistinct nat_eq (ids d.nodes)
-    → IsLayer (Paints part rect bytes change) (node d id) → new ≡ record d { nodes = with_leaf id (with_piece part rect bytes) d.nodes } → MakesBy table d new edit (Ok tt)
+pub paint_made : (d new : Document) (edit : Edit) (id : ℕ) (part : Part) (rect : Rect) (bytes : List ℕ) (change : Layer → Layer)
+    → makes_node edit ≡ false
+    → refusal d edit ≡ None → (table : List ℕ) → ((next : ℕ) → effect d next table edit ≡ change_leaf d id change)
+    → IsDistinct nat_eq (ids d.nodes)
+    → IsLayer (Paints part rect bytes change) (node d id)
+    → new ≡ record d { nodes = with_leaf id (with_piece part rect bytes) d.nodes } → MakesBy table d new edit (Ok tt)
 paint_made d new edit id part rect bytes change plain allowed table makes distinct h is = λ next.
     let all : effect d next table edit ≡ new =
-    makes next ∙ (ap (λ x. record d { nodes = x }) (sym (piece_painted id d part rect bytes change (node d id) refl distinct h)) ∙ sym is) in
+    makes next ∙ (ap (λ x. record d { nodes = x }) (sym (piece_painted id d part rect bytes change (node d id) refl distinct h))
+    ∙ sym is) in
     λ i. edits.unless_refused (allowed i) (at (all i) (cond (plain i) (next + 1) next))
 
 -- what is painted is as many bytes as the rectangle has
-pub paint_fits : (part : Part) (rect : Rect) (bytes : List ℕ) (change : Layer → Layer) (found : Found Layer Group) → IsLayer (Paints part rect bytes change) found
+pub paint_fits : (part : Part) (rect : Rect) (bytes : List ℕ) (change : Layer → Layer) (found : Found Layer Group)
+    → IsLayer (Paints part rect bytes change) found
     → IsLayer (IsPiece part rect bytes) found
-paint_fits part rect bytes change found h = is_layer-weaker (Paints part rect bytes change) (IsPiece part rect bytes) found (λ l p. p.piece) h
+paint_fits part rect bytes change found h =
+    is_layer-weaker (Paints part rect bytes change) (IsPiece part rect bytes) found (λ l p. p.piece) h
 
 pub rows_size : (w h n : ℕ) (byte : ℕ → ℕ → ℕ → ℕ) (bytes : List ℕ) → AreRows w h n byte bytes → length bytes ≡ w * h * n
 rows_size w h n byte bytes rows = rows.size ∙ omega arith
@@ -54,7 +65,8 @@ rows_size w h n byte bytes rows = rows.size ∙ omega arith
 -- pixels that went through the selection are those of the painted layer
 pub pixels_painted : (d : Document) (s : Sheet) (rect : Rect) (new byte : ℕ → ℕ → ℕ → ℕ) (bytes : List ℕ) (change : Layer → Layer)
     → IsWithin s.plane.width s.plane.height rect
-    → ((column row c : ℕ) → column < rect.w → row < rect.h → c < s.plane.bpp → new column row c ≡ byte (part_above_0 rect.x + column) (part_above_0 rect.y + row) c)
+    → ((column row c : ℕ) → column < rect.w → row < rect.h → c < s.plane.bpp
+    → new column row c ≡ byte (part_above_0 rect.x + column) (part_above_0 rect.y + row) c)
     → AreRows rect.w rect.h s.plane.bpp (byte_in d (site_of_sheet d s) s.plane rect new) bytes
     → (l : Layer) → sheet_of_layer l ≡ s → paint d rect byte l ≡ change l → Paints Pixels rect bytes change l
 pixels_painted d s rect new byte bytes change within same rows l is changes =
@@ -70,7 +82,8 @@ pixels_painted d s rect new byte bytes change within same rows l is changes =
 
 -- what is written is the layer after the write
 pub write_painted : (d : Document) (s : Sheet) (rect : Rect) (given bytes : List ℕ) → IsWithin s.plane.width s.plane.height rect
-    → AreRows rect.w rect.h s.plane.bpp (byte_in d (site_of_sheet d s) s.plane rect (in_rows (rect.w * s.plane.bpp) s.plane.bpp given)) bytes
+    → AreRows rect.w rect.h s.plane.bpp
+    (byte_in d (site_of_sheet d s) s.plane rect (in_rows (rect.w * s.plane.bpp) s.plane.bpp given)) bytes
     → (l : Layer) → sheet_of_layer l ≡ s → Paints Pixels rect bytes (writes d rect given) l
 write_painted d s rect given bytes within rows l is =
     let n = s.plane.bpp in
@@ -79,12 +92,15 @@ write_painted d s rect given bytes within rows l is =
     (λ i. paint d rect (listed rect (sym is i).plane.bpp given) l)
 
 -- without a selection it is what was given
-pub given_painted : (d : Document) (s : Sheet) (rect : Rect) (given : List ℕ) → is_none d.selection ≡ true → IsWithin s.plane.width s.plane.height rect
-    → length given ≡ rect.w * rect.h * s.plane.bpp → (l : Layer) → sheet_of_layer l ≡ s → Paints Pixels rect given (writes d rect given) l
+pub given_painted : (d : Document) (s : Sheet) (rect : Rect) (given : List ℕ) → is_none d.selection ≡ true
+    → IsWithin s.plane.width s.plane.height rect
+    → length given ≡ rect.w * rect.h * s.plane.bpp → (l : Layer) → sheet_of_layer l ≡ s
+    → Paints Pixels rect given (writes d rect given) l
 given_painted d s rect given whole within full =
     let n = s.plane.bpp in
     write_painted d s rect given given within
-    (whole_rows d (site_of_sheet d s) s.plane rect (in_rows (rect.w * n) n given) given whole (given_are_rows rect.w rect.h n given full))
+    (whole_rows d (site_of_sheet d s) s.plane rect (in_rows (rect.w * n) n given) given whole
+    (given_are_rows rect.w rect.h n given full))
 
 plane_of_found : (found : Found Layer Group) (s : Sheet) → sheet_found found ≡ Some s → plane_found found ≡ s.plane
 plane_of_found nothing s e = cc
@@ -92,9 +108,11 @@ plane_of_found (a_leaf l) s e = let same : sheet_of_layer l ≡ s = cc in λ i. 
 plane_of_found (a_group g c) s e = cc
 
 -- what is copied is the layer after the copy
-pub copy_painted : (d : Document) (s source : Sheet) (rect : Rect) (from u v : ℕ) (new bytes : List ℕ) → IsWithin s.plane.width s.plane.height rect
+pub copy_painted : (d : Document) (s source : Sheet) (rect : Rect) (from u v : ℕ) (new bytes : List ℕ)
+    → IsWithin s.plane.width s.plane.height rect
     → sheet_found (node d from) ≡ Some source → source.plane.bpp ≡ s.plane.bpp → new ≡ bytes_in source.plane (rect_from u v rect)
-    → AreRows rect.w rect.h s.plane.bpp (byte_in d (site_of_sheet d s) s.plane rect (in_rows (rect.w * s.plane.bpp) s.plane.bpp new)) bytes
+    → AreRows rect.w rect.h s.plane.bpp
+    (byte_in d (site_of_sheet d s) s.plane rect (in_rows (rect.w * s.plane.bpp) s.plane.bpp new)) bytes
     → (l : Layer) → sheet_of_layer l ≡ s → Paints Pixels rect bytes (copies d rect from u v) l
 copy_painted d s source rect from u v new bytes within found bpp is_new rows l is =
     let byte : ℕ → ℕ → ℕ → ℕ = λ x y c. byte_at source.plane (u + from_edge x rect.x) (v + from_edge y rect.y) c in
@@ -102,31 +120,38 @@ copy_painted d s source rect from u v new bytes within found bpp is_new rows l i
     → in_rows (rect.w * n) n new column row c ≡ byte (part_above_0 rect.x + column) (part_above_0 rect.y + row) c in
     pixels_painted d s rect (in_rows (rect.w * s.plane.bpp) s.plane.bpp new) byte bytes (copies d rect from u v) within
     (subst P bpp (copied_is s.plane.width s.plane.height rect source.plane u v new within is_new)) rows l is
-    (λ i. paint d rect (λ x y c. byte_at (sym (plane_of_found (node d from) source found) i) (u + from_edge x rect.x) (v + from_edge y rect.y) c) l)
+    (λ i. paint d rect (λ x y c. byte_at (sym (plane_of_found (node d from) source found) i) (u + from_edge x rect.x)
+    (v + from_edge y rect.y) c) l)
 
 fill_value : (value n c : ℕ) → n ≡ 1 → c < n → slice_index (value ∷ []) c ≡ value
 fill_value value n c one hc = let first : c ≡ 0 = omega (arith, one, hc) in ap (slice_index (value ∷ [])) first
 
 -- a plane of one byte per pixel after a fill with a value
-pub flat_painted : (d : Document) (site : Site) (p : Plane) (rect : Rect) (value : ℕ) (bytes : List ℕ) → p.bpp ≡ 1 → IsWithin p.width p.height rect
-    → AreRows rect.w rect.h p.bpp (byte_in d site p rect (λ column row c. slice_index (value ∷ []) c)) bytes → PaintsPlane d site rect value bytes p
+pub flat_painted : (d : Document) (site : Site) (p : Plane) (rect : Rect) (value : ℕ) (bytes : List ℕ) → p.bpp ≡ 1
+    → IsWithin p.width p.height rect
+    → AreRows rect.w rect.h p.bpp (byte_in d site p rect (λ column row c. slice_index (value ∷ []) c)) bytes
+    → PaintsPlane d site rect value bytes p
 flat_painted d site p rect value bytes one within rows = record {
   piece = record { within = within; size = rows_size rect.w rect.h p.bpp _ bytes rows };
   painted = painted d site p rect (λ column row c. slice_index (value ∷ []) c) (λ x y c. value) bytes within
       (λ column row c hx hy hc. fill_value value p.bpp c one hc) rows;
 }
 
-mask_fits : (d : Document) (site : Site) (rect : Rect) (value : ℕ) (bytes : List ℕ) (o : Option Channel) → PaintsMask d site rect value bytes o → IsMaskPiece rect bytes o
+mask_fits : (d : Document) (site : Site) (rect : Rect) (value : ℕ) (bytes : List ℕ) (o : Option Channel)
+    → PaintsMask d site rect value bytes o → IsMaskPiece rect bytes o
 mask_fits d site rect value bytes None h = h
 mask_fits d site rect value bytes (Some m) h = h.piece
 
-mask_filled : (d : Document) (site : Site) (rect : Rect) (value : ℕ) (bytes : List ℕ) (o : Option Channel) → PaintsMask d site rect value bytes o
-    → option_map (with_plane (λ p. written p rect bytes)) o ≡ option_map (with_plane (through d site.indexed site.x site.y rect (λ x y c. value))) o
+mask_filled : (d : Document) (site : Site) (rect : Rect) (value : ℕ) (bytes : List ℕ) (o : Option Channel)
+    → PaintsMask d site rect value bytes o
+    → option_map (with_plane (λ p. written p rect bytes)) o
+    ≡ option_map (with_plane (through d site.indexed site.x site.y rect (λ x y c. value))) o
 mask_filled d site rect value bytes None h = refl
 mask_filled d site rect value bytes (Some m) h = ap (λ p. Some (record m { plane = p })) h.painted
 
 -- a mask's bytes that went through the selection are those of the mask after its fill
-pub mask_painted : (d : Document) (s : Sheet) (rect : Rect) (value : ℕ) (bytes : List ℕ) → PaintsMask d (site_of_mask s) rect value bytes s.mask
+pub mask_painted : (d : Document) (s : Sheet) (rect : Rect) (value : ℕ) (bytes : List ℕ)
+    → PaintsMask d (site_of_mask s) rect value bytes s.mask
     → (l : Layer) → sheet_of_layer l ≡ s → Paints Mask rect bytes (fills_mask d rect value) l
 mask_painted d s rect value bytes h l is =
     let P : Sheet → Type 0 = λ q. PaintsMask d (site_of_mask q) rect value bytes q.mask in

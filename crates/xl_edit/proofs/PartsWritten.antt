@@ -17,7 +17,8 @@ use Rattle.xl_edit.specs.declared.places.Part.{Part}
 use Rattle.xl_edit.specs.declared.places.Part.TheVariants.{Pixels, Mask}
 use Rattle.xl_edit.specs.Paint.{with_piece}
 
-plane_written : (rect : Rect) (bytes : List ℕ) (w h n : ℕ) (p : Plane) → AreBytes bytes → IsPlaneOf w h n p → IsPlaneOf w h n (written p rect bytes)
+plane_written : (rect : Rect) (bytes : List ℕ) (w h n : ℕ) (p : Plane) → AreBytes bytes → IsPlaneOf w h n p
+    → IsPlaneOf w h n (written p rect bytes)
 plane_written rect bytes w h n p are k =
     with_rect_plane rect (λ x y c. slice_index bytes ((from_edge y rect.y * rect.w + from_edge x rect.x) * p.bpp + c)) w h n p k
     (λ x y c. index_byte bytes ((from_edge y rect.y * rect.w + from_edge x rect.x) * p.bpp + c) are)
@@ -25,9 +26,11 @@ plane_written rect bytes w h n p are k =
 abbrev mask_with : Rect → List ℕ → Option Channel → Option Channel
 mask_with rect bytes o = option_map (with_plane (λ p. written p rect bytes)) o
 
-mask_written : (rect : Rect) (bytes : List ℕ) (w h : ℕ) (o : Option Channel) → AreBytes bytes → IsChannelIfAny owners.Mask w h o → IsChannelIfAny owners.Mask w h (mask_with rect bytes o)
+mask_written : (rect : Rect) (bytes : List ℕ) (w h : ℕ) (o : Option Channel) → AreBytes bytes → IsChannelIfAny owners.Mask w h o
+    → IsChannelIfAny owners.Mask w h (mask_with rect bytes o)
 mask_written rect bytes w h None are k = tt
-mask_written rect bytes w h (Some c) are k = channel_painted owners.Mask w h (λ p. written p rect bytes) c (λ p q. plane_written rect bytes w h 1 p are q) k
+mask_written rect bytes w h (Some c) are k =
+    channel_painted owners.Mask w h (λ p. written p rect bytes) c (λ p q. plane_written rect bytes w h 1 p are q) k
 
 mask_kept : (rect : Rect) (bytes : List ℕ) (o : Option Channel) → channel_kept (mask_with rect bytes o) ≡ channel_kept o
 mask_kept rect bytes None = refl
@@ -37,7 +40,8 @@ mask_pixels : (rect : Rect) (bytes : List ℕ) (o : Option Channel) → mask_are
 mask_pixels rect bytes None = refl
 mask_pixels rect bytes (Some c) = refl
 
-keeps_piece : (base : Base) (part : Part) (rect : Rect) (bytes : List ℕ) → AreBytes bytes → KeepsLayer base (with_piece part rect bytes)
+keeps_piece : (base : Base) (part : Part) (rect : Rect) (bytes : List ℕ) → AreBytes bytes
+    → KeepsLayer base (with_piece part rect bytes)
 keeps_piece base Pixels rect bytes are = record {
   limits = λ l h. record {
     name = h.name;
@@ -86,9 +90,11 @@ module _ (before d : Document) (id : ℕ) (part : Part) (rect : Rect) (bytes : L
   pub put_is : before ≡ d → nodes ≡ with_leaf id (with_piece part rect bytes) before.nodes
       → record before { nodes = nodes } ≡ record d { nodes = with_leaf id (with_piece part rect bytes) d.nodes }
   put_is same is =
-      ap (λ x. record before { nodes = x }) is ∙ ap (λ (y : Document). record y { nodes = with_leaf id (with_piece part rect bytes) y.nodes }) same
+      ap (λ x. record before { nodes = x }) is
+      ∙ ap (λ (y : Document). record y { nodes = with_leaf id (with_piece part rect bytes) y.nodes }) same
 
-  pub put_limits : IsDocument before → AreBytes bytes → nodes ≡ with_leaf id (with_piece part rect bytes) before.nodes → IsDocument (record before { nodes = nodes })
+  pub put_limits : IsDocument before → AreBytes bytes → nodes ≡ with_leaf id (with_piece part rect bytes) before.nodes
+      → IsDocument (record before { nodes = nodes })
   put_limits is are nodes_are =
       let P : Nodes → Type 0 = λ x. IsDocument (record before { nodes = x }) in
       subst P (sym nodes_are) (put_within before id part rect bytes is are)

@@ -24,13 +24,15 @@ use Rattle.xl_edit.specs.Nodes.{one_node}
 use Rattle.xl_checks.proofs.Seen.{Sees, sees, ids-nodes_of}
 use Rattle.xl_checks.proofs.NodesMoved.{children-nodes_of, levels-nodes_of, nodes-put_into}
 
-pub no_group_seen : (id : ℕ) (found : Found Node Node) (seen : Found doc.Layer doc.Group) → Sees found seen → no_group id seen ≡ no_group id found
+pub no_group_seen : (id : ℕ) (found : Found Node Node) (seen : Found doc.Layer doc.Group) → Sees found seen
+    → no_group id seen ≡ no_group id found
 no_group_seen id nothing seen s = ap (no_group id) s
 no_group_seen id (a_leaf n) seen s = ap (no_group id) s.1
 no_group_seen id (a_group n c) seen s = ap (no_group id) s.1
 
 -- a tree refuses to put something into it as the document would
-pub put_refusal-nodes_of : (stack place : ℕ) (t : Forest Node Node) → MarksAgree t → put_refusal stack place (nodes_of t) ≡ put_refusal stack place t
+pub put_refusal-nodes_of : (stack place : ℕ) (t : Forest Node Node) → MarksAgree t
+    → put_refusal stack place (nodes_of t) ≡ put_refusal stack place t
 put_refusal-nodes_of stack place t m = λ j.
     first_some (cond (eqb stack 0) None (no_group_seen stack (find stack t) (find stack (nodes_of t)) (sees stack t m) j))
     (past place (unwrap_or (children-nodes_of stack t j) 0))
@@ -46,7 +48,8 @@ stack_kind : {L G : Type 0} → (p : ℕ) (f : Forest L G) → no_stack p f ≡ 
 stack_kind p f e z = group_kind p (find p f) (sym (ap (λ b. cond b None (no_group p (find p f))) z) ∙ e)
 
 -- a branch that is put in is not too deep where its rule says so
-pub levels_put : (parent place : ℕ) (branch f : Nodes) → IsDistinct nat_eq (ids f) → no_stack parent f ≡ None → too_deep f parent (levels branch) ≡ None → levels f ≤ 8
+pub levels_put : (parent place : ℕ) (branch f : Nodes) → IsDistinct nat_eq (ids f) → no_stack parent f ≡ None
+    → too_deep f parent (levels branch) ≡ None → levels f ≤ 8
     → levels (put_into parent place branch f) ≤ 8
 levels_put parent place branch f distinct there deep low =
     let put = put_place parent place branch f distinct (stack_kind parent f there) in
@@ -60,9 +63,11 @@ both_none None b e = (refl, e)
 both_none (Some x) b e = cc
 
 -- a node that no rule misses is found in the tree
-pub found_there : (id : ℕ) (t : Forest Node Node) → MarksAgree t → no_node_found id (find id (nodes_of t)) ≡ None → no_node id (find id t) ≡ None
+pub found_there : (id : ℕ) (t : Forest Node Node) → MarksAgree t → no_node_found id (find id (nodes_of t)) ≡ None
+    → no_node id (find id t) ≡ None
 found_there id t m e = from (find id t) (find id (nodes_of t)) (sees id t m) e where
-  from : (found : Found Node Node) (seen : Found doc.Layer doc.Group) → Sees found seen → no_node_found id seen ≡ None → no_node id found ≡ None
+  from : (found : Found Node Node) (seen : Found doc.Layer doc.Group) → Sees found seen → no_node_found id seen ≡ None
+      → no_node id found ≡ None
   from nothing seen s e = let two : Some (NoNode id) ≡ None = sym (ap (no_node_found id) s) ∙ e in cc
   from (a_leaf n) seen s e = refl
   from (a_group n c) seen s e = refl
@@ -85,13 +90,16 @@ marks_one id n = from n.body refl where
   from Group is = subst P (sym is) (subst IsGroup (sym is) tt, (tt, tt))
 
 -- a tree with one node more is not too deep where the rule of the document says so
-pub low_with_one : (parent place id : ℕ) (n : Node) (t : Forest Node Node) → IsDistinct nat_eq (ids t) → put_refusal parent place (nodes_of t) ≡ None
-    → too_deep (nodes_of t) parent 1 ≡ None → levels t ≤ 8 → levels (put_into parent place (alone (is_group_body n.body) id n) t) ≤ 8
+pub low_with_one : (parent place id : ℕ) (n : Node) (t : Forest Node Node) → IsDistinct nat_eq (ids t)
+    → put_refusal parent place (nodes_of t) ≡ None
+    → too_deep (nodes_of t) parent 1 ≡ None → levels t ≤ 8
+    → levels (put_into parent place (alone (is_group_body n.body) id n) t) ≤ 8
 low_with_one parent place id n t distinct free deep low =
     let b : Forest Node Node = alone (is_group_body n.body) id n in
     let P : List ℕ → Type 0 = IsDistinct nat_eq in
     let apart = subst P (sym (ids-nodes_of t)) distinct in
     let there = (both_none (no_stack parent (nodes_of t)) _ free).0 in
     let Q : ℕ → Type 0 = λ k. too_deep (nodes_of t) parent k ≡ None in
-    let most = levels_put parent place (one_node id n) (nodes_of t) apart there (subst Q (sym (levels_one id n)) deep) (omega (arith, levels-nodes_of t, low)) in
+    let most = levels_put parent place (one_node id n) (nodes_of t) apart there (subst Q (sym (levels_one id n)) deep)
+    (omega (arith, levels-nodes_of t, low)) in
     omega (arith, most, levels-nodes_of (put_into parent place b t), ap levels (nodes-put_into parent place b t))

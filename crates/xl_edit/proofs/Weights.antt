@@ -1,5 +1,7 @@
 -- Bytes that go through weights, of which 255 is the whole.
-use Rattle.std.proofs.Common.{◌≡◌, ◌≢◌, ℕ, suc, ◌+◌, ◌*◌, ◌<◌, ◌≤◌, Bool, true, false, cond, List, length, slice_index, refl, ◌∙◌, ap, sym, arith, inl, inr, set, get_or-set_other, get_or-set_same, mul-le-mul_right}
+use Rattle.std.proofs.Common.{◌≡◌, ◌≢◌, ℕ, suc, ◌+◌, ◌*◌, ◌<◌, ◌≤◌, Bool, true, false, cond, List, length, slice_index}
+use Rattle.std.proofs.Common.{refl, ◌∙◌, ap, sym, arith, inl, inr, set, get_or-set_other, get_or-set_same}
+use Rattle.std.proofs.Common.{mul-le-mul_right}
 use Rattle.std.specs.Prelude.{if◌then◌else◌, nat_le, Option, Some, None, is_none, ℤ}
 use Rattle.std.proofs.lemmas.Bool.{cases_lt, cases_order, false≢true}
 use Rattle.std.proofs.lemmas.Bool.Decides.{nat_tests}
@@ -23,7 +25,8 @@ all_or_nothing true new old = sym (mixed-whole new old)
 all_or_nothing false new old = sym (mixed-nothing new old)
 
 -- a replaced byte is one that goes through all or nothing
-pub weighed : (indexed : Bool) (s new old : ℕ) → (if indexed then replaced s new old else mixed s new old) ≡ mixed (weight indexed s) new old
+pub weighed : (indexed : Bool) (s new old : ℕ)
+    → (if indexed then replaced s new old else mixed s new old) ≡ mixed (weight indexed s) new old
 weighed true s new old = all_or_nothing (nat_le 128 s) new old
 weighed false s new old = refl
 
@@ -36,7 +39,8 @@ selected-whole None d x y e = refl
 selected-whole (Some s) d x y e = absurd (false≢true e)
 
 -- without a selection each byte is replaced
-pub no_selection : (indexed : Bool) (d : Document) (x y : ℤ) (new old : ℕ) → is_none d.selection ≡ true → mixed (weight indexed (selected d x y)) new old ≡ new
+pub no_selection : (indexed : Bool) (d : Document) (x y : ℤ) (new old : ℕ) → is_none d.selection ≡ true
+    → mixed (weight indexed (selected d x y)) new old ≡ new
 no_selection indexed d x y new old e =
     ap (λ s. mixed (weight indexed s) new old) (selected-whole d.selection d x y e)
     ∙ (ap (λ s. mixed s new old) (weight-whole indexed) ∙ mixed-whole new old)
@@ -55,14 +59,20 @@ after_next at n old new k h = grind (arith, nat_tests)
 
 -- one byte more from a place on
 pub byte_more : (out : List ℕ) (at n value : ℕ) (of old : ℕ → ℕ) → at + n < length out → value ≡ of (at + n)
-    → ((k : ℕ) → slice_index out k ≡ byte_after at n (old k) (of k) k) → (k : ℕ) → slice_index (set out (at + n) value) k ≡ byte_after at (n + 1) (old k) (of k) k
+    → ((k : ℕ) → slice_index out k ≡ byte_after at n (old k) (of k) k) → (k : ℕ)
+    → slice_index (set out (at + n) value) k ≡ byte_after at (n + 1) (old k) (of k) k
 byte_more out at n value of old fits is before k =
     elim (cases_order k (at + n)) [
       | inl same ↦
           (λ i. slice_index (set out (at + n) value) (same i))
-          ∙ (get_or-set_same out (at + n) value 0 fits ∙ (is ∙ (sym (after_in at (n + 1) (old (at + n)) (of (at + n)) n (omega arith)) ∙ (λ i. byte_after at (n + 1) (old (sym same i)) (of (sym same i)) (sym same i)))))
+          ∙ (get_or-set_same out (at + n) value 0 fits
+          ∙ (is ∙ (sym (after_in at (n + 1) (old (at + n)) (of (at + n)) n (omega arith))
+          ∙ (λ i. byte_after at (n + 1) (old (sym same i)) (of (sym same i)) (sym same i)))))
       | inr others ↦
-          let other : k ≢ at + n = elim others [ inl below ↦ (λ e. omega (arith, e, below)) | inr above ↦ (λ e. omega (arith, e, above)) ] in
+          let other : k ≢ at + n = elim others [
+            | inl below ↦ (λ e. omega (arith, e, below))
+            | inr above ↦ (λ e. omega (arith, e, above))
+          ] in
           rw get_or-set_other (before k ∙ sym (after_next at n (old k) (of k) k other))
     ]
 

@@ -15,4 +15,5 @@ canvas_site = record { x = pos 0; y = pos 0; indexed = false }
 
 -- these bytes, in the rectangle, are what the fill makes of the channel at an index
 abbrev pub PaintsChannel : Document → (index : ℕ) → Rect → (value : ℕ) → List ℕ → Type 0
-PaintsChannel d index rect value bytes = (c : Channel) → slice_index_or d.channels index c ≡ c → PaintsPlane d canvas_site rect value bytes c.plane
+PaintsChannel d index rect value bytes =
+    (c : Channel) → slice_index_or d.channels index c ≡ c → PaintsPlane d canvas_site rect value bytes c.plane

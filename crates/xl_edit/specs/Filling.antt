@@ -43,4 +43,5 @@ HasRows w h n step bytes = (row : ℕ) → row < h → row * step + w * n ≤ le
 -- so many rows of pixels of n bytes, with this byte at each column and row
 pub record AreRows (w h n : ℕ) (byte : ℕ → ℕ → ℕ → ℕ) (bytes : List ℕ) : Type 0 where
   pub size : length bytes ≡ h * (w * n)
-  pub each : (column row c : ℕ) → column < w → row < h → c < n → slice_index bytes (row * (w * n) + (column * n + c)) ≡ byte column row c
+  pub each : (column row c : ℕ) → column < w → row < h → c < n
+      → slice_index bytes (row * (w * n) + (column * n + c)) ≡ byte column row c

@@ -24,4 +24,5 @@ byte_through table colours p x y c = cond (nat_lt c colours) (slice_index table 
 pub record AreFiltered (table : List ℕ) (colours : ℕ) (rect : Rect) (p : Plane) (bytes : List ℕ) : Type 0 where
   pub size : length bytes ≡ rect.w * rect.h * p.bpp
   pub each : (column row c : ℕ) → column < rect.w → row < rect.h → c < p.bpp
-      → in_rows (rect.w * p.bpp) p.bpp bytes column row c ≡ byte_through table colours p (part_above_0 rect.x + column) (part_above_0 rect.y + row) c
+      → in_rows (rect.w * p.bpp) p.bpp bytes column row c
+      ≡ byte_through table colours p (part_above_0 rect.x + column) (part_above_0 rect.y + row) c

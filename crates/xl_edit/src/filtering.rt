@@ -49,7 +49,8 @@ fn filter_bytes(
 ) -> Result<Vec<u8>, EditRefusedOrMemory>
     ensures refused { IfErr result (IsCause (refusal doc.now (edits.filter id.0 rect 0))) }
     ensures allowed { IfOk result (λ bytes. refusal doc.now (edits.filter id.0 rect 0) ≡ None) }
-    ensures paints { IfOk result (λ bytes. IsLayer (Paints Pixels rect bytes.items (filters doc.now rect table.now)) (node doc.now id.0)) }
+    ensures paints { IfOk result (λ bytes.
+        IsLayer (Paints Pixels rect bytes.items (filters doc.now rect table.now)) (node doc.now id.0)) }
 {
     let layer = filterable(doc, id, rect)?;
     let site = site_of(doc, layer);
@@ -93,7 +94,8 @@ fn pixels_through(bytes: &mut [u8], count: usize, bpp: usize, colours: usize, ta
     requires table { length table.now ≡ 256 }
     ensures size { length bytes.new ≡ length bytes.old }
     ensures each { (k c : ℕ) → k < count → c < bpp → slice_index bytes.new (k * bpp + c)
-        ≡ cond (nat_lt c colours) (slice_index table.now (slice_index bytes.old (k * bpp + c))) (slice_index bytes.old (k * bpp + c)) }
+        ≡ cond (nat_lt c colours) (slice_index table.now (slice_index bytes.old (k * bpp + c)))
+        (slice_index bytes.old (k * bpp + c)) }
 {
     for k in 0..count {
         part_through(bytes, k * bpp, colours, table);
@@ -105,7 +107,8 @@ fn part_through(bytes: &mut [u8], at: usize, n: usize, table: &[u8])
     requires fits { at + n ≤ length bytes.old }
     requires table { length table.now ≡ 256 }
     ensures size { length bytes.new ≡ length bytes.old }
-    ensures each { (k : ℕ) → slice_index bytes.new k ≡ byte_after at n (slice_index bytes.old k) (slice_index table.now (slice_index bytes.old k)) k }
+    ensures each { (k : ℕ) → slice_index bytes.new k
+        ≡ byte_after at n (slice_index bytes.old k) (slice_index table.now (slice_index bytes.old k)) k }
 {
     for c in 0..n {
         bytes[at + c] = table[bytes[at + c] as usize];

@@ -63,7 +63,8 @@ pub(crate) fn new_group(
 ) -> Result<(), EditRefusedOrMemory>
     requires bytes { AreBytes name.now }
     requires next { HasNext doc.old next_id.old (edits.new_group parent.0 place name.now) }
-    ensures { (table : List ℕ) → Applies (at doc.old next_id.old) (at doc.new next_id.new) (edits.new_group parent.0 place name.now) table result }
+    ensures { (table : List ℕ) → Applies (at doc.old next_id.old) (at doc.new next_id.new)
+        (edits.new_group parent.0 place name.now) table result }
 {
     check_new_group(doc, parent, place, name)?;
     let node = blank_group(alloc, name)?;
@@ -90,7 +91,8 @@ pub(crate) fn new_layer(
     requires height { IsSide h }
     requires bytes { AreBytes name.now }
     requires next { HasNext doc.old next_id.old (edits.new_layer parent.0 place x y w h kind name.now) }
-    ensures { (table : List ℕ) → Applies (at doc.old next_id.old) (at doc.new next_id.new) (edits.new_layer parent.0 place x y w h kind name.now) table result }
+    ensures { (table : List ℕ) → Applies (at doc.old next_id.old) (at doc.new next_id.new)
+        (edits.new_layer parent.0 place x y w h kind name.now) table result }
 {
     check_new_layer(doc, parent, place, x, y, w, h, kind, name)?;
     let node = blank_layer(alloc, x, y, w, h, kind as u8, name)?;

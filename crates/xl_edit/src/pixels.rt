@@ -70,7 +70,8 @@ fn fill_bytes(
 ) -> Result<Vec<u8>, EditRefusedOrMemory>
     ensures refused { IfErr result (IsCause (refusal doc.now (edits.fill id.0 rect pixel.now))) }
     ensures allowed { IfOk result (λ bytes. refusal doc.now (edits.fill id.0 rect pixel.now) ≡ None) }
-    ensures paints { IfOk result (λ bytes. IsLayer (Paints Pixels rect bytes.items (fills doc.now rect pixel.now)) (node doc.now id.0)) }
+    ensures paints { IfOk result (λ bytes.
+        IsLayer (Paints Pixels rect bytes.items (fills doc.now rect pixel.now)) (node doc.now id.0)) }
 {
     let layer = fillable(doc, id, rect, pixel)?;
     let site = site_of(doc, layer);
@@ -78,7 +79,8 @@ fn fill_bytes(
     Ok(bytes)
 }
 
-/// Writes pixels into a rectangle of a layer, row by row, through the selection. Errors: `NoNode`, `IsGroup`, `OutsideLayer`, `OtherType`.
+/// Writes pixels into a rectangle of a layer, row by row, through the selection. Errors: `NoNode`, `IsGroup`,
+/// `OutsideLayer`, `OtherType`.
 pub(crate) fn write(
     alloc: Global,
     doc: &mut Document,
@@ -119,7 +121,8 @@ fn write_bytes(
 ) -> Result<Vec<u8>, EditRefusedOrMemory>
     ensures refused { IfErr result (IsCause (refusal doc.now (edits.write id.0 rect bytes.now))) }
     ensures allowed { IfOk result (λ mixed. refusal doc.now (edits.write id.0 rect bytes.now) ≡ None) }
-    ensures paints { IfOk result (λ mixed. IsLayer (Paints Pixels rect mixed.items (writes doc.now rect bytes.now)) (node doc.now id.0)) }
+    ensures paints { IfOk result (λ mixed.
+        IsLayer (Paints Pixels rect mixed.items (writes doc.now rect bytes.now)) (node doc.now id.0)) }
 {
     let layer = writable(doc, id, rect, bytes)?;
     let site = site_of(doc, layer);
@@ -127,7 +130,8 @@ fn write_bytes(
     Ok(mixed)
 }
 
-/// Copies the pixels that a layer has at `u`, `v` into a rectangle of a layer of the same type, through the selection. Where both are one
+/// Copies the pixels that a layer has at `u`, `v` into a rectangle of a layer of the same type, through the
+/// selection. Where both are one
 /// layer the pixels are those before the edit. Errors: `NoNode`, `IsGroup`, `OutsideLayer`, `OtherType`.
 pub(crate) fn copy_rect(
     alloc: Global,
@@ -157,7 +161,8 @@ fn copy_bytes(
 ) -> Result<Vec<u8>, EditRefusedOrMemory>
     ensures refused { IfErr result (IsCause (refusal doc.now (edits.copy_rect id.0 rect from.0 u v))) }
     ensures allowed { IfOk result (λ bytes. refusal doc.now (edits.copy_rect id.0 rect from.0 u v) ≡ None) }
-    ensures paints { IfOk result (λ bytes. IsLayer (Paints Pixels rect bytes.items (copies doc.now rect from.0 u v)) (node doc.now id.0)) }
+    ensures paints { IfOk result (λ bytes.
+        IsLayer (Paints Pixels rect bytes.items (copies doc.now rect from.0 u v)) (node doc.now id.0)) }
 {
     let two = copyable(doc, id, rect, from, u, v)?;
     let to = two.to;
@@ -207,7 +212,8 @@ fn mask_bytes(
 ) -> Result<Vec<u8>, EditRefusedOrMemory>
     ensures refused { IfErr result (IsCause (refusal doc.now (edits.fill_mask id.0 rect value))) }
     ensures allowed { IfOk result (λ bytes. refusal doc.now (edits.fill_mask id.0 rect value) ≡ None) }
-    ensures paints { IfOk result (λ bytes. IsLayer (Paints Mask rect bytes.items (fills_mask doc.now rect value)) (node doc.now id.0)) }
+    ensures paints { IfOk result (λ bytes.
+        IsLayer (Paints Mask rect bytes.items (fills_mask doc.now rect value)) (node doc.now id.0)) }
 {
     let layer = mask_fillable(doc, id, rect, value)?;
     let bytes = filled_mask(alloc, doc, layer, rect, value)?;

@@ -61,7 +61,8 @@ fn weigh_row(
     requires row { y ≤ MAX_SIDE }
     requires short { length weights.old ≤ MAX_SIDE }
     requires wide { length wide.old ≡ length weights.old * bpp }
-    ensures each { (k c : ℕ) → k < length weights.old → c < bpp → slice_index wide.new (k * bpp + c) ≡ weight_at doc.now site (x + k) y }
+    ensures each { (k c : ℕ) → k < length weights.old → c < bpp
+        → slice_index wide.new (k * bpp + c) ≡ weight_at doc.now site (x + k) y }
 {
     weigh_pixels(doc, site, x, y, weights, room);
     spread(weights, bpp, wide);
@@ -76,7 +77,8 @@ fn part(bytes: &[u8], from: usize, n: usize) -> &[u8]
     &bytes[from..from + n]
 }
 
-// New bytes go into the bytes of a rectangle of a plane, through the selection. There is room for the weights of the pixels and of the
+// New bytes go into the bytes of a rectangle of a plane, through the selection. There is room for the weights of the
+// pixels and of the
 // bytes of a row.
 fn mix_rows(
     doc: &Document,
@@ -97,7 +99,8 @@ fn mix_rows(
     requires wide { length wide.old ≡ rect.w * plane.now.bpp }
     requires room { length room.old ≡ ROW_ROOM }
     requires bytes { bytes.old ≡ bytes_in plane.now rect }
-    ensures { AreRows rect.w rect.h plane.now.bpp (byte_in doc.now site plane.now rect (in_rows step plane.now.bpp new.now)) bytes.new }
+    ensures { AreRows rect.w rect.h plane.now.bpp
+        (byte_in doc.now site plane.now rect (in_rows step plane.now.bpp new.now)) bytes.new }
 {
     let (x, y) = corner(plane, rect);
     let bpp = plane.bpp() as usize;
@@ -122,7 +125,8 @@ pub(crate) fn old_bytes(alloc: Global, plane: &Plane, rect: Rect) -> Result<Vec<
     Ok(bytes)
 }
 
-/// The bytes of a rectangle of a plane, row by row, after new ones went into them through the selection. Each row of the new bytes begins
+/// The bytes of a rectangle of a plane, row by row, after new ones went into them through the selection. Each row of
+/// the new bytes begins
 /// `step` bytes behind the one above it: with 0 all rows are the first one.
 pub(crate) fn weighed(
     alloc: Global,
@@ -136,7 +140,8 @@ pub(crate) fn weighed(
     requires within { IsWithin plane.now.width plane.now.height rect }
     requires site { IsNearby site }
     requires new { HasRows rect.w rect.h plane.now.bpp step new.now }
-    ensures { IfOk result (λ bytes. AreRows rect.w rect.h plane.now.bpp (byte_in doc.now site plane.now rect (in_rows step plane.now.bpp new.now)) bytes.items) }
+    ensures { IfOk result (λ bytes. AreRows rect.w rect.h plane.now.bpp
+        (byte_in doc.now site plane.now rect (in_rows step plane.now.bpp new.now)) bytes.items) }
 {
     corner(plane, rect);
     let wide = rect.w as usize;

@@ -1,5 +1,7 @@
 -- What a shelf in memory keeps, and what is known of it.
-use Rattle.std.specs.Prelude.{◌≡◌, Bool, true, false, ◌⊎◌, option_map, refl, ℕ, ◌+◌, Contains, IfSome, List, [], ◌∷◌, ◌++◌, length, drop, map, Option, Some, None, if◌then◌else◌, Vec, String, string_bytes, Result, Ok, Err, IsErr, is_err, OnErr, OnOk}
+use Rattle.std.specs.Prelude.{◌≡◌, Bool, true, false, ◌⊎◌, option_map, refl, ℕ, ◌+◌, Contains, IfSome, List, [], ◌∷◌}
+use Rattle.std.specs.Prelude.{◌++◌, length, drop, map, Option, Some, None, if◌then◌else◌, Vec, String, string_bytes}
+use Rattle.std.specs.Prelude.{Result, Ok, Err, IsErr, is_err, OnErr, OnOk}
 use Rattle.std.specs.declared.alloc.Global.{Global}
 use Rattle.std.specs.Str.{bytes_eq}
 use Rattle.std.proofs.Common.{zero, suc, sym, subst}
@@ -66,9 +68,12 @@ is_known_at None files name = is_known files name
 is_known_at (Some here) files name = if bytes_eq here.name name then true else is_known files name
 
 -- the names that are known are those of before and, where the selection went well, the selected one
-abbrev pub KnowsToo : {A E : Type 0} → Result A E → (name : List ℕ) → (here : Option Standing) → (files : List Standing) → (new_here : Option Standing) → (new_files : List Standing) → Type 0
-KnowsToo (Ok x) name here files new_here new_files = (other : List ℕ) → is_known_at new_here new_files other ≡ (if bytes_eq name other then true else is_known_at here files other)
-KnowsToo (Err e) name here files new_here new_files = (other : List ℕ) → is_known_at new_here new_files other ≡ is_known_at here files other
+abbrev pub KnowsToo : {A E : Type 0} → Result A E → (name : List ℕ) → (here : Option Standing) → (files : List Standing)
+    → (new_here : Option Standing) → (new_files : List Standing) → Type 0
+KnowsToo (Ok x) name here files new_here new_files =
+    (other : List ℕ) → is_known_at new_here new_files other ≡ (if bytes_eq name other then true else is_known_at here files other)
+KnowsToo (Err e) name here files new_here new_files =
+    (other : List ℕ) → is_known_at new_here new_files other ≡ is_known_at here files other
 
 -- what is kept under a name where one is selected
 abbrev pub standing : Option Standing → List Standing → (name : List ℕ) → Standing
@@ -87,20 +92,25 @@ none_gone_in [] name = refl
 none_gone_in (entry ∷ log) name = none_gone_in log name
 
 -- what went in these calls, or before them
-with_past : (here : Bool) (gone rest : List Content) (c : Content) → Contains rest c → Contains (if here then gone ++ rest else rest) c
+with_past : (here : Bool) (gone rest : List Content) (c : Content) → Contains rest c
+    → Contains (if here then gone ++ rest else rest) c
 with_past true gone rest c at = Contains-append_right gone rest c at
 with_past false gone rest c at = at
 
 -- what went in the last calls went in all of them
-pub gone_later : (log : List (Option Past)) (name : List ℕ) (more : ℕ) (c : Content) → Contains (gone_in (drop more log) name) c → Contains (gone_in log name) c
+pub gone_later : (log : List (Option Past)) (name : List ℕ) (more : ℕ) (c : Content) → Contains (gone_in (drop more log) name) c
+    → Contains (gone_in log name) c
 gone_later log name zero c at = at
 gone_later [] name (suc more) c at = at
 gone_later (None ∷ log) name (suc more) c at = gone_later log name more c at
-gone_later (Some past ∷ log) name (suc more) c at = with_past (bytes_eq past.name name) past.gone (gone_in log name) c (gone_later log name more c at)
+gone_later (Some past ∷ log) name (suc more) c at =
+    with_past (bytes_eq past.name name) past.gone (gone_in log name) c (gone_later log name more c at)
 
-pub gone_earlier_in : (log : List (Option Past)) (name : List ℕ) (since more : ℕ) (c : Content) → Contains (gone_in (drop (since + more) log) name) c → Contains (gone_in (drop since log) name) c
+pub gone_earlier_in : (log : List (Option Past)) (name : List ℕ) (since more : ℕ) (c : Content)
+    → Contains (gone_in (drop (since + more) log) name) c → Contains (gone_in (drop since log) name) c
 gone_earlier_in log name since more c at =
-    gone_later (drop since log) name more c (subst (λ (l : List (Option Past)). Contains (gone_in l name) c) (sym (drop-drop more since log)) at)
+    gone_later (drop since log) name more c
+    (subst (λ (l : List (Option Past)). Contains (gone_in l name) c) (sym (drop-drop more since log)) at)
 
 -- the open draft
 abbrev pub draft_in : Option Draft → Draft
@@ -170,11 +180,14 @@ IsSwapped (Err e) old draft new = (new ≡ Some old) ⊎ MayBeLeft old draft new
 
 -- the draft may be left too; or there was no memory for that, and what is kept stays
 abbrev pub LeavesBoth : (old new : ShelfState) → Type 0
-LeavesBoth old new = (IfSome old.here (λ h. MayBeLeft h (draft_in old.draft) new.here) × (new.starved ≡ old.starved)) ⊎ ((new.here ≡ old.here) × Rose old.starved new.starved)
+LeavesBoth old new = (IfSome old.here (λ h. MayBeLeft h (draft_in old.draft) new.here) × (new.starved ≡ old.starved))
+    ⊎ ((new.here ≡ old.here) × Rose old.starved new.starved)
 
 -- nothing but what a read gives may be left, and the rest went in this call; or, after a failure, all is as before
-abbrev pub IsSettled : {A E : Type 0} → Result A E → (old : Standing) → (log : List (Option Past)) → (new : Option Standing) → (new_log : List (Option Past)) → Type 0
-IsSettled (Ok x) old log new new_log = (new ≡ Some (record { name = old.name; read = old.read; others = [] })) × (new_log ≡ log ++ Some (record { name = old.name; gone = old.others }) ∷ [])
+abbrev pub IsSettled : {A E : Type 0} → Result A E → (old : Standing) → (log : List (Option Past)) → (new : Option Standing)
+    → (new_log : List (Option Past)) → Type 0
+IsSettled (Ok x) old log new new_log = (new ≡ Some (record { name = old.name; read = old.read; others = [] }))
+    × (new_log ≡ log ++ Some (record { name = old.name; gone = old.others }) ∷ [])
 IsSettled (Err e) old log new new_log = (new ≡ Some old) × NotesOrNot log new_log
 
 -- what each name stands for

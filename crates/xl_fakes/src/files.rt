@@ -1,4 +1,6 @@
-ghost use Rattle.std.specs.Prelude.{◌≡◌, ◌⊎◌, ◌<◌, ℕ, List, [], length, Some, None, IfOk, IfSome, OnOk, OnErr, is_none, is_some, true, vec_len, vec_capacity, option_map, option_copied, slice_index_or, drop, remove, ◌∷◌};
+ghost use Rattle.std.specs.Prelude.{◌≡◌, ◌⊎◌, ◌<◌, ℕ, List, [], length, Some, None, IfOk, IfSome, OnOk, OnErr, is_none};
+ghost use Rattle.std.specs.Prelude.{is_some, true, vec_len, vec_capacity, option_map, option_copied, slice_index_or};
+ghost use Rattle.std.specs.Prelude.{drop, remove, ◌∷◌};
 ghost use Rattle.xl_ports.specs.Shelf.{absent};
 ghost use Rattle.xl_fakes.specs.Kept.{KnowsToo, is_known, Standing, found, standing, content_of, contents};
 
@@ -25,8 +27,10 @@ pub fn place_of(files: &[Kept], name: &str) -> Option<usize>
 pub fn take_out(alloc: Global, files: &mut Vec<Kept>, name: &str) -> Result<Kept, AllocError>
     ensures named { IfOk result (λ k. k.name ≡ name.now) }
     ensures found { IfOk result (λ k. k ≡ found files.old.items name.now) }
-    ensures others { OnOk result ((other : List ℕ) → (other ≡ name.now → ⊥) → found files.new.items other ≡ found files.old.items other) }
-    ensures known { OnOk result ((other : List ℕ) → (other ≡ name.now → ⊥) → is_known files.new.items other ≡ is_known files.old.items other) }
+    ensures others { OnOk result ((other : List ℕ) → (other ≡ name.now → ⊥)
+        → found files.new.items other ≡ found files.old.items other) }
+    ensures known { OnOk result ((other : List ℕ) → (other ≡ name.now → ⊥)
+        → is_known files.new.items other ≡ is_known files.old.items other) }
     ensures room { OnOk result (vec_len files.new < vec_capacity files.new) }
     ensures as_before { OnErr result (files.new.items ≡ files.old.items) }
 {

@@ -1,11 +1,15 @@
-ghost use Rattle.std.specs.Prelude.{◌≡◌, refl, ◌⊎◌, ◌<◌, ◌≤◌, ◌++◌, ◌∷◌, [], Some, None, List, ℕ, true, false, length, take, min, ◌^◌, ◌-◌, map, IfOk, OnOk, OnErr, IsErr, is_err, is_ok, is_some, IsSome, option_copied, option_map, string_bytes, IfSome, if◌then◌else◌};
+ghost use Rattle.std.specs.Prelude.{◌≡◌, refl, ◌⊎◌, ◌<◌, ◌≤◌, ◌++◌, ◌∷◌, [], Some, None, List, ℕ, true, false, length};
+ghost use Rattle.std.specs.Prelude.{take, min, ◌^◌, ◌-◌, map, IfOk, OnOk, OnErr, IsErr, is_err, is_ok, is_some, IsSome};
+ghost use Rattle.std.specs.Prelude.{option_copied, option_map, string_bytes, IfSome, if◌then◌else◌};
 ghost use Rattle.std.specs.Str.{bytes_eq};
 ghost use Rattle.xl_ports.specs.Faults.{HasCause, Rose};
 ghost use Rattle.xl_ports.specs.Shelf.{absent, file, GivesPart};
 ghost use Rattle.xl_ports.specs.Disk.{IsQuiet, SwapsIn, SettlesAt, empty_draft};
 ghost use Rattle.xl_fakes.specs.Fakes.{next_count};
 ghost use Rattle.xl_fakes.specs.Calls.{NextCallFails, IsStopped, IsListed, with_reading, with_saving, no_shelf_calls};
-ghost use Rattle.xl_fakes.specs.Kept.{is_known_at, standing, found, disk_of, contents, content_of, kept_content, handed_in, Notes, NotesOrNot, KeepsFiles, EndsReading, EndsSaving, IsSwapped, IsSettled, KnowsToo, LeavesBoth, draft_in, shown, known_content};
+ghost use Rattle.xl_fakes.specs.Kept.{is_known_at, standing, found, disk_of, contents, content_of, kept_content};
+ghost use Rattle.xl_fakes.specs.Kept.{handed_in, Notes, NotesOrNot, KeepsFiles, EndsReading, EndsSaving, IsSwapped};
+ghost use Rattle.xl_fakes.specs.Kept.{IsSettled, KnowsToo, LeavesBoth, draft_in, shown, known_content};
 
 use crate::draft::Draft;
 use crate::files::{bring, place_of};
@@ -92,7 +96,8 @@ impl MemoryShelf {
     /// Nothing, where the name was neither handed in nor selected.
     pub fn leaves(&self, name: &str) -> &[Option<Vec<u8>>]
         ensures { contents result.now ≡ (if is_known_at self.now.here self.now.files name.now
-            then (standing self.now.here self.now.files name.now).read ∷ (standing self.now.here self.now.files name.now).others else []) }
+            then (standing self.now.here self.now.files name.now).read
+            ∷ (standing self.now.here self.now.files name.now).others else []) }
     {
         match kept_of(&self.here, &self.files, name) {
             Some(kept) => kept.leaves(),
@@ -119,7 +124,8 @@ impl MemoryShelf {
 fn kept_of<'a>(here: &'a Option<Kept>, files: &'a [Kept], name: &str) -> Option<&'a Kept>
     ensures some { IfSome (option_copied result) (λ k. k ≡ standing here.now files.now name.now) }
     ensures known { is_some (option_copied result) ≡ is_known_at here.now files.now name.now }
-    ensures none { option_copied result ≡ None → standing here.now files.now name.now ≡ record { name = name.now; read = absent; others = [] } }
+    ensures none { option_copied result ≡ None
+        → standing here.now files.now name.now ≡ record { name = name.now; read = absent; others = [] } }
 {
     if let Some(kept) = here
         && kept.is_named(name)
@@ -150,7 +156,8 @@ impl MemoryShelf {
         ensures closed { OnOk result (self.new.draft ≡ None) }
         ensures here { OnErr result (self.new.here ≡ self.old.here) }
         ensures draft { OnErr result (self.new.draft ≡ self.old.draft) }
-        ensures same { (other : List ℕ) → standing self.new.here self.new.files other ≡ standing self.old.here self.old.files other }
+        ensures same { (other : List ℕ)
+            → standing self.new.here self.new.files other ≡ standing self.old.here self.old.files other }
         ensures known { KnowsToo result name.now self.old.here self.old.files self.new.here self.new.files }
         ensures log { NotesOrNot self.old.log self.new.log }
         ensures noted { OnOk result (Notes self.old.log self.new.log) }
@@ -400,7 +407,8 @@ impl Shelf for MemoryShelf {
         requires selected { IsSome self.old.here }
         requires opened { is_some self.old.draft ≡ true }
         ensures closed { is_some self.new.draft ≡ false }
-        ensures swaps { IfSome (option_map (λ h. h.name) self.old.here) (λ name. SwapsIn result name (disk_of self.old) (disk_of self.new)) }
+        ensures swaps { IfSome (option_map (λ h. h.name) self.old.here)
+            (λ name. SwapsIn result name (disk_of self.old) (disk_of self.new)) }
         ensures selected { option_map (λ h. h.name) self.new.here ≡ option_map (λ h. h.name) self.old.here }
         ensures advances { OnOk result (length self.old.log < length self.new.log) }
         ensures reading { self.new.calls.reading ≡ self.old.calls.reading }
@@ -417,7 +425,8 @@ impl Shelf for MemoryShelf {
         requires { IsSome self.old.here }
         ensures opened { is_some self.new.draft ≡ is_some self.old.draft }
         ensures draft { draft_in self.new.draft ≡ draft_in self.old.draft }
-        ensures settles { IfSome (option_map (λ h. h.name) self.old.here) (λ name. SettlesAt result name (disk_of self.old) (disk_of self.new)) }
+        ensures settles { IfSome (option_map (λ h. h.name) self.old.here)
+            (λ name. SettlesAt result name (disk_of self.old) (disk_of self.new)) }
         ensures selected { option_map (λ h. h.name) self.new.here ≡ option_map (λ h. h.name) self.old.here }
         ensures advances { OnOk result (length self.old.log < length self.new.log) }
         ensures reading { self.new.calls.reading ≡ self.old.calls.reading }

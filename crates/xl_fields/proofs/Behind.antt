@@ -1,5 +1,6 @@
 -- What stood in a buffer stays in front of what is appended.
-use Rattle.std.proofs.Common.{◌≡◌, ℕ, ◌≤◌, List, [], ◌++◌, length, take, drop, refl, sym, ap, ◌∙◌, arith, append_assoc, append-nil, length-take}
+use Rattle.std.proofs.Common.{◌≡◌, ℕ, ◌≤◌, List, [], ◌++◌, length, take, drop, refl, sym, ap, ◌∙◌, arith, append_assoc}
+use Rattle.std.proofs.Common.{append-nil, length-take}
 use Rattle.std.proofs.lemmas.List.{take_at, take-append-drop}
 use Rattle.xl_fields.specs.Behind.{BeginsWith}
 
@@ -20,7 +21,8 @@ pub begins_then : (old mid new : List ℕ) → BeginsWith mid old → BeginsWith
 begins_then old mid new first second =
     begins_appended old (drop (length old) mid ++ drop (length mid) new) new
     (begins_is new mid second
-    ∙ (ap (λ xs. xs ++ drop (length mid) new) (begins_is mid old first) ∙ append_assoc old (drop (length old) mid) (drop (length mid) new)))
+    ∙ (ap (λ xs. xs ++ drop (length mid) new) (begins_is mid old first)
+    ∙ append_assoc old (drop (length old) mid) (drop (length mid) new)))
 
 -- bytes were appended, and then more
 pub begins_after : (old more mid new : List ℕ) → mid ≡ old ++ more → BeginsWith new mid → BeginsWith new old

@@ -1,4 +1,5 @@
-ghost use Rattle.std.specs.Prelude.{◌≡◌, ◌<◌, ◌≤◌, ◌^◌, ◌∷◌, ◌++◌, [], length, map, IsTrue, IfOk, IfErr, IfSome, Some, None, option_map, slice_set, vec_capacity};
+ghost use Rattle.std.specs.Prelude.{◌≡◌, ◌<◌, ◌≤◌, ◌^◌, ◌∷◌, ◌++◌, [], length, map, IsTrue, IfOk, IfErr, IfSome, Some};
+ghost use Rattle.std.specs.Prelude.{None, option_map, slice_set, vec_capacity};
 ghost use Rattle.spec_filters.specs.Filters.{table_of, after_use};
 ghost use Rattle.spec_filters.specs.Slots.{state_at, has_slot};
 ghost use Rattle.xl_filters.specs.Chests.{states};
@@ -68,7 +69,8 @@ impl Chest {
         requires { IsTrue (has_slot (states (λ s. state s.filter) self.old) slot) }
         ensures table { IfSome (state_at (states (λ s. state s.filter) self.old) slot) (λ s. result ≡ table_of s) }
         ensures after { states (λ s. state s.filter) self.new
-            ≡ slice_set (states (λ s. state s.filter) self.old) slot (option_map after_use (state_at (states (λ s. state s.filter) self.old) slot)) }
+            ≡ slice_set (states (λ s. state s.filter) self.old) slot
+            (option_map after_use (state_at (states (λ s. state s.filter) self.old) slot)) }
     {
         match &mut self.slots[slot as usize] {
             Some(it) => it.table(),

@@ -11,4 +11,5 @@ row_of r w h row n = filter (λ at. do_meet r (tile_rect w h at)) (map (λ col. 
 
 -- those in the first n rows
 abbrev pub rows_of : Rect → (w h n : ℕ) → List TileAt
-rows_of r w h n = filter (λ at. do_meet r (tile_rect w h at)) (flat_map (λ row. map (λ col. record { col = col; row = row }) (count_from 0 (tiles_along w))) (count_from 0 n))
+rows_of r w h n = filter (λ at. do_meet r (tile_rect w h at))
+    (flat_map (λ row. map (λ col. record { col = col; row = row }) (count_from 0 (tiles_along w))) (count_from 0 n))

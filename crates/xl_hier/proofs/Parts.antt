@@ -23,9 +23,12 @@ then_level (Ok x) (Ok y) (Ok z) (Err f) d e rest = refl
 then_level (Ok x) (Ok y) (Ok z) (Ok level) d e rest = then_last (d level) (e level) level rest
 
 pub hierarchy_is : (file : List ℕ) (at width height bpp compression : ℕ)
-    → hierarchy_at file at width height bpp compression ≡ (level_at file at width height bpp >>= (λ level. pixels_at file (level + 8) width height bpp compression))
+    → hierarchy_at file at width height bpp compression
+    ≡ (level_at file at width height bpp >>= (λ level. pixels_at file (level + 8) width height bpp compression))
 unfolding hierarchy_at
 hierarchy_is file at width height bpp compression =
-    then_level (same_word_at file at width BadHierarchy) (same_word_at file (at + 4) height BadHierarchy) (same_word_at file (at + 8) bpp BadHierarchy)
-    (pointer_at file (at + 12) BadHierarchy) (λ level. same_word_at file level width BadHierarchy) (λ level. same_word_at file (level + 4) height BadHierarchy)
+    then_level (same_word_at file at width BadHierarchy) (same_word_at file (at + 4) height BadHierarchy)
+    (same_word_at file (at + 8) bpp BadHierarchy)
+    (pointer_at file (at + 12) BadHierarchy) (λ level. same_word_at file level width BadHierarchy)
+    (λ level. same_word_at file (level + 4) height BadHierarchy)
     (λ level. pixels_at file (level + 8) width height bpp compression)

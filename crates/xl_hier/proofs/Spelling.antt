@@ -1,5 +1,6 @@
 -- Planes that are spelled one after another.
-use Rattle.std.proofs.Common.{◌≡◌, ℕ, zero, suc, ◌+◌, ◌≤◌, List, [], ◌∷◌, ◌++◌, length, map, refl, sym, ap, ◌∙◌, subst, arith, append_assoc, append-nil}
+use Rattle.std.proofs.Common.{◌≡◌, ℕ, zero, suc, ◌+◌, ◌≤◌, List, [], ◌∷◌, ◌++◌, length, map, refl, sym, ap, ◌∙◌, subst}
+use Rattle.std.proofs.Common.{arith, append_assoc, append-nil}
 use Rattle.spec_grid.specs.declared.TileAt.{TileAt}
 use Rattle.spec_grid.specs.Rect.{count_from}
 use Rattle.spec_document.specs.Plane.{Plane}
@@ -17,12 +18,22 @@ pub record Spelling (fits : List ℕ → List ℕ → Type 0) (p : Plane) (t : T
 pub none : (fits : List ℕ → List ℕ → Type 0) (p : Plane) (t : TileAt) (old : List ℕ) → Spelling fits p t 0 old old
 none fits p t old = record { bytes = []; spelled = refl; appended = sym (append-nil old) }
 
-spelled_more : (fits : List ℕ → List ℕ → Type 0) (planes : List (List ℕ)) (bytes spelled plane : List ℕ) → AreSpelled fits bytes planes
-    → Spells spelled plane → length spelled ≤ length plane + 64 → fits plane spelled → AreSpelled fits (bytes ++ spelled) (planes ++ plane ∷ [])
+spelled_more : (fits : List ℕ → List ℕ → Type 0) (planes : List (List ℕ)) (bytes spelled plane : List ℕ)
+    → AreSpelled fits bytes planes
+    → Spells spelled plane → length spelled ≤ length plane + 64 → fits plane spelled
+    → AreSpelled fits (bytes ++ spelled) (planes ++ plane ∷ [])
 spelled_more fits [] bytes spelled plane none spells short fitting =
     (spelled, [], spells, short, fitting, ap (λ xs. xs ++ spelled) none ∙ sym (append-nil spelled), refl)
-spelled_more fits (first ∷ planes) bytes spelled plane (front, rest, s, n, f, is, are) spells short fitting =
-    (front, rest ++ spelled, s, n, f, ap (λ xs. xs ++ spelled) is ∙ append_assoc front rest spelled, spelled_more fits planes rest spelled plane are spells short fitting)
+spelled_more fits (first ∷ planes) bytes spelled plane (front, rest, s, n, f, is, are) spells short fitting = (
+  front,
+  rest ++ spelled,
+  s,
+  n,
+  f,
+  ap (λ xs. xs ++ spelled) is
+      ∙ append_assoc front rest spelled,
+  spelled_more fits planes rest spelled plane are spells short fitting,
+)
 
 last_of : (g : ℕ → List ℕ) (first n : ℕ) → map g (count_from first (suc n)) ≡ map g (count_from first n) ++ g (first + n) ∷ []
 last_of g first zero = let start : first ≡ first + 0 = omega arith in ap (λ k. g k ∷ []) start
@@ -30,7 +41,8 @@ last_of g first (suc n) =
     let start : suc first + n ≡ first + suc n = omega arith in
     ap (λ xs. g first ∷ xs) (last_of g (suc first) n) ∙ ap (λ k. g first ∷ (map g (count_from (suc first) n) ++ g k ∷ [])) start
 
-pub more : (fits : List ℕ → List ℕ → Type 0) (p : Plane) (t : TileAt) (c : ℕ) (first old plane new : List ℕ) → Spelling fits p t c first old
+pub more : (fits : List ℕ → List ℕ → Type 0) (p : Plane) (t : TileAt) (c : ℕ) (first old plane new : List ℕ)
+    → Spelling fits p t c first old
     → plane ≡ tile_plane p t c → Appends fits plane old new → Spelling fits p t (c + 1) first new
 more fits p t c first old plane new so_far is made =
     let step : suc c ≡ c + 1 = omega arith in
@@ -41,6 +53,7 @@ more fits p t c first old plane new so_far is made =
     record {
       bytes = so_far.bytes ++ made.spelled;
       spelled = subst (AreSpelled fits (so_far.bytes ++ made.spelled)) planes
-          (spelled_more fits (map (tile_plane p t) (count_from 0 c)) so_far.bytes made.spelled plane so_far.spelled made.spells made.short made.fitting);
+          (spelled_more fits (map (tile_plane p t) (count_from 0 c)) so_far.bytes made.spelled plane so_far.spelled made.spells
+          made.short made.fitting);
       appended = made.appended ∙ (ap (λ xs. xs ++ made.spelled) so_far.appended ∙ append_assoc first so_far.bytes made.spelled);
     }

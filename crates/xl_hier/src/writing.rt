@@ -1,4 +1,5 @@
-ghost use Rattle.std.specs.Prelude.{◌≡◌, ◌+◌, ◌*◌, ◌<◌, ◌≤◌, ◌^◌, ◌++◌, [], ◌∷◌, length, take, drop, replicate, vec_len, OnOk, OnErr};
+ghost use Rattle.std.specs.Prelude.{◌≡◌, ◌+◌, ◌*◌, ◌<◌, ◌≤◌, ◌^◌, ◌++◌, [], ◌∷◌, length, take, drop, replicate};
+ghost use Rattle.std.specs.Prelude.{vec_len, OnOk, OnErr};
 ghost use Rattle.std.specs.Int.{w32, to_be_bytes};
 ghost use Rattle.spec_grid.specs.Grid as grid;
 ghost use Rattle.spec_hierarchy.specs.Holds.{HasPlane};
@@ -31,7 +32,9 @@ fn append_words(alloc: Global, out: &mut Vec<u8>, values: &[u32]) -> Result<(), 
 // Appends the hierarchy, and the sides of its level behind it.
 fn append_heads(alloc: Global, plane: &Plane, out: &mut Vec<u8>) -> Result<(), AllocError>
     requires { vec_len out.old < 2 ^ 31 }
-    ensures ok { OnOk result (out.new.items ≡ out.old.items ++ words (plane.now.width ∷ plane.now.height ∷ plane.now.bpp ∷ (vec_len out.old + 20) ∷ 0 ∷ plane.now.width ∷ plane.now.height ∷ [])) }
+    ensures ok { OnOk result (out.new.items ≡ out.old.items
+        ++ words (plane.now.width ∷ plane.now.height ∷ plane.now.bpp ∷ (vec_len out.old + 20) ∷ 0 ∷ plane.now.width
+        ∷ plane.now.height ∷ [])) }
     ensures front { BeginsWith out.new.items out.old.items }
 {
     let width = plane.width();
@@ -52,7 +55,8 @@ fn set_word(out: &mut [u8], at: usize, value: u32)
     out[at..at + 4].copy_from_slice(&value.to_be_bytes());
 }
 
-// Appends the tiles, and sets the pointers to them, whose words begin at the table. The rooms are for a plane of a tile, and for a tile.
+// Appends the tiles, and sets the pointers to them, whose words begin at the table. The rooms are for a plane of a
+// tile, and for a tile.
 fn write_tiles<C: PlaneCoder>(
     alloc: Global,
     plane: &Plane,
@@ -66,7 +70,8 @@ fn write_tiles<C: PlaneCoder>(
     requires compression { compression ≤ 1 }
     requires short { table < 2 ^ 31 + 28 }
     requires table { vec_len out.old ≡ table + 4 * (grid.tiles_along plane.now.height * grid.tiles_along plane.now.width) + 4 }
-    requires zeros { drop table out.old.items ≡ replicate (4 * (grid.tiles_along plane.now.height * grid.tiles_along plane.now.width) + 4) 0 }
+    requires zeros { drop table out.old.items
+        ≡ replicate (4 * (grid.tiles_along plane.now.height * grid.tiles_along plane.now.width) + 4) 0 }
     requires room { length room.old ≡ 4096 }
     requires unpacked { length unpacked.old ≡ 32768 }
     ensures ok { OnOk result (TilesFilled C.fits compression plane.now table out.old.items out.new.items) }

@@ -13,7 +13,8 @@ use Rattle.spec_history.specs.Machine.{has_stack}
 use Rattle.spec_world.specs.World.{stack_ids, add_stacks}
 use Rattle.spec_world.proofs.Stacks.{has_id, stacks-listed, came-listed, slots_of-added, is_cache-all-added}
 use Rattle.xl_marks.specs.Change as change
-use Rattle.xl_marks.specs.Change.{came_to, change_between, turned, gone_along, with_stacks, rects_in, IsCacheOf, LeadsBack, BeginsWithItsCache}
+use Rattle.xl_marks.specs.Change.{came_to, change_between, turned, gone_along, with_stacks, rects_in, IsCacheOf}
+use Rattle.xl_marks.specs.Change.{LeadsBack, BeginsWithItsCache}
 use Rattle.xl_marks.proofs.Between.{mark_by}
 use Rattle.xl_marks.proofs.InTurn.{staying, has-staying, left-cache}
 
@@ -23,7 +24,8 @@ some-either false slots rest = refl
 
 -- what comes of the cache, spelled out
 there : (old new : Document) (damage : List Pair) (version : ℕ) → Cache → Cache
-there old new damage version cache = add_stacks (came_to old new) old version (record cache { held = staying new damage version cache })
+there old new damage version cache =
+    add_stacks (came_to old new) old version (record cache { held = staying new damage version cache })
 
 gone-there : (old new : Document) (damage : List Pair) (version : ℕ) (cache : Cache) → IsCacheOf old cache
     → gone_along (change_between old new damage) version cache ≡ there old new damage version cache
@@ -31,13 +33,15 @@ unfolding there
 gone-there old new damage version cache is =
     ap (with_stacks (came_to old new) old.width old.height version) (left-cache old new damage version cache is)
 
-has-there : (old new : Document) (damage : List Pair) (version : ℕ) (cache : Cache) → IsCacheOf old cache → (k : ℕ) → has_slots (there old new damage version cache) k ≡ has_stack new k
+has-there : (old new : Document) (damage : List Pair) (version : ℕ) (cache : Cache) → IsCacheOf old cache → (k : ℕ)
+    → has_slots (there old new damage version cache) k ≡ has_stack new k
 unfolding there
 has-there old new damage version cache is k =
     ap is_some (slots_of-added old version (came_to old new) stay k)
     ∙ (some-either (has_id k (came_to old new)) (blank_slots old.width old.height version) (slots_of stay k)
     ∙ ((λ i. came-listed old new k i || has-staying new damage version cache k i)
-    ∙ (ap (λ b. (not (has_stack old k) && has_stack new k) || (has_stack new k && b)) (is.stacks k) ∙ just (has_stack old k) (has_stack new k))))
+    ∙ (ap (λ b. (not (has_stack old k) && has_stack new k) || (has_stack new k && b)) (is.stacks k)
+    ∙ just (has_stack old k) (has_stack new k))))
   where
     stay : Cache
     stay = record cache { held = staying new damage version cache }
@@ -56,20 +60,30 @@ is_cache-there old new damage version cache is =
     is_cache-all-added old version (came_to old new) (record stay { held = map (mark_by damage version) stay.held })
     (is_cache-map old.width old.height (mark_by damage version) stay (λ h. refl)
     (λ h of_canvas. of_canvas-changed old.width old.height
-    (λ tile slot. cond (list_any (λ r. do_meet r (tile_rect h.slots.width h.slots.height tile)) (rects_in damage h.stack)) (mark_slot version slot) slot) h.slots of_canvas)
+    (λ tile slot. cond (list_any (λ r. do_meet r (tile_rect h.slots.width h.slots.height tile)) (rects_in damage h.stack))
+    (mark_slot version slot) slot) h.slots of_canvas)
     (is_cache-filter old.width old.height (λ h. has_stack new h.stack) cache is.slots))
 
 pub leads-back : (old new : Document) → LeadsBack old new
 leads-back old new c version cache same path =
     let gone : gone_along c version cache ≡ there old new c.damage version cache =
     ap (λ x. gone_along x version cache) path.leads ∙ gone-there old new c.damage version cache path.here in
-    let slots : IsCache old.width old.height (gone_along c version cache) = subst (IsCache old.width old.height) (sym gone) (is_cache-there old new c.damage version cache path.here) in
+    let slots : IsCache old.width old.height (gone_along c version cache) =
+    subst (IsCache old.width old.height) (sym gone) (is_cache-there old new c.damage version cache path.here) in
     record {
       from = path.to;
       to = path.from;
-      leads = ap turned path.leads ∙ (λ i. record { width = sym same.width i; height = sym same.height i; damage = c.damage; came = came_to new old; went = came_to old new });
+      leads = ap turned path.leads ∙ (λ i. record {
+        width = sym same.width i;
+        height = sym same.height i;
+        damage = c.damage;
+        came =
+            came_to new old;
+        went = came_to old new;
+      });
       here = record {
-        slots = subst (λ w. IsCache w new.height (gone_along c version cache)) (sym same.width) (subst (λ h. IsCache old.width h (gone_along c version cache)) (sym same.height) slots);
+        slots = subst (λ w. IsCache w new.height (gone_along c version cache)) (sym same.width)
+            (subst (λ h. IsCache old.width h (gone_along c version cache)) (sym same.height) slots);
         stacks = λ k. ap (λ x. has_slots x k) gone ∙ has-there old new c.damage version cache path.here k;
       };
     }

@@ -1,5 +1,6 @@
 -- Stacks in order that are all in a list are no more than this has numbers.
-use Rattle.std.proofs.Common.{◌≡◌, ℕ, suc, ◌<◌, ◌≤◌, Bool, true, false, cond, not, ◌||◌, ◌==◌, nat_lt, List, [], ◌∷◌, length, filter, refl, sym, ◌∙◌, ap, arith, true≢false}
+use Rattle.std.proofs.Common.{◌≡◌, ℕ, suc, ◌<◌, ◌≤◌, Bool, true, false, cond, not, ◌||◌, ◌==◌, nat_lt, List, [], ◌∷◌}
+use Rattle.std.proofs.Common.{length, filter, refl, sym, ◌∙◌, ap, arith, true≢false}
 use Rattle.std.specs.Prelude.{Some, is_some, option_map, find}
 use Rattle.std.specs.List.{AllByRecursion}
 use Rattle.std.proofs.lemmas.Bool.{eqb-true, ne_eqb}
@@ -22,7 +23,8 @@ shorter : (x : ℕ) (ids : List ℕ) → has_id x ids ≡ true → suc (length (
 shorter x [] e = absurd (true≢false (sym e))
 shorter x (k ∷ ks) e = go (k == x) e (shorter x ks)
   where
-    go : (b : Bool) → (b || has_id x ks) ≡ true → (has_id x ks ≡ true → suc (length (without x ks)) ≤ length ks) → suc (length (cond (not b) (k ∷ without x ks) (without x ks))) ≤ suc (length ks)
+    go : (b : Bool) → (b || has_id x ks) ≡ true → (has_id x ks ≡ true → suc (length (without x ks)) ≤ length ks)
+        → suc (length (cond (not b) (k ∷ without x ks) (without x ks))) ≤ suc (length ks)
     go true h more = omega (arith, no-longer x ks)
     go false h more = omega (arith, more h)
 
@@ -30,29 +32,34 @@ stays : (x y : ℕ) (ids : List ℕ) → (y == x) ≡ false → has_id y ids ≡
 stays x y [] other e = absurd (true≢false (sym e))
 stays x y (k ∷ ks) other e = go (k == x) (k == y) refl refl e (stays x y ks other)
   where
-    go : (b c : Bool) → (k == x) ≡ b → (k == y) ≡ c → (c || has_id y ks) ≡ true → (has_id y ks ≡ true → has_id y (without x ks) ≡ true)
+    go : (b c : Bool) → (k == x) ≡ b → (k == y) ≡ c → (c || has_id y ks) ≡ true
+        → (has_id y ks ≡ true → has_id y (without x ks) ≡ true)
         → has_id y (cond (not b) (k ∷ without x ks) (without x ks)) ≡ true
     go true true p q h more = absurd (true≢false (sym p ∙ (ap (λ n. n == x) (eqb-true k y q) ∙ other)))
     go true false p q h more = more h
     go false true p q h more = ap (λ c. c || has_id y (without x ks)) q
     go false false p q h more = ap (λ c. c || has_id y (without x ks)) q ∙ more h
 
-others : (x : ℕ) (ids : List ℕ) (hs : List Held) → AllByRecursion (λ k. x < k.stack) hs → AllByRecursion (λ k. has_id k.stack ids ≡ true) hs
+others : (x : ℕ) (ids : List ℕ) (hs : List Held) → AllByRecursion (λ k. x < k.stack) hs
+    → AllByRecursion (λ k. has_id k.stack ids ≡ true) hs
     → AllByRecursion (λ k. has_id k.stack (without x ids) ≡ true) hs
 others x ids [] above all = tt
 others x ids (h ∷ hs) above all =
     let lt = above.0 in
     (stays x h.stack ids (ne_eqb h.stack x (λ e. omega (arith, e, lt))) all.0, others x ids hs above.1 all.1)
 
-pub few-held : (held : List Held) (ids : List ℕ) → AreInOrder held → AllByRecursion (λ h. has_id h.stack ids ≡ true) held → length held ≤ length ids
+pub few-held : (held : List Held) (ids : List ℕ) → AreInOrder held → AllByRecursion (λ h. has_id h.stack ids ≡ true) held
+    → length held ≤ length ids
 few-held [] ids order all = omega arith
 few-held (h ∷ hs) ids order all =
     omega (arith, few-held hs (without h.stack ids) order.1 (others h.stack ids hs order.0 all.1), shorter h.stack ids all.0)
 
 -- a stack that is put in is one more
-pub put-longer : (h : Held) (held : List Held) → is_some (slots_in held h.stack) ≡ false → length (put_in h held) ≡ suc (length held)
+pub put-longer : (h : Held) (held : List Held) → is_some (slots_in held h.stack) ≡ false
+    → length (put_in h held) ≡ suc (length held)
 put-longer h [] e = refl
-put-longer h (k ∷ ks) e = go (nat_lt h.stack k.stack) (h.stack == k.stack) (k.stack == h.stack) (eq-swap h.stack k.stack) e (put-longer h ks)
+put-longer h (k ∷ ks) e =
+    go (nat_lt h.stack k.stack) (h.stack == k.stack) (k.stack == h.stack) (eq-swap h.stack k.stack) e (put-longer h ks)
   where
     go : (b c d : Bool) → c ≡ d → is_some (option_map (λ x. x.slots) (cond d (Some k) (find (λ x. x.stack == h.stack) ks))) ≡ false
         → (is_some (slots_in ks h.stack) ≡ false → length (put_in h ks) ≡ suc (length ks))

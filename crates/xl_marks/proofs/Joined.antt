@@ -13,7 +13,8 @@ rects_in-append (x ∷ xs) ys stack = go (x.stack == stack) (rects_in-append xs 
   where
     go : (b : Bool) → rects_in (xs ++ ys) stack ≡ rects_in xs stack ++ rects_in ys stack
         → map (λ p. p.rect) (cond b (x ∷ filter (λ p. p.stack == stack) (xs ++ ys)) (filter (λ p. p.stack == stack) (xs ++ ys)))
-        ≡ map (λ p. p.rect) (cond b (x ∷ filter (λ p. p.stack == stack) xs) (filter (λ p. p.stack == stack) xs)) ++ rects_in ys stack
+        ≡ map (λ p. p.rect) (cond b (x ∷ filter (λ p. p.stack == stack) xs) (filter (λ p. p.stack == stack) xs))
+        ++ rects_in ys stack
     go true more = ap (λ rs. x.rect ∷ rs) more
     go false more = more
 

@@ -22,7 +22,16 @@ few-stacks d ids is e =
     let same : length (numbers ids) ≡ length (stack_ids d) = ap length e in
     omega (arith, length-numbers ids, same, stacks-few d is)
 
-pub few-came : (p : ℕ → Bool) (came all : List NodeId) (i : ℕ) → numbers came ≡ filter p (numbers (take i all)) → length all ≤ MAX_STACKS → length came ≤ MAX_STACKS
+pub few-came : (p : ℕ → Bool) (came all : List NodeId) (i : ℕ) → numbers came ≡ filter p (numbers (take i all))
+    → length all ≤ MAX_STACKS → length came ≤ MAX_STACKS
 few-came p came all i e few =
     let same : length (numbers came) ≡ length (filter p (numbers (take i all))) = ap length e in
-    omega (arith, few, same, length-numbers came, length-numbers (take i all), filter-shorter p (numbers (take i all)), take-shorter i all)
+    omega (
+      arith,
+      few,
+      same,
+      length-numbers came,
+      length-numbers (take i all),
+      filter-shorter p (numbers (take i all)),
+      take-shorter i all,
+    )

@@ -1,5 +1,6 @@
 -- The stacks of a document, each once.
-use Rattle.std.proofs.Common.{◌≡◌, ℕ, suc, ◌+◌, ◌≤◌, Bool, true, false, cond, not, ◌||◌, ◌==◌, List, [], ◌∷◌, ◌++◌, length, filter, refl, ◌∙◌, ap, arith, eq-eqb}
+use Rattle.std.proofs.Common.{◌≡◌, ℕ, suc, ◌+◌, ◌≤◌, Bool, true, false, cond, not, ◌||◌, ◌==◌, List, [], ◌∷◌, ◌++◌}
+use Rattle.std.proofs.Common.{length, filter, refl, ◌∙◌, ap, arith, eq-eqb}
 use Rattle.std.specs.List.{AllByRecursion}
 use Rattle.std.proofs.lemmas.Bool.{eqb-true}
 use Rattle.spec_forest.specs.Forest.{none, leaf, group, ids, size}
@@ -24,7 +25,8 @@ absent : (id : ℕ) (xs : List ℕ) → times id xs ≡ 0 → has_id id xs ≡ f
 absent id [] e = refl
 absent id (x ∷ xs) e = go (id == x) refl e (absent id xs)
   where
-    go : (b : Bool) → (id == x) ≡ b → cond b 1 0 + times id xs ≡ 0 → (times id xs ≡ 0 → has_id id xs ≡ false) → ((x == id) || has_id id xs) ≡ false
+    go : (b : Bool) → (id == x) ≡ b → cond b 1 0 + times id xs ≡ 0 → (times id xs ≡ 0 → has_id id xs ≡ false)
+        → ((x == id) || has_id id xs) ≡ false
     go true q k more = absurd (omega (arith, k))
     go false q k more = (λ i. (eq-swap x id ∙ q) i || has_id id xs) ∙ more (omega (arith, k))
 
@@ -33,14 +35,17 @@ once-counted [] h = tt
 once-counted (x ∷ xs) h =
     let num : Bool → ℕ = λ b. cond b 1 0 in
     let same : num (x == x) ≡ 1 = ap num (eq-eqb x x refl) in
-    let own : cond (x == x) 1 0 + times x xs ≤ 1 = h x in
-    (absent x xs (omega (arith, same, own)), once-counted xs (λ id. let both : cond (id == x) 1 0 + times id xs ≤ 1 = h id in omega (arith, both)))
+    let own : cond (x == x) 1 0 + times x xs ≤ 1 = h x in (
+      absent x xs (omega (arith, same, own)),
+      once-counted xs (λ id. let both : cond (id == x) 1 0 + times id xs ≤ 1 = h id in omega (arith, both)),
+    )
 
 filter-fewer : (p : ℕ → Bool) (id : ℕ) (xs : List ℕ) → times id (filter p xs) ≤ times id xs
 filter-fewer p id [] = omega arith
 filter-fewer p id (x ∷ xs) = go (p x) (filter-fewer p id xs)
   where
-    go : (b : Bool) → times id (filter p xs) ≤ times id xs → times id (cond b (x ∷ filter p xs) (filter p xs)) ≤ cond (id == x) 1 0 + times id xs
+    go : (b : Bool) → times id (filter p xs) ≤ times id xs
+        → times id (cond b (x ∷ filter p xs) (filter p xs)) ≤ cond (id == x) 1 0 + times id xs
     go true le = omega (arith, le)
     go false le = omega (arith, le)
 
@@ -48,7 +53,13 @@ pub groups-fewer : (id : ℕ) (nodes : Nodes) → times id (group_ids nodes) ≤
 groups-fewer id none = omega arith
 groups-fewer id (leaf i l under) = omega (arith, groups-fewer id under)
 groups-fewer id (group i g children under) =
-    omega (arith, groups-fewer id children, groups-fewer id under, times-append id (group_ids children) (group_ids under), times-append id (ids children) (ids under))
+    omega (
+      arith,
+      groups-fewer id children,
+      groups-fewer id under,
+      times-append id (group_ids children) (group_ids under),
+      times-append id (ids children) (ids under),
+    )
 
 not-zero : (xs : List ℕ) → AllByRecursion (λ id. 1 ≤ id) xs → times 0 xs ≡ 0
 not-zero [] all = refl
@@ -67,17 +78,24 @@ all-fewer d is id = go (id == 0) refl
 
     go : (b : Bool) → (id == 0) ≡ b → cond b 1 0 + times id (group_ids d.nodes) ≤ 1
     go true e =
-        let z : times id (ids d.nodes) ≡ 0 = ap (λ k. times k (ids d.nodes)) (eqb-true id 0 e) ∙ not-zero (ids d.nodes) is.ids.positive in
+        let z : times id (ids d.nodes) ≡ 0 = ap (λ k. times k (ids d.nodes)) (eqb-true id 0 e)
+        ∙ not-zero (ids d.nodes) is.ids.positive in
         omega (arith, z, groups-fewer id d.nodes)
     go false e = omega (arith, once, groups-fewer id d.nodes)
 
 pub stacks-once : (d : Document) → IsDocument d → AreOnce (stack_ids d)
-stacks-once d is = once-counted (stack_ids d) (λ id. omega (arith, filter-fewer (has_stack d) id (0 ∷ group_ids d.nodes), all-fewer d is id))
+stacks-once d is =
+    once-counted (stack_ids d) (λ id. omega (arith, filter-fewer (has_stack d) id (0 ∷ group_ids d.nodes), all-fewer d is id))
 
 pub came-once : (old new : Document) → IsDocument new → AreOnce (came_to old new)
 came-once old new is =
     once-counted (came_to old new)
-    (λ id. omega (arith, filter-fewer (λ k. not (has_stack old k)) id (stack_ids new), filter-fewer (has_stack new) id (0 ∷ group_ids new.nodes), all-fewer new is id))
+    (λ id. omega (
+      arith,
+      filter-fewer (λ k. not (has_stack old k)) id (stack_ids new),
+      filter-fewer (has_stack new) id (0 ∷ group_ids new.nodes),
+      all-fewer new is id,
+    ))
 
 -- ---- how many there are
 
@@ -96,7 +114,8 @@ length-both (x ∷ xs) ys = omega (arith, length-both xs ys)
 groups-few : (nodes : Nodes) → length (group_ids nodes) ≤ size nodes
 groups-few none = omega arith
 groups-few (leaf i l under) = omega (arith, groups-few under)
-groups-few (group i g children under) = omega (arith, groups-few children, groups-few under, length-both (group_ids children) (group_ids under))
+groups-few (group i g children under) =
+    omega (arith, groups-few children, groups-few under, length-both (group_ids children) (group_ids under))
 
 pub stacks-few : (d : Document) → IsDocument d → length (stack_ids d) ≤ MAX_STACKS
 stacks-few d is = let few = is.few in omega (arith, few, filter-shorter (has_stack d) (0 ∷ group_ids d.nodes), groups-few d.nodes)

@@ -1,5 +1,6 @@
 -- Each group of a document is found, so all its stacks are there.
-use Rattle.std.proofs.Common.{◌≡◌, ℕ, ◌+◌, ◌≤◌, Bool, true, false, cond, ◌||◌, ◌==◌, List, [], ◌∷◌, filter, refl, sym, ◌∙◌, ap, arith, eq-eqb, true≢false}
+use Rattle.std.proofs.Common.{◌≡◌, ℕ, ◌+◌, ◌≤◌, Bool, true, false, cond, ◌||◌, ◌==◌, List, [], ◌∷◌, filter, refl, sym}
+use Rattle.std.proofs.Common.{◌∙◌, ap, arith, eq-eqb, true≢false}
 use Rattle.std.specs.Prelude.{Some, is_some}
 use Rattle.std.proofs.lemmas.List.Folds.{list_any-append}
 use Rattle.spec_forest.specs.Forest.{Found, nothing, a_leaf, a_group, none, leaf, group, ids, find, or_else, children_of}
@@ -16,7 +17,8 @@ some-times : (k : ℕ) (xs : List ℕ) → has_id k xs ≡ true → 1 ≤ times 
 some-times k [] e = absurd (true≢false (sym e))
 some-times k (x ∷ xs) e = go (k == x) refl e (some-times k xs)
   where
-    go : (b : Bool) → (k == x) ≡ b → ((x == k) || has_id k xs) ≡ true → (has_id k xs ≡ true → 1 ≤ times k xs) → 1 ≤ cond b 1 0 + times k xs
+    go : (b : Bool) → (k == x) ≡ b → ((x == k) || has_id k xs) ≡ true → (has_id k xs ≡ true → 1 ≤ times k xs)
+        → 1 ≤ cond b 1 0 + times k xs
     go true p h more = omega arith
     go false p h more = omega (arith, more (sym (ap (λ b. b || has_id k xs) (eq-swap x k ∙ p)) ∙ h))
 
@@ -35,14 +37,16 @@ group-first (a_group g c) y e = refl
 group-second : (x y : Found Layer Group) → x ≡ nothing → is_some (children_of y) ≡ true → is_some (children_of (or_else x y)) ≡ true
 group-second x y gone e = ap (λ f. is_some (children_of (or_else f y))) gone ∙ e
 
-pub group-found : (k : ℕ) (nodes : Nodes) → times k (ids nodes) ≤ 1 → has_id k (group_ids nodes) ≡ true → is_some (children_of (find k nodes)) ≡ true
+pub group-found : (k : ℕ) (nodes : Nodes) → times k (ids nodes) ≤ 1 → has_id k (group_ids nodes) ≡ true
+    → is_some (children_of (find k nodes)) ≡ true
 group-found k none le e = absurd (true≢false (sym e))
 group-found k (leaf i l under) le e =
     let some : 1 ≤ times k (group_ids under) = some-times k (group_ids under) e in
     let other : (k == i) ≡ false = no-times k i (times k (ids under)) le (omega (arith, some, groups-fewer k under)) in
     ap (λ b. is_some (children_of (cond b (a_leaf l) (find k under)))) other ∙ group-found k under (omega (arith, le)) e
 group-found k (group i g children under) le e =
-    go (k == i) (has_id k (group_ids children)) refl refl (sym (ap (λ b. (i == k) || b) (list_any-append (λ n. n == k) (group_ids children) (group_ids under))) ∙ e)
+    go (k == i) (has_id k (group_ids children)) refl refl
+    (sym (ap (λ b. (i == k) || b) (list_any-append (λ n. n == k) (group_ids children) (group_ids under))) ∙ e)
     (group-found k children (omega (arith, le, times-append k (ids children) (ids under))))
     (group-found k under (omega (arith, le, times-append k (ids children) (ids under))))
   where
@@ -56,7 +60,8 @@ group-found k (group i g children under) le e =
         let there : has_id k (group_ids under) ≡ true = sym (ap (λ b. b || has_id k (group_ids under)) (eq-swap i k ∙ p)) ∙ h in
         let some : 1 ≤ times k (group_ids under) = some-times k (group_ids under) there in
         let few : times k (ids children) + times k (ids under) ≤ 1 = omega (arith, le, times-append k (ids children) (ids under)) in
-        group-second (find k children) (find k under) (not_found k children (omega (arith, some, few, groups-fewer k under))) (outer there)
+        group-second (find k children) (find k under) (not_found k children (omega (arith, some, few, groups-fewer k under)))
+        (outer there)
 
 all-pass : (p : ℕ → Bool) (xs : List ℕ) → ((k : ℕ) → has_id k xs ≡ true → p k ≡ true) → filter p xs ≡ xs
 all-pass p [] h = refl
@@ -71,6 +76,8 @@ all-pass p (x ∷ xs) h =
 pub stack_ids-all : (d : Document) → IsDocument d → stack_ids d ≡ 0 ∷ group_ids d.nodes
 stack_ids-all d is = all-pass (has_stack d) (0 ∷ group_ids d.nodes) (λ k e. go k (k == 0) refl e)
   where
-    go : (k : ℕ) (b : Bool) → (k == 0) ≡ b → has_id k (0 ∷ group_ids d.nodes) ≡ true → is_some (cond b (Some d.nodes) (children_of (find k d.nodes))) ≡ true
+    go : (k : ℕ) (b : Bool) → (k == 0) ≡ b → has_id k (0 ∷ group_ids d.nodes) ≡ true
+        → is_some (cond b (Some d.nodes) (children_of (find k d.nodes))) ≡ true
     go k true p e = refl
-    go k false p e = group-found k d.nodes (once_from k (ids d.nodes) is.ids.distinct) (sym (ap (λ b. b || has_id k (group_ids d.nodes)) (eq-swap 0 k ∙ p)) ∙ e)
+    go k false p e = group-found k d.nodes (once_from k (ids d.nodes) is.ids.distinct)
+        (sym (ap (λ b. b || has_id k (group_ids d.nodes)) (eq-swap 0 k ∙ p)) ∙ e)

@@ -21,7 +21,8 @@ abbrev pub came_to : (old new : Document) → List ℕ
 came_to old new = filter (λ stack. not (has_stack old stack)) (stack_ids new)
 
 abbrev pub change_between : (old new : Document) → (damage : List Pair) → Change
-change_between old new damage = record { width = old.width; height = old.height; damage = damage; came = came_to old new; went = came_to new old }
+change_between old new damage =
+    record { width = old.width; height = old.height; damage = damage; came = came_to old new; went = came_to new old }
 
 -- the way back
 abbrev pub turned : Change → Change
@@ -81,7 +82,8 @@ LeavesCacheBetween base old new =
 -- Where a change leads from one document to another, it leads to the other one's cache, and back from there.
 abbrev pub LeadsBack : (old new : Document) → Type 0
 LeadsBack old new =
-    (c : Change) (version : ℕ) (cache : Cache) → AreOfCanvas old new → IsPath old new c cache → IsPath new old (turned c) (gone_along c version cache)
+    (c : Change) (version : ℕ) (cache : Cache) → AreOfCanvas old new → IsPath old new c cache
+    → IsPath new old (turned c) (gone_along c version cache)
 
 -- the cache that a document begins with is its own
 abbrev pub BeginsWithItsCache : Document → Type 0

@@ -10,7 +10,11 @@ use Rattle.xl_marks.specs.Change.{rects_in}
 abbrev pub damage_along : At → List Edit → (tables : List (List ℕ)) → List Pair
 damage_along old [] tables = []
 damage_along old (edit ∷ edits) tables =
-    let mid : At = record { document = effect old.document old.next (first_table tables) edit; next = if makes_node edit then old.next + 1 else old.next } in
+    let mid : At = record {
+      document = effect old.document old.next (first_table tables) edit;
+      next =
+          if makes_node edit then old.next + 1 else old.next;
+    } in
     damage old.document edit ++ damage_along mid edits (if is_filter edit then other_tables tables else tables)
 
 -- the list has the rectangles of the group for each stack

@@ -9,4 +9,14 @@ use Rattle.xl_doc.specs.Nodes.{nodes_of}
 -- a canvas of two tiles with the nodes of a tree
 abbrev pub canvas_of : Forest Node Node → Document
 canvas_of tree =
-    record { width = 70; height = 10; base = Rgb; compression = 1; colours = []; kept = []; nodes = nodes_of tree; channels = []; selection = None }
+    record {
+      width = 70;
+      height = 10;
+      base = Rgb;
+      compression = 1;
+      colours = [];
+      kept = [];
+      nodes = nodes_of tree;
+      channels = [];
+      selection = None;
+    }

@@ -12,4 +12,5 @@ AreGoing (s ∷ ss) cache = (has_slots cache s ≡ true) × AreGoing ss (drop_st
 abbrev pub AreComing : List ℕ → (width height version : ℕ) → Cache → Type 0
 AreComing [] width height version cache = Unit {0}
 AreComing (s ∷ ss) width height version cache =
-    (has_slots cache s ≡ false) × ((length cache.held < MAX_STACKS) × AreComing ss width height version (add_stack s width height version cache))
+    (has_slots cache s ≡ false) × ((length cache.held < MAX_STACKS)
+    × AreComing ss width height version (add_stack s width height version cache))

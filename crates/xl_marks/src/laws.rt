@@ -6,7 +6,8 @@ ghost use Rattle.spec_edit.specs.Edit.{Edit};
 ghost use Rattle.xl_marks.specs.Change.{BeginsWithItsCache, LeadsBack, LeavesCacheBetween};
 ghost use Rattle.xl_marks.specs.Group.{HasGroupDamage};
 
-/// To go along a change leaves just the slots that a version between its documents leaves, where the damage is that of the version's
+/// To go along a change leaves just the slots that a version between its documents leaves, where the damage is that
+/// of the version's
 /// cause.
 pub fn gone_along_is_between()
     ensures { (base old new : Document) → LeavesCacheBetween base old new }

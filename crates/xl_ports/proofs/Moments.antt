@@ -5,7 +5,8 @@ use Rattle.xl_ports.specs.Shelf.{Content}
 use Rattle.xl_ports.specs.Disk.{Disk, MayLeave, MightHaveLeft, Between, Elapses, Stays, IsQuiet}
 
 -- one relation after another, where the disks are known
-pub one_then : (R S T : Disk → Disk → Type 0) → ((a b c : Disk) → R a b → S b c → T a c) → (old mid new : Option Disk) → Between old mid R → Between mid new S → Between old new T
+pub one_then : (R S T : Disk → Disk → Type 0) → ((a b c : Disk) → R a b → S b c → T a c) → (old mid new : Option Disk)
+    → Between old mid R → Between mid new S → Between old new T
 one_then R S T joined None None None first second = tt
 one_then R S T joined (Some a) (Some b) (Some c) first second = joined a b c first second
 one_then R S T joined None None (Some c) first second = absurd second
@@ -14,14 +15,16 @@ one_then R S T joined (Some a) None new first second = absurd first
 one_then R S T joined (Some a) (Some b) None first second = absurd second
 
 -- two relations of the same disks
-pub both : (R S T : Disk → Disk → Type 0) → ((a b : Disk) → R a b → S a b → T a b) → (old new : Option Disk) → Between old new R → Between old new S → Between old new T
+pub both : (R S T : Disk → Disk → Type 0) → ((a b : Disk) → R a b → S a b → T a b) → (old new : Option Disk) → Between old new R
+    → Between old new S → Between old new T
 both R S T joined None None first second = tt
 both R S T joined (Some a) (Some b) first second = joined a b first second
 both R S T joined None (Some b) first second = absurd first
 both R S T joined (Some a) None first second = absurd first
 
 -- a weaker relation
-pub weaker : (R T : Disk → Disk → Type 0) → ((a b : Disk) → R a b → T a b) → (old new : Option Disk) → Between old new R → Between old new T
+pub weaker : (R T : Disk → Disk → Type 0) → ((a b : Disk) → R a b → T a b) → (old new : Option Disk) → Between old new R
+    → Between old new T
 weaker R T made old new first = both R R T (λ a b r s. made a b r) old new first first
 
 pub stays_then : {a b c : Disk} (name : List ℕ) → Stays a b name → Stays b c name → Stays a c name
@@ -37,7 +40,8 @@ stays_on a b name stays c (inl read) = inl (read ∙ sym stays.read)
 stays_on a b name stays c (inr other) = inr (subst (λ (l : List Content). Contains l c) (sym stays.others) other)
 
 -- what might have been left since a moment might have been left since any earlier one
-pub since_earlier : (a : Disk) (name : List ℕ) (earlier since : ℕ) (c : Content) → earlier ≤ since → MightHaveLeft a name since c → MightHaveLeft a name earlier c
+pub since_earlier : (a : Disk) (name : List ℕ) (earlier since : ℕ) (c : Content) → earlier ≤ since → MightHaveLeft a name since c
+    → MightHaveLeft a name earlier c
 since_earlier a name earlier since c le (inl may) = inl may
 since_earlier a name earlier since c le (inr gone) =
     let is : since ≡ earlier + (since - earlier) = omega (arith, le) in
@@ -52,7 +56,8 @@ pub goes_on : (a b c : Disk) (name : List ℕ) (P : Content → Type 0) → a.mo
     → Elapses b c → ((x : Content) → MayLeave c name x → MayLeave a name x ⊎ P x)
     → (since : ℕ) (x : Content) → since ≤ a.moment → MightHaveLeft c name since x → MightHaveLeft a name since x ⊎ P x
 goes_on a b c name P later so_far time here since x le left =
-    ⊎_elim (so_far since x le) (λ now. ⊎_elim (λ may. inl (inl may)) (λ p. inr p) (here x now)) (time.nothing_else name since x (omega (arith, le, later)) left)
+    ⊎_elim (so_far since x le) (λ now. ⊎_elim (λ may. inl (inl may)) (λ p. inr p) (here x now))
+    (time.nothing_else name since x (omega (arith, le, later)) left)
 
 -- one quiet call after another
 pub quiet_then : (a b c : Disk) → IsQuiet a b → IsQuiet b c → IsQuiet a c
@@ -61,10 +66,12 @@ quiet_then a b c first second = record {
   time = record {
     later = omega (arith, first.time.later, second.time.later);
     nothing_else = λ name since x le left. ⊎_elim
-        (λ before. ⊎_elim (λ was. inl was) (λ may. inl (inl (stays_back a b name (first.stays name) x may))) (first.time.nothing_else name since x le before))
+        (λ before. ⊎_elim (λ was. inl was) (λ may. inl (inl (stays_back a b name (first.stays name) x may)))
+        (first.time.nothing_else name since x le before))
         (λ now. inr now)
         (second.time.nothing_else name since x (omega (arith, le, first.time.later)) left);
-    keeps = λ name since x le left. second.time.keeps name since x (omega (arith, le, first.time.later)) (first.time.keeps name since x le left);
+    keeps = λ name since x le left. second.time.keeps name since x (omega (arith, le, first.time.later))
+        (first.time.keeps name since x le left);
   };
 }
 

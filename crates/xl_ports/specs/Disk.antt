@@ -3,7 +3,8 @@
 -- A draft is written beside a file, synced, and then takes the file's name; settling makes that last. A crash at a moment
 -- leaves one content under each name. What a read gives is always one of those that a crash may leave: it stands apart
 -- from the others.
-use Rattle.std.specs.Prelude.{◌≡◌, ◌⊎◌, ℕ, ◌+◌, ◌≤◌, List, [], Bool, true, false, Option, Some, None, option_map, Result, Ok, Err, Contains}
+use Rattle.std.specs.Prelude.{◌≡◌, ◌⊎◌, ℕ, ◌+◌, ◌≤◌, List, [], Bool, true, false, Option, Some, None, option_map}
+use Rattle.std.specs.Prelude.{Result, Ok, Err, Contains}
 use Rattle.xl_ports.specs.Shelf.{Content, file, IsFile}
 
 -- the bytes of a draft, and whether they were synced since they were written
@@ -30,7 +31,8 @@ pub record Disk : Type 0 where
   -- since now there was no other moment
   pub none_gone : (name : List ℕ) → gone name moment ≡ []
   -- what a crash since a later moment might have left, one since this moment might have left too
-  pub gone_earlier : (name : List ℕ) (since more : ℕ) (c : Content) → Contains (gone name (since + more)) c → Contains (gone name since) c
+  pub gone_earlier : (name : List ℕ) (since more : ℕ) (c : Content) → Contains (gone name (since + more)) c
+      → Contains (gone name since) c
 
 -- a crash now may leave this
 abbrev pub MayLeave : Disk → (name : List ℕ) → Content → Type 0
@@ -54,8 +56,10 @@ Between before after R = ⊥
 -- what might have been left stays so. The clock does not go back.
 pub record Elapses (before after : Disk) : Type 0 where
   pub later : before.moment ≤ after.moment
-  pub nothing_else : (name : List ℕ) (since : ℕ) (c : Content) → since ≤ before.moment → MightHaveLeft after name since c → MightHaveLeft before name since c ⊎ MayLeave after name c
-  pub keeps : (name : List ℕ) (since : ℕ) (c : Content) → since ≤ before.moment → MightHaveLeft before name since c → MightHaveLeft after name since c
+  pub nothing_else : (name : List ℕ) (since : ℕ) (c : Content) → since ≤ before.moment → MightHaveLeft after name since c
+      → MightHaveLeft before name since c ⊎ MayLeave after name c
+  pub keeps : (name : List ℕ) (since : ℕ) (c : Content) → since ≤ before.moment → MightHaveLeft before name since c
+      → MightHaveLeft after name since c
 
 -- under this name a read and a crash give what they gave
 pub record Stays (before after : Disk) (name : List ℕ) : Type 0 where
@@ -72,14 +76,16 @@ pub record IsQuiet (before after : Disk) : Type 0 where
 pub record Swaps (name : List ℕ) (before after : Disk) : Type 0 where
   pub elsewhere : (other : List ℕ) → (other ≡ name → ⊥) → Stays before after other
   pub keeps : (c : Content) → MayLeave before name c → MayLeave after name c
-  pub adds : before.draft.is_synced ≡ true → (c : Content) → MayLeave after name c → MayLeave before name c ⊎ (c ≡ file before.draft.bytes)
+  pub adds : before.draft.is_synced ≡ true → (c : Content) → MayLeave after name c
+      → MayLeave before name c ⊎ (c ≡ file before.draft.bytes)
   pub adds_files : (c : Content) → MayLeave after name c → MayLeave before name c ⊎ IsFile c
   pub time : Elapses before after
 
 -- a read gives the draft afterwards; after a failure the draft or what it gave before
 abbrev pub SwapsIn : {A E : Type 0} → Result A E → (name : List ℕ) → (before after : Disk) → Type 0
 SwapsIn (Ok x) name before after = Swaps name before after × (after.read name ≡ file before.draft.bytes)
-SwapsIn (Err e) name before after = Swaps name before after × ((after.read name ≡ before.read name) ⊎ (after.read name ≡ file before.draft.bytes))
+SwapsIn (Err e) name before after =
+    Swaps name before after × ((after.read name ≡ before.read name) ⊎ (after.read name ≡ file before.draft.bytes))
 
 -- a read gives what it gave, under each name
 pub record Settles (name : List ℕ) (before after : Disk) : Type 0 where

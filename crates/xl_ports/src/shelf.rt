@@ -1,4 +1,5 @@
-ghost use Rattle.std.specs.Prelude.{◌≡◌, ◌<◌, ◌≤◌, ◌++◌, ℕ, List, [], Option, Bool, true, false, length, take, IfOk, IfSome, OnOk, OnErr, IsSome, Some};
+ghost use Rattle.std.specs.Prelude.{◌≡◌, ◌<◌, ◌≤◌, ◌++◌, ℕ, List, [], Option, Bool, true, false, length, take, IfOk};
+ghost use Rattle.std.specs.Prelude.{IfSome, OnOk, OnErr, IsSome, Some};
 ghost use Rattle.xl_ports.specs.Faults.{HasCause};
 ghost use Rattle.xl_ports.specs.Shelf.{Content, selected_content, GivesPart};
 ghost use Rattle.xl_ports.specs.Disk.{Disk, Between, IsQuiet, SwapsIn, SettlesAt, empty_draft, read_at};
@@ -40,7 +41,8 @@ pub trait Shelf: Send + Drop {
         ensures closed { OnOk result (is_open self.new ≡ false) }
         ensures as_before { OnErr result (selected self.new ≡ selected self.old) }
         ensures open_as_before { OnErr result (is_open self.new ≡ is_open self.old) }
-        ensures draft_as_before { OnErr result (Between (disk self.old) (disk self.new) (λ before after. after.draft ≡ before.draft)) }
+        ensures draft_as_before { OnErr result
+            (Between (disk self.old) (disk self.new) (λ before after. after.draft ≡ before.draft)) }
         ensures contents { content self.new ≡ content self.old }
         ensures quiet { Between (disk self.old) (disk self.new) IsQuiet }
         ensures advances { OnOk result (Between (disk self.old) (disk self.new) (λ before after. before.moment < after.moment)) }
@@ -86,7 +88,8 @@ pub trait Shelf: Send + Drop {
         requires selected { IsSome (selected self.old) }
         requires opened { is_open self.old ≡ true }
         ensures opened { is_open self.new ≡ true }
-        ensures added { OnOk result (Between (disk self.old) (disk self.new) (λ before after. after.draft.bytes ≡ before.draft.bytes ++ bytes.now)) }
+        ensures added { OnOk result (Between (disk self.old) (disk self.new) (λ before after. after.draft.bytes ≡ before.draft.bytes
+            ++ bytes.now)) }
         ensures not_synced { IfSome (disk self.new) (λ after. after.draft.is_synced ≡ false) }
         ensures selected { selected self.new ≡ selected self.old }
         ensures quiet { Between (disk self.old) (disk self.new) IsQuiet }
@@ -101,7 +104,8 @@ pub trait Shelf: Send + Drop {
         requires selected { IsSome (selected self.old) }
         requires opened { is_open self.old ≡ true }
         ensures opened { is_open self.new ≡ true }
-        ensures bytes { OnOk result (Between (disk self.old) (disk self.new) (λ before after. after.draft.bytes ≡ before.draft.bytes)) }
+        ensures bytes { OnOk result (Between (disk self.old) (disk self.new) (λ before after. after.draft.bytes
+            ≡ before.draft.bytes)) }
         ensures synced { OnOk result (IfSome (disk self.new) (λ after. after.draft.is_synced ≡ true)) }
         ensures not_synced { OnErr result (IfSome (disk self.new) (λ after. after.draft.is_synced ≡ false)) }
         ensures selected { selected self.new ≡ selected self.old }

@@ -9,7 +9,10 @@ use Rattle.spec_grid.specs.declared.TileAt.{TileAt}
 use Rattle.spec_grid.specs.Grid.{is_on_grid}
 use Rattle.spec_cache.specs.Slots.{Shown}
 use Rattle.spec_cache.specs.Cache.{kept}
-use Rattle.spec_history.specs.Machine.{Call, edit, undo, redo, tile, peek, top, Reply, moved, tile_of, stale, no_stack, outside_tile, save_memory, history_full, State, Done, Answer, latest, document_at, names, stays, made, answer, undo_answer, redo_answer, has_stack, tile_reply}
+use Rattle.spec_history.specs.Machine.{Call, edit, undo, redo, tile, peek, top, Reply, moved, tile_of, stale, no_stack}
+use Rattle.spec_history.specs.Machine.{outside_tile, save_memory, history_full, State, Done, Answer, latest}
+use Rattle.spec_history.specs.Machine.{document_at, names, stays, made, answer, undo_answer, redo_answer, has_stack}
+use Rattle.spec_history.specs.Machine.{tile_reply}
 use Rattle.spec_history.specs.History.{Answers, MayPeek, PeekAnswers}
 use Rattle.spec_history.specs.Kept.{IsFreshReply}
 use Rattle.spec_history.proofs.Growing.{cond_both}

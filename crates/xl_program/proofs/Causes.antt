@@ -5,7 +5,8 @@ use Rattle.spec_saves.specs.Shelf.{Known}
 use Rattle.xl_ports.specs.Faults.{Rose}
 use Rattle.xl_program.specs.Outcome.{FaultsRose, ShelfCause, ShelfCauseOf}
 use Rattle.xl_program.specs.declared.stopped.Stopped.{Stopped}
-use Rattle.xl_program.specs.declared.stopped.Stopped.TheVariants.{SourceFault, BadLine, ShelfFault, Refused, SaveFault, SinkFault, Memory}
+use Rattle.xl_program.specs.declared.stopped.Stopped.TheVariants.{SourceFault, BadLine, ShelfFault, Refused, SaveFault}
+use Rattle.xl_program.specs.declared.stopped.Stopped.TheVariants.{SinkFault, Memory}
 
 -- the cause of a command that a fault of reading stops
 pub cause_of : (before after : Known) (command : Asked) (result : Result (Unit {0}) Stopped)

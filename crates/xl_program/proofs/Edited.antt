@@ -6,12 +6,14 @@ use Rattle.spec_command.specs.Arguments.{edit}
 use Rattle.spec_document.specs.Document.{Document}
 use Rattle.spec_document.specs.Limits.{IsDocument}
 use Rattle.spec_saves.specs.Names.{save_faults}
-use Rattle.xl_program.specs.Outcome.{Given, HoldsDocument, HasLines, Shelved, opened, IsUntouched, IsHistory, IsReplies, NoneFailed, SomeFailed, AnyFailed, ComesTo}
+use Rattle.xl_program.specs.Outcome.{Given, HoldsDocument, HasLines, Shelved, opened, IsUntouched, IsHistory}
+use Rattle.xl_program.specs.Outcome.{IsReplies, NoneFailed, SomeFailed, AnyFailed, ComesTo}
 use Rattle.xl_ports.specs.Shelf.{Content}
 use Rattle.xl_program.specs.Parts.{Loads, ReadsScript, StopsEdit, WhetherFailed, IsPlayed, WritesReplies}
 use Rattle.xl_program.specs.declared.playing.Replies.{Replies}
 use Rattle.xl_program.specs.declared.stopped.Stopped.{Stopped}
-use Rattle.xl_program.specs.declared.stopped.Stopped.TheVariants.{SourceFault, BadLine, ShelfFault, Refused, SaveFault, SinkFault, Memory}
+use Rattle.xl_program.specs.declared.stopped.Stopped.TheVariants.{SourceFault, BadLine, ShelfFault, Refused, SaveFault}
+use Rattle.xl_program.specs.declared.stopped.Stopped.TheVariants.{SinkFault, Memory}
 use Rattle.spec_script.specs.Fits.{FitsFilters}
 use Rattle.spec_script.specs.Script.{Line}
 use Rattle.xl_doc.specs.Numbered.{AreNumbered}

@@ -1,10 +1,13 @@
 -- Where no save failed, the file has the version of the last save that was acknowledged.
-use Rattle.std.proofs.Common.{◌≡◌, ℕ, ◌+◌, Bool, true, false, cond, List, [], ◌∷◌, Some, None, inl, inr, refl, ap, ◌∙◌, arith, subst}
+use Rattle.std.proofs.Common.{◌≡◌, ℕ, ◌+◌, Bool, true, false, cond, List, [], ◌∷◌, Some, None, inl, inr, refl, ap, ◌∙◌}
+use Rattle.std.proofs.Common.{arith, subst}
 use Rattle.std.specs.Prelude.{fold, Option}
 use Rattle.std.proofs.lemmas.List.Sums.{sum_by-cons}
 use Rattle.spec_document.specs.Document.{Document}
 use Rattle.spec_history.specs.Kept.{or_earlier}
-use Rattle.spec_history.specs.Machine.{Reply, changed, refused, moved, nothing_to_undo, nothing_to_redo, not_top, tile_of, stale, saved, save_fault, save_memory, no_stack, outside_tile, top_is, history_full}
+use Rattle.spec_history.specs.Machine.{Reply, changed, refused, moved, nothing_to_undo, nothing_to_redo, not_top}
+use Rattle.spec_history.specs.Machine.{tile_of, stale, saved, save_fault, save_memory, no_stack, outside_tile, top_is}
+use Rattle.spec_history.specs.Machine.{history_full}
 use Rattle.spec_history.specs.History.{Entry, Kind, asked, starts, ends}
 use Rattle.spec_saves.specs.Names.{Named, the_old, version, after_kind, after_one, names, ends_by_fault, save_faults}
 use Rattle.spec_saves.specs.Contents.{IsIn, IsVersion}

@@ -1,14 +1,17 @@
 -- The file after a history whose last call is a save: that of the last document, where no save failed.
-use Rattle.std.proofs.Common.{◌≡◌, ℕ, ◌+◌, Bool, true, false, cond, List, [], ◌∷◌, ◌++◌, Some, None, refl, ap, sym, ◌∙◌, arith, subst}
+use Rattle.std.proofs.Common.{◌≡◌, ℕ, ◌+◌, Bool, true, false, cond, List, [], ◌∷◌, ◌++◌, Some, None, refl, ap, sym}
+use Rattle.std.proofs.Common.{◌∙◌, arith, subst}
 use Rattle.std.specs.Prelude.{fold, drop, is_some, Option}
 use Rattle.std.specs.List.{AllByRecursion, cons_option}
 use Rattle.std.proofs.lemmas.List.Sums.{sum_by-cons}
 use Rattle.spec_document.specs.Document.{Document}
 use Rattle.spec_history.specs.Machine.{Reply, saved, save_fault, save_memory, State, Saving, latest, initial}
-use Rattle.spec_history.specs.History.{Entry, Kind, asked, starts, ends, EndsWith, MayEnd, MayBe, after_kind, after_entry, replay_from, replay, RunFrom, latest_of}
+use Rattle.spec_history.specs.History.{Entry, Kind, asked, starts, ends, EndsWith, MayEnd, MayBe, after_kind}
+use Rattle.spec_history.specs.History.{after_entry, replay_from, replay, RunFrom, latest_of}
 use Rattle.spec_history.specs.Kept.{IsLegal}
 use Rattle.spec_history.proofs.Versions.{latest_of-legal}
-use Rattle.spec_saves.specs.Names.{Named, version, the_old, after_end, after_kind as named_after, after_one, names, is_fault, ends_by_fault, save_faults}
+use Rattle.spec_saves.specs.Names.{Named, version, the_old, after_end, after_kind as named_after, after_one, names}
+use Rattle.spec_saves.specs.Names.{is_fault, ends_by_fault, save_faults}
 use Rattle.spec_merged.specs.Fills.{EndsWithSave}
 use Rattle.spec_script.specs.Script.{Line, call, save, forget}
 use Rattle.spec_text.specs.Text.{made_by, is_save_memory}

@@ -1,11 +1,13 @@
 -- The text of a history of calls and saves, and how it grows by one.
-use Rattle.std.proofs.Common.{◌≡◌, ℕ, false, List, [], ◌∷◌, ◌++◌, refl, ap, sym, ◌∙◌, eq-eqb, append-nil, append_assoc, subst, flat_map}
+use Rattle.std.proofs.Common.{◌≡◌, ℕ, false, List, [], ◌∷◌, ◌++◌, refl, ap, sym, ◌∙◌, eq-eqb, append-nil, append_assoc}
+use Rattle.std.proofs.Common.{subst, flat_map}
 use Rattle.std.specs.List.{AllByRecursion}
 use Rattle.std.proofs.lemmas.List.Concat.{flat_map-append}
 use Rattle.std.proofs.lemmas.List.Elements.{filter_map-append}
 use Rattle.spec_document.specs.Document.{Document}
 use Rattle.spec_history.specs.Machine.{Call, Reply, tile_of, stale, saved, State, initial, latest}
-use Rattle.spec_history.specs.History.{Entry, Kind, asked, starts, ends, next_index, latest_of, after_entry, replay_from, replay, EndsWith, RunFrom}
+use Rattle.spec_history.specs.History.{Entry, Kind, asked, starts, ends, next_index, latest_of, after_entry}
+use Rattle.spec_history.specs.History.{replay_from, replay, EndsWith, RunFrom}
 use Rattle.spec_history.specs.Kept.{IsFreshReply, IsFresh, IsLegal}
 use Rattle.spec_text.specs.Printed.{line_text}
 use Rattle.spec_text.specs.Text.{entry_line, end_reply, is_save_memory, shown_digest, made_by, IsAlone}

@@ -18,7 +18,8 @@ use Rattle.spec_history.specs.Kept.{IsLegal}
 use Rattle.spec_history.proofs.Growing.{replay-snoc}
 use Rattle.spec_text.specs.Printed.{line_text}
 use Rattle.spec_text.specs.Text.{is_save_memory}
-use Rattle.xl_core.specs.Editing.{Editing, last_of, IsRight, ComesBack, KeepsShelf, IsAsBefore, Begins, Ends, start_of, end_of, out_of, index_out, with_entry}
+use Rattle.xl_core.specs.Editing.{Editing, last_of, IsRight, ComesBack, KeepsShelf, IsAsBefore, Begins, Ends, start_of}
+use Rattle.xl_core.specs.Editing.{end_of, out_of, index_out, with_entry}
 use Rattle.xl_core.specs.History.{History, version}
 use Rattle.xl_edit.specs.declared.reply.Reply as code
 use Rattle.xl_edit.specs.declared.reply.Reply.TheVariants.{SaveMemory, HistoryFull}

@@ -5,7 +5,8 @@ use Rattle.xl_ports.specs.Source.{IsEnded}
 use Rattle.xl_program.specs.Outcome.{Given, ComesAfterScript, ReadsToEnd, TellsStop}
 use Rattle.xl_program.specs.Parts.{ReadsScript}
 use Rattle.xl_program.specs.declared.stopped.Stopped.{Stopped}
-use Rattle.xl_program.specs.declared.stopped.Stopped.TheVariants.{SourceFault, BadLine, ShelfFault, Refused, SaveFault, SinkFault, Memory}
+use Rattle.xl_program.specs.declared.stopped.Stopped.TheVariants.{SourceFault, BadLine, ShelfFault, Refused, SaveFault}
+use Rattle.xl_program.specs.declared.stopped.Stopped.TheVariants.{SinkFault, Memory}
 
 -- whatever comes behind it
 pub ended_anyhow : (left : Option (List ℕ)) (result : Result (Unit {0}) Stopped) → IsEnded left → ReadsToEnd left result

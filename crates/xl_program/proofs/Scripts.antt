@@ -1,5 +1,6 @@
 -- A script that is read up to one byte more than it may have is read as a whole.
-use Rattle.std.proofs.Common.{◌≡◌, inl, inr, ℕ, ◌+◌, ◌^◌, ◌≤◌, false, List, [], ◌∷◌, ◌++◌, length, take, Option, Some, None, Err, refl, sym, subst, ◌∙◌, ap, arith, length-append, ◌⊎◌}
+use Rattle.std.proofs.Common.{◌≡◌, inl, inr, ℕ, ◌+◌, ◌^◌, ◌≤◌, false, List, [], ◌∷◌, ◌++◌, length, take, Option, Some}
+use Rattle.std.proofs.Common.{None, Err, refl, sym, subst, ◌∙◌, ap, arith, length-append, ◌⊎◌}
 use Rattle.std.specs.Prelude.{IfSome, Result, Vec, map, nat_le}
 use Rattle.std.specs.declared.alloc.Global.{Global}
 use Rattle.std.proofs.lemmas.Bool.Decides.{nat_tests}

@@ -1,5 +1,6 @@
 -- What session 0 alone has seen: after each entry the version that stands then.
-use Rattle.std.proofs.Common.{◌≡◌, ℕ, ◌+◌, ◌<◌, Bool, true, false, cond, List, [], ◌∷◌, ◌++◌, sym, ◌∙◌, ap, subst, arith, eq-eqb, ne_eqb}
+use Rattle.std.proofs.Common.{◌≡◌, ℕ, ◌+◌, ◌<◌, Bool, true, false, cond, List, [], ◌∷◌, ◌++◌, sym, ◌∙◌, ap, subst}
+use Rattle.std.proofs.Common.{arith, eq-eqb, ne_eqb}
 use Rattle.std.specs.Prelude.{◌==◌, MatchBool}
 use Rattle.spec_history.specs.History.{Entry, is_changed, latest_of}
 use Rattle.spec_history.specs.Kept.{IsFreshReply, IsFreshFrom, IsFresh}

@@ -1,12 +1,14 @@
 -- The lines of a legal history with no save out stay as they are, whatever comes behind it.
-use Rattle.std.proofs.Common.{◌≡◌, ℕ, ◌≤◌, true, cond, List, [], ◌∷◌, ◌++◌, Some, None, refl, ap, sym, ◌∙◌, arith, subst, append_assoc, flat_map}
+use Rattle.std.proofs.Common.{◌≡◌, ℕ, ◌≤◌, true, cond, List, [], ◌∷◌, ◌++◌, Some, None, refl, ap, sym, ◌∙◌, arith}
+use Rattle.std.proofs.Common.{subst, append_assoc, flat_map}
 use Rattle.std.specs.Prelude.{Option}
 use Rattle.std.specs.List.{AllByRecursion}
 use Rattle.std.proofs.lemmas.List.Concat.{flat_map-cons}
 use Rattle.spec_document.specs.Document.{Document}
 use Rattle.spec_picture.specs.Picture.{project}
 use Rattle.spec_history.specs.Machine.{tile, peek, Reply, tile_of, State, Saving, initial, latest}
-use Rattle.spec_history.specs.History.{Entry, Kind, asked, starts, ends, is_end_kind, after_entry, replay_from, replay, EndsWith, MayEnd, MayBe, RunFrom}
+use Rattle.spec_history.specs.History.{Entry, Kind, asked, starts, ends, is_end_kind, after_entry, replay_from, replay}
+use Rattle.spec_history.specs.History.{EndsWith, MayEnd, MayBe, RunFrom}
 use Rattle.spec_history.specs.Kept.{IsLegal}
 use Rattle.spec_history.proofs.Growing.{document_of-append}
 use Rattle.spec_history.proofs.Versions.{IsSound, sound-initial, goes-step, ends-run}

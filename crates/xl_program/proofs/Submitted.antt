@@ -1,13 +1,16 @@
 -- What a call that is submitted leaves: one entry more, with the line that is printed for it.
 use Rattle.spec_history.specs.Calls.{most_entries}
-use Rattle.std.proofs.Common.{◌≡◌, ℕ, ◌+◌, ◌≤◌, Bool, false, cond, List, [], ◌∷◌, ◌++◌, length, None, refl, ap, sym, ◌∙◌, subst, arith, ne_eqb}
+use Rattle.std.proofs.Common.{◌≡◌, ℕ, ◌+◌, ◌≤◌, Bool, false, cond, List, [], ◌∷◌, ◌++◌, length, None, refl, ap, sym}
+use Rattle.std.proofs.Common.{◌∙◌, subst, arith, ne_eqb}
 use Rattle.std.specs.Prelude.{◌==◌, Option, Result, Ok, Err}
 use Rattle.spec_grid.specs.declared.TileAt.{TileAt}
 use Rattle.spec_document.specs.Document.{Document}
 use Rattle.spec_document.specs.Limits.{IsDocument}
 use Rattle.spec_edit.specs.Edit.{Edit}
 use Rattle.spec_edit.specs.Apply.{At, Refused, apply_group}
-use Rattle.spec_history.specs.Machine.{Call, edit, undo, redo, tile, peek, top, moved, Reply, tile_of, history_full, State, Done, Answer, latest, document_at, names, stays, made, undo_answer, redo_answer}
+use Rattle.spec_history.specs.Machine.{Call, edit, undo, redo, tile, peek, top, moved, Reply, tile_of, history_full}
+use Rattle.spec_history.specs.Machine.{State, Done, Answer, latest, document_at, names, stays, made, undo_answer}
+use Rattle.spec_history.specs.Machine.{redo_answer}
 use Rattle.spec_history.specs.History.{Entry, asked, replay, next_index}
 use Rattle.spec_history.specs.Kept.{IsLegal, kept}
 use Rattle.spec_history.proofs.Growing.{cond_both}

@@ -11,10 +11,12 @@ use Rattle.xl_ports.specs.Shelf.{Content}
 use Rattle.xl_ports.specs.Sink.{appended}
 use Rattle.xl_program.specs.Command.{IsEdit, ReadsFile}
 use Rattle.xl_program.specs.Lines.{Tells}
-use Rattle.xl_program.specs.Outcome.{Given, HasFault, InGrammar, IsBadLine, Keeps, Shelved, ComesTo, IsOutput, ShelfCauseOf, ShelfFails, SomeFailed, TellsOr, TellsStop, WritesSome}
+use Rattle.xl_program.specs.Outcome.{Given, HasFault, InGrammar, IsBadLine, Keeps, Shelved, ComesTo, IsOutput}
+use Rattle.xl_program.specs.Outcome.{ShelfCauseOf, ShelfFails, SomeFailed, TellsOr, TellsStop, WritesSome}
 use Rattle.xl_program.specs.Parts.{StopsFor}
 use Rattle.xl_program.specs.declared.stopped.Stopped.{Stopped}
-use Rattle.xl_program.specs.declared.stopped.Stopped.TheVariants.{SourceFault, BadLine, ShelfFault, Refused, SaveFault, SinkFault, Memory}
+use Rattle.xl_program.specs.declared.stopped.Stopped.TheVariants.{SourceFault, BadLine, ShelfFault, Refused, SaveFault}
+use Rattle.xl_program.specs.declared.stopped.Stopped.TheVariants.{SinkFault, Memory}
 
 module _ {K : Type 0} (held : K → Option (List ℕ)) (faults : K → ℕ) where
   -- a line that was made is told, and else nothing

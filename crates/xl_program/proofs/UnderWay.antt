@@ -1,6 +1,7 @@
 -- The lines of session 0, of which some were played and some are left.
 use Rattle.spec_history.specs.Calls.{most_entries}
-use Rattle.std.proofs.Common.{◌≡◌, ℕ, ◌+◌, ◌*◌, ◌≤◌, List, [], ◌∷◌, ◌++◌, length, refl, ap, sym, ◌∙◌, subst, arith, append_assoc, append-nil, length-append, eq-eqb, cond, map}
+use Rattle.std.proofs.Common.{◌≡◌, ℕ, ◌+◌, ◌*◌, ◌≤◌, List, [], ◌∷◌, ◌++◌, length, refl, ap, sym, ◌∙◌, subst, arith}
+use Rattle.std.proofs.Common.{append_assoc, append-nil, length-append, eq-eqb, cond, map}
 use Rattle.std.specs.Prelude.{IsSome, Bool, true, false, ◌==◌, ◌&&◌, not, Option, Some}
 use Rattle.spec_document.specs.Document.{Document}
 use Rattle.spec_history.specs.Machine.{Call, Reply}

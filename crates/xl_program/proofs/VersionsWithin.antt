@@ -1,5 +1,6 @@
 -- Each version of a history that a script has made is within the limits.
-use Rattle.std.proofs.Common.{◌≡◌, ℕ, zero, suc, ◌+◌, ◌-◌, ◌*◌, ◌<◌, ◌≤◌, ◌^◌, Bool, true, false, cond, eqb, ltb, max, min, List, [], ◌∷◌, ◌++◌, length, map, filter, refl, ap, sym, subst, arith}
+use Rattle.std.proofs.Common.{◌≡◌, ℕ, zero, suc, ◌+◌, ◌-◌, ◌*◌, ◌<◌, ◌≤◌, ◌^◌, Bool, true, false, cond, eqb, ltb, max}
+use Rattle.std.proofs.Common.{min, List, [], ◌∷◌, ◌++◌, length, map, filter, refl, ap, sym, subst, arith}
 use Rattle.std.specs.Prelude.{Option, Some, None, nat_le, slice_get, unwrap_or, option_map, option_to_list}
 use Rattle.std.specs.List.{AllByRecursion, cons_option}
 use Rattle.std.proofs.Math.Nat.{div-lt_iff_lt-mul}
@@ -19,7 +20,8 @@ use Rattle.spec_filters.specs.declared.FilterState.{FilterState}
 use Rattle.spec_forest.specs.Forest.{ids, size}
 use Rattle.spec_grid.specs.Rect.{count_from}
 use Rattle.spec_history.specs.Calls.{IsCall, most_entries}
-use Rattle.spec_history.specs.History.{Entry, Kind, asked, starts, ends, MayBe, MayEnd, after_kind, after_entry, RunFrom, document_of, mine}
+use Rattle.spec_history.specs.History.{Entry, Kind, asked, starts, ends, MayBe, MayEnd, after_kind, after_entry}
+use Rattle.spec_history.specs.History.{RunFrom, document_of, mine}
 use Rattle.spec_history.specs.Limited.{AsksCall, AreCalls}
 use Rattle.spec_history.specs.Machine as machine
 use Rattle.spec_history.specs.Machine.{Reply, changed, State, Saving, initial}

@@ -1,5 +1,6 @@
 -- What a command writes, and why it may stop.
-use Rattle.std.specs.Prelude.{◌≡◌, ◌⊎◌, ◌<◌, ◌==◌, ℕ, List, [], ◌∷◌, length, map, Option, Some, None, IfSome, IsTrue, Result, Ok, Err, Vec}
+use Rattle.std.specs.Prelude.{◌≡◌, ◌⊎◌, ◌<◌, ◌==◌, ℕ, List, [], ◌∷◌, length, map, Option, Some, None, IfSome, IsTrue}
+use Rattle.std.specs.Prelude.{Result, Ok, Err, Vec}
 use Rattle.std.specs.declared.alloc.Global.{Global}
 use Rattle.std.specs.List.{list_any}
 use Rattle.spec_command.specs.Arguments.{Asked, edit, render, info, make}
@@ -31,7 +32,8 @@ use Rattle.xl_program.specs.Lines.{Tells}
 use Rattle.xl_program.specs.Playing.{AreOfFirst}
 use Rattle.xl_program.specs.Making.{FailsAtFirst, IsMadeHistory, IsSummary}
 use Rattle.xl_program.specs.declared.stopped.Stopped.{Stopped}
-use Rattle.xl_program.specs.declared.stopped.Stopped.TheVariants.{SourceFault, BadLine, ShelfFault, Refused, SaveFault, SinkFault, Memory}
+use Rattle.xl_program.specs.declared.stopped.Stopped.TheVariants.{SourceFault, BadLine, ShelfFault, Refused, SaveFault}
+use Rattle.xl_program.specs.declared.stopped.Stopped.TheVariants.{SinkFault, Memory}
 
 -- ---- the file
 

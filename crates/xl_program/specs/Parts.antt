@@ -18,7 +18,8 @@ use Rattle.xl_program.specs.Outcome.{Given, HoldsDocument, HasFault, HasLines, I
 use Rattle.xl_program.specs.Playing.{AreOfFirst}
 use Rattle.xl_program.specs.declared.playing.Replies.{Replies}
 use Rattle.xl_program.specs.declared.stopped.Stopped.{Stopped}
-use Rattle.xl_program.specs.declared.stopped.Stopped.TheVariants.{SourceFault, BadLine, ShelfFault, Refused, SaveFault, SinkFault, Memory}
+use Rattle.xl_program.specs.declared.stopped.Stopped.TheVariants.{SourceFault, BadLine, ShelfFault, Refused, SaveFault}
+use Rattle.xl_program.specs.declared.stopped.Stopped.TheVariants.{SinkFault, Memory}
 use Rattle.xl_script.specs.Lines.{lists_of}
 use Rattle.xl_script.specs.declared.script.Line.{Line}
 

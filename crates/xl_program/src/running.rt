@@ -10,7 +10,9 @@ ghost use Rattle.xl_ports.specs.Shelf.{selected_content};
 ghost use Rattle.xl_ports.specs.Source.{IsEnded};
 ghost use Rattle.xl_program.specs.Command.{IsEdit, ReadsFile};
 ghost use Rattle.xl_program.specs.Lines.{Tells};
-ghost use Rattle.xl_program.specs.Outcome.{given_of, shelved, ComesWell, ShelfFails, WritesInPart, ComesAfterScript, MaySave, IsUntouched, StopsBefore, IsBadLine, InGrammar, HasFault, Keeps, Takes, IsStatus};
+ghost use Rattle.xl_program.specs.Outcome.{given_of, shelved, ComesWell, ShelfFails, WritesInPart, ComesAfterScript};
+ghost use Rattle.xl_program.specs.Outcome.{MaySave, IsUntouched, StopsBefore, IsBadLine, InGrammar, HasFault, Keeps};
+ghost use Rattle.xl_program.specs.Outcome.{Takes, IsStatus};
 
 use crate::line::tell;
 use crate::obeying::obey;

@@ -1,5 +1,6 @@
 -- What the payload of a value that was written says.
-use Rattle.std.proofs.Common.{rules, ◌≡◌, ℕ, zero, suc, ◌+◌, ◌*◌, ◌/◌, ◌^◌, ◌<◌, ◌≤◌, Bool, true, false, List, [], ◌∷◌, ◌++◌, length, take, drop, map, get_or, refl, sym, ap, ◌∙◌, arith}
+use Rattle.std.proofs.Common.{rules, ◌≡◌, ℕ, zero, suc, ◌+◌, ◌*◌, ◌/◌, ◌^◌, ◌<◌, ◌≤◌, Bool, true, false, List, [], ◌∷◌}
+use Rattle.std.proofs.Common.{◌++◌, length, take, drop, map, get_or, refl, sym, ap, ◌∙◌, arith}
 use Rattle.std.specs.Prelude.{Some, unwrap_or, ℤ, pos, negsuc, ◌≤ℤ◌}
 use Rattle.std.specs.List.{AllByRecursion}
 use Rattle.std.specs.Int.{w32, from_be_bytes, cast_signed, cast_unsigned}
@@ -8,7 +9,9 @@ use Rattle.std.proofs.lemmas.Nat.{from_be_bytes-to_be_bytes_4}
 use Rattle.std.proofs.lemmas.Int.{to_z-of_z, ints}
 use Rattle.std.proofs.Math.Seq.{drop-append-add, take-append_seam}
 use Rattle.spec_blend.specs.declared.Mode.{Mode}
-use Rattle.spec_blend.specs.declared.Mode.TheVariants.{Normal, Multiply, Screen, Overlay, Difference, Addition, Subtract, DarkenOnly, LightenOnly, Divide, Dodge, Burn, HardLight, SoftLight, GrainExtract, GrainMerge}
+use Rattle.spec_blend.specs.declared.Mode.TheVariants.{Normal, Multiply, Screen, Overlay, Difference, Addition}
+use Rattle.spec_blend.specs.declared.Mode.TheVariants.{Subtract, DarkenOnly, LightenOnly, Divide, Dodge, Burn}
+use Rattle.spec_blend.specs.declared.Mode.TheVariants.{HardLight, SoftLight, GrainExtract, GrainMerge}
 use Rattle.spec_blend.specs.Blend.{mode_code, mode_of_code}
 use Rattle.spec_grid.specs.Rect.{count_from}
 use Rattle.spec_document.specs.declared.TheConstants.{MAX_OFFSET}
@@ -98,23 +101,28 @@ pub offsets_back : (at kind : ℕ) (o : ℤ × ℤ) → AreOffsets o → offsets
 unfolding offset_words
 offsets_back at kind o h =
     let x = word_front (cast_unsigned w32 o.0) (word (cast_unsigned w32 o.1)) (word_of_offset o.0 h.0) in
-    let y = word_behind (cast_unsigned w32 o.0) (word (cast_unsigned w32 o.1)) 0 ∙ one_word (cast_unsigned w32 o.1) (word_of_offset o.1 h.1) in
+    let y = word_behind (cast_unsigned w32 o.0) (word (cast_unsigned w32 o.1)) 0
+    ∙ one_word (cast_unsigned w32 o.1) (word_of_offset o.1 h.1) in
     λ i. ((ap (cast_signed w32) x ∙ offset_back o.0 h.0) i, (ap (cast_signed w32) y ∙ offset_back o.1 h.1) i)
 
 -- the values of the numbers from one on are the items of a list
-counted_items : {X : Type 0} (f : ℕ → X) (d : X) (xs : List X) (first : ℕ) → ((i : ℕ) → i < length xs → f (first + i) ≡ get_or xs i d) → map f (count_from first (length xs)) ≡ xs
+counted_items : {X : Type 0} (f : ℕ → X) (d : X) (xs : List X) (first : ℕ)
+    → ((i : ℕ) → i < length xs → f (first + i) ≡ get_or xs i d) → map f (count_from first (length xs)) ≡ xs
 counted_items f d [] first h = refl
 counted_items f d (x ∷ xs) first h =
     let here : first + 0 ≡ first = omega arith in
     let head : f first ≡ x = ap f (sym here) ∙ h 0 (omega arith) in
-    let tail = counted_items f d xs (suc first) (λ i l. let e : suc first + i ≡ first + suc i = omega arith in ap f e ∙ h (suc i) (omega arith)) in
+    let tail = counted_items f d xs (suc first) (λ i l. let e : suc first + i ≡ first + suc i = omega arith in
+    ap f e ∙ h (suc i) (omega arith)) in
     λ j. head j ∷ tail j
 
-items_counted : {X : Type 0} (f : ℕ → X) (d : X) (xs : List X) (n : ℕ) → n ≡ length xs → ((i : ℕ) → i < length xs → f i ≡ get_or xs i d) → map f (count_from 0 n) ≡ xs
+items_counted : {X : Type 0} (f : ℕ → X) (d : X) (xs : List X) (n : ℕ) → n ≡ length xs
+    → ((i : ℕ) → i < length xs → f i ≡ get_or xs i d) → map f (count_from 0 n) ≡ xs
 items_counted f d xs n e h =
     ap (λ k. map f (count_from 0 k)) e ∙ counted_items f d xs 0 (λ i l. let z : 0 + i ≡ i = omega arith in ap f z ∙ h i l)
 
-word_number : (ns : List ℕ) (i : ℕ) → AllByRecursion (λ n. n < 2 ^ 32) ns → i < length ns → word_value (words ns) (4 * i) ≡ get_or ns i 0
+word_number : (ns : List ℕ) (i : ℕ) → AllByRecursion (λ n. n < 2 ^ 32) ns → i < length ns
+    → word_value (words ns) (4 * i) ≡ get_or ns i 0
 word_number [] i h l = absurd (omega arith)
 word_number (n ∷ ns) zero h l = word_front n (words ns) h.0
 word_number (n ∷ ns) (suc i) h l =
@@ -123,22 +131,29 @@ word_number (n ∷ ns) (suc i) h l =
 
 pub path_back : (at kind : ℕ) (ns : List ℕ) → AllByRecursion (λ n. n < 2 ^ 32) ns → path_words (property at kind (words ns)) ≡ ns
 path_back at kind ns h =
-    items_counted (payload_word (property at kind (words ns))) 0 ns (length (words ns) / 4) (omega (arith, length_words ns)) (λ i l. word_number ns i h l)
+    items_counted (payload_word (property at kind (words ns))) 0 ns (length (words ns) / 4) (omega (arith, length_words ns))
+    (λ i l. word_number ns i h l)
 
-nth_colour : (colours : List (List ℕ)) (i : ℕ) → AllByRecursion IsColour colours → i < length colours → take 3 (drop (3 * i) (all_colours colours)) ≡ get_or colours i []
+nth_colour : (colours : List (List ℕ)) (i : ℕ) → AllByRecursion IsColour colours → i < length colours
+    → take 3 (drop (3 * i) (all_colours colours)) ≡ get_or colours i []
 nth_colour [] i h l = absurd (omega arith)
-nth_colour (colour ∷ colours) zero h l = ap (λ n. take n (colour ++ all_colours colours)) (sym h.0.0) ∙ take-append_seam colour (all_colours colours)
+nth_colour (colour ∷ colours) zero h l =
+    ap (λ n. take n (colour ++ all_colours colours)) (sym h.0.0) ∙ take-append_seam colour (all_colours colours)
 nth_colour (colour ∷ colours) (suc i) h l =
     let e : 3 * suc i ≡ length colour + 3 * i = omega (arith, h.0.0) in
     ap (λ n. take 3 (drop n (colour ++ all_colours colours))) e
     ∙ (ap (take 3) (drop-append-add colour (all_colours colours) (3 * i)) ∙ nth_colour colours i h.1 (omega arith))
 
-pub count_back : (at kind : ℕ) (colours : List (List ℕ)) → length colours ≤ 256 → payload_word (property at kind (colour_bytes colours)) 0 ≡ length colours
+pub count_back : (at kind : ℕ) (colours : List (List ℕ)) → length colours ≤ 256
+    → payload_word (property at kind (colour_bytes colours)) 0 ≡ length colours
 count_back at kind colours few = word_front (length colours) (all_colours colours) (omega arith)
 
-pub colours_back : (at kind : ℕ) (colours : List (List ℕ)) → length colours ≤ 256 → AllByRecursion IsColour colours → colours_in (property at kind (colour_bytes colours)) ≡ colours
+pub colours_back : (at kind : ℕ) (colours : List (List ℕ)) → length colours ≤ 256 → AllByRecursion IsColour colours
+    → colours_in (property at kind (colour_bytes colours)) ≡ colours
 colours_back at kind colours few h =
     let n = length colours in
-    items_counted (colour_number (property at kind (colour_bytes colours))) [] colours (payload_word (property at kind (colour_bytes colours)) 0) (count_back at kind colours few)
+    items_counted (colour_number (property at kind (colour_bytes colours))) [] colours
+    (payload_word (property at kind (colour_bytes colours)) 0) (count_back at kind colours few)
     (λ i l. let e : 4 + 3 * i ≡ length (word n) + 3 * i = omega (arith, length_word n) in
-    ap (λ k. take 3 (drop k (word n ++ all_colours colours))) e ∙ (ap (take 3) (drop-append-add (word n) (all_colours colours) (3 * i)) ∙ nth_colour colours i h l))
+    ap (λ k. take 3 (drop k (word n ++ all_colours colours))) e
+    ∙ (ap (take 3) (drop-append-add (word n) (all_colours colours) (3 * i)) ∙ nth_colour colours i h l))

@@ -1,5 +1,6 @@
 -- How many bytes the payloads have that are written.
-use Rattle.std.proofs.Common.{◌≡◌, ℕ, ◌+◌, ◌*◌, List, [], ◌∷◌, ◌++◌, length, Result, refl, sym, subst, ap, ◌∙◌, arith, length-append, append_assoc, append-nil}
+use Rattle.std.proofs.Common.{◌≡◌, ℕ, ◌+◌, ◌*◌, List, [], ◌∷◌, ◌++◌, length, Result, refl, sym, subst, ap, ◌∙◌, arith}
+use Rattle.std.proofs.Common.{length-append, append_assoc, append-nil}
 use Rattle.std.specs.Prelude.{OnOk}
 use Rattle.std.specs.List.{AllByRecursion}
 use Rattle.std.proofs.lemmas.Grind.{flat_map-append}
@@ -19,8 +20,10 @@ length_all : (colours : List (List ℕ)) → AllByRecursion IsColour colours →
 length_all [] h = refl
 length_all (colour ∷ colours) h = omega (arith, length_all colours h.1, length-append colour (all_colours colours), h.0.0)
 
-pub length_colours : (colours : List (List ℕ)) → AllByRecursion IsColour colours → length (colour_bytes colours) ≡ 4 + 3 * length colours
-length_colours colours h = omega (arith, length_all colours h, length-append (word (length colours)) (all_colours colours), length_word (length colours))
+pub length_colours : (colours : List (List ℕ)) → AllByRecursion IsColour colours
+    → length (colour_bytes colours) ≡ 4 + 3 * length colours
+length_colours colours h =
+    omega (arith, length_all colours h, length-append (word (length colours)) (all_colours colours), length_word (length colours))
 
 -- a payload behind its head
 pub headed : (out before payload : List ℕ) (kind len : ℕ) → before ≡ out ++ (word kind ++ word len) → len ≡ length payload
@@ -31,7 +34,8 @@ headed out before payload kind len e same =
     ∙ ap (λ xs. out ++ xs) (append_assoc (word kind) (word (length payload)) payload))
 
 -- the same where the payload was written in two parts
-pub headed_parts : (out before more a b : List ℕ) (kind len : ℕ) → before ≡ out ++ (word kind ++ word len) → more ≡ before ++ a → len ≡ length (a ++ b)
+pub headed_parts : (out before more a b : List ℕ) (kind len : ℕ) → before ≡ out ++ (word kind ++ word len) → more ≡ before ++ a
+    → len ≡ length (a ++ b)
     → more ++ b ≡ out ++ spelled (raw kind (a ++ b))
 headed_parts out before more a b kind len e f same =
     ap (λ xs. xs ++ b) f ∙ (append_assoc before a b ∙ headed out before (a ++ b) kind len e same)
@@ -40,9 +44,11 @@ pub onto : {A E : Type 0} (r : Result A E) (new a b : List ℕ) → a ≡ b → 
 onto r new a b e h = subst (λ (xs : List ℕ). OnOk r (new ≡ xs)) e h
 
 -- properties behind others
-pub joined : (out mid new : List ℕ) (a b : List Kept) → mid ≡ out ++ all_spelled a → new ≡ mid ++ all_spelled b → new ≡ out ++ all_spelled (a ++ b)
+pub joined : (out mid new : List ℕ) (a b : List Kept) → mid ≡ out ++ all_spelled a → new ≡ mid ++ all_spelled b
+    → new ≡ out ++ all_spelled (a ++ b)
 joined out mid new a b first second =
-    second ∙ (ap (λ xs. xs ++ all_spelled b) first ∙ (append_assoc out (all_spelled a) (all_spelled b) ∙ ap (λ xs. out ++ xs) (sym (flat_map-append spelled a b))))
+    second ∙ (ap (λ xs. xs ++ all_spelled b) first
+    ∙ (append_assoc out (all_spelled a) (all_spelled b) ∙ ap (λ xs. out ++ xs) (sym (flat_map-append spelled a b))))
 
 pub ended : (mid new : List ℕ) (k : Kept) → new ≡ mid ++ spelled k → new ≡ mid ++ all_spelled (k ∷ [])
 ended mid new k is = is ∙ ap (λ xs. mid ++ xs) (sym (append-nil (spelled k)))

@@ -13,10 +13,12 @@ use Rattle.xl_props.specs.Props.{if_any, known_of, place_of, props_of, compressi
 use Rattle.xl_props.specs.After.{newer, marked, known_after, newer_place, longer, as_kept, end_after, props_after}
 
 -- the last of a kind is the new one, or else the one before
-last_more : (kind : ℕ) (ps : List Property) (p : Property) → last_of kind (ps ++ p ∷ []) ≡ cond (p.kind == kind) (Some p) (last_of kind ps)
+last_more : (kind : ℕ) (ps : List Property) (p : Property)
+    → last_of kind (ps ++ p ∷ []) ≡ cond (p.kind == kind) (Some p) (last_of kind ps)
 last_more kind ps p = ap (find (λ q. q.kind == kind)) (reverse-append ps (p ∷ []))
 
-chosen_map : {A B : Type 0} (f : A → B) (b : Bool) (x : A) (o : Option A) → option_map f (cond b (Some x) o) ≡ cond b (Some (f x)) (option_map f o)
+chosen_map : {A B : Type 0} (f : A → B) (b : Bool) (x : A) (o : Option A)
+    → option_map f (cond b (Some x) o) ≡ cond b (Some (f x)) (option_map f o)
 chosen_map f true x o = refl
 chosen_map f false x o = refl
 
@@ -39,10 +41,13 @@ chosen_place false p o = refl
 
 place_more : (kind : ℕ) (ps : List Property) (p : Property) → newer_place kind p (place_of kind ps) ≡ place_of kind (ps ++ p ∷ [])
 place_more kind ps p =
-    sym (ap (λ o. unwrap_or (option_map (λ (q : Property). q.at) o) 0) (last_more kind ps p) ∙ chosen_place (p.kind == kind) p (last_of kind ps))
+    sym (ap (λ o. unwrap_or (option_map (λ (q : Property). q.at) o) 0) (last_more kind ps p)
+    ∙ chosen_place (p.kind == kind) p (last_of kind ps))
 
-pub known_more : (owner : Owner) (ps : List Property) (p : Property) → known_after owner p (known_of owner ps) ≡ known_of owner (ps ++ p ∷ [])
-known_more Image ps p = λ i. record unknown { colours = if_any_more 1 colours_in ps p i; compression = if_any_more 17 compression_in ps p i }
+pub known_more : (owner : Owner) (ps : List Property) (p : Property)
+    → known_after owner p (known_of owner ps) ≡ known_of owner (ps ++ p ∷ [])
+known_more Image ps p =
+    λ i. record unknown { colours = if_any_more 1 colours_in ps p i; compression = if_any_more 17 compression_in ps p i }
 known_more Layer ps p = λ i. record unknown {
   opacity = if_any_more 6 opacity_in ps p i;
   mode = if_any_more 7 mode_in ps p i;
@@ -76,7 +81,8 @@ others_more owner value ps p =
 abbrev pub up_to : List Property → ℕ → Properties
 up_to ps end = record { list = ps; end = end }
 
-pub props_more : (owner : Owner) (ps : List Property) (p : Property) → props_after owner p (props_of owner (up_to ps p.at)) ≡ props_of owner (up_to (ps ++ p ∷ []) (end_after p))
+pub props_more : (owner : Owner) (ps : List Property) (p : Property)
+    → props_after owner p (props_of owner (up_to ps p.at)) ≡ props_of owner (up_to (ps ++ p ∷ []) (end_after p))
 props_more Image ps p = λ i. record {
   known = known_more Image ps p i;
   kept = others_more Image as_kept ps p i;
@@ -86,13 +92,27 @@ props_more Image ps p = λ i. record {
 props_more Layer ps p = λ i. record {
   known = known_more Layer ps p i;
   kept = others_more Layer as_kept ps p i;
-  places = record { group = place_more 29 ps p i; path = place_more 30 ps p i; selection = 0; kept = others_more Layer (λ q. q.at) ps p i; end = end_after p };
+  places = record {
+    group = place_more 29 ps p i;
+    path = place_more 30 ps p i;
+    selection = 0;
+    kept =
+        others_more Layer (λ q. q.at) ps p i;
+    end = end_after p;
+  };
   next = end_after p + 8;
 }
 props_more Channel ps p = λ i. record {
   known = known_more Channel ps p i;
   kept = others_more Channel as_kept ps p i;
-  places = record { group = 0; path = 0; selection = place_more 4 ps p i; kept = others_more Channel (λ q. q.at) ps p i; end = end_after p };
+  places = record {
+    group = 0;
+    path = 0;
+    selection = place_more 4 ps p i;
+    kept = others_more Channel (λ q. q.at) ps p i;
+    end =
+        end_after p;
+  };
   next = end_after p + 8;
 }
 props_more Mask ps p = λ i. record {

@@ -17,14 +17,17 @@ use Rattle.xl_props.specs.Props.{property, compression_in, opacity_in, mode_in, 
 use Rattle.xl_props.specs.After.{known_after}
 use Rattle.xl_props.proofs.Placed.{IsWritable}
 use Rattle.xl_props.proofs.KnownBack.{after_all}
-use Rattle.spec_document.specs.declared.numbers.TheConstants.{COLOUR_MAP, SELECTION, FLOATING_SELECTION, OPACITY, MODE, VISIBLE, APPLY_MASK, OFFSETS, COMPRESSION, GROUP_ITEM, ITEM_PATH}
+use Rattle.spec_document.specs.declared.numbers.TheConstants.{COLOUR_MAP, SELECTION, FLOATING_SELECTION, OPACITY, MODE}
+use Rattle.spec_document.specs.declared.numbers.TheConstants.{VISIBLE, APPLY_MASK, OFFSETS, COMPRESSION, GROUP_ITEM}
+use Rattle.spec_document.specs.declared.numbers.TheConstants.{ITEM_PATH}
 
 pub neither : (a b : Bool) → (a || b) ≡ false → (a ≡ false) × (b ≡ false)
 neither true b e = cc
 neither false b e = (refl, e)
 
 -- a property that the owner does not interpret tells nothing
-tells_nothing : (owner : Owner) (kind : ℕ) (payload : List ℕ) (k : Known) → interprets owner kind ≡ false → known_after owner (property 0 kind payload) k ≡ k
+tells_nothing : (owner : Owner) (kind : ℕ) (payload : List ℕ) (k : Known) → interprets owner kind ≡ false
+    → known_after owner (property 0 kind payload) k ≡ k
 tells_nothing Image kind payload k e =
     let p = property 0 kind payload in
     let each = neither (kind == COLOUR_MAP) (kind == COMPRESSION) e in
@@ -34,8 +37,10 @@ tells_nothing Image kind payload k e =
     }
 tells_nothing Layer kind payload k e =
     let p = property 0 kind payload in
-    let a = neither (((kind == FLOATING_SELECTION || kind == OPACITY) || (kind == MODE || kind == VISIBLE)) || (kind == APPLY_MASK || kind == OFFSETS)) (kind == GROUP_ITEM || kind == ITEM_PATH) e in
-    let b = neither ((kind == FLOATING_SELECTION || kind == OPACITY) || (kind == MODE || kind == VISIBLE)) (kind == APPLY_MASK || kind == OFFSETS) a.0 in
+    let a = neither (((kind == FLOATING_SELECTION || kind == OPACITY) || (kind == MODE || kind == VISIBLE))
+    || (kind == APPLY_MASK || kind == OFFSETS)) (kind == GROUP_ITEM || kind == ITEM_PATH) e in
+    let b = neither ((kind == FLOATING_SELECTION || kind == OPACITY) || (kind == MODE || kind == VISIBLE)) (kind == APPLY_MASK
+    || kind == OFFSETS) a.0 in
     let c = neither (kind == FLOATING_SELECTION || kind == OPACITY) (kind == MODE || kind == VISIBLE) b.0 in
     let five = neither (kind == FLOATING_SELECTION) (kind == OPACITY) c.0 in
     let seven = neither (kind == MODE) (kind == VISIBLE) c.1 in
@@ -64,26 +69,35 @@ no_map Layer kind e = refl
 no_map Channel kind e = refl
 no_map Mask kind e = refl
 
-unit_rule : (b : Bool) (long : Bool) (at : ℕ) → (b ≡ true → long ≡ true) → cond b (rule long (fault BadProperty at) None) None ≡ None
+unit_rule : (b : Bool) (long : Bool) (at : ℕ) → (b ≡ true → long ≡ true)
+    → cond b (rule long (fault BadProperty at) None) None ≡ None
 unit_rule true long at h = chosen_true long None (Some (fault BadProperty at)) (h refl)
 unit_rule false long at h = refl
 
 -- what is not interpreted has no rule but that of the unit
 no_rule : (owner : Owner) (at : ℕ) (r : Kept) → IsKept owner r → rule_of owner (property at r.kind r.payload) ≡ None
 no_rule Image at r h =
-    chosen_false (r.kind == COMPRESSION) _ (cond (is_unit Image r.kind) (rule (is_unit_length (length r.payload)) (fault BadProperty at) None) None) (neither (r.kind == COLOUR_MAP) (r.kind == COMPRESSION) h.not_known).1
+    chosen_false (r.kind == COMPRESSION) _
+    (cond (is_unit Image r.kind) (rule (is_unit_length (length r.payload)) (fault BadProperty at) None) None)
+    (neither (r.kind == COLOUR_MAP) (r.kind == COMPRESSION) h.not_known).1
     ∙ unit_rule (is_unit Image r.kind) (is_unit_length (length r.payload)) at h.unit
 no_rule Layer at r h =
     let kind = r.kind in
-    let a = neither (((kind == FLOATING_SELECTION || kind == OPACITY) || (kind == MODE || kind == VISIBLE)) || (kind == APPLY_MASK || kind == OFFSETS)) (kind == GROUP_ITEM || kind == ITEM_PATH) h.not_known in
-    let b = neither ((kind == FLOATING_SELECTION || kind == OPACITY) || (kind == MODE || kind == VISIBLE)) (kind == APPLY_MASK || kind == OFFSETS) a.0 in
+    let a = neither (((kind == FLOATING_SELECTION || kind == OPACITY) || (kind == MODE || kind == VISIBLE))
+    || (kind == APPLY_MASK || kind == OFFSETS)) (kind == GROUP_ITEM || kind == ITEM_PATH) h.not_known in
+    let b = neither ((kind == FLOATING_SELECTION || kind == OPACITY) || (kind == MODE || kind == VISIBLE)) (kind == APPLY_MASK
+    || kind == OFFSETS) a.0 in
     let c = neither (kind == FLOATING_SELECTION || kind == OPACITY) (kind == MODE || kind == VISIBLE) b.0 in
     let five = neither (kind == FLOATING_SELECTION) (kind == OPACITY) c.0 in
     let seven = neither (kind == MODE) (kind == VISIBLE) c.1 in
     let eleven = neither (kind == APPLY_MASK) (kind == OFFSETS) b.1 in
     let last = neither (kind == GROUP_ITEM) (kind == ITEM_PATH) a.1 in
-    chosen_false (kind == FLOATING_SELECTION) _ _ five.0 ∙ (chosen_false (kind == OPACITY) _ _ five.1 ∙ (chosen_false (kind == MODE) _ _ seven.0 ∙ (chosen_false (kind == VISIBLE) _ _ seven.1
-    ∙ (chosen_false (kind == APPLY_MASK) _ _ eleven.0 ∙ (chosen_false (kind == OFFSETS) _ _ eleven.1 ∙ (chosen_false (kind == GROUP_ITEM) _ _ last.0 ∙ chosen_false (kind == ITEM_PATH) _ _ last.1))))))
+    chosen_false (kind == FLOATING_SELECTION) _ _ five.0
+    ∙ (chosen_false (kind == OPACITY) _ _ five.1
+    ∙ (chosen_false (kind == MODE) _ _ seven.0 ∙ (chosen_false (kind == VISIBLE) _ _ seven.1
+    ∙ (chosen_false (kind == APPLY_MASK) _ _ eleven.0
+    ∙ (chosen_false (kind == OFFSETS) _ _ eleven.1
+    ∙ (chosen_false (kind == GROUP_ITEM) _ _ last.0 ∙ chosen_false (kind == ITEM_PATH) _ _ last.1))))))
 no_rule Channel at r h = chosen_false (r.kind == SELECTION) _ _ h.not_known
 no_rule Mask at r h = refl
 

@@ -1,5 +1,6 @@
 -- The properties of values may be written, and their owner interprets them.
-use Rattle.std.proofs.Common.{◌≡◌, ◌≢◌, ℕ, ◌+◌, ◌%◌, ◌^◌, ◌<◌, ◌≤◌, Bool, true, false, not, ◌&&◌, List, [], ◌++◌, length, refl, ap, ◌∙◌, arith}
+use Rattle.std.proofs.Common.{◌≡◌, ◌≢◌, ℕ, ◌+◌, ◌%◌, ◌^◌, ◌<◌, ◌≤◌, Bool, true, false, not, ◌&&◌, List, [], ◌++◌}
+use Rattle.std.proofs.Common.{length, refl, ap, ◌∙◌, arith}
 use Rattle.std.specs.Prelude.{Option, Some, None, is_none, nat_lt, nat_le, ◌==◌, ℤ}
 use Rattle.std.specs.List.{AllByRecursion}
 use Rattle.std.proofs.lemmas.Bool.{le-leb, lt-ltb, eq-eqb}
@@ -25,14 +26,16 @@ use Rattle.xl_props.proofs.Lengths.{length_words, length_colours}
 use Rattle.xl_props.proofs.Inverse.{code_back, offsets_back, count_back}
 use Rattle.xl_props.proofs.Placed.{IsWritable}
 use Rattle.xl_props.proofs.KnownBack.{of_some}
-use Rattle.spec_document.specs.declared.numbers.TheConstants.{COLOUR_MAP, SELECTION, OPACITY, MODE, VISIBLE, APPLY_MASK, OFFSETS, COMPRESSION, GROUP_ITEM, ITEM_PATH}
+use Rattle.spec_document.specs.declared.numbers.TheConstants.{COLOUR_MAP, SELECTION, OPACITY, MODE, VISIBLE}
+use Rattle.spec_document.specs.declared.numbers.TheConstants.{APPLY_MASK, OFFSETS, COMPRESSION, GROUP_ITEM, ITEM_PATH}
 
 -- what the owner interprets, and may be written
 pub record IsOwn (owner : Owner) (r : Kept) : Type 0 where
   pub known : interprets owner r.kind ≡ true
   pub writable : IsWritable owner r
 
-own_if_there : {A : Type 0} (owner : Owner) (kind : ℕ) (payload : A → List ℕ) (o : Option A) → ((x : A) → o ≡ Some x → IsOwn owner (raw kind (payload x)))
+own_if_there : {A : Type 0} (owner : Owner) (kind : ℕ) (payload : A → List ℕ) (o : Option A)
+    → ((x : A) → o ≡ Some x → IsOwn owner (raw kind (payload x)))
     → AllByRecursion (IsOwn owner) (if_there kind payload o)
 own_if_there owner kind payload None h = tt
 own_if_there owner kind payload (Some x) h = (h x refl, tt)
@@ -84,7 +87,8 @@ own_opacity n = own_layer 6 (word n) (omega arith) (λ e. omega (arith, e)) refl
 own_mode : (mode : Mode) → IsOwn Layer (raw MODE (mode_word mode))
 own_mode mode =
     own_layer 7 (mode_word mode) (omega arith) (λ e. omega (arith, e)) refl (omega arith)
-    (λ at. ap (λ o. rule (not (is_none o)) (fault_with ModeRefused (at + 8) (payload_word (property at 7 (mode_word mode)) 0)) None) (code_back at 7 mode))
+    (λ at. ap (λ o. rule (not (is_none o)) (fault_with ModeRefused (at + 8) (payload_word (property at 7 (mode_word mode)) 0)) None)
+    (code_back at 7 mode))
 
 own_visible : (flag : Bool) → IsOwn Layer (raw VISIBLE (flag_word flag))
 own_visible true = own_layer 8 (flag_word true) (omega arith) (λ e. omega (arith, e)) refl (omega arith) (λ at. refl)
@@ -102,7 +106,8 @@ own_offsets o h =
     let both = offsets_back at 15 o h in
     let x : is_offset (payload_int p 0) ≡ true = ap (λ (q : ℤ × ℤ). is_offset q.0) both ∙ offset_true o.0 h.0 in
     let y : is_offset (payload_int p 1) ≡ true = ap (λ (q : ℤ × ℤ). is_offset q.1) both ∙ offset_true o.1 h.1 in
-    chosen_true (is_offset (payload_int p 0)) (rule (is_offset (payload_int p 1)) (fault OffsetRange (at + 12)) None) (Some (fault OffsetRange (at + 8))) x
+    chosen_true (is_offset (payload_int p 0)) (rule (is_offset (payload_int p 1)) (fault OffsetRange (at + 12)) None)
+    (Some (fault OffsetRange (at + 8))) x
     ∙ chosen_true (is_offset (payload_int p 1)) None (Some (fault OffsetRange (at + 12))) y)
 
 own_group : IsOwn Layer (raw GROUP_ITEM [])
@@ -120,14 +125,22 @@ own_path path h =
 own_selection : IsOwn Channel (raw SELECTION [])
 own_selection = record {
   known = refl;
-  writable = record { kind = omega arith; not_end = λ e. omega (arith, e); short = omega arith; colours = λ e. cc; unit = λ e. cc; rules = λ at. refl };
+  writable = record {
+    kind = omega arith;
+    not_end = λ e. omega (arith, e);
+    short = omega arith;
+    colours = λ e. cc;
+    unit = λ e. cc;
+    rules = λ at. refl;
+  };
 }
 
 own_image : (k : Known) → IsKnown Image k → AllByRecursion (IsOwn Image) (image_list k)
 own_image k h =
     all_append (IsOwn Image) (if_there COLOUR_MAP colour_bytes k.colours) (if_there COMPRESSION one_byte k.compression)
     (own_if_there Image 1 colour_bytes k.colours (λ x e. own_colours x (of_some AreFewColours k.colours x e h.in_colours)))
-    (own_if_there Image 17 one_byte k.compression (λ x e. own_code x (of_some (λ code. code ≤ 1) k.compression x e h.in_compression)))
+    (own_if_there Image 17 one_byte k.compression
+    (λ x e. own_code x (of_some (λ code. code ≤ 1) k.compression x e h.in_compression)))
 
 own_of_layer : (k : Known) → IsKnown Layer k → AllByRecursion (IsOwn Layer) (layer_list k)
 own_of_layer k h =
@@ -139,16 +152,20 @@ own_of_layer k h =
     let l3 = if_there OPACITY word k.opacity ++ l4 in
     let l2 = if_there ITEM_PATH words k.path ++ l3 in
     all_append own (if_so GROUP_ITEM k.group) l2 (own_if_so Layer GROUP_ITEM k.group own_group) (
-    all_append own (if_there ITEM_PATH words k.path) l3 (own_if_there Layer 30 words k.path (λ x e. own_path x (of_some IsPath k.path x e h.in_path))) (
+    all_append own (if_there ITEM_PATH words k.path) l3
+    (own_if_there Layer 30 words k.path (λ x e. own_path x (of_some IsPath k.path x e h.in_path))) (
     all_append own (if_there OPACITY word k.opacity) l4 (own_if_there Layer 6 word k.opacity (λ x e. own_opacity x)) (
     all_append own (if_there MODE mode_word k.mode) l5 (own_if_there Layer 7 mode_word k.mode (λ x e. own_mode x)) (
     all_append own (if_there VISIBLE flag_word k.visible) l6 (own_if_there Layer 8 flag_word k.visible (λ x e. own_visible x)) (
-    all_append own (if_there APPLY_MASK flag_word k.apply_mask) l7 (own_if_there Layer 11 flag_word k.apply_mask (λ x e. own_apply_mask x))
+    all_append own (if_there APPLY_MASK flag_word k.apply_mask) l7
+    (own_if_there Layer 11 flag_word k.apply_mask (λ x e. own_apply_mask x))
     (own_if_there Layer 15 offset_words k.offsets (λ x e. own_offsets x (of_some AreOffsets k.offsets x e h.in_offsets))))))))
 
 -- the owner interprets each property of its values
-pub own_known : (owner : Owner) (k : Known) → IsKnown owner (part_of owner k) → AllByRecursion (IsOwn owner) (known_list (part_of owner k))
+pub own_known : (owner : Owner) (k : Known) → IsKnown owner (part_of owner k)
+    → AllByRecursion (IsOwn owner) (known_list (part_of owner k))
 own_known Image k h = all_append (IsOwn Image) (image_list (part_of Image k)) [] (own_image (part_of Image k) h) tt
 own_known Layer k h = own_of_layer (part_of Layer k) h
-own_known Channel k h = all_append (IsOwn Channel) (if_so SELECTION k.selection) [] (own_if_so Channel SELECTION k.selection own_selection) tt
+own_known Channel k h =
+    all_append (IsOwn Channel) (if_so SELECTION k.selection) [] (own_if_so Channel SELECTION k.selection own_selection) tt
 own_known Mask k h = tt

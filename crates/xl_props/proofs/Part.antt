@@ -1,5 +1,6 @@
 -- Part of a file as the payload of a property.
-use Rattle.std.proofs.Common.{◌≡◌, ◌≢◌, ℕ, zero, suc, ◌+◌, ◌^◌, ◌<◌, ◌≤◌, true, List, [], ◌∷◌, length, take, drop, get_or, None, sym, subst, ap, arith}
+use Rattle.std.proofs.Common.{◌≡◌, ◌≢◌, ℕ, zero, suc, ◌+◌, ◌^◌, ◌<◌, ◌≤◌, true, List, [], ◌∷◌, length, take, drop}
+use Rattle.std.proofs.Common.{get_or, None, sym, subst, ap, arith}
 use Rattle.std.proofs.lemmas.List.{get_or-drop, length-take, length-drop}
 use Rattle.spec_document.specs.declared.Owner.{Owner}
 use Rattle.spec_document.specs.Limits.{AreBytes}
@@ -40,13 +41,15 @@ pub part_word : (file : List ℕ) (at n : ℕ) → at + n ≤ length file → 4 
 part_word file at n fits long =
     (has_first_word file at (bytes_at file at n) (omega (arith, length_part file at n fits)) (part_stands file at n fits)).is
 
-is_map : (file : List ℕ) (at n kind : ℕ) → at + n ≤ length file → IsMapLength file at n → IsColourMap (property 0 kind (bytes_at file at n))
+is_map : (file : List ℕ) (at n kind : ℕ) → at + n ≤ length file → IsMapLength file at n
+    → IsColourMap (property 0 kind (bytes_at file at n))
 is_map file at n kind fits h =
     let word = part_word file at n fits (omega (arith, h.1)) in
     let long = length_part file at n fits in
     (omega (arith, h.1), omega (arith, h.0), omega (arith, h.1))
 
-pub part_checked : (file : List ℕ) (owner : Owner) (kind at k n : ℕ) → k ≡ n → at + n ≤ length file → ((i : ℕ) → get_or file i 0 < 256)
+pub part_checked : (file : List ℕ) (owner : Owner) (kind at k n : ℕ) → k ≡ n → at + n ≤ length file
+    → ((i : ℕ) → get_or file i 0 < 256)
     → kind < 2 ^ 32 → kind ≢ 0 → n ≤ 2 ^ 24 → (is_colour_map owner kind ≡ true → IsMapLength file at n)
     → rule_of owner (property 0 kind (bytes_at file at k)) ≡ None
     → IsChecked owner (property 0 kind (bytes_at file at k))

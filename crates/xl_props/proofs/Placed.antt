@@ -1,5 +1,6 @@
 -- Properties that stand in a file one behind another, with the end behind them.
-use Rattle.std.proofs.Common.{◌≡◌, ◌≢◌, ℕ, ◌+◌, ◌^◌, ◌<◌, ◌≤◌, Bool, true, false, cond, List, [], ◌∷◌, ◌++◌, length, None, refl, sym, ap, ◌∙◌, subst, arith, length-append}
+use Rattle.std.proofs.Common.{◌≡◌, ◌≢◌, ℕ, ◌+◌, ◌^◌, ◌<◌, ◌≤◌, Bool, true, false, cond, List, [], ◌∷◌, ◌++◌, length}
+use Rattle.std.proofs.Common.{None, refl, sym, ap, ◌∙◌, subst, arith, length-append}
 use Rattle.std.specs.Prelude.{MatchBool}
 use Rattle.std.specs.List.{AllByRecursion}
 use Rattle.std.specs.Int.{w32, from_be_bytes}
@@ -40,7 +41,8 @@ behind_all at [] = at
 behind_all at (k ∷ ks) = behind_all (at + 8 + length k.payload) ks
 
 has_word : (file : List ℕ) (at n : ℕ) → n < 2 ^ 32 → HasBytes file at (word n) → HasWord file at n
-has_word file at n small h = record { fits = omega (arith, h.fits); is = ap (from_be_bytes w32) h.are ∙ from_be_bytes-to_be_bytes_4 n small }
+has_word file at n small h =
+    record { fits = omega (arith, h.fits); is = ap (from_be_bytes w32) h.are ∙ from_be_bytes-to_be_bytes_4 n small }
 
 -- the parts of a property that stands in a file
 record HasParts (file : List ℕ) (at : ℕ) (k : Kept) : Type 0 where
@@ -48,7 +50,8 @@ record HasParts (file : List ℕ) (at : ℕ) (k : Kept) : Type 0 where
   long : HasWord file (at + 4) (length k.payload)
   payload : HasBytes file (at + 8) k.payload
 
-parts : (file : List ℕ) (at : ℕ) (k : Kept) → k.kind < 2 ^ 32 → length k.payload ≤ 2 ^ 24 → HasBytes file at (spelled k) → HasParts file at k
+parts : (file : List ℕ) (at : ℕ) (k : Kept) → k.kind < 2 ^ 32 → length k.payload ≤ 2 ^ 24 → HasBytes file at (spelled k)
+    → HasParts file at k
 parts file at k kind short h =
     let n = length k.payload in
     let rest = has_back file at (word k.kind) (word n ++ k.payload) h in
@@ -59,16 +62,24 @@ parts file at k kind short h =
     let Q : ℕ → Type 0 = λ p. HasBytes file p k.payload in
     record {
       kind = has_word file at k.kind kind (has_front file at (word k.kind) (word n ++ k.payload) h);
-      long = subst P second (has_word file (at + length (word k.kind)) n (omega arith) (has_front file (at + length (word k.kind)) (word n) k.payload rest));
+      long = subst P second (has_word file (at + length (word k.kind)) n (omega arith)
+          (has_front file (at + length (word k.kind)) (word n) k.payload rest));
       payload = subst Q third last;
     }
 
 length_spelled : (k : Kept) → length (spelled k) ≡ 8 + length k.payload
 length_spelled k =
-    omega (arith, length-append (word k.kind) (word (length k.payload) ++ k.payload), length-append (word (length k.payload)) k.payload, length_word k.kind, length_word (length k.payload))
+    omega (
+      arith,
+      length-append (word k.kind) (word (length k.payload) ++ k.payload),
+      length-append (word (length k.payload)) k.payload,
+      length_word k.kind,
+      length_word (length k.payload),
+    )
 
 -- what stands behind a property
-rest_of : (file : List ℕ) (at : ℕ) (k : Kept) (ks : List Kept) → HasBytes file at (all_spelled (k ∷ ks)) → HasBytes file (at + 8 + length k.payload) (all_spelled ks)
+rest_of : (file : List ℕ) (at : ℕ) (k : Kept) (ks : List Kept) → HasBytes file at (all_spelled (k ∷ ks))
+    → HasBytes file (at + 8 + length k.payload) (all_spelled ks)
 rest_of file at k ks h =
     let P : ℕ → Type 0 = λ p. HasBytes file p (all_spelled ks) in
     let e : at + length (spelled k) ≡ at + 8 + length k.payload = omega (arith, length_spelled k) in
@@ -78,13 +89,16 @@ abbrev end : Kept
 end = raw 0 []
 
 -- the length word of the next property, or of the end, is within the limit
-next_short : (owner : Owner) (file : List ℕ) (at : ℕ) (ks : List Kept) → AllByRecursion (IsWritable owner) ks → HasBytes file at (all_spelled (ks ++ end ∷ [])) → word_value file (at + 4) ≤ 2 ^ 24
+next_short : (owner : Owner) (file : List ℕ) (at : ℕ) (ks : List Kept) → AllByRecursion (IsWritable owner) ks
+    → HasBytes file at (all_spelled (ks ++ end ∷ [])) → word_value file (at + 4) ≤ 2 ^ 24
 next_short owner file at [] h b =
     let p = parts file at end (omega arith) (omega arith) (has_front file at (spelled end) [] b) in omega (arith, p.long.is)
 next_short owner file at (k ∷ ks) h b =
-    let p = parts file at k h.0.kind h.0.short (has_front file at (spelled k) (all_spelled (ks ++ end ∷ [])) b) in omega (arith, p.long.is, h.0.short)
+    let p = parts file at k h.0.kind h.0.short (has_front file at (spelled k) (all_spelled (ks ++ end ∷ [])) b) in
+    omega (arith, p.long.is, h.0.short)
 
-its_length : (file : List ℕ) (owner : Owner) (at : ℕ) (k : Kept) → IsWritable owner k → word_value file (at + 8 + length k.payload + 4) ≤ 2 ^ 24
+its_length : (file : List ℕ) (owner : Owner) (at : ℕ) (k : Kept) → IsWritable owner k
+    → word_value file (at + 8 + length k.payload + 4) ≤ 2 ^ 24
     → true_length file owner k.kind (at + 8) (length k.payload) ≡ length k.payload
 its_length file owner at k h small = by (is_unit owner k.kind) h.unit
   where
@@ -95,16 +109,20 @@ its_length file owner at k h small = by (is_unit owner k.kind) h.unit
     by true long = trusted file (at + 8) n (long refl) small
     by false long = refl
 
-length_is : (file : List ℕ) (owner : Owner) (at : ℕ) (k : Kept) → IsWritable owner k → true_length file owner k.kind (at + 8) (length k.payload) ≡ length k.payload
-    → MatchBool (is_colour_map owner k.kind) (IsColourMap (property at k.kind k.payload)) ((true_length file owner k.kind (at + 8) (length k.payload) ≡ length k.payload) × (length k.payload ≤ 2 ^ 24))
+length_is : (file : List ℕ) (owner : Owner) (at : ℕ) (k : Kept) → IsWritable owner k
+    → true_length file owner k.kind (at + 8) (length k.payload) ≡ length k.payload
+    → MatchBool (is_colour_map owner k.kind) (IsColourMap (property at k.kind k.payload))
+    ((true_length file owner k.kind (at + 8) (length k.payload) ≡ length k.payload) × (length k.payload ≤ 2 ^ 24))
 length_is file owner at k h e = by (is_colour_map owner k.kind) h.colours
   where
     by : (b : Bool) → (b ≡ true → IsColourMap (property 0 k.kind k.payload))
-        → MatchBool b (IsColourMap (property at k.kind k.payload)) ((true_length file owner k.kind (at + 8) (length k.payload) ≡ length k.payload) × (length k.payload ≤ 2 ^ 24))
+        → MatchBool b (IsColourMap (property at k.kind k.payload))
+        ((true_length file owner k.kind (at + 8) (length k.payload) ≡ length k.payload) × (length k.payload ≤ 2 ^ 24))
     by true map_is = map_is refl
     by false map_is = (e, h.short)
 
-one_stands : (file : List ℕ) (owner : Owner) (at : ℕ) (k : Kept) → IsWritable owner k → HasParts file at k → word_value file (at + 8 + length k.payload + 4) ≤ 2 ^ 24
+one_stands : (file : List ℕ) (owner : Owner) (at : ℕ) (k : Kept) → IsWritable owner k → HasParts file at k
+    → word_value file (at + 8 + length k.payload + 4) ≤ 2 ^ 24
     → HasProperty file owner (property at k.kind k.payload)
 one_stands file owner at k h p small = record {
   kind = p.kind;
@@ -116,19 +134,25 @@ one_stands file owner at k h p small = record {
   rules = h.rules at;
 }
 
-pub they_follow : (file : List ℕ) (owner : Owner) (at : ℕ) (ks : List Kept) → AllByRecursion (IsWritable owner) ks → HasBytes file at (all_spelled (ks ++ end ∷ []))
+pub they_follow : (file : List ℕ) (owner : Owner) (at : ℕ) (ks : List Kept) → AllByRecursion (IsWritable owner) ks
+    → HasBytes file at (all_spelled (ks ++ end ∷ []))
     → Follow file owner at (placed at ks) (behind_all at ks)
 they_follow file owner at [] h b =
-    let p = parts file at end (omega arith) (omega arith) (has_front file at (spelled end) [] b) in (refl, p.kind, omega (arith, p.long.fits))
+    let p = parts file at end (omega arith) (omega arith) (has_front file at (spelled end) [] b) in
+    (refl, p.kind, omega (arith, p.long.fits))
 they_follow file owner at (k ∷ ks) h b =
     let p = parts file at k h.0.kind h.0.short (has_front file at (spelled k) (all_spelled (ks ++ end ∷ [])) b) in
-    let rest = rest_of file at k (ks ++ end ∷ []) b in
-    (refl, one_stands file owner at k h.0 p (next_short owner file (at + 8 + length k.payload) ks h.1 rest), they_follow file owner (at + 8 + length k.payload) ks h.1 rest)
+    let rest = rest_of file at k (ks ++ end ∷ []) b in (
+      refl,
+      one_stands file owner at k h.0 p (next_short owner file (at + 8 + length k.payload) ks h.1 rest),
+      they_follow file owner (at + 8 + length k.payload) ks h.1 rest,
+    )
 
 -- the end of the list
 pub next_of : (at : ℕ) (ks : List Kept) → behind_all at ks + 8 ≡ at + length (all_spelled (ks ++ end ∷ []))
 next_of at [] = omega (arith, length_spelled end, length-append (spelled end) [])
 next_of at (k ∷ ks) =
-    let one : at + length (spelled k ++ all_spelled (ks ++ end ∷ [])) ≡ at + 8 + length k.payload + length (all_spelled (ks ++ end ∷ [])) =
+    let one : at + length (spelled k ++ all_spelled (ks ++ end ∷ []))
+    ≡ at + 8 + length k.payload + length (all_spelled (ks ++ end ∷ [])) =
     omega (arith, length-append (spelled k) (all_spelled (ks ++ end ∷ [])), length_spelled k) in
     next_of (at + 8 + length k.payload) ks ∙ sym one

@@ -1,5 +1,6 @@
 -- A list that was written is read back.
-use Rattle.std.proofs.Common.{◌≡◌, ℕ, suc, ◌+◌, ◌≤◌, Bool, true, false, cond, not, List, [], ◌∷◌, ◌++◌, length, map, filter, refl, sym, ap, ◌∙◌, subst, arith, length-append}
+use Rattle.std.proofs.Common.{◌≡◌, ℕ, suc, ◌+◌, ◌≤◌, Bool, true, false, cond, not, List, [], ◌∷◌, ◌++◌, length, map}
+use Rattle.std.proofs.Common.{filter, refl, sym, ap, ◌∙◌, subst, arith, length-append}
 use Rattle.std.specs.Prelude.{Option, Some, None}
 use Rattle.std.specs.List.{AllByRecursion}
 use Rattle.std.proofs.lemmas.List.{append_assoc}
@@ -19,12 +20,14 @@ use Rattle.xl_props.specs.Props.{property, known_of}
 use Rattle.xl_props.specs.After.{as_kept}
 use Rattle.spec_fields.specs.Put.{word}
 use Rattle.spec_props.specs.Layout.{path_bytes as words, colour_bytes, property as raw, if_so, all_spelled}
-use Rattle.xl_props.specs.Written.{flag_word, mode_word, offset_words, one_byte, if_there, image_list, channel_list, layer_list, known_list, written, ReadsBack}
+use Rattle.xl_props.specs.Written.{flag_word, mode_word, offset_words, one_byte, if_there, image_list, channel_list}
+use Rattle.xl_props.specs.Written.{layer_list, known_list, written, ReadsBack}
 use Rattle.xl_props.proofs.Placed.{IsWritable, placed, behind_all, next_of, they_follow}
 use Rattle.xl_props.proofs.KnownBack.{after_all, known_from, then_more, known_back}
 use Rattle.xl_props.proofs.Others.{all_tell_nothing, kept_writable}
 use Rattle.xl_props.proofs.Own.{IsOwn, own_known}
-use Rattle.spec_document.specs.declared.numbers.TheConstants.{COLOUR_MAP, OPACITY, MODE, VISIBLE, APPLY_MASK, OFFSETS, COMPRESSION, GROUP_ITEM, ITEM_PATH}
+use Rattle.spec_document.specs.declared.numbers.TheConstants.{COLOUR_MAP, OPACITY, MODE, VISIBLE, APPLY_MASK, OFFSETS}
+use Rattle.spec_document.specs.declared.numbers.TheConstants.{COMPRESSION, GROUP_ITEM, ITEM_PATH}
 
 all_map : {X : Type 0} (P Q : X → Type 0) → ((x : X) → P x → Q x) → (xs : List X) → AllByRecursion P xs → AllByRecursion Q xs
 all_map P Q f [] h = tt
@@ -52,7 +55,8 @@ kept_placed owner at (r ∷ rs) = by (interprets owner r.kind) (kept_placed owne
     rest = filter (λ q. not (interprets owner q.kind)) (placed (at + 8 + length r.payload) rs)
 
     by : (b : Bool) → map as_kept rest ≡ others owner rs
-        → map as_kept (cond (not b) (property at r.kind r.payload ∷ rest) rest) ≡ cond (not b) (r ∷ others owner rs) (others owner rs)
+        → map as_kept (cond (not b) (property at r.kind r.payload ∷ rest) rest)
+        ≡ cond (not b) (r ∷ others owner rs) (others owner rs)
     by true e = e
     by false e = ap (λ ks. r ∷ ks) e
 
@@ -105,20 +109,28 @@ few_known k =
     )
 
 -- a list of values and of properties that are kept, where the values are the owner's part
-read_back : (file : List ℕ) (owner : Owner) (at : ℕ) (k : Known) (kept : List Kept) → part_of owner k ≡ k → IsKnown owner (part_of owner k) → AreKept owner kept → HasBytes file at (written k kept)
+read_back : (file : List ℕ) (owner : Owner) (at : ℕ) (k : Known) (kept : List Kept) → part_of owner k ≡ k
+    → IsKnown owner (part_of owner k) → AreKept owner kept → HasBytes file at (written k kept)
     → ReadsBack file owner at k kept
 read_back file owner at k kept owned h are b =
     let rs = known_list k ++ kept in
-    let known_own : AllByRecursion (IsOwn owner) (known_list k) = subst (λ (l : Known). AllByRecursion (IsOwn owner) (known_list l)) owned (own_known owner k h) in
-    let writable = all_append (IsWritable owner) (known_list k) kept (all_map (IsOwn owner) (IsWritable owner) (λ r o. o.writable) (known_list k) known_own) (all_map (IsKept owner) (IsWritable owner) (kept_writable owner) kept are.each) in
-    let whole : all_spelled (known_list k ++ (kept ++ raw 0 [] ∷ [])) ≡ all_spelled (rs ++ raw 0 [] ∷ []) = ap all_spelled (sym (append_assoc (known_list k) kept (raw 0 [] ∷ []))) in
+    let known_own : AllByRecursion (IsOwn owner) (known_list k) =
+    subst (λ (l : Known). AllByRecursion (IsOwn owner) (known_list l)) owned (own_known owner k h) in
+    let writable = all_append (IsWritable owner) (known_list k) kept
+    (all_map (IsOwn owner) (IsWritable owner) (λ r o. o.writable) (known_list k) known_own)
+    (all_map (IsKept owner) (IsWritable owner) (kept_writable owner) kept are.each) in
+    let whole : all_spelled (known_list k ++ (kept ++ raw 0 [] ∷ [])) ≡ all_spelled (rs ++ raw 0 [] ∷ []) =
+    ap all_spelled (sym (append_assoc (known_list k) kept (raw 0 [] ∷ []))) in
     let stands : HasBytes file at (all_spelled (rs ++ raw 0 [] ∷ [])) = subst (HasBytes file at) whole b in
     let list : Properties = record { list = placed at rs; end = behind_all at rs } in
     let same_kept : kept_of owner list.list ≡ kept =
-    kept_placed owner at rs ∙ (filter-append (λ r. not (interprets owner r.kind)) (known_list k) kept ∙ λ i. no_others owner (known_list k) known_own i ++ only_others owner kept are.each i) in
+    kept_placed owner at rs ∙ (filter-append (λ r. not (interprets owner r.kind)) (known_list k) kept
+    ∙ λ i. no_others owner (known_list k) known_own i ++ only_others owner kept are.each i) in
     let same_known : known_of owner list.list ≡ k =
     known_from owner at rs
-    ∙ (then_more owner unknown k (known_list k) kept (subst (λ (l : Known). after_all owner unknown (known_list l) ≡ l) owned (known_back owner k h)) ∙ all_tell_nothing owner k kept are.each) in
+    ∙ (then_more owner unknown k (known_list k) kept
+    (subst (λ (l : Known). after_all owner unknown (known_list l) ≡ l) owned (known_back owner k h))
+    ∙ all_tell_nothing owner k kept are.each) in
     let holds : HasProperties file owner at list = record {
       few = omega (arith, length_placed at rs, length-append (known_list k) kept, few_known k, are.few);
       few_kept = omega (arith, ap length same_kept, are.few);
@@ -134,6 +146,8 @@ read_back file owner at k kept owned h are b =
       next = next_of at rs ∙ ap (λ n. at + n) long;
     }
 
-pub reads_back : (file : List ℕ) (owner : Owner) (at : ℕ) (known : Known) (kept : List Kept) → IsKnown owner known → AreKept owner kept → HasBytes file at (written known kept)
+pub reads_back : (file : List ℕ) (owner : Owner) (at : ℕ) (known : Known) (kept : List Kept) → IsKnown owner known
+    → AreKept owner kept → HasBytes file at (written known kept)
     → ReadsBack file owner at known kept
-reads_back file owner at known kept h are b = read_back file owner at known kept h.owned (subst (IsKnown owner) (sym h.owned) h) are b
+reads_back file owner at known kept h are b =
+    read_back file owner at known kept h.owned (subst (IsKnown owner) (sym h.owned) h) are b

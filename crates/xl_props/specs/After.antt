@@ -9,7 +9,8 @@ use Rattle.xl_props.specs.declared.answer.Known.{Known}
 use Rattle.xl_props.specs.declared.answer.Places.{Places}
 use Rattle.xl_props.specs.declared.answer.Props.{Props}
 use Rattle.xl_props.specs.Props.{compression_in, opacity_in, mode_in, offsets_in}
-use Rattle.spec_document.specs.declared.numbers.TheConstants.{COLOUR_MAP, SELECTION, OPACITY, MODE, VISIBLE, APPLY_MASK, OFFSETS, COMPRESSION, GROUP_ITEM, ITEM_PATH}
+use Rattle.spec_document.specs.declared.numbers.TheConstants.{COLOUR_MAP, SELECTION, OPACITY, MODE, VISIBLE}
+use Rattle.spec_document.specs.declared.numbers.TheConstants.{APPLY_MASK, OFFSETS, COMPRESSION, GROUP_ITEM, ITEM_PATH}
 
 -- the value that a property of this kind gives, or else what was known before
 abbrev pub newer : {A : Type 0} → (kind : ℕ) → (Property → A) → Property → Option A → Option A

@@ -7,13 +7,15 @@ use Rattle.spec_document.specs.declared.Owner.{Owner}
 use Rattle.spec_document.specs.declared.Owner.TheVariants.{Image, Layer, Channel, Mask}
 use Rattle.spec_document.specs.Limits.{interprets}
 use Rattle.spec_fields.specs.Reading.{Read, ◌>>=◌}
-use Rattle.spec_props.specs.Meaning.{Property, payload_word, payload_int, last_of, has, value_of, is_set, colours_in, path_words, kept_of}
+use Rattle.spec_props.specs.Meaning.{Property, payload_word, payload_int, last_of, has, value_of, is_set, colours_in}
+use Rattle.spec_props.specs.Meaning.{path_words, kept_of}
 use Rattle.spec_props.specs.Reading.{Properties, properties_at}
 use Rattle.xl_props.specs.declared.answer.Known.{Known}
 use Rattle.xl_props.specs.declared.answer.Places.{Places}
 use Rattle.xl_props.specs.declared.answer.Props.{Props}
 use Rattle.xl_props.specs.Known.{part_of}
-use Rattle.spec_document.specs.declared.numbers.TheConstants.{COLOUR_MAP, SELECTION, OPACITY, MODE, VISIBLE, APPLY_MASK, OFFSETS, COMPRESSION, GROUP_ITEM, ITEM_PATH}
+use Rattle.spec_document.specs.declared.numbers.TheConstants.{COLOUR_MAP, SELECTION, OPACITY, MODE, VISIBLE}
+use Rattle.spec_document.specs.declared.numbers.TheConstants.{APPLY_MASK, OFFSETS, COMPRESSION, GROUP_ITEM, ITEM_PATH}
 
 -- a property of these bytes
 abbrev pub property : (at kind : ℕ) → List ℕ → Property
@@ -65,12 +67,21 @@ kept_places owner ps = map (λ p. p.at) (filter (λ p. not (interprets owner p.k
 
 abbrev pub places_of : Owner → Properties → Places
 places_of Image ps = record { group = 0; path = 0; selection = 0; kept = kept_places Image ps.list; end = ps.end }
-places_of Layer ps = record { group = place_of GROUP_ITEM ps.list; path = place_of ITEM_PATH ps.list; selection = 0; kept = kept_places Layer ps.list; end = ps.end }
-places_of Channel ps = record { group = 0; path = 0; selection = place_of SELECTION ps.list; kept = kept_places Channel ps.list; end = ps.end }
+places_of Layer ps = record {
+  group = place_of GROUP_ITEM ps.list;
+  path = place_of ITEM_PATH ps.list;
+  selection = 0;
+  kept =
+      kept_places Layer ps.list;
+  end = ps.end;
+}
+places_of Channel ps =
+    record { group = 0; path = 0; selection = place_of SELECTION ps.list; kept = kept_places Channel ps.list; end = ps.end }
 places_of Mask ps = record { group = 0; path = 0; selection = 0; kept = kept_places Mask ps.list; end = ps.end }
 
 abbrev pub props_of : Owner → Properties → Props
-props_of owner ps = record { known = known_of owner ps.list; kept = kept_of owner ps.list; places = places_of owner ps; next = ps.end + 8 }
+props_of owner ps =
+    record { known = known_of owner ps.list; kept = kept_of owner ps.list; places = places_of owner ps; next = ps.end + 8 }
 
 -- reading a list of properties from an offset: what it says, or the first fault
 abbrev pub props_read : (file : List ℕ) → Owner → (at : ℕ) → Read Props

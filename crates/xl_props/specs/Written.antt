@@ -13,7 +13,8 @@ use Rattle.spec_props.specs.Reading.{Properties, properties_at}
 use Rattle.spec_props.specs.Holds.{HasProperties}
 use Rattle.xl_props.specs.Known.{IsKnown}
 use Rattle.xl_props.specs.Props.{known_of}
-use Rattle.spec_document.specs.declared.numbers.TheConstants.{COLOUR_MAP, SELECTION, OPACITY, MODE, VISIBLE, APPLY_MASK, OFFSETS, COMPRESSION, GROUP_ITEM, ITEM_PATH}
+use Rattle.spec_document.specs.declared.numbers.TheConstants.{COLOUR_MAP, SELECTION, OPACITY, MODE, VISIBLE}
+use Rattle.spec_document.specs.declared.numbers.TheConstants.{APPLY_MASK, OFFSETS, COMPRESSION, GROUP_ITEM, ITEM_PATH}
 
 abbrev pub flag_word : Bool → List ℕ
 flag_word b = word (flag b)
@@ -41,8 +42,10 @@ channel_list k = if_so SELECTION k.selection
 -- the mark of a group comes first, since other readers start a group afresh where they meet it
 abbrev pub layer_list : Known → List Kept
 layer_list k =
-    if_so GROUP_ITEM k.group ++ (if_there ITEM_PATH path_bytes k.path ++ (if_there OPACITY word k.opacity ++ (if_there MODE mode_word k.mode
-    ++ (if_there VISIBLE flag_word k.visible ++ (if_there APPLY_MASK flag_word k.apply_mask ++ if_there OFFSETS offset_words k.offsets)))))
+    if_so GROUP_ITEM k.group ++ (if_there ITEM_PATH path_bytes k.path
+    ++ (if_there OPACITY word k.opacity ++ (if_there MODE mode_word k.mode
+    ++ (if_there VISIBLE flag_word k.visible
+    ++ (if_there APPLY_MASK flag_word k.apply_mask ++ if_there OFFSETS offset_words k.offsets)))))
 
 -- the properties of the values, in the order in which they are written
 abbrev pub known_list : Known → List Kept
@@ -56,7 +59,8 @@ written known kept = property_list (known_list known) kept
 abbrev pub CanBeWritten : Known → List Kept → Type 0
 CanBeWritten known kept = (owner : Owner) × IsKnown owner known × AreKept owner kept
 
--- The list that was written stands at an offset of a file: its values and its properties that are kept are read back, and nothing else.
+-- The list that was written stands at an offset of a file: its values and its properties that are kept are read back,
+-- and nothing else.
 pub record ReadsBack (file : List ℕ) (owner : Owner) (at : ℕ) (known : Known) (kept : List Kept) : Type 0 where
   pub list : Properties
   pub holds : HasProperties file owner at list

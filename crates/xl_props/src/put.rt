@@ -2,7 +2,8 @@
 
 ghost use Rattle.std.specs.Prelude.{◌≡◌, ◌+◌, ◌*◌, ◌^◌, ◌<◌, ◌≤◌, ◌++◌, length, OnOk, OnErr, IfSome};
 ghost use Rattle.spec_fields.specs.Put.{word};
-ghost use Rattle.spec_props.specs.Layout.{path_bytes as words, all_colours, colour_bytes, property as raw, if_so, spelled, all_spelled};
+ghost use Rattle.spec_props.specs.Layout.{path_bytes as words, all_colours, colour_bytes, property as raw, if_so};
+ghost use Rattle.spec_props.specs.Layout.{spelled, all_spelled};
 ghost use Rattle.xl_props.specs.Written.{flag_word, mode_word, offset_words, one_byte, if_there};
 ghost use Rattle.xl_fields.specs.Behind.{BeginsWith};
 ghost use Rattle.xl_props.specs.Known.{AreFewColours};

@@ -1,7 +1,8 @@
 ghost use Rattle.std.specs.Prelude.{◌≡◌, ◌≢◌, ◌+◌, ◌<◌, ◌^◌, length, IsTrue, OnOk, OnErr, None};
 ghost use Rattle.spec_document.specs.Limits.{is_offset};
 ghost use Rattle.spec_fields.specs.Reading.{unless};
-ghost use Rattle.spec_props.specs.Rules.{of_length, mode_rule, offsets_rule, path_rule, layer_rule, image_rule, channel_rule, rule_of};
+ghost use Rattle.spec_props.specs.Rules.{of_length, mode_rule, offsets_rule, path_rule, layer_rule, image_rule};
+ghost use Rattle.spec_props.specs.Rules.{channel_rule, rule_of};
 ghost use Rattle.xl_props.specs.Props.{property};
 
 use crate::words::{int, word};

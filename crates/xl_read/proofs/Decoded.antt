@@ -20,7 +20,8 @@ module _ (file : List ℕ) where
   held (Ok d) bytes e = read_held file d bytes e
   held (Err x) bytes e = tt
 
-  pub only : (r : Result Document ReadRefusedOrMemory) → AreBytes file → Gives r (reading file) → IfOk r (λ d. (other : Document) → Holds file other → other ≡ d)
+  pub only : (r : Result Document ReadRefusedOrMemory) → AreBytes file → Gives r (reading file)
+      → IfOk r (λ d. (other : Document) → Holds file other → other ≡ d)
   only (Ok d) bytes e = λ other h. holds_one file other d h (read_held file d bytes e)
   only (Err x) bytes e = tt
 
@@ -33,10 +34,12 @@ module _ (file : List ℕ) where
   limits (Ok d) bytes e = held_document file d bytes (read_held file d bytes e)
   limits (Err x) bytes e = tt
 
-  pub read_limits : (r : Result Document ReadRefusedOrMemory) (d : Document) → AreBytes file → Gives r (reading file) → r ≡ Ok d → IsDocument d
+  pub read_limits : (r : Result Document ReadRefusedOrMemory) (d : Document) → AreBytes file → Gives r (reading file) → r ≡ Ok d
+      → IsDocument d
   read_limits (Ok e) d bytes gives is = let same : e ≡ d = cc in subst IsDocument same (limits (Ok e) bytes gives)
   read_limits (Err x) d bytes gives is = cc
 
-  pub numbered : (r : Result Document ReadRefusedOrMemory) → AreBytes file → Gives r (reading file) → IfOk r (λ d. AreNumbered d.nodes)
+  pub numbered : (r : Result Document ReadRefusedOrMemory) → AreBytes file → Gives r (reading file)
+      → IfOk r (λ d. AreNumbered d.nodes)
   numbered (Ok d) bytes e = numbered_nodes file d bytes (read_held file d bytes e)
   numbered (Err x) bytes e = tt

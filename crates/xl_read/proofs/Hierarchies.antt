@@ -7,7 +7,8 @@ use Rattle.spec_fields.specs.declared.Kind.TheVariants.{BadHierarchy}
 use Rattle.spec_fields.proofs.Back.{bind_back}
 use Rattle.spec_hierarchy.specs.Reading.{same_word_at, pointer_at, tiles_at, hierarchy_at}
 
-pub sides : (file : List ℕ) (at width height bpp compression : ℕ) (p : Plane) → hierarchy_at file at width height bpp compression ≡ Ok p
+pub sides : (file : List ℕ) (at width height bpp compression : ℕ) (p : Plane)
+    → hierarchy_at file at width height bpp compression ≡ Ok p
     → (p.width ≡ width) × (p.height ≡ height) × (p.bpp ≡ bpp)
 unfolding hierarchy_at
 sides file at width height bpp compression p e =

@@ -10,7 +10,8 @@ use Rattle.xl_props.specs.Known.{IsKnown}
 use Rattle.xl_props.specs.Props.{props_of, props_read, places_of}
 use Rattle.xl_read.specs.Listing.{list_or_none, listed, Keeps}
 
-pub keeps : (file : List ℕ) (owner : Owner) (at : ℕ) (props : Props) → props_read file owner at ≡ Ok props → IsKnown owner props.known
+pub keeps : (file : List ℕ) (owner : Owner) (at : ℕ) (props : Props) → props_read file owner at ≡ Ok props
+    → IsKnown owner props.known
     → props.next ≡ props.places.end + 8 → props.next ≤ length file → length file ≤ 2 ^ 31 → Keeps owner (listed file owner at) props
 unfolding listed
 keeps file owner at props e known next within short =
@@ -20,7 +21,8 @@ keeps file owner at props e known next within short =
     record { says = ap (props_of owner) here ∙ same; known = known; early = omega (arith, next, within, short) }
 
 -- the list was read there
-pub listed_is : (file : List ℕ) (owner : Owner) (at : ℕ) (props : Props) → props_read file owner at ≡ Ok props → properties_at file owner at ≡ Ok (listed file owner at)
+pub listed_is : (file : List ℕ) (owner : Owner) (at : ℕ) (props : Props) → props_read file owner at ≡ Ok props
+    → properties_at file owner at ≡ Ok (listed file owner at)
 unfolding listed
 listed_is file owner at props e =
     let b = bind_back (properties_at file owner at) (λ ps. Ok (props_of owner ps)) props e in

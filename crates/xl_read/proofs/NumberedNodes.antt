@@ -24,7 +24,8 @@ up_to_size file d all h =
     let nodes = nodes_within file h.layers (h.props.end + 8) start h.with_layers all none_yet h.add_layers in
     let w = h.with_layers in
     let no_sheets : HasSheets (record start { nodes = w.nodes }) = record { channels = tt; selection = tt } in
-    let sheets = channels_within file h.channels (h.props.end + 12 + 4 * length h.layers) w d all (subst HasSheets (sym nodes.same) no_sheets) h.add_channels in
+    let sheets = channels_within file h.channels (h.props.end + 12 + 4 * length h.layers) w d all
+    (subst HasSheets (sym nodes.same) no_sheets) h.add_channels in
     subst (λ x. AreUpTo (size x) (ids x)) (sym (ap (λ x. x.nodes) sheets.1)) nodes.grown.ids
 
 pub numbered_nodes : (file : List ℕ) (d : Document) → AreBytes file → Holds file d → AreNumbered d.nodes

@@ -17,24 +17,28 @@ nodes_of-above (leaf id n under) b = ap (leaf id (layer_of n)) (nodes_of-above u
 nodes_of-above (group id n children under) b = ap (group id (group_of n) (nodes_of children)) (nodes_of-above under b)
 
 -- a change before or after
-mapped : {A B : Type 0} (f : A → B) (g : A → A) (h : B → B) (o : Option A) → ((x : A) → h (f x) ≡ f (g x)) → option_map h (option_map f o) ≡ option_map f (option_map g o)
+mapped : {A B : Type 0} (f : A → B) (g : A → A) (h : B → B) (o : Option A) → ((x : A) → h (f x) ≡ f (g x))
+    → option_map h (option_map f o) ≡ option_map f (option_map g o)
 mapped f g h None e = refl
 mapped f g h (Some x) e = ap Some (e x)
 
 -- the branch goes to the same place
-pub nodes_of-put_last : (path : List ℕ) (branch forest : Forest Node Node) → put_last path (nodes_of branch) (nodes_of forest) ≡ option_map nodes_of (put_last path branch forest)
+pub nodes_of-put_last : (path : List ℕ) (branch forest : Forest Node Node)
+    → put_last path (nodes_of branch) (nodes_of forest) ≡ option_map nodes_of (put_last path branch forest)
 nodes_of-put_last [] branch forest = ap Some (nodes_of-above forest branch)
 nodes_of-put_last (place ∷ path) branch none = refl
 nodes_of-put_last (zero ∷ path) branch (leaf id n under) = refl
 nodes_of-put_last (zero ∷ path) branch (group id n children under) =
     ap (option_map (λ x. group id (group_of n) x (nodes_of under))) (nodes_of-put_last path branch children)
-    ∙ mapped nodes_of (λ x. group id n x under) (λ x. group id (group_of n) x (nodes_of under)) (put_last path branch children) (λ _. refl)
+    ∙ mapped nodes_of (λ x. group id n x under) (λ x. group id (group_of n) x (nodes_of under)) (put_last path branch children)
+    (λ _. refl)
 nodes_of-put_last (suc place ∷ path) branch (leaf id n under) =
     ap (option_map (leaf id (layer_of n))) (nodes_of-put_last (place ∷ path) branch under)
     ∙ mapped nodes_of (leaf id n) (leaf id (layer_of n)) (put_last (place ∷ path) branch under) (λ _. refl)
 nodes_of-put_last (suc place ∷ path) branch (group id n children under) =
     ap (option_map (group id (group_of n) (nodes_of children))) (nodes_of-put_last (place ∷ path) branch under)
-    ∙ mapped nodes_of (group id n children) (group id (group_of n) (nodes_of children)) (put_last (place ∷ path) branch under) (λ _. refl)
+    ∙ mapped nodes_of (group id n children) (group id (group_of n) (nodes_of children)) (put_last (place ∷ path) branch under)
+    (λ _. refl)
 
 marks-above : (a b : Forest Node Node) → MarksAgree a → MarksAgree b → MarksAgree (above a b)
 marks-above none b h k = k
@@ -47,7 +51,8 @@ origin f None y e = cc
 origin f (Some x) y e = (x, refl, cc)
 
 -- the marks still agree
-pub marks-put_last : (path : List ℕ) (branch old new : Forest Node Node) → put_last path branch old ≡ Some new → MarksAgree branch → MarksAgree old → MarksAgree new
+pub marks-put_last : (path : List ℕ) (branch old new : Forest Node Node) → put_last path branch old ≡ Some new → MarksAgree branch
+    → MarksAgree old → MarksAgree new
 marks-put_last [] branch old new e h k =
     let is : above old branch ≡ new = cc in
     let P : Forest Node Node → Type 0 = MarksAgree in

@@ -2,7 +2,8 @@ ghost use Rattle.std.specs.Prelude.{◌≡◌, ◌≤◌};
 ghost use Rattle.spec_document.specs.Limits.{IsOffset};
 ghost use Rattle.spec_document.specs.declared.Owner.TheVariants as owners;
 ghost use Rattle.spec_file.specs.Placing.{path_to, place_of};
-ghost use Rattle.spec_props.specs.Meaning.{has_colours, colours_of, compression_of, opacity_of, mode_of, visible_of, apply_mask_of, x_of, y_of, is_group, is_selection, kept_of};
+ghost use Rattle.spec_props.specs.Meaning.{has_colours, colours_of, compression_of, opacity_of, mode_of, visible_of};
+ghost use Rattle.spec_props.specs.Meaning.{apply_mask_of, x_of, y_of, is_group, is_selection, kept_of};
 ghost use Rattle.xl_read.specs.Listing.{parent_of};
 ghost use Rattle.spec_document.specs.declared.numbers.TheConstants.{GROUP_ITEM, ITEM_PATH, SELECTION};
 

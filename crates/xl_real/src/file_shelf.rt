@@ -1,4 +1,5 @@
-ghost use Rattle.std.specs.Prelude.{◌≡◌, ◌≤◌, None, Some, IsSome, is_some, is_ok, false, true, refl, IfOk, OnOk, OnErr, length, option_map, string_bytes};
+ghost use Rattle.std.specs.Prelude.{◌≡◌, ◌≤◌, None, Some, IsSome, is_some, is_ok, false, true, refl, IfOk, OnOk, OnErr};
+ghost use Rattle.std.specs.Prelude.{length, option_map, string_bytes};
 ghost use Rattle.xl_ports.specs.Faults.{HasCause};
 
 use crate::drafts::{discard_draft, new_draft, rename_draft};

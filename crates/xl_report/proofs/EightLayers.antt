@@ -63,8 +63,20 @@ ten : AreIds (1 ∷ 2 ∷ 3 ∷ 4 ∷ 5 ∷ 6 ∷ 7 ∷ 8 ∷ 9 ∷ 10 ∷ [])
 unfolding IsDistinct
 ten = record {
   distinct = search;
-  positive = (omega arith, (omega arith, (omega arith, (omega arith, (omega arith, (omega arith, (omega arith, (omega arith, (omega arith, (omega arith, tt))))))))));
-  word = (omega arith, (omega arith, (omega arith, (omega arith, (omega arith, (omega arith, (omega arith, (omega arith, (omega arith, (omega arith, tt))))))))));
+  positive = (
+    omega arith,
+    (
+      omega arith,
+      (omega arith, (omega arith, (omega arith, (omega arith, (omega arith, (omega arith, (omega arith, (omega arith, tt)))))))),
+    ),
+  );
+  word = (
+    omega arith,
+    (
+      omega arith,
+      (omega arith, (omega arith, (omega arith, (omega arith, (omega arith, (omega arith, (omega arith, (omega arith, tt)))))))),
+    ),
+  );
 }
 
 module _ (a b c d e f g h : Look) where
@@ -85,7 +97,13 @@ module _ (a b c d e f g h : Look) where
         (
           (tt, is_group),
           (
-            (is_layer e fit.1.1.1.1.0, (is_layer f fit.1.1.1.1.1.0, (is_layer g fit.1.1.1.1.1.1.0, (is_layer h fit.1.1.1.1.1.1.1.0, tt)))),
+            (
+              is_layer e fit.1.1.1.1.0,
+              (
+                is_layer f fit.1.1.1.1.1.0,
+                (is_layer g fit.1.1.1.1.1.1.0, (is_layer h fit.1.1.1.1.1.1.1.0, tt)),
+              ),
+            ),
             tt,
           ),
         ),

@@ -14,7 +14,15 @@ layer_node l = record {
   mode = l.mode;
   visible = true;
   kept = [];
-  body = Leaf (record { kind = 1; x = pos l.x; y = pos l.y; plane = plane_of 512 384 4 (λ x y c. slice_index l.pixel c); mask = None; apply_mask = true });
+  body = Leaf (record {
+    kind = 1;
+    x = pos l.x;
+    y = pos l.y;
+    plane = plane_of 512 384 4 (λ x y c. slice_index l.pixel c);
+    mask =
+        None;
+    apply_mask = true;
+  });
 }
 
 abbrev pub group_node : Node

@@ -68,7 +68,8 @@ fn plain_group(alloc: Global) -> Node
     }
 }
 
-// Puts a group under all others, and layers into it. The ids count from the group's on, and `place` is the number of nodes at the top.
+// Puts a group under all others, and layers into it. The ids count from the group's on, and `place` is the number of
+// nodes at the top.
 fn put_group(
     alloc: Global,
     tree: &mut Tree<Node>,
@@ -82,7 +83,8 @@ fn put_group(
     requires few { size tree.old + 1 + length looks.now ≤ MAX_NODES }
     requires low { first ≤ MAX_NODES }
     requires looks { AllByRecursion IsLook looks.now }
-    ensures { OnOk result (tree.new ≡ above tree.old (group first group_node (leaves_from (1 + first) (map layer_node looks.now)) none)) }
+    ensures { OnOk result (tree.new ≡ above tree.old
+        (group first group_node (leaves_from (1 + first) (map layer_node looks.now)) none)) }
 {
     let group = plain_group(alloc);
     tree.put_last(&[], NodeId(first), group);

@@ -1,12 +1,16 @@
 -- The greedy spelling is a spelling, and not much longer than its plane.
-use Rattle.std.proofs.Common.{◌≡◌, ℕ, zero, suc, ◌+◌, ◌*◌, ◌<◌, ◌≤◌, Bool, true, false, cond, List, [], ◌∷◌, ◌++◌, length, drop, replicate, refl, ap, ◌∙◌, sym, subst, arith, length-append, get_or, Fits, w8}
+use Rattle.std.proofs.Common.{◌≡◌, ℕ, zero, suc, ◌+◌, ◌*◌, ◌<◌, ◌≤◌, Bool, true, false, cond, List, [], ◌∷◌, ◌++◌}
+use Rattle.std.proofs.Common.{length, drop, replicate, refl, ap, ◌∙◌, sym, subst, arith, length-append, get_or, Fits}
+use Rattle.std.proofs.Common.{w8}
 use Rattle.std.specs.Prelude.{flat_map, nat_le}
 use Rattle.std.specs.List.{AllByRecursion}
 use Rattle.std.proofs.lemmas.Bool.{leb-true, leb-false, false≢true}
 use Rattle.std.proofs.lemmas.List.{length-replicate}
-use Rattle.spec_rle.specs.Codes.{Code, short_run, long_run, short_literal, long_literal, IsCode, code_bytes, code_pixels, EndsWithBytes, Spells}
+use Rattle.spec_rle.specs.Codes.{Code, short_run, long_run, short_literal, long_literal, IsCode, code_bytes}
+use Rattle.spec_rle.specs.Codes.{code_pixels, EndsWithBytes, Spells}
 use Rattle.spec_rle.specs.Greedy.{run_length, begins_run, up_to_run, run_code, literal_code, first_code, greedy_codes, greedy}
-use Rattle.xl_rle.proofs.GreedyCodes.{pixels_of_run, pixels_of_literal, first_gives, first_is_run, first_is_literal, literal_some, literal_parts, run_parts, spell}
+use Rattle.xl_rle.proofs.GreedyCodes.{pixels_of_run, pixels_of_literal, first_gives, first_is_run, first_is_literal}
+use Rattle.xl_rle.proofs.GreedyCodes.{literal_some, literal_parts, run_parts, spell}
 
 abbrev AreBytes : List ℕ → Type 0
 AreBytes bytes = AllByRecursion (λ b. b < 256) bytes
@@ -42,25 +46,29 @@ record IsFirst (b : ℕ) (bytes : List ℕ) : Type 0 where
   pub is_code : IsCode (first_code b bytes)
   pub some : 0 < length (code_pixels (first_code b bytes))
 
-first_run : (b : ℕ) (bytes : List ℕ) → length (b ∷ bytes) ≤ 4096 → AreBytes (b ∷ bytes) → begins_run (b ∷ bytes) ≡ true → IsFirst b bytes
+first_run : (b : ℕ) (bytes : List ℕ) → length (b ∷ bytes) ≤ 4096 → AreBytes (b ∷ bytes) → begins_run (b ∷ bytes) ≡ true
+    → IsFirst b bytes
 first_run b bytes few are on =
     let n = run_length (b ∷ bytes) in
     let code : run_code n b ≡ first_code b bytes = sym (first_is_run b bytes on) in
     let size : length (code_pixels (run_code n b)) ≡ n = ap length (pixels_of_run n b) ∙ length-replicate n b in
-    let fits : n ≤ length (b ∷ bytes) = omega (arith, ap length (run_parts b bytes), length-append (replicate n b) (drop n (b ∷ bytes)), length-replicate n b) in
+    let fits : n ≤ length (b ∷ bytes) =
+    omega (arith, ap length (run_parts b bytes), length-append (replicate n b) (drop n (b ∷ bytes)), length-replicate n b) in
     record {
       is_code = subst IsCode code (code_of_run n b (omega arith) (omega (arith, fits, few)) are.0);
       some = omega (arith, ap (λ c. length (code_pixels c)) code, size);
     }
 
-first_literal : (b : ℕ) (bytes : List ℕ) → length (b ∷ bytes) ≤ 4096 → AreBytes (b ∷ bytes) → begins_run (b ∷ bytes) ≡ false → IsFirst b bytes
+first_literal : (b : ℕ) (bytes : List ℕ) → length (b ∷ bytes) ≤ 4096 → AreBytes (b ∷ bytes) → begins_run (b ∷ bytes) ≡ false
+    → IsFirst b bytes
 first_literal b bytes few are off =
     let front = up_to_run (b ∷ bytes) in
     let code : literal_code front ≡ first_code b bytes = sym (first_is_literal b bytes off) in
     let size : length (code_pixels (literal_code front)) ≡ length front = ap length (pixels_of_literal front) in
     let some : 0 < length front = literal_some (b ∷ bytes) (omega arith) off in
     let parts = literal_parts (b ∷ bytes) in
-    let fits : length front ≤ length (b ∷ bytes) = omega (arith, ap length parts, length-append front (drop (length front) (b ∷ bytes))) in
+    let fits : length front ≤ length (b ∷ bytes) =
+    omega (arith, ap length parts, length-append front (drop (length front) (b ∷ bytes))) in
     let bytes' : AreBytes front = front_bytes front (drop (length front) (b ∷ bytes)) (subst AreBytes (sym parts) are) in
     record {
       is_code = subst IsCode code (code_of_literal front some (omega (arith, fits, few)) bytes');
@@ -81,7 +89,8 @@ record AreCodes (bytes : List ℕ) (codes : List Code) : Type 0 where
   pub some : AllByRecursion (λ code. 0 < length (code_pixels code)) codes
   pub given : bytes ≡ flat_map code_pixels codes
 
-codes_are : (n : ℕ) (bytes : List ℕ) → length bytes ≤ n → length bytes ≤ 4096 → AreBytes bytes → AreCodes bytes (greedy_codes n bytes)
+codes_are : (n : ℕ) (bytes : List ℕ) → length bytes ≤ n → length bytes ≤ 4096 → AreBytes bytes
+    → AreCodes bytes (greedy_codes n bytes)
 codes_are zero [] enough few are = record { few = omega arith; each = tt; some = tt; given = refl }
 codes_are zero (b ∷ bytes) enough few are = absurd (omega (arith, enough))
 codes_are (suc n) [] enough few are = record { few = omega arith; each = tt; some = tt; given = refl }
@@ -91,7 +100,8 @@ codes_are (suc n) (b ∷ bytes) enough few are =
     let parts : pixels ++ rest ≡ b ∷ bytes = first_gives b bytes in
     let first = first_is b bytes few are in
     let size : length pixels + length rest ≡ suc (length bytes) = sym (length-append pixels rest) ∙ ap length parts in
-    let more = codes_are n rest (omega (arith, size, first.some, enough)) (omega (arith, size, few)) (back_bytes pixels rest (subst AreBytes (sym parts) are)) in
+    let more = codes_are n rest (omega (arith, size, first.some, enough)) (omega (arith, size, few))
+    (back_bytes pixels rest (subst AreBytes (sym parts) are)) in
     record {
       few = omega (arith, size, first.some, more.few);
       each = (first.is_code, more.each);
@@ -99,7 +109,8 @@ codes_are (suc n) (b ∷ bytes) enough few are =
       given = sym parts ∙ ap (λ xs. pixels ++ xs) more.given;
     }
 
-ends_with : (code : Code) (codes : List Code) → AllByRecursion (λ c. 0 < length (code_pixels c)) (code ∷ codes) → EndsWithBytes (code ∷ codes)
+ends_with : (code : Code) (codes : List Code) → AllByRecursion (λ c. 0 < length (code_pixels c)) (code ∷ codes)
+    → EndsWithBytes (code ∷ codes)
 ends_with code [] h = h.0
 ends_with code (next ∷ codes) h = ends_with next codes h.1
 
@@ -111,7 +122,8 @@ greedy_spells (b ∷ bytes) some few are =
       record {
         few = omega (arith, codes.few, few);
         each = codes.each;
-        ends = ends_with (first_code b bytes) (greedy_codes (length bytes) (drop (length (code_pixels (first_code b bytes))) (b ∷ bytes))) codes.some;
+        ends = ends_with (first_code b bytes)
+            (greedy_codes (length bytes) (drop (length (code_pixels (first_code b bytes))) (b ∷ bytes))) codes.some;
         spelled = refl;
         given = codes.given;
       },
@@ -123,10 +135,20 @@ some_of b bytes = by (begins_run (b ∷ bytes)) refl
     by : (t : Bool) → begins_run (b ∷ bytes) ≡ t → 0 < length (code_pixels (first_code b bytes))
     by true e =
         let n = run_length (b ∷ bytes) in
-        omega (arith, ap (λ c. length (code_pixels c)) (first_is_run b bytes e), ap length (pixels_of_run n b), length-replicate n b)
+        omega (
+          arith,
+          ap (λ c. length (code_pixels c)) (first_is_run b bytes e),
+          ap length (pixels_of_run n b),
+          length-replicate n b,
+        )
     by false e =
         let front = up_to_run (b ∷ bytes) in
-        omega (arith, ap (λ c. length (code_pixels c)) (first_is_literal b bytes e), ap length (pixels_of_literal front), literal_some (b ∷ bytes) (omega arith) e)
+        omega (
+          arith,
+          ap (λ c. length (code_pixels c)) (first_is_literal b bytes e),
+          ap length (pixels_of_literal front),
+          literal_some (b ∷ bytes) (omega arith) e,
+        )
 
 -- a run begins here, or nothing stands here
 abbrev BeginsOrEnds : List ℕ → Type 0
@@ -153,7 +175,8 @@ run_short n b h = by (nat_le n 127) refl
 literal_short : (bytes : List ℕ) → 131 * length (code_bytes (literal_code bytes)) ≤ 133 * length bytes + 137
 literal_short bytes = by (nat_le (length bytes) 127) refl
   where
-    by : (t : Bool) → nat_le (length bytes) 127 ≡ t → 131 * length (code_bytes (cond t (short_literal bytes) (long_literal bytes))) ≤ 133 * length bytes + 137
+    by : (t : Bool) → nat_le (length bytes) 127 ≡ t
+        → 131 * length (code_bytes (cond t (short_literal bytes) (long_literal bytes))) ≤ 133 * length bytes + 137
     by true e = omega arith
     by false e = omega (arith, leb-false (length bytes) 127 e)
 
@@ -163,15 +186,18 @@ record IsShort (n : ℕ) (bytes : List ℕ) : Type 0 where
   pub run : BeginsOrEnds bytes → 131 * length (spell n bytes) ≤ 133 * length bytes
 
 short_run_first : (n b : ℕ) (bytes : List ℕ) → begins_run (b ∷ bytes) ≡ true
-    → 131 * length (spell n (drop (length (code_pixels (first_code b bytes))) (b ∷ bytes))) ≤ 133 * length (drop (length (code_pixels (first_code b bytes))) (b ∷ bytes)) + 137
+    → 131 * length (spell n (drop (length (code_pixels (first_code b bytes))) (b ∷ bytes)))
+    ≤ 133 * length (drop (length (code_pixels (first_code b bytes))) (b ∷ bytes)) + 137
     → 131 * length (spell (suc n) (b ∷ bytes)) ≤ 133 * length (b ∷ bytes)
 short_run_first n b bytes on rest_short =
     let r = run_length (b ∷ bytes) in
     let code = first_code b bytes in
     let rest = drop (length (code_pixels code)) (b ∷ bytes) in
     let is : code ≡ run_code r b = first_is_run b bytes on in
-    let size : length (code_pixels code) ≡ r = ap (λ c. length (code_pixels c)) is ∙ (ap length (pixels_of_run r b) ∙ length-replicate r b) in
-    let whole : length (code_pixels code) + length rest ≡ suc (length bytes) = sym (length-append (code_pixels code) rest) ∙ ap length (first_gives b bytes) in
+    let size : length (code_pixels code) ≡ r = ap (λ c. length (code_pixels c)) is
+    ∙ (ap length (pixels_of_run r b) ∙ length-replicate r b) in
+    let whole : length (code_pixels code) + length rest ≡ suc (length bytes) = sym (length-append (code_pixels code) rest)
+    ∙ ap length (first_gives b bytes) in
     let cost : length (code_bytes code) ≡ length (code_bytes (run_code r b)) = ap (λ c. length (code_bytes c)) is in
     let all = length-append (code_bytes code) (spell n rest) in
     let saved = run_short r b (leb-true 3 r on) in
@@ -179,15 +205,18 @@ short_run_first n b bytes on rest_short =
 
 short_literal_first : (n b : ℕ) (bytes : List ℕ) → begins_run (b ∷ bytes) ≡ false
     → (BeginsOrEnds (drop (length (code_pixels (first_code b bytes))) (b ∷ bytes))
-    → 131 * length (spell n (drop (length (code_pixels (first_code b bytes))) (b ∷ bytes))) ≤ 133 * length (drop (length (code_pixels (first_code b bytes))) (b ∷ bytes)))
+    → 131 * length (spell n (drop (length (code_pixels (first_code b bytes))) (b ∷ bytes)))
+    ≤ 133 * length (drop (length (code_pixels (first_code b bytes))) (b ∷ bytes)))
     → 131 * length (spell (suc n) (b ∷ bytes)) ≤ 133 * length (b ∷ bytes) + 137
 short_literal_first n b bytes off rest_short =
     let front = up_to_run (b ∷ bytes) in
     let code = first_code b bytes in
     let rest = drop (length (code_pixels code)) (b ∷ bytes) in
     let is : code ≡ literal_code front = first_is_literal b bytes off in
-    let size : length (code_pixels code) ≡ length front = ap (λ c. length (code_pixels c)) is ∙ ap length (pixels_of_literal front) in
-    let whole : length (code_pixels code) + length rest ≡ suc (length bytes) = sym (length-append (code_pixels code) rest) ∙ ap length (first_gives b bytes) in
+    let size : length (code_pixels code) ≡ length front = ap (λ c. length (code_pixels c)) is
+    ∙ ap length (pixels_of_literal front) in
+    let whole : length (code_pixels code) + length rest ≡ suc (length bytes) = sym (length-append (code_pixels code) rest)
+    ∙ ap length (first_gives b bytes) in
     let cost : length (code_bytes code) ≡ length (code_bytes (literal_code front)) = ap (λ c. length (code_bytes c)) is in
     let all = length-append (code_bytes code) (spell n rest) in
     let begins : BeginsOrEnds rest = subst (λ k. BeginsOrEnds (drop k (b ∷ bytes))) (sym size) (behind_literal (b ∷ bytes)) in
@@ -199,10 +228,12 @@ are_short zero (b ∷ bytes) enough = absurd (omega (arith, enough))
 are_short (suc n) [] enough = record { any = omega arith; run = λ h. omega arith }
 are_short (suc n) (b ∷ bytes) enough =
     let rest = drop (length (code_pixels (first_code b bytes))) (b ∷ bytes) in
-    let size : length (code_pixels (first_code b bytes)) + length rest ≡ suc (length bytes) = sym (length-append (code_pixels (first_code b bytes)) rest) ∙ ap length (first_gives b bytes) in
+    let size : length (code_pixels (first_code b bytes)) + length rest ≡ suc (length bytes) =
+    sym (length-append (code_pixels (first_code b bytes)) rest) ∙ ap length (first_gives b bytes) in
     by (begins_run (b ∷ bytes)) refl (are_short n rest (omega (arith, size, some_of b bytes, enough)))
   where
-    by : (t : Bool) → begins_run (b ∷ bytes) ≡ t → IsShort n (drop (length (code_pixels (first_code b bytes))) (b ∷ bytes)) → IsShort (suc n) (b ∷ bytes)
+    by : (t : Bool) → begins_run (b ∷ bytes) ≡ t → IsShort n (drop (length (code_pixels (first_code b bytes))) (b ∷ bytes))
+        → IsShort (suc n) (b ∷ bytes)
     by true e more = let short = short_run_first n b bytes e more.any in record { any = omega (arith, short); run = λ h. short }
     by false e more = record { any = short_literal_first n b bytes e more.run; run = λ h. absurd (false≢true (sym e ∙ h)) }
 

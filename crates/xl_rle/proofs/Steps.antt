@@ -1,5 +1,7 @@
 -- What one code does to the plane that is read.
-use Rattle.std.proofs.Common.{◌≡◌, ℕ, zero, suc, ◌+◌, ◌-◌, ◌<◌, ◌≤◌, Bool, true, false, cond, List, [], ◌++◌, length, replicate, drop, slice_index, nat_lt, refl, ap, ◌∙◌, append_assoc, append-nil, sym, arith, inl, inr, length-drop, length-take-le}
+use Rattle.std.proofs.Common.{◌≡◌, ℕ, zero, suc, ◌+◌, ◌-◌, ◌<◌, ◌≤◌, Bool, true, false, cond, List, [], ◌++◌, length}
+use Rattle.std.proofs.Common.{replicate, drop, slice_index, nat_lt, refl, ap, ◌∙◌, append_assoc, append-nil, sym}
+use Rattle.std.proofs.Common.{arith, inl, inr, length-drop, length-take-le}
 use Rattle.std.specs.Prelude.{Ok, Err, nat_le}
 use Rattle.std.proofs.lemmas.List.{length-replicate}
 use Rattle.std.proofs.lemmas.Bool.{lt-ltb, le-leb, cases_lt}
@@ -12,7 +14,8 @@ use Rattle.spec_fields.proofs.Steps.{pass, onward}
 use Rattle.spec_rle.specs.Reading.{Head, head_of, body_length, body_pixels, Part, code_at, codes_at, plane_at}
 
 -- a rule that fails ends the reading
-fails : {A : Type 0} (test : Bool) (refused : ReadRefused) (rest : Unit {0} → Read A) → test ≡ false → (wants test refused >>= rest) ≡ Err refused
+fails : {A : Type 0} (test : Bool) (refused : ReadRefused) (rest : Unit {0} → Read A) → test ≡ false
+    → (wants test refused >>= rest) ≡ Err refused
 fails test refused rest h = ap (λ b. wants b refused >>= rest) h
 
 not_lt : (a b : ℕ) → b ≤ a → nat_lt a b ≡ false
@@ -31,12 +34,14 @@ code_by file at codes room head = do
   _ ← wants (nat_le (head.body + body_length head) (length file)) (fault Truncated at)
   Ok (record { pixels = body_pixels file head; next = head.body + body_length head })
 
-by_head : (file : List ℕ) (at codes room : ℕ) (h : Head) → h ≡ head_of file at (slice_index file at) → code_at file at codes room ≡ code_by file at codes room h
+by_head : (file : List ℕ) (at codes room : ℕ) (h : Head) → h ≡ head_of file at (slice_index file at)
+    → code_at file at codes room ≡ code_by file at codes room h
 unfolding code_at
 by_head file at codes room h e = ap (code_by file at codes room) (sym e)
 
 -- a head that does not fit
-pub cut : (file : List ℕ) (at codes room : ℕ) → length file < (head_of file at (slice_index file at)).body → code_at file at codes room ≡ Err (fault Truncated at)
+pub cut : (file : List ℕ) (at codes room : ℕ) → length file < (head_of file at (slice_index file at)).body
+    → code_at file at codes room ≡ Err (fault Truncated at)
 cut file at codes room past =
     let h = head_of file at (slice_index file at) in
     by_head file at codes room h refl
@@ -61,43 +66,53 @@ rest_of file at codes room h = do
   _ ← wants (nat_le (h.body + body_length h) (length file)) (fault Truncated at)
   Ok (record { pixels = body_pixels file h; next = h.body + body_length h })
 
-begun : (file : List ℕ) (at codes room : ℕ) (h : Head) (read : Read Part) → Begins file at h → rest_of file at codes room h ≡ read → code_at file at codes room ≡ read
+begun : (file : List ℕ) (at codes room : ℕ) (h : Head) (read : Read Part) → Begins file at h → rest_of file at codes room h ≡ read
+    → code_at file at codes room ≡ read
 begun file at codes room h read b rest =
     by_head file at codes room h b.is
     ∙ (pass (nat_lt at (length file)) (fault Truncated at) _ (lt-ltb at (length file) b.starts)
     ∙ (pass (nat_le h.body (length file)) (fault Truncated at) _ (le-leb h.body (length file) b.fits) ∙ rest))
 
 -- more bytes than the plane has room for
-pub too_long : (file : List ℕ) (at codes room : ℕ) (h : Head) → Begins file at h → room < h.count → code_at file at codes room ≡ Err (fault BadRun at)
-too_long file at codes room h b long = begun file at codes room h _ b (fails (nat_le h.count room) (fault BadRun at) _ (not_le h.count room long))
+pub too_long : (file : List ℕ) (at codes room : ℕ) (h : Head) → Begins file at h → room < h.count
+    → code_at file at codes room ≡ Err (fault BadRun at)
+too_long file at codes room h b long =
+    begun file at codes room h _ b (fails (nat_le h.count room) (fault BadRun at) _ (not_le h.count room long))
 
 -- one code too many
 pub too_many : (file : List ℕ) (at room : ℕ) (h : Head) → Begins file at h → code_at file at 0 room ≡ Err (fault BadRun at)
 too_many file at room h b =
-    let rest : Unit {0} → Read Part = λ _. wants (nat_le (h.body + body_length h) (length file)) (fault Truncated at) >>= (λ _. Ok (record { pixels = body_pixels file h; next = h.body + body_length h })) in
+    let rest : Unit {0} → Read Part =
+    λ _. wants (nat_le (h.body + body_length h) (length file)) (fault Truncated at) >>=
+    (λ _. Ok (record { pixels = body_pixels file h; next = h.body + body_length h })) in
     let many : Read Part = wants (nat_lt 0 0) (fault BadRun at) >>= rest in
     let no_more : many ≡ Err (fault BadRun at) = fails (nat_lt 0 0) (fault BadRun at) rest refl in
     elim (cases_lt room h.count) [
       | inl long ↦ too_long file at 0 room h b long
-      | inr fits ↦ begun file at 0 room h _ b (pass (nat_le h.count room) (fault BadRun at) (λ _. many) (le-leb h.count room fits) ∙ no_more)
+      | inr fits ↦ begun file at 0 room h _ b (pass (nat_le h.count room) (fault BadRun at) (λ _. many) (le-leb h.count room fits)
+          ∙ no_more)
     ]
 
 -- a body that does not fit
-pub short : (file : List ℕ) (at codes room : ℕ) (h : Head) → Begins file at h → h.count ≤ room → 0 < codes → length file < h.body + body_length h
+pub short : (file : List ℕ) (at codes room : ℕ) (h : Head) → Begins file at h → h.count ≤ room → 0 < codes
+    → length file < h.body + body_length h
     → code_at file at codes room ≡ Err (fault Truncated at)
 short file at codes room h b fits some past =
     begun file at codes room h _ b
     (pass (nat_le h.count room) (fault BadRun at) _ (le-leb h.count room fits)
     ∙ (pass (nat_lt 0 codes) (fault BadRun at) _ (lt-ltb 0 codes some)
-    ∙ fails (nat_le (h.body + body_length h) (length file)) (fault Truncated at) _ (not_le (h.body + body_length h) (length file) past)))
+    ∙ fails (nat_le (h.body + body_length h) (length file)) (fault Truncated at) _
+    (not_le (h.body + body_length h) (length file) past)))
 
-one : (file : List ℕ) (at codes room : ℕ) (h : Head) → Begins file at h → h.count ≤ room → 0 < codes → h.body + body_length h ≤ length file
+one : (file : List ℕ) (at codes room : ℕ) (h : Head) → Begins file at h → h.count ≤ room → 0 < codes
+    → h.body + body_length h ≤ length file
     → code_at file at codes room ≡ Ok (record { pixels = body_pixels file h; next = h.body + body_length h })
 one file at codes room h b fits some whole =
     begun file at codes room h _ b
     (pass (nat_le h.count room) (fault BadRun at) _ (le-leb h.count room fits)
     ∙ (pass (nat_lt 0 codes) (fault BadRun at) _ (lt-ltb 0 codes some)
-    ∙ pass (nat_le (h.body + body_length h) (length file)) (fault Truncated at) _ (le-leb (h.body + body_length h) (length file) whole)))
+    ∙ pass (nat_le (h.body + body_length h) (length file)) (fault Truncated at) _
+    (le-leb (h.body + body_length h) (length file) whole)))
 
 -- a run has a byte behind its head, and literals have as many as they give
 pub length_of_run : (h : Head) → h.is_run ≡ true → body_length h ≡ 1
@@ -132,13 +147,15 @@ onto codes file room part = do
   rest ← codes_at codes file part.next (room - length part.pixels)
   Ok (record { pixels = part.pixels ++ rest.pixels; next = rest.next })
 
-ended : (codes : ℕ) (file : List ℕ) (at room : ℕ) (e : ReadRefused) → 0 < room → code_at file at codes room ≡ Err e → codes_at codes file at room ≡ Err e
+ended : (codes : ℕ) (file : List ℕ) (at room : ℕ) (e : ReadRefused) → 0 < room → code_at file at codes room ≡ Err e
+    → codes_at codes file at room ≡ Err e
 unfolding codes_at
 ended codes file at zero e some h = absurd (omega arith)
 ended zero file at (suc room) e some h = h
 ended (suc codes) file at (suc room) e some h = ap (λ r. r >>= onto codes file (suc room)) h
 
-as_prepend : (a : List ℕ) (r : Read Part) → (r >>= (λ rest. Ok (record { pixels = a ++ rest.pixels; next = rest.next }))) ≡ prepend a r
+as_prepend : (a : List ℕ) (r : Read Part)
+    → (r >>= (λ rest. Ok (record { pixels = a ++ rest.pixels; next = rest.next }))) ≡ prepend a r
 as_prepend a (Ok x) = refl
 as_prepend a (Err e) = refl
 
@@ -158,43 +175,56 @@ pub record Reading (so_far file : List ℕ) (from at room filled left : ℕ) : T
   pub inside : filled ≤ room
   pub reads : plane_at file from room ≡ prepend so_far (codes_at left file at (room - filled))
 
-pub stops : {so_far file : List ℕ} {from at room filled left : ℕ} {e : ReadRefused} → Reading so_far file from at room filled left → filled < room
+pub stops : {so_far file : List ℕ} {from at room filled left : ℕ} {e : ReadRefused} → Reading so_far file from at room filled left
+    → filled < room
     → code_at file at left (room - filled) ≡ Err e → plane_at file from room ≡ Err e
 stops {so_far = so_far} {file = file} {at = at} {room = room} {filled = filled} {left = left} {e = e} reading some h =
     reading.reads ∙ ap (prepend so_far) (ended left file at (room - filled) e (omega (arith, some)) h)
 
-pub goes_on : {so_far file : List ℕ} {from at room filled left : ℕ} → Reading so_far file from at room filled left → (h : Head) → Begins file at h → 0 < left → filled < room
-    → h.count ≤ room - filled → h.body + body_length h ≤ length file → (front : List ℕ) (next : ℕ) → front ≡ so_far ++ body_pixels file h → length (body_pixels file h) ≡ h.count
+pub goes_on : {so_far file : List ℕ} {from at room filled left : ℕ} → Reading so_far file from at room filled left → (h : Head)
+    → Begins file at h → 0 < left → filled < room
+    → h.count ≤ room - filled → h.body + body_length h ≤ length file → (front : List ℕ) (next : ℕ)
+    → front ≡ so_far ++ body_pixels file h → length (body_pixels file h) ≡ h.count
     → next ≡ h.body + body_length h → Reading front file from next room (filled + h.count) (left - 1)
-goes_on {so_far = so_far} {file = file} {from = from} {at = at} {room = room} {filled = filled} {left = left} reading h b some more fits whole front next front_is count next_is =
+goes_on {so_far = so_far} {file = file} {from = from} {at = at} {room = room} {filled = filled} {left =
+    left} reading h b some more fits whole front next front_is count next_is =
     let part : Part = record { pixels = body_pixels file h; next = h.body + body_length h } in
-    let split = went left file at (room - filled) part (omega (arith, more)) some (one file at left (room - filled) h b fits some whole) in
+    let split = went left file at (room - filled) part (omega (arith, more)) some
+    (one file at left (room - filled) h b fits some whole) in
     let joined = prepend-prepend so_far part.pixels (codes_at (left - 1) file part.next (room - filled - length part.pixels)) in
     let rest : room - filled - length part.pixels ≡ room - (filled + h.count) = omega (arith, count) in
     record {
       inside = omega (arith, fits, more);
-      reads = reading.reads ∙ (ap (prepend so_far) split ∙ (joined ∙ (λ i. prepend (sym front_is i) (codes_at (left - 1) file (sym next_is i) (rest i)))));
+      reads = reading.reads ∙ (ap (prepend so_far) split
+          ∙ (joined ∙ (λ i. prepend (sym front_is i) (codes_at (left - 1) file (sym next_is i) (rest i)))));
     }
 
-pub goes_on_run : {so_far file : List ℕ} {from at room filled left : ℕ} → Reading so_far file from at room filled left → (h : Head) → Begins file at h → h.is_run ≡ true → 0 < left
-    → filled < room → h.count ≤ room - filled → h.body < length file → (front : List ℕ) → front ≡ so_far ++ replicate h.count (slice_index file h.body)
+pub goes_on_run : {so_far file : List ℕ} {from at room filled left : ℕ} → Reading so_far file from at room filled left → (h : Head)
+    → Begins file at h → h.is_run ≡ true → 0 < left
+    → filled < room → h.count ≤ room - filled → h.body < length file → (front : List ℕ)
+    → front ≡ so_far ++ replicate h.count (slice_index file h.body)
     → (next : ℕ) → next ≡ h.body + 1 → Reading front file from next room (filled + h.count) (left - 1)
 goes_on_run {so_far = so_far} {file = file} reading h b run some more fits whole front front_is next next_is =
     let pixels = pixels_of_run file h run in
     goes_on reading h b some more fits (omega (arith, length_of_run h run, whole)) front next
-    (front_is ∙ ap (λ zs. so_far ++ zs) (sym pixels)) (ap length pixels ∙ length-replicate h.count (slice_index file h.body)) (omega (arith, length_of_run h run, next_is))
+    (front_is ∙ ap (λ zs. so_far ++ zs) (sym pixels)) (ap length pixels
+    ∙ length-replicate h.count (slice_index file h.body)) (omega (arith, length_of_run h run, next_is))
 
-pub goes_on_literal : {so_far file : List ℕ} {from at room filled left : ℕ} → Reading so_far file from at room filled left → (h : Head) → Begins file at h → h.is_run ≡ false → 0 < left
-    → filled < room → h.count ≤ room - filled → h.body + h.count ≤ length file → (front : List ℕ) → front ≡ so_far ++ bytes_at file h.body h.count
+pub goes_on_literal : {so_far file : List ℕ} {from at room filled left : ℕ} → Reading so_far file from at room filled left
+    → (h : Head) → Begins file at h → h.is_run ≡ false → 0 < left
+    → filled < room → h.count ≤ room - filled → h.body + h.count ≤ length file → (front : List ℕ)
+    → front ≡ so_far ++ bytes_at file h.body h.count
     → (next : ℕ) → next ≡ h.body + h.count → Reading front file from next room (filled + h.count) (left - 1)
 goes_on_literal {so_far = so_far} {file = file} reading h b literal some more fits whole front front_is next next_is =
     let pixels = pixels_of_literal file h literal in
     let long : h.count ≤ length (drop h.body file) = omega (arith, length-drop h.body file, whole) in
     goes_on reading h b some more fits (omega (arith, length_of_literal h literal, whole)) front next
-    (front_is ∙ ap (λ zs. so_far ++ zs) (sym pixels)) (ap length pixels ∙ length-take-le h.count (drop h.body file) long) (omega (arith, length_of_literal h literal, next_is))
+    (front_is ∙ ap (λ zs. so_far ++ zs) (sym pixels)) (ap length pixels
+    ∙ length-take-le h.count (drop h.body file) long) (omega (arith, length_of_literal h literal, next_is))
 
 pub ends : {so_far file : List ℕ} {from at room filled left : ℕ} → Reading so_far file from at room filled left → room ≤ filled
     → plane_at file from room ≡ Ok (record { pixels = so_far; next = at })
 ends {so_far = so_far} {file = file} {at = at} {room = room} {filled = filled} {left = left} reading whole =
     let none : room - filled ≡ 0 = omega (arith, whole) in
-    reading.reads ∙ (ap (λ n. prepend so_far (codes_at left file at n)) none ∙ (ap (prepend so_far) (full left file at) ∙ ap (λ zs. Ok (record { pixels = zs; next = at })) (append-nil so_far)))
+    reading.reads ∙ (ap (λ n. prepend so_far (codes_at left file at n)) none
+    ∙ (ap (prepend so_far) (full left file at) ∙ ap (λ zs. Ok (record { pixels = zs; next = at })) (append-nil so_far)))

@@ -15,7 +15,8 @@ use xl_ports::{Failed, Shelf};
 /// may be open. A later save opens a draft of its own.
 pub fn save<D: Shelf>(bytes: &[u8], shelf: &mut D) -> Result<(), Failed>
     requires { IsSome (D.selected shelf.old) }
-    ensures moments { IfSome (D.selected shelf.old) (λ name. Between (D.disk shelf.old) (D.disk shelf.new) (SavesOnly name bytes.now)) }
+    ensures moments { IfSome (D.selected shelf.old)
+        (λ name. Between (D.disk shelf.old) (D.disk shelf.new) (SavesOnly name bytes.now)) }
     ensures saved { OnOk result (IfSome (D.selected shelf.old) (λ name. IfSome (D.disk shelf.new) (HasSaved name bytes.now))) }
     ensures closed { OnOk result (D.is_open shelf.new ≡ false) }
     ensures selected { D.selected shelf.new ≡ D.selected shelf.old }

@@ -1,5 +1,6 @@
 -- Decimal numbers, digit by digit.
-use Rattle.std.proofs.Common.{◌≡◌, ℕ, suc, ◌+◌, ◌-◌, ◌*◌, ◌<◌, ◌≤◌, Bool, true, false, List, [], ◌∷◌, length, drop, refl, ap, sym, ◌∙◌, arith, nat_lt, get_or}
+use Rattle.std.proofs.Common.{◌≡◌, ℕ, suc, ◌+◌, ◌-◌, ◌*◌, ◌<◌, ◌≤◌, Bool, true, false, List, [], ◌∷◌, length, drop}
+use Rattle.std.proofs.Common.{refl, ap, sym, ◌∙◌, arith, nat_lt, get_or}
 use Rattle.std.specs.Prelude.{Option, None, if◌then◌else◌}
 use Rattle.std.proofs.lemmas.Bool.{ltb-true}
 use Rattle.std.proofs.Math.Seq.{drop-cons}
@@ -18,9 +19,11 @@ past_step false limit rest h = refl
 pub past : (limit value : ℕ) (bytes : List ℕ) → limit ≤ value → below limit (digits_from value bytes) ≡ None
 past limit value [] h = within (nat_lt value limit) limit value refl h
 past limit value (b ∷ bytes) h =
-    past_step (is_digit b) limit (digits_from (10 * value + (b - 48)) bytes) (past limit (10 * value + (b - 48)) bytes (omega arith))
+    past_step (is_digit b) limit (digits_from (10 * value + (b - 48)) bytes)
+    (past limit (10 * value + (b - 48)) bytes (omega arith))
 
-pub digit_more : (value b : ℕ) (bytes : List ℕ) → is_digit b ≡ true → digits_from value (b ∷ bytes) ≡ digits_from (10 * value + (b - 48)) bytes
+pub digit_more : (value b : ℕ) (bytes : List ℕ) → is_digit b ≡ true
+    → digits_from value (b ∷ bytes) ≡ digits_from (10 * value + (b - 48)) bytes
 digit_more value b bytes e = rw e refl
 
 -- the digits from a place on give the number of all
@@ -40,6 +43,7 @@ reads_more limit value place word r h e =
     ∙ ap (below limit) (digit_more value (get_or word place 0) (drop (suc place) word) e)) ∙ same
 
 pub reads_past : (limit value place : ℕ) (word : List ℕ) → ReadsOn limit value place word → place < length word
-    → is_digit (get_or word place 0) ≡ true → limit ≤ 10 * value + (get_or word place 0 - 48) → below limit (digits_from 0 word) ≡ None
+    → is_digit (get_or word place 0) ≡ true → limit ≤ 10 * value + (get_or word place 0 - 48)
+    → below limit (digits_from 0 word) ≡ None
 reads_past limit value place word r h e p =
     sym (reads_more limit value place word r h e) ∙ past limit (10 * value + (get_or word place 0 - 48)) (drop (suc place) word) p

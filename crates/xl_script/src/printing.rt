@@ -1,5 +1,6 @@
 ghost use Rattle.std.specs.Prelude.{◌≡◌, ◌++◌, IfOk, OnOk, OnErr, string_bytes};
-ghost use Rattle.spec_text.specs.Printed.{refusal_number, refusal_value, refusal_text, or_none, reply_text, line_text, order_word, order_line};
+ghost use Rattle.spec_text.specs.Printed.{refusal_number, refusal_value, refusal_text, or_none, reply_text, line_text};
+ghost use Rattle.spec_text.specs.Printed.{order_word, order_line};
 ghost use Rattle.xl_edit.specs.Replies.{reply_of};
 ghost use Rattle.xl_script.specs.Printed.{HasText};
 
@@ -142,7 +143,8 @@ pub fn print_reply(
     digest: &str,
 ) -> Result<(), AllocError>
     requires { HasText reply.now }
-    ensures ok { OnOk result (string_bytes out.new ≡ string_bytes out.old ++ line_text session index digest.now (reply_of reply.now)) }
+    ensures ok { OnOk result (string_bytes out.new ≡ string_bytes out.old
+        ++ line_text session index digest.now (reply_of reply.now)) }
     ensures err { OnErr result (string_bytes out.new ≡ string_bytes out.old) }
 {
     let line = reply_line(alloc, session, index, reply, digest)?;

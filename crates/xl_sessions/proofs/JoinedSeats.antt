@@ -1,5 +1,6 @@
 -- The seats of a run, joined one after another.
-use Rattle.std.proofs.Common.{◌≡◌, ℕ, ◌+◌, Bool, true, List, [], ◌∷◌, ◌++◌, length, map, flat_map, refl, sym, ap, ◌∙◌, subst, arith, append_assoc, append-nil}
+use Rattle.std.proofs.Common.{◌≡◌, ℕ, ◌+◌, Bool, true, List, [], ◌∷◌, ◌++◌, length, map, flat_map, refl, sym, ap, ◌∙◌}
+use Rattle.std.proofs.Common.{subst, arith, append_assoc, append-nil}
 use Rattle.std.specs.Prelude.{◌&&◌, string_bytes, String, Vec}
 use Rattle.std.specs.List.{AllByRecursion, list_all}
 use Rattle.std.specs.declared.alloc.Global.{Global}

@@ -1,12 +1,16 @@
 -- Each entry of a legal history has a line, where no save ended as out of memory.
-use Rattle.std.proofs.Common.{◌≡◌, ℕ, ◌+◌, Bool, true, false, cond, not, List, [], ◌∷◌, ◌++◌, Option, Some, None, Result, Ok, Err, sym, subst}
+use Rattle.std.proofs.Common.{◌≡◌, ℕ, ◌+◌, Bool, true, false, cond, not, List, [], ◌∷◌, ◌++◌, Option, Some, None}
+use Rattle.std.proofs.Common.{Result, Ok, Err, sym, subst}
 use Rattle.std.specs.List.{AllByRecursion}
 use Rattle.spec_document.specs.Document.{Document}
 use Rattle.spec_edit.specs.Apply.{At, Refused, apply_group}
 use Rattle.spec_edit.specs.Edit.{Edit}
 use Rattle.spec_grid.specs.declared.TileAt.{TileAt}
 use Rattle.spec_grid.specs.Grid.{is_on_grid}
-use Rattle.spec_history.specs.Machine.{Call, edit, undo, redo, tile, peek, top, Reply, tile_of, stale, no_stack, outside_tile, saved, save_fault, save_memory, State, Saving, Done, Answer, stays, made, names, moved, again, latest, document_at, has_stack, tile_reply, undo_answer, redo_answer, answer, changed, not_top, initial}
+use Rattle.spec_history.specs.Machine.{Call, edit, undo, redo, tile, peek, top, Reply, tile_of, stale, no_stack}
+use Rattle.spec_history.specs.Machine.{outside_tile, saved, save_fault, save_memory, State, Saving, Done, Answer}
+use Rattle.spec_history.specs.Machine.{stays, made, names, moved, again, latest, document_at, has_stack, tile_reply}
+use Rattle.spec_history.specs.Machine.{undo_answer, redo_answer, answer, changed, not_top, initial}
 use Rattle.spec_history.specs.History.{Entry, Kind, asked, starts, ends, after_entry, MayPeek, PeekAnswers, MayEnd, MayBe, RunFrom}
 use Rattle.spec_history.specs.Kept.{IsLegal}
 use Rattle.spec_text.specs.Text.{is_save_memory}

@@ -1,5 +1,6 @@
 -- The sessions and the workers of a run: what they bring, their seats, and what they have made.
-use Rattle.std.specs.Prelude.{◌≡◌, ℕ, ◌<◌, ◌≤◌, true, false, List, [], length, map, option_map, Some, None, slice_get, unwrap_or, string_bytes, vec_capacity, Vec}
+use Rattle.std.specs.Prelude.{◌≡◌, ℕ, ◌<◌, ◌≤◌, true, false, List, [], length, map, option_map, Some, None, slice_get}
+use Rattle.std.specs.Prelude.{unwrap_or, string_bytes, vec_capacity, Vec}
 use Rattle.std.specs.List.{AllByRecursion, AllZip}
 use Rattle.std.specs.declared.alloc.Global.{Global}
 use mathlib.Core.List.{IsPrefix}

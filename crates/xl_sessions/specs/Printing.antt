@@ -1,7 +1,9 @@
 -- The printed lines of a session, made from its entries and the digests of the tiles that it was shown.
 use Rattle.std.specs.Prelude.{ℕ, if◌then◌else◌, drop, List, [], ◌∷◌, ◌++◌, flat_map, slice_get, unwrap_or}
 use Rattle.spec_grid.specs.Rect.{count_from}
-use Rattle.spec_history.specs.Machine.{Reply, changed, refused, moved, nothing_to_undo, nothing_to_redo, not_top, tile_of, stale, no_stack, outside_tile, top_is, saved, save_fault, save_memory, history_full}
+use Rattle.spec_history.specs.Machine.{Reply, changed, refused, moved, nothing_to_undo, nothing_to_redo, not_top}
+use Rattle.spec_history.specs.Machine.{tile_of, stale, no_stack, outside_tile, top_is, saved, save_fault, save_memory}
+use Rattle.spec_history.specs.Machine.{history_full}
 use Rattle.spec_history.specs.History.{Entry, Kind, asked, starts, ends, mine}
 use Rattle.spec_text.specs.Printed.{line_text}
 use Rattle.spec_seats.specs.Digests.{shows_tile}

@@ -16,7 +16,8 @@ use Rattle.spec_saves.specs.Shelf.{Known, IsSettled, file_name}
 use Rattle.spec_saves.specs.Returns.{Among, EndsOn, DiskReturns, Returns}
 use Rattle.xl_snapshot.proofs.Returning.{IsThere, AreThere, one_more, names_there, version_stays, in_stays, saved_stays}
 
-files_there : (last : ℕ) (ns : List Named) (out : Option Saving) → AllByRecursion (IsThere last) ns → IfSome out (λ o. o.version ≤ last) → AllByRecursion (IsThere last) (with_out ns out)
+files_there : (last : ℕ) (ns : List Named) (out : Option Saving) → AllByRecursion (IsThere last) ns
+    → IfSome out (λ o. o.version ≤ last) → AllByRecursion (IsThere last) (with_out ns out)
 files_there last ns None named going = named
 files_there last ns (Some o) named going = one_more last o.version ns named going
 
@@ -24,25 +25,32 @@ version_low : (last : ℕ) (out : Option Saving) → IfSome out (λ o. o.version
 version_low last None going = omega arith
 version_low last (Some o) going = going
 
-module _ (base : Document) (es more : List Entry) (legal : IsLegal base es) (same : names (es ++ more) ≡ names es) (out : (replay base (es ++ more)).out ≡ (replay base es).out) where
+module _ (base : Document) (es more : List Entry) (legal : IsLegal base es) (same : names (es ++ more) ≡ names es)
+    (out : (replay base (es ++ more)).out ≡ (replay base es).out) where
   there : AreThere (replay base es) (names es)
   there = names_there base es legal
 
   files_same : files base (es ++ more) ≡ files base es
   files_same = ap (λ (ns : List Named). with_out ns (replay base (es ++ more)).out) same ∙ ap (with_out (names es)) out
 
-  in_files : (opened : Disk) (name : List ℕ) (c : Content) → IsIn base es opened name c (files base es) → IsIn base (es ++ more) opened name c (files base (es ++ more))
+  in_files : (opened : Disk) (name : List ℕ) (c : Content) → IsIn base es opened name c (files base es)
+      → IsIn base (es ++ more) opened name c (files base (es ++ more))
   in_files opened name c is =
       subst (IsIn base (es ++ more) opened name c) (sym files_same)
-      (in_stays base es more opened name c (files base es) (files_there (latest (replay base es)) (names es) (replay base es).out there.named there.going) is)
+      (in_stays base es more opened name c (files base es)
+      (files_there (latest (replay base es)) (names es) (replay base es).out there.named there.going) is)
 
-  in_names : (opened : Disk) (name : List ℕ) (c : Content) → IsIn base es opened name c (names es) → IsIn base (es ++ more) opened name c (names (es ++ more))
-  in_names opened name c is = subst (IsIn base (es ++ more) opened name c) (sym same) (in_stays base es more opened name c (names es) there.named is)
+  in_names : (opened : Disk) (name : List ℕ) (c : Content) → IsIn base es opened name c (names es)
+      → IsIn base (es ++ more) opened name c (names (es ++ more))
+  in_names opened name c is =
+      subst (IsIn base (es ++ more) opened name c) (sym same) (in_stays base es more opened name c (names es) there.named is)
 
-  ends_later : (how : SaveEnd) (name : List ℕ) (opened now : Disk) → EndsOn how name base es opened now → EndsOn how name base (es ++ more) opened now
+  ends_later : (how : SaveEnd) (name : List ℕ) (opened now : Disk) → EndsOn how name base es opened now
+      → EndsOn how name base (es ++ more) opened now
   ends_later Done name opened now ends = (
     subst (λ (v : ℕ). IsVersion base (es ++ more) v (now.read name)) (sym (ap version_out out))
-        (version_stays base es more (out_version base es) (now.read name) (version_low (latest (replay base es)) (replay base es).out there.going) ends.0),
+        (version_stays base es more (out_version base es) (now.read name)
+        (version_low (latest (replay base es)) (replay base es).out there.going) ends.0),
     ends.1,
   )
   ends_later Fault name opened now ends = λ c may. in_files opened name c (ends c may)
@@ -51,7 +59,8 @@ module _ (base : Document) (es more : List Entry) (legal : IsLegal base es) (sam
     subst (λ (ns : List Named). IsSettled ns name opened now) (sym same) ends.1,
   )
 
-  disk_later : (how : SaveEnd) (name : List ℕ) (opened handed now : Disk) → DiskReturns name base es how opened handed now → DiskReturns name base (es ++ more) how opened handed now
+  disk_later : (how : SaveEnd) (name : List ℕ) (opened handed now : Disk) → DiskReturns name base es how opened handed now
+      → DiskReturns name base (es ++ more) how opened handed now
   disk_later how name opened handed now r = record {
     later = r.later;
     within = λ c was. in_files opened name c (r.within c was);
@@ -62,7 +71,8 @@ module _ (base : Document) (es more : List Entry) (legal : IsLegal base es) (sam
     ends = ends_later how name opened now r.ends;
   }
 
-  among_later : (how : SaveEnd) (name : List ℕ) (opened handed now : Option Disk) → Among opened handed now (DiskReturns name base es how) → Among opened handed now (DiskReturns name base (es ++ more) how)
+  among_later : (how : SaveEnd) (name : List ℕ) (opened handed now : Option Disk)
+      → Among opened handed now (DiskReturns name base es how) → Among opened handed now (DiskReturns name base (es ++ more) how)
   among_later how name None None None r = tt
   among_later how name None None (Some now) r = absurd r
   among_later how name None (Some handed) now r = absurd r
@@ -70,7 +80,8 @@ module _ (base : Document) (es more : List Entry) (legal : IsLegal base es) (sam
   among_later how name (Some opened) (Some handed) None r = absurd r
   among_later how name (Some opened) (Some handed) (Some now) r = disk_later how name opened handed now r
 
-  pub returns_later : (opening handed now : Known) (how : SaveEnd) → Returns opening handed base es how now → Returns opening handed base (es ++ more) how now
+  pub returns_later : (opening handed now : Known) (how : SaveEnd) → Returns opening handed base es how now
+      → Returns opening handed base (es ++ more) how now
   returns_later opening handed now how r = record {
     selected = r.selected;
     reading = r.reading;

@@ -10,7 +10,8 @@ use Rattle.xl_ports.specs.Faults.{Rose}
 use Rattle.xl_save.specs.Save.{SavesOnly, HasSaved}
 use Rattle.xl_snapshot.specs.Saving.{IsSavedOn}
 
-put_done : (bytes : List ℕ) (s : Option (List ℕ)) (before after : Option Disk) → IsSome s → IfSome s (λ name. Between before after (SavesOnly name bytes)) → IfSome s (λ name. IfSome after (HasSaved name bytes))
+put_done : (bytes : List ℕ) (s : Option (List ℕ)) (before after : Option Disk) → IsSome s
+    → IfSome s (λ name. Between before after (SavesOnly name bytes)) → IfSome s (λ name. IfSome after (HasSaved name bytes))
     → Between before after (λ b a. SavesOnly (unwrap_or s []) bytes b a × HasSaved (unwrap_or s []) bytes a)
 put_done bytes None before after some only has = let bad : false ≡ true = some in cc
 put_done bytes (Some name) None None some only has = tt
@@ -18,13 +19,16 @@ put_done bytes (Some name) None (Some a) some only has = absurd only
 put_done bytes (Some name) (Some b) None some only has = absurd only
 put_done bytes (Some name) (Some b) (Some a) some only has = (only, has)
 
-put_fault : (bytes : List ℕ) (s : Option (List ℕ)) (before after : Option Disk) → IsSome s → IfSome s (λ name. Between before after (SavesOnly name bytes))
+put_fault : (bytes : List ℕ) (s : Option (List ℕ)) (before after : Option Disk) → IsSome s
+    → IfSome s (λ name. Between before after (SavesOnly name bytes))
     → Between before after (SavesOnly (unwrap_or s []) bytes)
 put_fault bytes None before after some only = let bad : false ≡ true = some in cc
 put_fault bytes (Some name) before after some only = only
 
-pub saved_done : (d : Document) (bytes : List ℕ) (old new : Known) → Written bytes d → IsSome old.selected → IfSome old.selected (λ name. Between old.disk new.disk (SavesOnly name bytes))
-    → IfSome old.selected (λ name. IfSome new.disk (HasSaved name bytes)) → new.selected ≡ old.selected → new.reading ≡ old.reading → new.saving ≡ old.saving → IsSavedOn old d Done new
+pub saved_done : (d : Document) (bytes : List ℕ) (old new : Known) → Written bytes d → IsSome old.selected
+    → IfSome old.selected (λ name. Between old.disk new.disk (SavesOnly name bytes))
+    → IfSome old.selected (λ name. IfSome new.disk (HasSaved name bytes)) → new.selected ≡ old.selected → new.reading ≡ old.reading
+    → new.saving ≡ old.saving → IsSavedOn old d Done new
 saved_done d bytes old new wrote some only has selected reading saving = record {
   selected = selected;
   reading = reading;
@@ -32,7 +36,8 @@ saved_done d bytes old new wrote some only has selected reading saving = record 
   contents = (bytes, wrote, put_done bytes old.selected old.disk new.disk some only has);
 }
 
-pub saved_fault : (d : Document) (bytes : List ℕ) (old new : Known) → Written bytes d → IsSome old.selected → IfSome old.selected (λ name. Between old.disk new.disk (SavesOnly name bytes))
+pub saved_fault : (d : Document) (bytes : List ℕ) (old new : Known) → Written bytes d → IsSome old.selected
+    → IfSome old.selected (λ name. Between old.disk new.disk (SavesOnly name bytes))
     → new.selected ≡ old.selected → new.reading ≡ old.reading → Rose old.saving new.saving → IsSavedOn old d Fault new
 saved_fault d bytes old new wrote some only selected reading saving = record {
   selected = selected;

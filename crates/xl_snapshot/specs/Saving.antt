@@ -11,7 +11,8 @@ use Rattle.xl_save.specs.Save.{SavesOnly, HasSaved}
 
 -- a file of the document was saved, or a fault stopped that; without memory for the file nothing was touched
 abbrev pub Puts : SaveEnd → Document → (name : List ℕ) → (before after : Option Disk) → Type 0
-Puts Done d name before after = (bytes : List ℕ) × Written bytes d × Between before after (λ b a. SavesOnly name bytes b a × HasSaved name bytes a)
+Puts Done d name before after =
+    (bytes : List ℕ) × Written bytes d × Between before after (λ b a. SavesOnly name bytes b a × HasSaved name bytes a)
 Puts Fault d name before after = (bytes : List ℕ) × Written bytes d × Between before after (SavesOnly name bytes)
 Puts Memory d name before after = after ≡ before
 

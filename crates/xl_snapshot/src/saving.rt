@@ -32,9 +32,11 @@ pub fn file_of<C: PlaneCoder>(
 /// Saves the file of a document on a shelf.
 pub fn save_file<D: Shelf>(file: &[u8], shelf: &mut D) -> Result<(), Failed>
     requires { IsSome (D.selected shelf.old) }
-    ensures saved { OnOk result ((d : Plain) → Written file.now d → IsSavedOn (known D.selected D.disk D.reading_faults D.saving_faults shelf.old) d save_end.Done
+    ensures saved { OnOk result ((d : Plain) → Written file.now d
+        → IsSavedOn (known D.selected D.disk D.reading_faults D.saving_faults shelf.old) d save_end.Done
         (known D.selected D.disk D.reading_faults D.saving_faults shelf.new)) }
-    ensures failed { OnErr result ((d : Plain) → Written file.now d → IsSavedOn (known D.selected D.disk D.reading_faults D.saving_faults shelf.old) d save_end.Fault
+    ensures failed { OnErr result ((d : Plain) → Written file.now d
+        → IsSavedOn (known D.selected D.disk D.reading_faults D.saving_faults shelf.old) d save_end.Fault
         (known D.selected D.disk D.reading_faults D.saving_faults shelf.new)) }
     ensures selected { D.selected shelf.new ≡ D.selected shelf.old }
 {

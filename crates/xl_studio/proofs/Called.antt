@@ -1,5 +1,6 @@
 -- What a call makes of the list under the lock.
-use Rattle.std.proofs.Common.{◌≡◌, ℕ, ◌+◌, ◌-◌, ◌≤◌, Bool, true, false, cond, List, [], ◌∷◌, ◌++◌, length, Option, Some, None, refl, sym, ap, ◌∙◌, subst, arith, inl, inr, add-zero}
+use Rattle.std.proofs.Common.{◌≡◌, ℕ, ◌+◌, ◌-◌, ◌≤◌, Bool, true, false, cond, List, [], ◌∷◌, ◌++◌, length, Option}
+use Rattle.std.proofs.Common.{Some, None, refl, sym, ap, ◌∙◌, subst, arith, inl, inr, add-zero}
 use Rattle.std.specs.Prelude.{nat_le, nat_lt, ◌==◌, MatchBool, Result, Ok, Err, IfOk, OnErr, IsSome}
 use Rattle.std.proofs.lemmas.Bool.{ltb-false}
 use Rattle.std.proofs.lemmas.Bool.Decides.{nat_tests}
@@ -50,22 +51,27 @@ peek_fresh : (shown : Option Shown) (seen : ℕ) → IsFreshReply seen (peek_rep
 peek_fresh None seen = refl
 peek_fresh (Some shown) seen = go (nat_lt shown.version seen) refl
   where
-    go : (b : Bool) → nat_lt shown.version seen ≡ b → IsFreshReply seen (cond b (stale (Some shown.version) seen) (tile_of shown.version))
+    go : (b : Bool) → nat_lt shown.version seen ≡ b
+        → IsFreshReply seen (cond b (stale (Some shown.version) seen) (tile_of shown.version))
     go true is = refl
     go false is = omega (arith, ltb-false shown.version seen is)
 
-where_fresh : (seen : ℕ) (plain shown : Reply) → IsFreshReply seen plain → IsFreshReply seen shown → IsFreshReply seen (where_tile plain shown)
+where_fresh : (seen : ℕ) (plain shown : Reply) → IsFreshReply seen plain → IsFreshReply seen shown
+    → IsFreshReply seen (where_tile plain shown)
 where_fresh seen (tile_of v) shown p q = q
 where_fresh seen plain shown p q = p
 
-to_fresh : (base : Document) (w : World) (call : Call) (seen : ℕ) (tables : List (List ℕ)) → seen ≤ latest w.state → IsFreshReply seen (reply_to base w call seen tables)
+to_fresh : (base : Document) (w : World) (call : Call) (seen : ℕ) (tables : List (List ℕ)) → seen ≤ latest w.state
+    → IsFreshReply seen (reply_to base w call seen tables)
 to_fresh base w (machine.peek stack at) seen tables le =
-    where_fresh seen _ _ (fresh-answer base w.state (machine.peek stack at) tables seen le) (peek_fresh (kept w.cache stack at (latest w.state)) seen)
+    where_fresh seen _ _ (fresh-answer base w.state (machine.peek stack at) tables seen le)
+    (peek_fresh (kept w.cache stack at (latest w.state)) seen)
 to_fresh base w call seen tables le = fresh-answer base w.state call tables seen le
 
 module _ {K : Type 0} where
   -- the same base, opening and shelves
-  same_moments : (old new : Editing K) (es : List Entry) → new.history.base ≡ old.history.base → KeepsShelf old new → new.history.entries ≡ es
+  same_moments : (old new : Editing K) (es : List Entry) → new.history.base ≡ old.history.base → KeepsShelf old new
+      → new.history.entries ≡ es
       → moments_of new ≡ moments old.history.base old.opening old.handed es
   same_moments old new es base keeps entries =
       ap (λ b. moments b new.opening new.handed new.history.entries) base
@@ -75,72 +81,93 @@ module _ {K : Type 0} where
 
   abbrev outcome : Editing K → (session : ℕ) → Call → (tables : List (List ℕ)) → (given : Reply) → (full : Bool) → Outcome
   outcome old session call tables given full =
-      cond full (record { reply = history_full; world = world old }) (record { reply = given; world = with_call old.history.base (world old) session call tables given })
+      cond full (record { reply = history_full; world = world old })
+      (record { reply = given; world = with_call old.history.base (world old) session call tables given })
 
-  adds_where : (old new : Editing K) (session : ℕ) (call : Call) (tables : List (List ℕ)) (reply given : Reply) (full : Bool) → new.history.base ≡ old.history.base → KeepsShelf old new
+  adds_where : (old new : Editing K) (session : ℕ) (call : Call) (tables : List (List ℕ)) (reply given : Reply) (full : Bool)
+      → new.history.base ≡ old.history.base → KeepsShelf old new
       → reply ≡ (outcome old session call tables given full).reply → world new ≡ (outcome old session call tables given full).world
       → MatchBool full ((reply ≡ history_full) × (moments_of new ≡ moments_of old))
       (moments_of new ≡ moments_of old ++ Made (called_entry old.history.entries session call tables reply) None ∷ [])
   adds_where old new session call tables reply given true base keeps r is =
       (r, same_moments old new old.history.entries base keeps (ap (λ (v : World). v.entries) is))
   adds_where old new session call tables reply given false base keeps r is =
-      same_moments old new (old.history.entries ++ called_entry old.history.entries session call tables given ∷ []) base keeps (ap (λ (v : World). v.entries) is)
-      ∙ moments-call old.history.base old.opening old.handed old.history.entries (called_entry old.history.entries session call tables given) call tables refl
+      same_moments old new (old.history.entries
+      ++ called_entry old.history.entries session call tables given ∷ []) base keeps (ap (λ (v : World). v.entries) is)
+      ∙ moments-call old.history.base old.opening old.handed old.history.entries
+      (called_entry old.history.entries session call tables given) call tables refl
       ∙ ap (λ (x : Reply). moments_of old ++ Made (called_entry old.history.entries session call tables x) None ∷ []) (sym r)
 
-  pub adds : (old new : Editing K) (session : ℕ) (call : Call) (seen : ℕ) (tables : List (List ℕ)) (reply : Reply) → IsSubmitted old session call seen tables reply new → KeepsShelf old new
+  pub adds : (old new : Editing K) (session : ℕ) (call : Call) (seen : ℕ) (tables : List (List ℕ)) (reply : Reply)
+      → IsSubmitted old session call seen tables reply new → KeepsShelf old new
       → Adds old.history.base (moments_of old) session call tables reply (moments_of new)
   adds old new session call seen tables reply is keeps =
-      let es : entries_in (moments_of old) ≡ old.history.entries = entries-moments old.history.base old.opening old.handed old.history.entries in
-      let full : (free_entries (world old) == 0) ≡ is_full (record { base = old.history.base; entries = old.history.entries }) = none_free most_entries _ in
+      let es : entries_in (moments_of old) ≡ old.history.entries =
+      entries-moments old.history.base old.opening old.handed old.history.entries in
+      let full : (free_entries (world old) == 0) ≡ is_full (record { base = old.history.base; entries = old.history.entries }) =
+      none_free most_entries _ in
       let P : List Entry → Type 0 = λ entries. MatchBool (is_full (record { base = old.history.base; entries = entries }))
       ((reply ≡ history_full) × (moments_of new ≡ moments_of old))
       (moments_of new ≡ moments_of old ++ Made (called_entry entries session call tables reply) None ∷ []) in
       let given = reply_to old.history.base (world old) call seen tables in
       record {
         is = subst P (sym es)
-            (subst (λ (b : Bool). MatchBool b ((reply ≡ history_full) × (moments_of new ≡ moments_of old)) (moments_of new ≡ moments_of old ++ Made (called_entry old.history.entries session call tables reply) None ∷ []))
+            (subst (λ (b : Bool). MatchBool b ((reply ≡ history_full)
+            × (moments_of new ≡ moments_of old)) (moments_of new ≡ moments_of old
+            ++ Made (called_entry old.history.entries session call tables reply) None ∷ []))
             full (adds_where old new session call tables reply given (free_entries (world old) == 0) is.0 keeps is.1 is.2));
       }
 
-  adds_calls_where : (full : Bool) (entered left : List (Moment K)) (e : Entry) (P : Type 0) → IsAsked e.kind → MatchBool full (P × (left ≡ entered)) (left ≡ entered ++ Made e None ∷ []) → AddsCalls entered left
+  adds_calls_where : (full : Bool) (entered left : List (Moment K)) (e : Entry) (P : Type 0) → IsAsked e.kind
+      → MatchBool full (P × (left ≡ entered)) (left ≡ entered ++ Made e None ∷ []) → AddsCalls entered left
   adds_calls_where true entered left e P is h = record { is = inl h.1 }
   adds_calls_where false entered left e P is h = record { is = inr (e, is, h) }
 
-  pub adds_calls : (base : Document) (entered left : List (Moment K)) (session : ℕ) (call : Call) (tables : List (List ℕ)) (reply : Reply) → Adds base entered session call tables reply left → AddsCalls entered left
+  pub adds_calls : (base : Document) (entered left : List (Moment K)) (session : ℕ) (call : Call) (tables : List (List ℕ))
+      (reply : Reply) → Adds base entered session call tables reply left → AddsCalls entered left
   adds_calls base entered left session call tables reply h =
-      adds_calls_where (is_full (record { base = base; entries = entries_in entered })) entered left (called_entry (entries_in entered) session call tables reply) (reply ≡ history_full) tt h.is
+      adds_calls_where (is_full (record { base = base; entries = entries_in entered })) entered left
+      (called_entry (entries_in entered) session call tables reply) (reply ≡ history_full) tt h.is
 
   -- ---- what is kept
 
   back : (c : Editing K) → entries_in (moments_of c) ≡ c.history.entries
   back c = entries-moments c.history.base c.opening c.handed c.history.entries
 
-  starts_after : (old new : Editing K) → AddsCalls (moments_of old) (moments_of new) → saves_started new.history.entries ≡ saves_started old.history.entries
+  starts_after : (old new : Editing K) → AddsCalls (moments_of old) (moments_of new)
+      → saves_started new.history.entries ≡ saves_started old.history.entries
   starts_after old new adds = elim adds.is [
     | inl same ↦ ap saves_started (sym (back new) ∙ (ap entries_in same ∙ back old))
     | inr more ↦
         let e : Entry = more.0 in
-        ap saves_started (sym (back new) ∙ (ap entries_in more.2 ∙ (entries-append (moments_of old) (Made e None ∷ []) ∙ ap (λ es. es ++ e ∷ []) (back old))))
-        ∙ (saves_started-snoc old.history.entries e ∙ (ap (λ n. saves_started old.history.entries + n) (no_start e.kind more.1) ∙ add-zero (saves_started old.history.entries)))
+        ap saves_started (sym (back new)
+        ∙ (ap entries_in more.2 ∙ (entries-append (moments_of old) (Made e None ∷ []) ∙ ap (λ es. es ++ e ∷ []) (back old))))
+        ∙ (saves_started-snoc old.history.entries e
+        ∙ (ap (λ n. saves_started old.history.entries + n) (no_start e.kind more.1)
+        ∙ add-zero (saves_started old.history.entries)))
   ]
 
   -- calls leave the save out
-  out_after : (old new : Editing K) → new.history.base ≡ old.history.base → AddsCalls (moments_of old) (moments_of new) → out_of new.history ≡ out_of old.history
+  out_after : (old new : Editing K) → new.history.base ≡ old.history.base → AddsCalls (moments_of old) (moments_of new)
+      → out_of new.history ≡ out_of old.history
   out_after old new base adds = elim adds.is [
-    | inl same ↦ rebased ∙ ap (λ (es : List Entry). (replay old.history.base es).out) (sym (back new) ∙ (ap entries_in same ∙ back old))
+    | inl same ↦ rebased ∙ ap (λ (es : List Entry). (replay old.history.base es).out) (sym (back new)
+        ∙ (ap entries_in same ∙ back old))
     | inr more ↦
         let e : Entry = more.0 in
         let es : List Entry = old.history.entries in
-        let grown : new.history.entries ≡ es ++ e ∷ [] = sym (back new) ∙ (ap entries_in more.2 ∙ (entries-append (moments_of old) (Made e None ∷ []) ∙ ap (λ xs. xs ++ e ∷ []) (back old))) in
+        let grown : new.history.entries ≡ es ++ e ∷ [] = sym (back new)
+        ∙ (ap entries_in more.2 ∙ (entries-append (moments_of old) (Made e None ∷ []) ∙ ap (λ xs. xs ++ e ∷ []) (back old))) in
         rebased
         ∙ (ap (λ (xs : List Entry). (replay old.history.base xs).out) grown
-        ∙ (ap (λ (s : State). s.out) (replay-snoc old.history.base es e) ∙ out_stays old.history.base (replay old.history.base es) e e.kind more.1))
+        ∙ (ap (λ (s : State). s.out) (replay-snoc old.history.base es e)
+        ∙ out_stays old.history.base (replay old.history.base es) e e.kind more.1))
   ] where
     rebased : out_of new.history ≡ (replay old.history.base new.history.entries).out
     rebased = ap (λ (b : Document). (replay b new.history.entries).out) base
 
-  pub kept_after : (old new : Editing K) → IsKept old → IsRight new.history.base (world new) → length new.history.entries ≤ most_entries → new.history.base ≡ old.history.base → KeepsShelf old new
+  pub kept_after : (old new : Editing K) → IsKept old → IsRight new.history.base (world new)
+      → length new.history.entries ≤ most_entries → new.history.base ≡ old.history.base → KeepsShelf old new
       → AddsCalls (moments_of old) (moments_of new) → IsKept new
   kept_after old new kept right few base keeps adds = record {
     right = right;
@@ -151,49 +178,79 @@ module _ {K : Type 0} where
 
   pub same_after : (old new : Editing K) → IsAsBefore old new → moments_of new ≡ moments_of old
   same_after old new same =
-      same_moments old new old.history.entries (ap (λ h. h.base) same.history) (record { opening = same.opening; handed = same.handed; shelf = same.shelf }) (ap (λ h. h.entries) same.history)
+      same_moments old new old.history.entries (ap (λ h. h.base) same.history)
+      (record { opening = same.opening; handed = same.handed; shelf = same.shelf }) (ap (λ h. h.entries) same.history)
 
   -- a call leaves one call more at most, whatever its filters have answered
-  pub calls_after : {E : Type 0} (R : Type 0) (reply_of : R → Reply) (r : Result R E) (old was new : Editing K) (session : ℕ) (call : Call) (seen : ℕ) (chest : List (Option FilterState)) → old ≡ was → KeepsShelf old new
-      → ((filters : List FilterState) → Agrees chest filters → IfOk r (λ reply. IsSubmitted old session call seen (expected_tables filters (asked call []) (reply_of reply)) (reply_of reply) new))
+  pub calls_after : {E : Type 0} (R : Type 0) (reply_of : R
+      → Reply) (r : Result R E) (old was new : Editing K) (session : ℕ) (call : Call) (seen : ℕ) (chest : List (Option FilterState))
+      → old ≡ was → KeepsShelf old new
+      → ((filters : List FilterState) → Agrees chest filters
+      → IfOk r (λ reply. IsSubmitted old session call seen (expected_tables filters (asked call []) (reply_of reply))
+      (reply_of reply) new))
       → OnErr r (IsAsBefore old new) → AddsCalls (moments_of was) (moments_of new)
   calls_after R reply_of (Ok reply) old was new session call seen chest same keeps answered as_before =
       let some = some_list chest in
       let tables = expected_tables some.0 (asked call []) (reply_of reply) in
       subst (λ (c : Editing K). AddsCalls (moments_of c) (moments_of new)) same
-      (adds_calls old.history.base (moments_of old) (moments_of new) session call tables (reply_of reply) (adds old new session call seen tables (reply_of reply) (answered some.0 some.1) keeps))
-  calls_after R reply_of (Err e) old was new session call seen chest same keeps answered as_before = record { is = inl (same_after old new as_before ∙ ap moments_of same) }
+      (adds_calls old.history.base (moments_of old) (moments_of new) session call tables (reply_of reply)
+      (adds old new session call seen tables (reply_of reply) (answered some.0 some.1) keeps))
+  calls_after R reply_of (Err e) old was new session call seen chest same keeps answered as_before =
+      record { is = inl (same_after old new as_before ∙ ap moments_of same) }
 
-  pub adds_after : {E : Type 0} (R : Type 0) (reply_of : R → Reply) (r : Result R E) (old was new : Editing K) (session : ℕ) (call : Call) (seen : ℕ) (chest : List (Option FilterState)) → old ≡ was → KeepsShelf old new
-      → ((filters : List FilterState) → Agrees chest filters → IfOk r (λ reply. IsSubmitted old session call seen (expected_tables filters (asked call []) (reply_of reply)) (reply_of reply) new))
-      → (filters : List FilterState) → Agrees chest filters → IfOk r (λ reply. Adds was.history.base (moments_of was) session call (expected_tables filters (asked call []) (reply_of reply)) (reply_of reply) (moments_of new))
+  pub adds_after : {E : Type 0} (R : Type 0) (reply_of : R
+      → Reply) (r : Result R E) (old was new : Editing K) (session : ℕ) (call : Call) (seen : ℕ) (chest : List (Option FilterState))
+      → old ≡ was → KeepsShelf old new
+      → ((filters : List FilterState) → Agrees chest filters
+      → IfOk r (λ reply. IsSubmitted old session call seen (expected_tables filters (asked call []) (reply_of reply))
+      (reply_of reply) new))
+      → (filters : List FilterState) → Agrees chest filters
+      → IfOk r (λ reply. Adds was.history.base (moments_of was) session call
+      (expected_tables filters (asked call []) (reply_of reply)) (reply_of reply) (moments_of new))
   adds_after R reply_of (Ok reply) old was new session call seen chest same keeps answered filters agrees =
       let tables = expected_tables filters (asked call []) (reply_of reply) in
       subst (λ (c : Editing K). Adds c.history.base (moments_of c) session call tables (reply_of reply) (moments_of new)) same
-      (adds old new session call seen (expected_tables filters (asked call []) (reply_of reply)) (reply_of reply) (answered filters agrees) keeps)
+      (adds old new session call seen (expected_tables filters (asked call []) (reply_of reply)) (reply_of reply)
+      (answered filters agrees) keeps)
   adds_after R reply_of (Err e) old was new session call seen chest same keeps answered filters agrees = tt
 
-  pub fresh : (old new : Editing K) (session : ℕ) (call : Call) (seen : ℕ) (tables : List (List ℕ)) (reply : Reply) → IsSubmitted old session call seen tables reply new
+  pub fresh : (old new : Editing K) (session : ℕ) (call : Call) (seen : ℕ) (tables : List (List ℕ)) (reply : Reply)
+      → IsSubmitted old session call seen tables reply new
       → seen ≤ latest (replay old.history.base old.history.entries) → IsFreshReply seen reply
   fresh old new session call seen tables reply is le =
       let given = reply_to old.history.base (world old) call seen tables in
       subst (IsFreshReply seen) (sym is.1)
-      (cond_both (λ (o : Outcome). IsFreshReply seen o.reply) (free_entries (world old) == 0) (record { reply = history_full; world = world old })
-      (record { reply = given; world = with_call old.history.base (world old) session call tables given }) tt (to_fresh old.history.base (world old) call seen tables le))
+      (cond_both (λ (o : Outcome). IsFreshReply seen o.reply) (free_entries (world old) == 0)
+      (record { reply = history_full; world = world old })
+      (record { reply = given; world = with_call old.history.base (world old) session call tables given }) tt
+      (to_fresh old.history.base (world old) call seen tables le))
 
-  pub fresh_after : {E : Type 0} (R : Type 0) (reply_of : R → Reply) (r : Result R E) (old was new : Editing K) (session : ℕ) (call : Call) (seen : ℕ) (chest : List (Option FilterState)) → old ≡ was
-      → ((filters : List FilterState) → Agrees chest filters → IfOk r (λ reply. IsSubmitted old session call seen (expected_tables filters (asked call []) (reply_of reply)) (reply_of reply) new))
-      → IsLegal old.history.base old.history.entries → seen ≤ latest_of was.history.entries → IfOk r (λ reply. IsFreshReply seen (reply_of reply))
+  pub fresh_after : {E : Type 0} (R : Type 0) (reply_of : R
+      → Reply) (r : Result R E) (old was new : Editing K) (session : ℕ) (call : Call) (seen : ℕ) (chest : List (Option FilterState))
+      → old ≡ was
+      → ((filters : List FilterState) → Agrees chest filters
+      → IfOk r (λ reply. IsSubmitted old session call seen (expected_tables filters (asked call []) (reply_of reply))
+      (reply_of reply) new))
+      → IsLegal old.history.base old.history.entries → seen ≤ latest_of was.history.entries
+      → IfOk r (λ reply. IsFreshReply seen (reply_of reply))
   fresh_after R reply_of (Ok reply) old was new session call seen chest same answered legal le =
       let some = some_list chest in
-      fresh old new session call seen (expected_tables some.0 (asked call []) (reply_of reply)) (reply_of reply) (answered some.0 some.1)
-      (let l = latest_of-legal old.history.base old.history.entries legal in let m : latest_of old.history.entries ≡ latest_of was.history.entries = ap (λ (c : Editing K). latest_of c.history.entries) same in omega arith)
+      fresh old new session call seen (expected_tables some.0 (asked call []) (reply_of reply)) (reply_of reply)
+      (answered some.0 some.1)
+      (let l = latest_of-legal old.history.base old.history.entries legal in
+      let m : latest_of old.history.entries ≡ latest_of was.history.entries =
+      ap (λ (c : Editing K). latest_of c.history.entries) same in omega arith)
   fresh_after R reply_of (Err e) old was new session call seen chest same answered legal le = tt
 
   -- whatever a call comes to, its base stays
-  pub base_after : {E : Type 0} (R : Type 0) (reply_of : R → Reply) (r : Result R E) (old was new : Editing K) (session : ℕ) (call : Call) (seen : ℕ) (chest : List (Option FilterState)) → old ≡ was
-      → ((filters : List FilterState) → Agrees chest filters → IfOk r (λ reply. IsSubmitted old session call seen (expected_tables filters (asked call []) (reply_of reply)) (reply_of reply) new))
+  pub base_after : {E : Type 0} (R : Type 0) (reply_of : R
+      → Reply) (r : Result R E) (old was new : Editing K) (session : ℕ) (call : Call) (seen : ℕ) (chest : List (Option FilterState))
+      → old ≡ was
+      → ((filters : List FilterState) → Agrees chest filters
+      → IfOk r (λ reply. IsSubmitted old session call seen (expected_tables filters (asked call []) (reply_of reply))
+      (reply_of reply) new))
       → OnErr r (IsAsBefore old new) → new.history.base ≡ was.history.base
   base_after R reply_of (Ok reply) old was new session call seen chest same answered as_before =
       let some = some_list chest in (answered some.0 some.1).0 ∙ ap (λ (c : Editing K). c.history.base) same
-  base_after R reply_of (Err e) old was new session call seen chest same answered as_before = ap (λ h. h.base) as_before.history ∙ ap (λ (c : Editing K). c.history.base) same
+  base_after R reply_of (Err e) old was new session call seen chest same answered as_before =
+      ap (λ h. h.base) as_before.history ∙ ap (λ (c : Editing K). c.history.base) same

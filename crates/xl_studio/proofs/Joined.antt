@@ -15,10 +15,12 @@ use Rattle.xl_studio.proofs.Seated.{latest_prefix}
 
 module _ {K : Type 0} where
   -- the front is one of the two, and the other begins it
-  joined_where : (opening : List (Moment K)) (base : Document) (start start' : ℕ) (xs ys front : List (Moment K)) (a b : ℕ) (second : Bool) → IsFront opening base start xs a → IsFront opening base start' ys b
+  joined_where : (opening : List (Moment K)) (base : Document) (start start' : ℕ) (xs ys front : List (Moment K)) (a b : ℕ)
+      (second : Bool) → IsFront opening base start xs a → IsFront opening base start' ys b
       → IsPrefix xs front → IsPrefix ys front → front ≡ cond second ys xs → IsFront opening base start front (max a b)
   joined_where opening base start start' xs ys front a b true one two p q is =
-      let l : latest_of (entries_in front) ≡ latest_of (entries_in ys) = ap (λ (ms : List (Moment K)). latest_of (entries_in ms)) is in
+      let l : latest_of (entries_in front) ≡ latest_of (entries_in ys) =
+      ap (λ (ms : List (Moment K)). latest_of (entries_in ms)) is in
       let le = latest_prefix (entries_in xs) (entries_in front) (entries-prefix xs front p) in
       let s = one.seen_is in
       let t = two.seen_is in
@@ -29,7 +31,8 @@ module _ {K : Type 0} where
         seen_is = omega arith;
       }
   joined_where opening base start start' xs ys front a b false one two p q is =
-      let l : latest_of (entries_in front) ≡ latest_of (entries_in xs) = ap (λ (ms : List (Moment K)). latest_of (entries_in ms)) is in
+      let l : latest_of (entries_in front) ≡ latest_of (entries_in xs) =
+      ap (λ (ms : List (Moment K)). latest_of (entries_in ms)) is in
       let le = latest_prefix (entries_in ys) (entries_in front) (entries-prefix ys front q) in
       let s = one.seen_is in
       let t = two.seen_is in
@@ -40,8 +43,10 @@ module _ {K : Type 0} where
         seen_is = omega arith;
       }
 
-  pub front_joined : (opening : List (Moment K)) (base : Document) (start start' start'' : ℕ) (xs ys front : List (Moment K)) (a b seen : ℕ) → IsFront opening base start xs a → IsFront opening base start' ys b
-      → IsPrefix xs front → IsPrefix ys front → front ≡ longer xs ys → seen ≡ max a b → start'' ≡ start → IsFront opening base start'' front seen
+  pub front_joined : (opening : List (Moment K)) (base : Document) (start start' start'' : ℕ) (xs ys front : List (Moment K))
+      (a b seen : ℕ) → IsFront opening base start xs a → IsFront opening base start' ys b
+      → IsPrefix xs front → IsPrefix ys front → front ≡ longer xs ys → seen ≡ max a b → start'' ≡ start
+      → IsFront opening base start'' front seen
   front_joined opening base start start' start'' xs ys front a b seen one two p q is most stays =
       let f = joined_where opening base start start' xs ys front a b (ltb (length xs) (length ys)) one two p q is in
       record { start_is = stays ∙ f.start_is; begins = f.begins; legal = f.legal; seen_is = most ∙ f.seen_is }

@@ -27,13 +27,17 @@ use Rattle.xl_studio.specs.Jobs.{out_after, IsJobOf}
 use Rattle.xl_studio.proofs.Grown.{entries-append, entries-moments}
 use Rattle.xl_studio.proofs.Seated.{latest_prefix, call_may_leave, start_within}
 
-picture_at : (base : Document) (es more : List Entry) (o : Out) (done : Done) → IsLegal base es → o.version ≤ latest_of es → o.document ≡ document_of base es o.version → has_stack o.document o.stack ≡ true
-    → is_on_grid base.width base.height o.at ≡ true → IsOutcome o done → latest_of es ≤ latest_of (es ++ more) → IsPictureOf (record { base = base; entries = es ++ more }) done
+picture_at : (base : Document) (es more : List Entry) (o : Out) (done : Done) → IsLegal base es → o.version ≤ latest_of es
+    → o.document ≡ document_of base es o.version → has_stack o.document o.stack ≡ true
+    → is_on_grid base.width base.height o.at ≡ true → IsOutcome o done → latest_of es ≤ latest_of (es ++ more)
+    → IsPictureOf (record { base = base; entries = es ++ more }) done
 picture_at base es more o done legal there is has on out later =
     let last = latest_of-legal base es legal in
     let number : done.version ≡ o.version = out.version_is in
-    let same : document_of base (es ++ more) o.version ≡ document_of base es o.version = document_of-append base es more o.version (omega (arith, last, there)) in
-    let all : document_of base (es ++ more) done.version ≡ o.document = ap (λ v. document_of base (es ++ more) v) number ∙ (same ∙ sym is) in
+    let same : document_of base (es ++ more) o.version ≡ document_of base es o.version =
+    document_of-append base es more o.version (omega (arith, last, there)) in
+    let all : document_of base (es ++ more) done.version ≡ o.document = ap (λ v. document_of base (es ++ more) v) number
+    ∙ (same ∙ sym is) in
     record {
       version = omega (arith, number, there, later);
       has = (λ i. has_stack (all i) (out.node_is i)) ∙ has;
@@ -43,27 +47,36 @@ picture_at base es more o done legal there is has on out later =
 
 module _ {K : Type 0} where
   -- the list may be left as it was entered
-  pub stays_may_leave : (start : ℕ) (made : List ℕ) (entered : List (Moment K)) (held new : State K) → entered ≡ moments_of held.core → start ≡ 1 → HasStayed held new
+  pub stays_may_leave : (start : ℕ) (made : List ℕ) (entered : List (Moment K)) (held new : State K)
+      → entered ≡ moments_of held.core → start ≡ 1 → HasStayed held new
       → MayLeave closed_by start made entered (moments_of new.core)
   stays_may_leave start made entered held new is one stays =
-      call_may_leave start made entered (moments_of held.core) (moments_of new.core) is (start_within start held.core one) (record { is = inl stays.moments })
+      call_may_leave start made entered (moments_of held.core) (moments_of new.core) is (start_within start held.core one)
+      (record { is = inl stays.moments })
 
   -- the front goes on
-  pub begins_stayed : (front : List (Moment K)) (held new : State K) → IsPrefix front (moments_of held.core) → HasStayed held new → IsPrefix front (moments_of new.core)
+  pub begins_stayed : (front : List (Moment K)) (held new : State K) → IsPrefix front (moments_of held.core) → HasStayed held new
+      → IsPrefix front (moments_of new.core)
   begins_stayed front held new begins stays = subst (IsPrefix front) (sym stays.moments) begins
 
   -- ---- a job that was given out
 
-  pub is_taken : {E : Type 0} (r : Result Taken E) (s : State K) (d : Document) → d ≡ document s.core.history → IfOk r (GivesOut s) → IfOk r (λ taken. IsTaken taken (out_after r d))
+  pub is_taken : {E : Type 0} (r : Result Taken E) (s : State K) (d : Document) → d ≡ document s.core.history → IfOk r (GivesOut s)
+      → IfOk r (λ taken. IsTaken taken (out_after r d))
   is_taken (Ok (takes.Job job)) s d is gives =
       let now = gives.1.stands in
-      let stands : StandsFor (document s.core.history) job.stack job.at job.version job = record { stack_is = refl; at_is = refl; version_is = refl; picture_is = now.picture_is; cost_is = now.cost_is } in
-      (record { stack = job.stack; at = job.at; version = job.version; document = d }, refl, subst (λ (x : Document). StandsFor x job.stack job.at job.version job) (sym is) stands)
+      let stands : StandsFor (document s.core.history) job.stack job.at job.version job =
+      record { stack_is = refl; at_is = refl; version_is = refl; picture_is = now.picture_is; cost_is = now.cost_is } in (
+        record { stack = job.stack; at = job.at; version = job.version; document = d },
+        refl,
+        subst (λ (x : Document). StandsFor x job.stack job.at job.version job) (sym is) stands,
+      )
   is_taken (Ok takes.Nothing) s d is gives = refl
   is_taken (Ok takes.Closing) s d is gives = refl
   is_taken (Err e) s d is gives = tt
 
-  is_job_of : (base : Document) (front : List (Moment K)) (c : Editing K) (d : Document) (job : Job) → base ≡ c.history.base → entries_in front ≡ c.history.entries → d ≡ document c.history → IsJobNow c job
+  is_job_of : (base : Document) (front : List (Moment K)) (c : Editing K) (d : Document) (job : Job) → base ≡ c.history.base
+      → entries_in front ≡ c.history.entries → d ≡ document c.history → IsJobNow c job
       → IsJobOf base front (record { stack = job.stack; at = job.at; version = job.version; document = d })
   is_job_of base front c d job same es is now =
       let h = c.history in
@@ -74,33 +87,40 @@ module _ {K : Type 0} where
         version = omega (arith, number, last);
         document_is = is ∙ (λ i. document_of (sym same i) (sym es i) (sym number i));
         has = ap (λ x. has_stack x job.stack) is ∙ now.there.has;
-        on_grid = (λ i. is_on_grid ((ap (λ (b : Document). b.width) same ∙ sym canvas.width) i) ((ap (λ (b : Document). b.height) same ∙ sym canvas.height) i) job.at) ∙ now.there.on_grid;
+        on_grid = (λ i. is_on_grid ((ap (λ (b : Document). b.width) same ∙ sym canvas.width) i)
+            ((ap (λ (b : Document). b.height) same ∙ sym canvas.height) i) job.at) ∙ now.there.on_grid;
       }
 
-  pub job_after : {E : Type 0} (r : Result Taken E) (base : Document) (front : List (Moment K)) (s new : State K) (d : Document) → base ≡ new.core.history.base → front ≡ moments_of new.core → HasStayed s new
+  pub job_after : {E : Type 0} (r : Result Taken E) (base : Document) (front : List (Moment K)) (s new : State K) (d : Document)
+      → base ≡ new.core.history.base → front ≡ moments_of new.core → HasStayed s new
       → d ≡ document s.core.history → IfOk r (GivesOut s) → IfSome (out_after r d) (IsJobOf base front)
   job_after (Ok (takes.Job job)) base front s new d same is stays doc gives =
       let h : s.core.history ≡ new.core.history = sym stays.history in
       is_job_of base front s.core d job (same ∙ ap (λ x. x.base) stays.history)
-      (ap entries_in is ∙ (entries-moments new.core.history.base new.core.opening new.core.handed new.core.history.entries ∙ ap (λ x. x.entries) stays.history)) doc gives.1
+      (ap entries_in is ∙ (entries-moments new.core.history.base new.core.opening new.core.handed new.core.history.entries
+      ∙ ap (λ x. x.entries) stays.history)) doc gives.1
   job_after (Ok takes.Nothing) base front s new d same is stays doc gives = tt
   job_after (Ok takes.Closing) base front s new d same is stays doc gives = tt
   job_after (Err e) base front s new d same is stays doc gives = tt
 
   -- ---- a picture that is handed in
 
-  picture_along : (base : Document) (front : List (Moment K)) (c : Editing K) (o : Out) (done : Done) → base ≡ c.history.base → IsLegal base (entries_in front) → IsPrefix front (moments_of c)
+  picture_along : (base : Document) (front : List (Moment K)) (c : Editing K) (o : Out) (done : Done) → base ≡ c.history.base
+      → IsLegal base (entries_in front) → IsPrefix front (moments_of c)
       → IsJobOf base front o → IsOutcome o done → IsPictureOf c.history done
   picture_along base front c o done same legal begins job out =
       let es = entries_in front in
       let more = entries_in begins.0 in
       let all : es ++ more ≡ c.history.entries =
-      sym (entries-append front begins.0) ∙ (ap entries_in begins.1 ∙ entries-moments c.history.base c.opening c.handed c.history.entries) in
+      sym (entries-append front begins.0)
+      ∙ (ap entries_in begins.1 ∙ entries-moments c.history.base c.opening c.handed c.history.entries) in
       let later : latest_of es ≤ latest_of (es ++ more) = latest_prefix es (es ++ more) (more, refl) in
       subst (λ (h : History). IsPictureOf h done) (λ i. record { base = same i; entries = all i })
       (picture_at base es more o done legal job.version job.document_is job.has job.on_grid out later)
 
-  pub picture_of : (base : Document) (front : List (Moment K)) (c : Editing K) (job : Option Out) (done : Done) → base ≡ c.history.base → IsLegal base (entries_in front) → IsPrefix front (moments_of c)
+  pub picture_of : (base : Document) (front : List (Moment K)) (c : Editing K) (job : Option Out) (done : Done)
+      → base ≡ c.history.base → IsLegal base (entries_in front) → IsPrefix front (moments_of c)
       → IfSome job (IsJobOf base front) → IsOutcomeOf job done → IsPictureOf c.history done
   picture_of base front c job done same legal begins is out =
-      picture_along base front c out.0 done same legal begins (subst (λ (o : Option Out). IfSome o (IsJobOf base front)) out.1 is) out.2
+      picture_along base front c out.0 done same legal begins
+      (subst (λ (o : Option Out). IfSome o (IsJobOf base front)) out.1 is) out.2

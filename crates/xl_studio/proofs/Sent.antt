@@ -1,4 +1,5 @@
--- What of a studio may go to another thread, and what threads may share: by the parts of a struct, and by the captures of a closure.
+-- What of a studio may go to another thread, and what threads may share: by the parts of a struct, and by the
+-- captures of a closure.
 use mathlib.Core.List.{[], ◌∷◌}
 use Prim.Native.Nat.{ℕ}
 use mir.Syntax.{Ty, Sym}

@@ -12,10 +12,12 @@ use Rattle.xl_studio.specs.Moments.{IsAsked, entries_in}
 
 -- a call with its tables and its reply, as the session's next
 abbrev pub called_entry : (earlier : List Entry) → (session : ℕ) → Call → (tables : List (List ℕ)) → Reply → Entry
-called_entry earlier session call tables reply = record { session = session; index = next_index earlier session; kind = asked call tables; reply = reply }
+called_entry earlier session call tables reply =
+    record { session = session; index = next_index earlier session; kind = asked call tables; reply = reply }
 
 -- the call is the next entry, with its reply; a full history stays as it is
-pub record Adds {K : Type 0} (base : Document) (entered : List (Moment K)) (session : ℕ) (call : Call) (tables : List (List ℕ)) (reply : Reply) (left : List (Moment K)) : Type 0 where
+pub record Adds {K : Type 0} (base : Document) (entered : List (Moment K)) (session : ℕ) (call : Call) (tables : List (List ℕ))
+    (reply : Reply) (left : List (Moment K)) : Type 0 where
   pub is : MatchBool (is_full (record { base = base; entries = entries_in entered }))
       ((reply ≡ machine.history_full) × (left ≡ entered))
       (left ≡ entered ++ Made (called_entry (entries_in entered) session call tables reply) None ∷ [])
@@ -44,14 +46,17 @@ pub record Known (K : Type 0) : Type 0 where
   pub front : List (Moment K)
   pub made : List ℕ
 
--- The call was answered after some history that begins with what the seat knew. It is the next entry, with its reply, and the seat made
+-- The call was answered after some history that begins with what the seat knew. It is the next entry, with its reply,
+-- and the seat made
 -- just that one; where the history was full there is no entry. The seat knows the history as the call left it.
-pub record IsCalled {K : Type 0} (base : Document) (session : ℕ) (call : Call) (tables : List (List ℕ)) (reply : Reply) (old new : Known K) : Type 0 where
+pub record IsCalled {K : Type 0} (base : Document) (session : ℕ) (call : Call) (tables : List (List ℕ)) (reply : Reply)
+    (old new : Known K) : Type 0 where
   pub entered : List (Moment K)
   pub begins : IsPrefix old.front entered
   pub made : MatchBool (is_full (record { base = base; entries = entries_in entered }))
       ((reply ≡ machine.history_full) × (new.front ≡ entered) × (new.made ≡ old.made))
-      ((new.front ≡ entered ++ Made (called_entry (entries_in entered) session call tables reply) None ∷ []) × (new.made ≡ old.made ++ length (entries_in entered) ∷ []))
+      ((new.front ≡ entered ++ Made (called_entry (entries_in entered) session call tables reply) None ∷ [])
+      × (new.made ≡ old.made ++ length (entries_in entered) ∷ []))
 
 -- it made nothing, and may have heard what others made
 pub record HasHeard {K : Type 0} (old new : Known K) : Type 0 where

@@ -31,13 +31,17 @@ pub record FoundNoRoom {K : Type 0} (base : Document) (reply : Reply) (old new :
   pub none_out : out_of (history_of base new.front) ≡ None
 
 -- The save started after some history that begins with what the seat knew, and the shelf was handed out, as it is right after that
--- history. Until its end there were calls alone. The end names the version of the start, and is the last entry that the seat knows. The
+-- history. Until its end there were calls alone. The end names the version of the start, and is the last entry that
+-- the seat knows. The
 -- seat made just these two.
 --
--- The shelf came back as `Returns` says: at each moment since it was handed out a crash left one of the `files` of the history that ends
--- with the start. Where the save is done, a crash leaves its version alone. It ended by a fault only where the count of saving faults rose
+-- The shelf came back as `Returns` says: at each moment since it was handed out a crash left one of the `files` of
+-- the history that ends
+-- with the start. Where the save is done, a crash leaves its version alone. It ended by a fault only where the count
+-- of saving faults rose
 -- since it was handed out.
-pub record IsWhole {K : Type 0} (see : K → shelves.Known) (opening : K) (base : Document) (session : ℕ) (reply : Reply) (old new : Known K) : Type 0 where
+pub record IsWhole {K : Type 0} (see : K
+    → shelves.Known) (opening : K) (base : Document) (session : ℕ) (reply : Reply) (old new : Known K) : Type 0 where
   pub entered : List (Moment K)
   pub shelf : K
   pub between : List (Moment K)
@@ -46,11 +50,15 @@ pub record IsWhole {K : Type 0} (see : K → shelves.Known) (opening : K) (base 
   pub begins : IsPrefix old.front entered
   pub calls : AreAsked (entries_in between)
   pub right : ShelfIsRight (see opening) base (entries_in entered) (see shelf)
-  pub returns : Returns (see opening) (see shelf) base (entries_in entered ++ start_of (history_of base entered) session ∷ []) how (see back)
+  pub returns : Returns (see opening) (see shelf) base (entries_in entered
+      ++ start_of (history_of base entered) session ∷ []) how (see back)
   pub reply_is : reply ≡ end_reply how (latest_of (entries_in entered))
-  pub front : new.front ≡ entered ++ Made (start_of (history_of base entered) session) (Some shelf) ∷ [] ++ between ++ Made (end_behind (entries_in entered) session reply) None ∷ []
-  pub made : new.made ≡ old.made ++ length (entries_in entered) ∷ [] ++ (length (entries_in entered) + 1 + length (entries_in between)) ∷ []
+  pub front : new.front ≡ entered ++ Made (start_of (history_of base entered) session) (Some shelf) ∷ [] ++ between
+      ++ Made (end_behind (entries_in entered) session reply) None ∷ []
+  pub made : new.made ≡ old.made ++ length (entries_in entered) ∷ []
+      ++ (length (entries_in entered) + 1 + length (entries_in between)) ∷ []
 
 -- a save of a session, with this reply
-pub record IsSaved {K : Type 0} (see : K → shelves.Known) (opening : K) (base : Document) (session : ℕ) (reply : Reply) (old new : Known K) : Type 0 where
+pub record IsSaved {K : Type 0} (see : K
+    → shelves.Known) (opening : K) (base : Document) (session : ℕ) (reply : Reply) (old new : Known K) : Type 0 where
   pub is : FoundNoRoom base reply old new ⊎ IsWhole see opening base session reply old new

@@ -31,8 +31,10 @@ opening_shelf studio = (opened_with studio.lock).core.opening
 abbrev pub history_of : {K : Type 0} → (base : Document) → List (Moment K) → History
 history_of base ms = record { base = base; entries = entries_in ms }
 
--- What makes a front one of this studio's: it begins with the opening, which is one moment, and is legal. `seen` is its last version.
-pub record IsFront {K : Type 0} (opening : List (Moment K)) (base : Document) (start : ℕ) (front : List (Moment K)) (seen : ℕ) : Type 0 where
+-- What makes a front one of this studio's: it begins with the opening, which is one moment, and is legal. `seen` is
+-- its last version.
+pub record IsFront {K : Type 0} (opening : List (Moment K)) (base : Document) (start : ℕ) (front : List (Moment K))
+    (seen : ℕ) : Type 0 where
   pub start_is : start ≡ 1
   pub begins : IsPrefix opening front
   pub legal : IsLegal base (entries_in front)

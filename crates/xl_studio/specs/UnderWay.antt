@@ -27,10 +27,13 @@ module _ {K : Type 0} where
   -- ---- what the holds make of the list under the lock
 
   -- The start is put behind the list, with the shelf. Where the shelf is out, or it is in and there is no room, the list stays.
-  abbrev pub AddsStart : (base : Document) → (entered : List (Moment K)) → (session : ℕ) → Begun K → (left : List (Moment K)) → Type 0
-  AddsStart base entered session (Snapshot v d k) left = left ≡ entered ++ Made (start_of (history_of base entered) session) (Some k) ∷ []
+  abbrev pub AddsStart : (base : Document) → (entered : List (Moment K)) → (session : ℕ) → Begun K → (left : List (Moment K))
+      → Type 0
+  AddsStart base entered session (Snapshot v d k) left =
+      left ≡ entered ++ Made (start_of (history_of base entered) session) (Some k) ∷ []
   AddsStart base entered session Out left = left ≡ entered
-  AddsStart base entered session Full left = (left ≡ entered) × (most_entries < length (entries_in entered) + 2) × (out_of (history_of base entered) ≡ None)
+  AddsStart base entered session Full left =
+      (left ≡ entered) × (most_entries < length (entries_in entered) + 2) × (out_of (history_of base entered) ≡ None)
 
   -- the last version's document is handed out, with a shelf that is right and has a name selected
   abbrev pub Hands : (see : K → shelves.Known) → (old : Editing K) → Begun K → Type 0
@@ -39,7 +42,8 @@ module _ {K : Type 0} where
   Hands see old Full = Unit {0}
 
   -- the end is put behind it, and names the version of the save that is out
-  pub record AddsEnd (base : Document) (entered : List (Moment K)) (session : ℕ) (how : SaveEnd) (reply : Reply) (left : List (Moment K)) : Type 0 where
+  pub record AddsEnd (base : Document) (entered : List (Moment K)) (session : ℕ) (how : SaveEnd) (reply : Reply)
+      (left : List (Moment K)) : Type 0 where
     pub reply_is : reply ≡ end_reply how (version_out (out_of (history_of base entered)))
     pub left_is : left ≡ entered ++ Made (end_of (history_of base entered) session reply) None ∷ []
 
@@ -55,7 +59,8 @@ module _ {K : Type 0} where
     pub within : (i : ℕ) → 0 < times i known.made → i + 1 < length known.front
 
   -- the first hold has started the save
-  pub record HasStarted (see : K → shelves.Known) (opening : K) (base : Document) (session : ℕ) (d : Document) (shelf : K) (old new : Known K) : Type 0 where
+  pub record HasStarted (see : K → shelves.Known) (opening : K) (base : Document) (session : ℕ) (d : Document) (shelf : K)
+      (old new : Known K) : Type 0 where
     pub out : IsUnderWay base session shelf new
     pub begins : IsPrefix old.front out.entered
     pub made : new.made ≡ old.made ++ length (entries_in out.entered) ∷ []
@@ -64,19 +69,22 @@ module _ {K : Type 0} where
     pub selected : IsSome (see shelf).selected
 
   -- after a first hold
-  abbrev pub AfterFirst : (see : K → shelves.Known) → (opening : K) → (base : Document) → (session : ℕ) → Begun K → (old new : Known K) → Type 0
+  abbrev pub AfterFirst : (see : K → shelves.Known) → (opening : K) → (base : Document) → (session : ℕ) → Begun K
+      → (old new : Known K) → Type 0
   AfterFirst see opening base session (Snapshot v d k) old new = HasStarted see opening base session d k old new
   AfterFirst see opening base session Out old new = HasHeard old new
   AfterFirst see opening base session Full old new = FoundNoRoom base history_full old new
 
   -- after the first hold that found the shelf
-  abbrev pub AfterWait : (see : K → shelves.Known) → (opening : K) → (base : Document) → (session : ℕ) → Begun K → (old new : Known K) → Type 0
+  abbrev pub AfterWait : (see : K → shelves.Known) → (opening : K) → (base : Document) → (session : ℕ) → Begun K
+      → (old new : Known K) → Type 0
   AfterWait see opening base session (Snapshot v d k) old new = HasStarted see opening base session d k old new
   AfterWait see opening base session Out old new = ⊥
   AfterWait see opening base session Full old new = FoundNoRoom base history_full old new
 
   -- the shelf may come back to the save that is under way
-  pub record MayComeBack (see : K → shelves.Known) (opening : K) (base : Document) (session : ℕ) (how : SaveEnd) (shelf : K) (known : Known K) : Type 0 where
+  pub record MayComeBack (see : K → shelves.Known) (opening : K) (base : Document) (session : ℕ) (how : SaveEnd) (shelf : K)
+      (known : Known K) : Type 0 where
     pub handed : K
     pub out : IsUnderWay base session handed known
     pub returns : Returns (see opening) (see handed) base (entries_in known.front) how (see shelf)

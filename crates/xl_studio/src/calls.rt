@@ -31,7 +31,8 @@ use xl_ports::Shelf;
 impl<D: Shelf> Studio<D> {
     /// Makes a call of a session in one hold of the turn. The calls below are this at one kind.
     ///
-    /// The filters that a group names are in the desk's chest. After out of memory nothing was made, but that the filters of the group's
+    /// The filters that a group names are in the desk's chest. After out of memory nothing was made, but that the
+    /// filters of the group's
     /// first edits may have been asked.
     pub fn call<W: Wait, L: Ledger>(
         &self,
@@ -51,15 +52,21 @@ impl<D: Shelf> Studio<D> {
         ensures seat { IsSeatOf self.now seat.new }
         ensures weight { weight_of seat.new ≡ weight_of seat.old }
         ensures answered { (filters : List FilterState) → Agrees (states_in state desk.old.chest) filters
-            → IfOk result (λ reply. IsCalled (base_of self.now) session (call_of call) (expected_tables filters (asked (call_of call) []) (reply_of reply)) (reply_of reply) (known_by seat.old) (known_by seat.new)) }
+            → IfOk result (λ reply. IsCalled (base_of self.now) session (call_of call)
+            (expected_tables filters (asked (call_of call) []) (reply_of reply)) (reply_of reply) (known_by seat.old)
+            (known_by seat.new)) }
         ensures begins { IsPrefix (front_of seat.old) (front_of seat.new) }
         ensures failed { OnErr result (HasHeard (known_by seat.old) (known_by seat.new)) }
         ensures fresh { IfOk result (λ reply. IsFreshReply (latest_of (entries_in (front_of seat.old))) (reply_of reply)) }
-        ensures shown { IfOk result (λ reply. Shows (history_of (base_of self.now) (front_of seat.new)) (call_of call) (reply_of reply) desk.new.out) }
+        ensures shown { IfOk result (λ reply.
+            Shows (history_of (base_of self.now) (front_of seat.new)) (call_of call) (reply_of reply) desk.new.out) }
         ensures steps { IsNoTile (call_of call) → steps.new ≡ steps.old }
-        ensures no_step { IfOk result (λ _. NeedsNoStep (history_of (base_of self.now) (before_last (front_of seat.new))) (call_of call) → steps.new ≡ steps.old) }
-        ensures no_step_failed { OnErr result (NeedsNoStep (history_of (base_of self.now) (front_of seat.new)) (call_of call) → steps.new ≡ steps.old) }
-        ensures chest { IfOk result (λ reply. IsAfter (states_in state desk.old.chest) (states_in state desk.new.chest) (call_of call) (reply_of reply)) }
+        ensures no_step { IfOk result (λ _.
+            NeedsNoStep (history_of (base_of self.now) (before_last (front_of seat.new))) (call_of call) → steps.new ≡ steps.old) }
+        ensures no_step_failed { OnErr result (NeedsNoStep (history_of (base_of self.now) (front_of seat.new)) (call_of call)
+            → steps.new ≡ steps.old) }
+        ensures chest { IfOk result (λ reply.
+            IsAfter (states_in state desk.old.chest) (states_in state desk.new.chest) (call_of call) (reply_of reply)) }
         ensures desk { IfOk result (λ reply. KeepsDesk (reply_of reply) desk.old.out desk.new.out) }
         ensures out_as_before { OnErr result (desk.new.out ≡ desk.old.out) }
         ensures part { OnErr result (IsPartAfter (states_in state desk.old.chest) (states_in state desk.new.chest) (call_of call)) }
@@ -95,14 +102,19 @@ impl<D: Shelf> Studio<D> {
         ensures seat { IsSeatOf self.now seat.new }
         ensures weight { weight_of seat.new ≡ weight_of seat.old }
         ensures answered { (filters : List FilterState) → Agrees (states_in state desk.old.chest) filters
-            → IfOk result (λ reply. IsCalled (base_of self.now) session (machine.edit group.guard (edits_meant group.edits)) (expected_tables filters (asked (machine.edit group.guard (edits_meant group.edits)) []) (reply_of reply)) (reply_of reply) (known_by seat.old) (known_by seat.new)) }
+            → IfOk result (λ reply. IsCalled (base_of self.now) session (machine.edit group.guard (edits_meant group.edits))
+            (expected_tables filters (asked (machine.edit group.guard (edits_meant group.edits)) []) (reply_of reply))
+            (reply_of reply) (known_by seat.old) (known_by seat.new)) }
         ensures begins { IsPrefix (front_of seat.old) (front_of seat.new) }
         ensures failed { OnErr result (HasHeard (known_by seat.old) (known_by seat.new)) }
         ensures steps { steps.new ≡ steps.old }
-        ensures chest { IfOk result (λ reply. IsAfter (states_in state desk.old.chest) (states_in state desk.new.chest) (machine.edit group.guard (edits_meant group.edits)) (reply_of reply)) }
+        ensures chest { IfOk result (λ reply.
+            IsAfter (states_in state desk.old.chest) (states_in state desk.new.chest)
+            (machine.edit group.guard (edits_meant group.edits)) (reply_of reply)) }
         ensures desk { IfOk result (λ reply. KeepsDesk (reply_of reply) desk.old.out desk.new.out) }
         ensures out_as_before { OnErr result (desk.new.out ≡ desk.old.out) }
-        ensures part { OnErr result (IsPartAfter (states_in state desk.old.chest) (states_in state desk.new.chest) (machine.edit group.guard (edits_meant group.edits))) }
+        ensures part { OnErr result (IsPartAfter (states_in state desk.old.chest) (states_in state desk.new.chest)
+            (machine.edit group.guard (edits_meant group.edits))) }
     {
         self.call(rt, alloc, seat, session, Call::Edit(group), desk, steps)
     }
@@ -123,14 +135,17 @@ impl<D: Shelf> Studio<D> {
 
         ensures seat { IsSeatOf self.now seat.new }
         ensures weight { weight_of seat.new ≡ weight_of seat.old }
-        ensures made { IfOk result (λ reply. IsCalled (base_of self.now) session (machine.undo which) [] (reply_of reply) (known_by seat.old) (known_by seat.new)) }
+        ensures made { IfOk result (λ reply.
+            IsCalled (base_of self.now) session (machine.undo which) [] (reply_of reply) (known_by seat.old) (known_by seat.new)) }
         ensures begins { IsPrefix (front_of seat.old) (front_of seat.new) }
         ensures failed { OnErr result (HasHeard (known_by seat.old) (known_by seat.new)) }
         ensures steps { steps.new ≡ steps.old }
-        ensures chest { IfOk result (λ reply. IsAfter (states_in state desk.old.chest) (states_in state desk.new.chest) (machine.undo which) (reply_of reply)) }
+        ensures chest { IfOk result (λ reply.
+            IsAfter (states_in state desk.old.chest) (states_in state desk.new.chest) (machine.undo which) (reply_of reply)) }
         ensures desk { IfOk result (λ reply. KeepsDesk (reply_of reply) desk.old.out desk.new.out) }
         ensures out_as_before { OnErr result (desk.new.out ≡ desk.old.out) }
-        ensures part { OnErr result (IsPartAfter (states_in state desk.old.chest) (states_in state desk.new.chest) (machine.undo which)) }
+        ensures part { OnErr result (IsPartAfter (states_in state desk.old.chest) (states_in state desk.new.chest)
+            (machine.undo which)) }
     {
         self.call(rt, alloc, seat, session, Call::Undo(which), desk, steps)
     }
@@ -150,11 +165,13 @@ impl<D: Shelf> Studio<D> {
 
         ensures seat { IsSeatOf self.now seat.new }
         ensures weight { weight_of seat.new ≡ weight_of seat.old }
-        ensures made { IfOk result (λ reply. IsCalled (base_of self.now) session (machine.redo) [] (reply_of reply) (known_by seat.old) (known_by seat.new)) }
+        ensures made { IfOk result (λ reply.
+            IsCalled (base_of self.now) session (machine.redo) [] (reply_of reply) (known_by seat.old) (known_by seat.new)) }
         ensures begins { IsPrefix (front_of seat.old) (front_of seat.new) }
         ensures failed { OnErr result (HasHeard (known_by seat.old) (known_by seat.new)) }
         ensures steps { steps.new ≡ steps.old }
-        ensures chest { IfOk result (λ reply. IsAfter (states_in state desk.old.chest) (states_in state desk.new.chest) (machine.redo) (reply_of reply)) }
+        ensures chest { IfOk result (λ reply.
+            IsAfter (states_in state desk.old.chest) (states_in state desk.new.chest) (machine.redo) (reply_of reply)) }
         ensures desk { IfOk result (λ reply. KeepsDesk (reply_of reply) desk.old.out desk.new.out) }
         ensures out_as_before { OnErr result (desk.new.out ≡ desk.old.out) }
         ensures part { OnErr result (IsPartAfter (states_in state desk.old.chest) (states_in state desk.new.chest) (machine.redo)) }
@@ -177,11 +194,13 @@ impl<D: Shelf> Studio<D> {
 
         ensures seat { IsSeatOf self.now seat.new }
         ensures weight { weight_of seat.new ≡ weight_of seat.old }
-        ensures made { IfOk result (λ reply. IsCalled (base_of self.now) session (machine.top) [] (reply_of reply) (known_by seat.old) (known_by seat.new)) }
+        ensures made { IfOk result (λ reply.
+            IsCalled (base_of self.now) session (machine.top) [] (reply_of reply) (known_by seat.old) (known_by seat.new)) }
         ensures begins { IsPrefix (front_of seat.old) (front_of seat.new) }
         ensures failed { OnErr result (HasHeard (known_by seat.old) (known_by seat.new)) }
         ensures steps { steps.new ≡ steps.old }
-        ensures chest { IfOk result (λ reply. IsAfter (states_in state desk.old.chest) (states_in state desk.new.chest) (machine.top) (reply_of reply)) }
+        ensures chest { IfOk result (λ reply.
+            IsAfter (states_in state desk.old.chest) (states_in state desk.new.chest) (machine.top) (reply_of reply)) }
         ensures desk { IfOk result (λ reply. KeepsDesk (reply_of reply) desk.old.out desk.new.out) }
         ensures out_as_before { OnErr result (desk.new.out ≡ desk.old.out) }
         ensures part { OnErr result (IsPartAfter (states_in state desk.old.chest) (states_in state desk.new.chest) (machine.top)) }
@@ -189,8 +208,10 @@ impl<D: Shelf> Studio<D> {
         self.call(rt, alloc, seat, session, Call::Top, desk, steps)
     }
 
-    /// The tile of a stack at the latest version, which is in the desk after `Tile`. Where the tile was kept at the latest version before
-    /// the call's own entry, it takes no step; after out of memory, where there is no entry, this holds of the front's latest version.
+    /// The tile of a stack at the latest version, which is in the desk after `Tile`. Where the tile was kept at the
+    /// latest version before
+    /// the call's own entry, it takes no step; after out of memory, where there is no entry, this holds of the
+    /// front's latest version.
     pub fn tile<W: Wait, L: Ledger>(
         &self,
         rt: &W,
@@ -207,17 +228,25 @@ impl<D: Shelf> Studio<D> {
 
         ensures seat { IsSeatOf self.now seat.new }
         ensures weight { weight_of seat.new ≡ weight_of seat.old }
-        ensures made { IfOk result (λ reply. IsCalled (base_of self.now) session (machine.tile node.0 at) [] (reply_of reply) (known_by seat.old) (known_by seat.new)) }
+        ensures made { IfOk result (λ reply.
+            IsCalled (base_of self.now) session (machine.tile node.0 at) [] (reply_of reply) (known_by seat.old)
+            (known_by seat.new)) }
         ensures begins { IsPrefix (front_of seat.old) (front_of seat.new) }
         ensures failed { OnErr result (HasHeard (known_by seat.old) (known_by seat.new)) }
         ensures fresh { IfOk result (λ reply. IsFreshReply (latest_of (entries_in (front_of seat.old))) (reply_of reply)) }
-        ensures shown { IfOk result (λ reply. Shows (history_of (base_of self.now) (front_of seat.new)) (machine.tile node.0 at) (reply_of reply) desk.new.out) }
-        ensures no_step { IfOk result (λ _. NeedsNoStep (history_of (base_of self.now) (before_last (front_of seat.new))) (machine.tile node.0 at) → steps.new ≡ steps.old) }
-        ensures no_step_failed { OnErr result (NeedsNoStep (history_of (base_of self.now) (front_of seat.new)) (machine.tile node.0 at) → steps.new ≡ steps.old) }
-        ensures chest { IfOk result (λ reply. IsAfter (states_in state desk.old.chest) (states_in state desk.new.chest) (machine.tile node.0 at) (reply_of reply)) }
+        ensures shown { IfOk result (λ reply.
+            Shows (history_of (base_of self.now) (front_of seat.new)) (machine.tile node.0 at) (reply_of reply) desk.new.out) }
+        ensures no_step { IfOk result (λ _.
+            NeedsNoStep (history_of (base_of self.now) (before_last (front_of seat.new))) (machine.tile node.0 at)
+            → steps.new ≡ steps.old) }
+        ensures no_step_failed { OnErr result
+            (NeedsNoStep (history_of (base_of self.now) (front_of seat.new)) (machine.tile node.0 at) → steps.new ≡ steps.old) }
+        ensures chest { IfOk result (λ reply.
+            IsAfter (states_in state desk.old.chest) (states_in state desk.new.chest) (machine.tile node.0 at) (reply_of reply)) }
         ensures desk { IfOk result (λ reply. KeepsDesk (reply_of reply) desk.old.out desk.new.out) }
         ensures out_as_before { OnErr result (desk.new.out ≡ desk.old.out) }
-        ensures part { OnErr result (IsPartAfter (states_in state desk.old.chest) (states_in state desk.new.chest) (machine.tile node.0 at)) }
+        ensures part { OnErr result (IsPartAfter (states_in state desk.old.chest) (states_in state desk.new.chest)
+            (machine.tile node.0 at)) }
     {
         self.call(rt, alloc, seat, session, Call::Tile(node, at), desk, steps)
     }
@@ -240,16 +269,21 @@ impl<D: Shelf> Studio<D> {
 
         ensures seat { IsSeatOf self.now seat.new }
         ensures weight { weight_of seat.new ≡ weight_of seat.old }
-        ensures made { IfOk result (λ reply. IsCalled (base_of self.now) session (machine.peek node.0 at) [] (reply_of reply) (known_by seat.old) (known_by seat.new)) }
+        ensures made { IfOk result (λ reply.
+            IsCalled (base_of self.now) session (machine.peek node.0 at) [] (reply_of reply) (known_by seat.old)
+            (known_by seat.new)) }
         ensures begins { IsPrefix (front_of seat.old) (front_of seat.new) }
         ensures failed { OnErr result (HasHeard (known_by seat.old) (known_by seat.new)) }
         ensures fresh { IfOk result (λ reply. IsFreshReply (latest_of (entries_in (front_of seat.old))) (reply_of reply)) }
-        ensures shown { IfOk result (λ reply. Shows (history_of (base_of self.now) (front_of seat.new)) (machine.peek node.0 at) (reply_of reply) desk.new.out) }
+        ensures shown { IfOk result (λ reply.
+            Shows (history_of (base_of self.now) (front_of seat.new)) (machine.peek node.0 at) (reply_of reply) desk.new.out) }
         ensures steps { steps.new ≡ steps.old }
-        ensures chest { IfOk result (λ reply. IsAfter (states_in state desk.old.chest) (states_in state desk.new.chest) (machine.peek node.0 at) (reply_of reply)) }
+        ensures chest { IfOk result (λ reply.
+            IsAfter (states_in state desk.old.chest) (states_in state desk.new.chest) (machine.peek node.0 at) (reply_of reply)) }
         ensures desk { IfOk result (λ reply. KeepsDesk (reply_of reply) desk.old.out desk.new.out) }
         ensures out_as_before { OnErr result (desk.new.out ≡ desk.old.out) }
-        ensures part { OnErr result (IsPartAfter (states_in state desk.old.chest) (states_in state desk.new.chest) (machine.peek node.0 at)) }
+        ensures part { OnErr result (IsPartAfter (states_in state desk.old.chest) (states_in state desk.new.chest)
+            (machine.peek node.0 at)) }
     {
         self.call(rt, alloc, seat, session, Call::Peek(node, at), desk, steps)
     }

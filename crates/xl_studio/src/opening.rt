@@ -16,7 +16,8 @@ use xl_ports::Shelf;
 use xl_turn::TurnLock;
 
 impl<D: Shelf> Studio<D> {
-    /// A studio over a core without entries, and its first seat, which has all the weight. The core comes back where memory ran out.
+    /// A studio over a core without entries, and its first seat, which has all the weight. The core comes back where
+    /// memory ran out.
     pub fn open(alloc: Global, core: Core<D>) -> Result<(Studio<D>, Seat<D>), AllocFailed<Core<D>>>
         requires empty { core.history.entries ≡ [] }
         requires handed { core.handed ≡ [] }
@@ -75,7 +76,8 @@ impl<D: Shelf> Studio<D> {
         }
     }
 
-    /// Joins two seats. The joined one knows the longer front, which both old ones begin, and made what both made. No entry is of both.
+    /// Joins two seats. The joined one knows the longer front, which both old ones begin, and made what both made. No
+    /// entry is of both.
     /// Its tally stays its own.
     pub fn join(&self, seat: &mut Seat<D>, other: Seat<D>)
         requires seat { IsSeatOf self.now seat.old }

@@ -31,7 +31,9 @@ impl<D: Shelf> Studio<D> {
         ensures seat { IsSeatOf self.now seat.new }
         ensures weight { weight_of seat.new ≡ weight_of seat.old }
         ensures begins { IsPrefix (front_of seat.old) (front_of seat.new) }
-        ensures begun { IfOk result (λ begun. AfterFirst (known D.selected D.disk D.reading_faults D.saving_faults) (opening_shelf self.now) (base_of self.now) session begun (known_by seat.old) (known_by seat.new)) }
+        ensures begun { IfOk result (λ begun.
+            AfterFirst (known D.selected D.disk D.reading_faults D.saving_faults) (opening_shelf self.now)
+            (base_of self.now) session begun (known_by seat.old) (known_by seat.new)) }
         ensures failed { OnErr result (HasHeard (known_by seat.old) (known_by seat.new)) }
     {
         let mut held = self.lock.enter(rt, &mut seat.seat);
@@ -55,7 +57,9 @@ impl<D: Shelf> Studio<D> {
         ensures seat { IsSeatOf self.now seat.new }
         ensures weight { weight_of seat.new ≡ weight_of seat.old }
         ensures begins { IsPrefix (front_of seat.old) (front_of seat.new) }
-        ensures begun { IfOk result (λ begun. AfterWait (known D.selected D.disk D.reading_faults D.saving_faults) (opening_shelf self.now) (base_of self.now) session begun (known_by seat.old) (known_by seat.new)) }
+        ensures begun { IfOk result (λ begun.
+            AfterWait (known D.selected D.disk D.reading_faults D.saving_faults) (opening_shelf self.now)
+            (base_of self.now) session begun (known_by seat.old) (known_by seat.new)) }
         ensures failed { OnErr result (HasHeard (known_by seat.old) (known_by seat.new)) }
     {
         let backoff = Backoff::new();
@@ -71,7 +75,8 @@ impl<D: Shelf> Studio<D> {
     // The second hold: the shelf comes back. The save is still out, whatever other seats did.
     fn end<W: Wait>(&self, rt: &W, seat: &mut Seat<D>, session: u8, shelf: D, how: SaveEnd) -> Reply
         requires seat { IsSeatOf self.now seat.old }
-        requires back { MayComeBack (known D.selected D.disk D.reading_faults D.saving_faults) (opening_shelf self.now) (base_of self.now) session how shelf (known_by seat.old) }
+        requires back { MayComeBack (known D.selected D.disk D.reading_faults D.saving_faults) (opening_shelf self.now)
+            (base_of self.now) session how shelf (known_by seat.old) }
         ensures seat { IsSeatOf self.now seat.new }
         ensures weight { weight_of seat.new ≡ weight_of seat.old }
         ensures begins { IsPrefix (front_of seat.old) (front_of seat.new) }
@@ -86,13 +91,16 @@ impl<D: Shelf> Studio<D> {
         reply
     }
 
-    /// Saves the last version, in two holds of the turn: the first hands out a share of the document and the shelf, the second puts the
+    /// Saves the last version, in two holds of the turn: the first hands out a share of the document and the shelf,
+    /// the second puts the
     /// shelf back. The file is made and written between them, outside the turn. It waits while another save is out.
     ///
-    /// From its start to its end a crash leaves one of the files that the history at its start names. Once it is done a crash leaves its
+    /// From its start to its end a crash leaves one of the files that the history at its start names. Once it is done
+    /// a crash leaves its
     /// version alone. It ends by a fault only where the shelf's count of saving faults rose.
     ///
-    /// Where memory ran out for the file the save has ended too, with the reply `SaveMemory`. After out of memory there is no entry.
+    /// Where memory ran out for the file the save has ended too, with the reply `SaveMemory`. After out of memory
+    /// there is no entry.
     pub fn save<W: Wait, C: PlaneCoder>(
         &self,
         rt: &W,
@@ -107,7 +115,9 @@ impl<D: Shelf> Studio<D> {
         ensures seat { IsSeatOf self.now seat.new }
         ensures weight { weight_of seat.new ≡ weight_of seat.old }
         ensures begins { IsPrefix (front_of seat.old) (front_of seat.new) }
-        ensures saved { IfOk result (λ reply. IsSaved (known D.selected D.disk D.reading_faults D.saving_faults) (opening_shelf self.now) (base_of self.now) session (reply_of reply) (known_by seat.old) (known_by seat.new)) }
+        ensures saved { IfOk result (λ reply.
+            IsSaved (known D.selected D.disk D.reading_faults D.saving_faults) (opening_shelf self.now) (base_of self.now) session
+            (reply_of reply) (known_by seat.old) (known_by seat.new)) }
         ensures failed { OnErr result (HasHeard (known_by seat.old) (known_by seat.new)) }
     {
         match self.begin_when_in(rt, alloc, seat, session)? {

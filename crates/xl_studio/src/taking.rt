@@ -63,7 +63,8 @@ impl<D: Shelf> Taking for Shared<D> {
     fn finish(&mut self, done: Done) -> Finished
         requires done { IsPictureOf self.old.core.history done }
         ensures finished { result ≡ finish self.old.core.cache (place_done done) done.version }
-        ensures by_history { result ≡ finished_by self.old.core.history.base self.old.core.history.entries (place_done done) done.version }
+        ensures by_history { result ≡ finished_by self.old.core.history.base self.old.core.history.entries
+            (place_done done) done.version }
         ensures stays { HasStayed self.old self.new }
         ensures closing { self.new.closing ≡ self.old.closing }
     {

@@ -1,5 +1,6 @@
 -- Tiles that are counted one after another.
-use Rattle.std.proofs.Common.{◌≡◌, ℕ, zero, suc, ◌+◌, ◌≤◌, Bool, true, false, cond, List, [], ◌∷◌, ◌++◌, length, map, refl, sym, ap, subst, ◌∙◌, arith, length-append, append-nil}
+use Rattle.std.proofs.Common.{◌≡◌, ℕ, zero, suc, ◌+◌, ◌≤◌, Bool, true, false, cond, List, [], ◌∷◌, ◌++◌, length, map}
+use Rattle.std.proofs.Common.{refl, sym, ap, subst, ◌∙◌, arith, length-append, append-nil}
 use Rattle.std.specs.Prelude.{filter, flat_map, ◌&&◌}
 use Rattle.std.proofs.lemmas.Bool.{eq-eqb}
 use Rattle.std.proofs.lemmas.Grind.{flat_map-append}
@@ -37,28 +38,35 @@ length_one p x = by (p x) refl
     by false e = ap (λ b. length (cond b (x ∷ []) [])) e
 
 -- one item more
-pub one_counted : (p : TileAt → Bool) (g : ℕ → TileAt) (n count one : ℕ) → count ≤ length (filter p (map g (count_from 0 n))) → one ≤ cond (p (g n)) 1 0
+pub one_counted : (p : TileAt → Bool) (g : ℕ → TileAt) (n count one : ℕ) → count ≤ length (filter p (map g (count_from 0 n)))
+    → one ≤ cond (p (g n)) 1 0
     → count + one ≤ length (filter p (map g (count_from 0 (n + 1))))
 one_counted p g n count one so_far next =
-    let items : map g (count_from 0 (n + 1)) ≡ map g (count_from 0 n) ++ g n ∷ [] = ap (map g) (counted n) ∙ map-append' g (count_from 0 n) n in
+    let items : map g (count_from 0 (n + 1)) ≡ map g (count_from 0 n) ++ g n ∷ [] = ap (map g) (counted n)
+    ∙ map-append' g (count_from 0 n) n in
     let size : length (filter p (map g (count_from 0 (n + 1)))) ≡ length (filter p (map g (count_from 0 n))) + cond (p (g n)) 1 0 =
     ap (λ xs. length (filter p xs)) items ∙ (ap length (filter-append p (map g (count_from 0 n)) (g n ∷ []))
-    ∙ (length-append (filter p (map g (count_from 0 n))) (filter p (g n ∷ [])) ∙ ap (λ k. length (filter p (map g (count_from 0 n))) + k) (length_one p (g n)))) in
+    ∙ (length-append (filter p (map g (count_from 0 n))) (filter p (g n ∷ []))
+    ∙ ap (λ k. length (filter p (map g (count_from 0 n))) + k) (length_one p (g n)))) in
     omega (arith, size, so_far, next)
 
 -- one list of items more
-pub list_counted : (p : TileAt → Bool) (g : ℕ → List TileAt) (n count more : ℕ) → count ≤ length (filter p (flat_map g (count_from 0 n))) → more ≤ length (filter p (g n))
+pub list_counted : (p : TileAt → Bool) (g : ℕ → List TileAt) (n count more : ℕ)
+    → count ≤ length (filter p (flat_map g (count_from 0 n))) → more ≤ length (filter p (g n))
     → count + more ≤ length (filter p (flat_map g (count_from 0 (n + 1))))
 list_counted p g n count more so_far next =
     let items : flat_map g (count_from 0 (n + 1)) ≡ flat_map g (count_from 0 n) ++ g n =
-    ap (flat_map g) (counted n) ∙ (flat_map-append g (count_from 0 n) (n ∷ []) ∙ ap (λ xs. flat_map g (count_from 0 n) ++ xs) (append-nil (g n))) in
-    let size : length (filter p (flat_map g (count_from 0 (n + 1)))) ≡ length (filter p (flat_map g (count_from 0 n))) + length (filter p (g n)) =
+    ap (flat_map g) (counted n) ∙ (flat_map-append g (count_from 0 n) (n ∷ [])
+    ∙ ap (λ xs. flat_map g (count_from 0 n) ++ xs) (append-nil (g n))) in
+    let size : length (filter p (flat_map g (count_from 0 (n + 1))))
+    ≡ length (filter p (flat_map g (count_from 0 n))) + length (filter p (g n)) =
     ap (λ xs. length (filter p xs)) items ∙ (ap length (filter-append p (flat_map g (count_from 0 n)) (g n))
     ∙ length-append (filter p (flat_map g (count_from 0 n))) (filter p (g n))) in
     omega (arith, size, so_far, next)
 
 -- planes of one size
-pub alike_count : (p q : Plane) → q.width ≡ p.width → q.height ≡ p.height → q.bpp ≡ p.bpp → changed_tiles p q ≡ length (filter (differ_at p q) (all_tiles p.width p.height))
+pub alike_count : (p q : Plane) → q.width ≡ p.width → q.height ≡ p.height → q.bpp ≡ p.bpp
+    → changed_tiles p q ≡ length (filter (differ_at p q) (all_tiles p.width p.height))
 unfolding changed_tiles
 alike_count p q w h b =
     chosen_true (are_alike p q) _ (tile_count p + tile_count q)
@@ -66,9 +74,11 @@ alike_count p q w h b =
 
 -- the same of two tables
 pub count_is : (w h b u v d : ℕ) (tiles others : List (List ℕ)) (n : ℕ) → u ≡ w → v ≡ h → d ≡ b
-    → n ≤ length (filter (differ_at (plane_by w h b tiles) (plane_by w h b others)) (all_tiles w h)) → n ≤ changed_tiles (plane_by w h b tiles) (plane_by u v d others)
+    → n ≤ length (filter (differ_at (plane_by w h b tiles) (plane_by w h b others)) (all_tiles w h))
+    → n ≤ changed_tiles (plane_by w h b tiles) (plane_by u v d others)
 count_is w h b u v d tiles others n eu ev ed within =
     let p = plane_by w h b tiles in
     let same : plane_by w h b others ≡ plane_by u v d others = λ i. plane_by (sym eu i) (sym ev i) (sym ed i) others in
-    let here : n ≤ length (filter (differ_at p (plane_by u v d others)) (all_tiles w h)) = subst (λ q. n ≤ length (filter (differ_at p q) (all_tiles w h))) same within in
+    let here : n ≤ length (filter (differ_at p (plane_by u v d others)) (all_tiles w h)) =
+    subst (λ q. n ≤ length (filter (differ_at p q) (all_tiles w h))) same within in
     subst (λ m. n ≤ m) (sym (alike_count p (plane_by u v d others) eu ev ed)) here

@@ -1,5 +1,6 @@
 -- Planes that are decoded one after another.
-use Rattle.std.proofs.Common.{◌≡◌, ℕ, zero, suc, ◌+◌, ◌-◌, ◌*◌, ◌<◌, ◌≤◌, List, [], ◌∷◌, ◌++◌, take, drop, refl, sym, ap, ◌∙◌, arith, append-nil, append_assoc}
+use Rattle.std.proofs.Common.{◌≡◌, ℕ, zero, suc, ◌+◌, ◌-◌, ◌*◌, ◌<◌, ◌≤◌, List, [], ◌∷◌, ◌++◌, take, drop, refl, sym}
+use Rattle.std.proofs.Common.{ap, ◌∙◌, arith, append-nil, append_assoc}
 use Rattle.std.specs.Prelude.{Ok, Err}
 use Rattle.std.proofs.lemmas.List.{drop-drop, drop-take, take-take}
 use Rattle.spec_fields.specs.declared.ReadRefused.{ReadRefused}
@@ -29,7 +30,8 @@ front_only (suc c) n a b e =
     let within : n ≤ suc c * n = omega (arith, size) in
     let first : take n a ≡ take n b = sym (take-take n (suc c * n) a within) ∙ (ap (take n) e ∙ take-take n (suc c * n) b within) in
     let both : take (n + c * n) a ≡ take (n + c * n) b = ap (λ k. take k a) (sym size) ∙ (e ∙ ap (λ k. take k b) size) in
-    let rest : take (c * n) (drop n a) ≡ take (c * n) (drop n b) = sym (drop-take n (c * n) a) ∙ (ap (drop n) both ∙ drop-take n (c * n) b) in
+    let rest : take (c * n) (drop n a) ≡ take (c * n) (drop n b) = sym (drop-take n (c * n) a)
+    ∙ (ap (drop n) both ∙ drop-take n (c * n) b) in
     λ i. first i ∷ front_only c n (drop n a) (drop n b) rest i
 
 -- one plane more
@@ -38,18 +40,22 @@ more zero n planes = let none : zero * n ≡ zero = omega arith in ap (λ k. tak
 more (suc c) n planes =
     let place : n + c * n ≡ suc c * n = omega arith in
     ap (λ xs. take n planes ∷ xs) (more c n (drop n planes))
-    ∙ ap (λ xs. take n planes ∷ (pieces c n (drop n planes) ++ take n xs ∷ [])) (drop-drop (c * n) n planes ∙ ap (λ k. drop k planes) place)
+    ∙ ap (λ xs. take n planes ∷ (pieces c n (drop n planes) ++ take n xs ∷ [])) (drop-drop (c * n) n planes
+    ∙ ap (λ k. drop k planes) place)
 
-pub stops : {file : List ℕ} {from n bpp c at : ℕ} {planes : List ℕ} {e : ReadRefused} → Decoding file from n bpp c at planes → c < bpp
+pub stops : {file : List ℕ} {from n bpp c at : ℕ} {planes : List ℕ} {e : ReadRefused} → Decoding file from n bpp c at planes
+    → c < bpp
     → plane_at file at n ≡ Err e → spelled_at bpp file from n ≡ Err e
 unfolding spelled_at
 stops {file = file} {n = n} {bpp = bpp} {c = c} {at = at} {planes = planes} so_far some h =
     let left : bpp - c ≡ suc (bpp - (c + 1)) = omega (arith, some) in
     so_far.reads
     ∙ (ap (λ k. behind (pieces c n planes) (spelled_at k file at n)) left
-    ∙ ap (λ r. behind (pieces c n planes) (r >>= (λ part. spelled_at (bpp - (c + 1)) file part.next n >>= (λ rest. Ok (part.pixels ∷ rest))))) h)
+    ∙ ap (λ r. behind (pieces c n planes)
+    (r >>= (λ part. spelled_at (bpp - (c + 1)) file part.next n >>= (λ rest. Ok (part.pixels ∷ rest))))) h)
 
-pub goes_on : {file : List ℕ} {from n bpp c at : ℕ} {planes : List ℕ} → Decoding file from n bpp c at planes → c < bpp → (next : ℕ) (new : List ℕ)
+pub goes_on : {file : List ℕ} {from n bpp c at : ℕ} {planes : List ℕ} → Decoding file from n bpp c at planes → c < bpp
+    → (next : ℕ) (new : List ℕ)
     → take (c * n) new ≡ take (c * n) planes → plane_at file at n ≡ Ok (record { pixels = take n (drop (c * n) new); next = next })
     → Decoding file from n bpp (c + 1) next new
 unfolding spelled_at
@@ -61,7 +67,8 @@ goes_on {file = file} {from = from} {n = n} {bpp = bpp} {c = c} {at = at} {plane
     record {
       reads = so_far.reads
           ∙ (ap (λ k. behind (pieces c n planes) (spelled_at k file at n)) left
-          ∙ (ap (λ r. behind (pieces c n planes) (r >>= (λ part. spelled_at (bpp - (c + 1)) file part.next n >>= (λ rest. Ok (part.pixels ∷ rest))))) h
+          ∙ (ap (λ r. behind (pieces c n planes)
+          (r >>= (λ part. spelled_at (bpp - (c + 1)) file part.next n >>= (λ rest. Ok (part.pixels ∷ rest))))) h
           ∙ (ap (behind (pieces c n planes)) (one_behind pixels rest)
           ∙ (behind-behind (pieces c n planes) (pixels ∷ []) rest
           ∙ (ap (λ ps. behind (ps ++ pixels ∷ []) rest) (front_only c n planes new (sym same))

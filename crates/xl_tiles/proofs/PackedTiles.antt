@@ -1,5 +1,6 @@
 -- Tiles that stand in a file.
-use Rattle.std.proofs.Common.{◌≡◌, ℕ, zero, suc, ◌+◌, ◌-◌, ◌*◌, ◌<◌, ◌≤◌, Bool, true, false, cond, List, [], ◌∷◌, length, map, take, drop, slice_index, refl, sym, ap, subst, ◌∙◌, arith}
+use Rattle.std.proofs.Common.{◌≡◌, ℕ, zero, suc, ◌+◌, ◌-◌, ◌*◌, ◌<◌, ◌≤◌, Bool, true, false, cond, List, [], ◌∷◌}
+use Rattle.std.proofs.Common.{length, map, take, drop, slice_index, refl, sym, ap, subst, ◌∙◌, arith}
 use Rattle.std.specs.Prelude.{Ok, Err, ◌==◌, nat_le, MatchBool}
 use Rattle.spec_document.specs.Limits.{AreBytes}
 use Rattle.spec_document.proofs.PlaneLemmas.{length-pieces}
@@ -34,9 +35,11 @@ ok_is {A = A} d e = ap value e
 
 -- one plane is walked, and the others are still to be walked
 plane_more : (rest : Part → Read (List (List ℕ))) (file : List ℕ) (k n next : ℕ) (r : Read Part)
-    → Ok next ≡ next_of r → done (r >>= (λ part. spelled_at k file part.next n >>= (λ rest. Ok (part.pixels ∷ rest)))) ≡ done (spelled_at k file next n)
+    → Ok next ≡ next_of r → done (r >>= (λ part. spelled_at k file part.next n >>= (λ rest. Ok (part.pixels ∷ rest))))
+    ≡ done (spelled_at k file next n)
 plane_more rest file k n next (Ok part) e =
-    done_then (spelled_at k file part.next n) (λ rest. part.pixels ∷ rest) ∙ ap (λ m. done (spelled_at k file m n)) (sym (ok_is 0 e))
+    done_then (spelled_at k file part.next n) (λ rest. part.pixels ∷ rest)
+    ∙ ap (λ m. done (spelled_at k file m n)) (sym (ok_is 0 e))
 plane_more rest file k n next (Err f) e = cc
 
 fault_of : (e : ReadRefused) (r : Read Part) → Err e ≡ next_of r → r ≡ Err e
@@ -53,7 +56,8 @@ unfolding spelled_at
 check_stops {file = file} {n = n} {bpp = bpp} {c = c} {at = at} {e = e} so_far some h =
     let left : bpp - c ≡ suc (bpp - (c + 1)) = omega (arith, some) in
     sym (so_far.reads ∙ (ap (λ k. done (spelled_at k file at n)) left
-    ∙ ap (λ r. done (r >>= (λ part. spelled_at (bpp - (c + 1)) file part.next n >>= (λ rest. Ok (part.pixels ∷ rest))))) (fault_of e (plane_at file at n) h)))
+    ∙ ap (λ r. done (r >>= (λ part. spelled_at (bpp - (c + 1)) file part.next n >>= (λ rest. Ok (part.pixels ∷ rest)))))
+    (fault_of e (plane_at file at n) h)))
 
 pub check_goes_on : {file : List ℕ} {from n bpp c at : ℕ} → Checking file from n bpp c at → c < bpp → (next : ℕ)
     → Ok next ≡ next_of (plane_at file at n) → Checking file from n bpp (c + 1) next
@@ -65,7 +69,8 @@ check_goes_on {file = file} {n = n} {bpp = bpp} {c = c} {at = at} so_far some ne
           ∙ plane_more (λ part. Ok []) file (bpp - (c + 1)) n next (plane_at file at n) h);
     }
 
-pub check_ends : {file : List ℕ} {from n bpp c at : ℕ} → Checking file from n bpp c at → bpp ≤ c → Ok tt ≡ done (spelled_at bpp file from n)
+pub check_ends : {file : List ℕ} {from n bpp c at : ℕ} → Checking file from n bpp c at → bpp ≤ c
+    → Ok tt ≡ done (spelled_at bpp file from n)
 unfolding spelled_at
 check_ends {file = file} {n = n} {bpp = bpp} {c = c} {at = at} so_far whole =
     let none : bpp - c ≡ zero = omega (arith, whole) in
@@ -80,7 +85,8 @@ plain_short file at n short =
 pub plain_there : (file : List ℕ) (at n : ℕ) → at + n ≤ length file → Ok tt ≡ done (plain_at file at n)
 unfolding plain_at
 plain_there file at n fits =
-    sym (ap done (pass (nat_le (at + n) (length file)) (fault Truncated at) (λ _. Ok (bytes_at file at n)) (le-leb (at + n) (length file) fits)))
+    sym (ap done (pass (nat_le (at + n) (length file)) (fault Truncated at) (λ _. Ok (bytes_at file at n))
+    (le-leb (at + n) (length file) fits)))
 
 pub tile_plain : (file : List ℕ) (at n bpp compression : ℕ) (result : Read (Unit {0})) → compression ≡ 0
     → result ≡ done (plain_at file at (n * bpp)) → result ≡ done (tile_at file at n bpp compression)
@@ -97,13 +103,16 @@ tile_spelled file at n bpp (suc compression) result some h =
     ∙ ap (λ b. done (cond b (plain_at file at (n * bpp)) spelled)) (sym (eqb-suc-zero compression)))
 
 -- a plain tile stands in the file
-pub plain_reads : (file : List ℕ) (at n bpp : ℕ) → IsPacked file at n bpp 0 → (at + n * bpp ≤ length file) × (take (n * bpp) (drop at file) ≡ packed file at n bpp 0)
+pub plain_reads : (file : List ℕ) (at n bpp : ℕ) → IsPacked file at n bpp 0
+    → (at + n * bpp ≤ length file) × (take (n * bpp) (drop at file) ≡ packed file at n bpp 0)
 unfolding tile_at plain_at
 plain_reads file at n bpp h =
-    let a = wants_back (nat_le (at + n * bpp) (length file)) (fault Truncated at) (λ _. Ok (bytes_at file at (n * bpp))) (packed file at n bpp 0) h.reads in
+    let a = wants_back (nat_le (at + n * bpp) (length file)) (fault Truncated at) (λ _. Ok (bytes_at file at (n * bpp)))
+    (packed file at n bpp 0) h.reads in
     (leb-true (at + n * bpp) (length file) a.0, ok_is [] a.1)
 
-pub unpacked : (file : List ℕ) (at n bpp compression : ℕ) (tile : List ℕ) → IsPacked file at n bpp compression → tile_at file at n bpp compression ≡ Ok tile
+pub unpacked : (file : List ℕ) (at n bpp compression : ℕ) (tile : List ℕ) → IsPacked file at n bpp compression
+    → tile_at file at n bpp compression ≡ Ok tile
     → tile ≡ packed file at n bpp compression
 unpacked file at n bpp compression tile h e = ok_is [] (sym e ∙ h.reads)
 
@@ -111,10 +120,12 @@ length_mapped : (g : List ℕ → ℕ) (xs : List (List ℕ)) → length (map g 
 length_mapped g [] = refl
 length_mapped g (x ∷ xs) = omega (arith, length_mapped g xs)
 
-size_of : (file : List ℕ) (at n bpp : ℕ) (tile : List ℕ) (plain : Bool) → MatchBool plain (HasBytes file at tile × (length tile ≡ n * bpp)) (IsSpelledTile file at n bpp tile) → length tile ≡ n * bpp
+size_of : (file : List ℕ) (at n bpp : ℕ) (tile : List ℕ) (plain : Bool)
+    → MatchBool plain (HasBytes file at tile × (length tile ≡ n * bpp)) (IsSpelledTile file at n bpp tile) → length tile ≡ n * bpp
 size_of file at n bpp tile true h = h.1
 size_of file at n bpp tile false h =
-    ap length h.tile_is ∙ length-pieces (λ k. map (λ plane. slice_index plane k) h.planes) bpp (λ v. length_mapped (λ plane. slice_index plane v) h.planes ∙ h.as_many) 0 n
+    ap length h.tile_is ∙ length-pieces (λ k. map (λ plane. slice_index plane k) h.planes) bpp
+    (λ v. length_mapped (λ plane. slice_index plane v) h.planes ∙ h.as_many) 0 n
 
 read_is : (r : Read (List ℕ)) → Ok tt ≡ done r → r ≡ Ok (bytes_or_none r)
 read_is (Ok x) e = refl
@@ -144,7 +155,8 @@ none_dropped [] = refl
 none_dropped (b ∷ bytes) = refl
 
 -- bytes of its own, which begin with those of the tile
-pub own_packed : (bytes : List ℕ) (n bpp : ℕ) → AreBytes bytes → 1 ≤ n → n ≤ 4096 → 1 ≤ bpp → bpp ≤ 4 → n * bpp ≤ length bytes → IsPacked bytes 0 n bpp 0
+pub own_packed : (bytes : List ℕ) (n bpp : ℕ) → AreBytes bytes → 1 ≤ n → n ≤ 4096 → 1 ≤ bpp → bpp ≤ 4 → n * bpp ≤ length bytes
+    → IsPacked bytes 0 n bpp 0
 own_packed bytes n bpp all some few some_bytes few_bytes full =
     packed_is bytes 0 n bpp 0 all some few some_bytes few_bytes (omega arith)
     (tile_plain bytes 0 n bpp 0 (Ok tt) refl (plain_there bytes 0 (n * bpp) (omega (arith, full))))
@@ -153,6 +165,7 @@ pub own_bytes : (bytes : List ℕ) (n bpp : ℕ) → IsPacked bytes 0 n bpp 0 �
 own_bytes bytes n bpp h = sym (plain_reads bytes 0 n bpp h).1 ∙ ap (take (n * bpp)) (none_dropped bytes)
 
 -- a tile that is not plain is in runs
-pub in_runs : {file : List ℕ} {at n bpp compression : ℕ} → IsPacked file at n bpp compression → 0 < compression → IsPacked file at n bpp 1
+pub in_runs : {file : List ℕ} {at n bpp compression : ℕ} → IsPacked file at n bpp compression → 0 < compression
+    → IsPacked file at n bpp 1
 in_runs {file = file} {at = at} {n = n} {bpp = bpp} {compression = compression} h some =
     let one : compression ≡ 1 = omega (arith, some, h.known) in subst (IsPacked file at n bpp) one h

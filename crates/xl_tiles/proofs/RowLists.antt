@@ -1,5 +1,7 @@
 -- A list that is made of rows of one length.
-use Rattle.std.proofs.Common.{◌≡◌, ℕ, zero, suc, ◌+◌, ◌*◌, ◌/◌, ◌%◌, ◌-◌, ◌<◌, ◌≤◌, List, [], ◌∷◌, ◌++◌, length, take, drop, get_or, set, refl, sym, ap, subst, ◌∙◌, arith, append-nil, length-append, length-take-le}
+use Rattle.std.proofs.Common.{◌≡◌, ℕ, zero, suc, ◌+◌, ◌*◌, ◌/◌, ◌%◌, ◌-◌, ◌<◌, ◌≤◌, List, [], ◌∷◌, ◌++◌, length, take}
+use Rattle.std.proofs.Common.{drop, get_or, set, refl, sym, ap, subst, ◌∙◌, arith, append-nil, length-append}
+use Rattle.std.proofs.Common.{length-take-le}
 use Rattle.std.specs.Prelude.{flat_map, Result, Ok, Err, OnOk, OnErr}
 use Rattle.std.specs.List.{AllByRecursion}
 use Rattle.std.proofs.lemmas.Grind.{flat_map-append}
@@ -15,7 +17,8 @@ use Rattle.xl_tiles.proofs.FreshTiles.{all_set, length_set}
 abbrev pub flat : List (List (List ℕ)) → List (List ℕ)
 flat rows = flat_map (λ row. row) rows
 
-pub length_flat : (n : ℕ) (rows : List (List (List ℕ))) → AllByRecursion (λ row. length row ≡ n) rows → length (flat rows) ≡ length rows * n
+pub length_flat : (n : ℕ) (rows : List (List (List ℕ))) → AllByRecursion (λ row. length row ≡ n) rows
+    → length (flat rows) ≡ length rows * n
 length_flat n [] all = omega arith
 length_flat n (row ∷ rows) all = omega (arith, length-append row (flat rows), all.0, length_flat n rows all.1)
 
@@ -27,9 +30,11 @@ at_rows n (row ∷ rows) all zero j hi hj =
     ap (λ k. get_or (row ++ flat rows) k []) place ∙ get_or_append_left row (flat rows) [] j (omega (arith, hj, all.0))
 at_rows n (row ∷ rows) all (suc i) j hi hj =
     let place : suc i * n + j ≡ length row + (i * n + j) = omega (arith, all.0) in
-    ap (λ k. get_or (row ++ flat rows) k []) place ∙ (get_or-append-add row (flat rows) (i * n + j) [] ∙ at_rows n rows all.1 i j (omega (arith, hi)) hj)
+    ap (λ k. get_or (row ++ flat rows) k []) place
+    ∙ (get_or-append-add row (flat rows) (i * n + j) [] ∙ at_rows n rows all.1 i j (omega (arith, hi)) hj)
 
-set_rows : (n : ℕ) (rows : List (List (List ℕ))) → AllByRecursion (λ row. length row ≡ n) rows → (i j : ℕ) → i < length rows → j < n → (x : List ℕ)
+set_rows : (n : ℕ) (rows : List (List (List ℕ))) → AllByRecursion (λ row. length row ≡ n) rows → (i j : ℕ) → i < length rows → j < n
+    → (x : List ℕ)
     → flat (set rows i (set (get_or rows i []) j x)) ≡ set (flat rows) (i * n + j) x
 set_rows n [] all i j hi hj x = absurd (omega (arith, hi))
 set_rows n (row ∷ rows) all zero j hi hj x =
@@ -43,7 +48,8 @@ set_rows n (row ∷ rows) all (suc i) j hi hj x =
     ∙ (set-append_right row (flat rows) (length row) (length row + (i * n + j)) x refl (omega arith)
     ∙ ap (λ k. row ++ set (flat rows) k x) behind))
 
-row_length : (n : ℕ) (rows : List (List (List ℕ))) → AllByRecursion (λ row. length row ≡ n) rows → (i : ℕ) → i < length rows → length (get_or rows i []) ≡ n
+row_length : (n : ℕ) (rows : List (List (List ℕ))) → AllByRecursion (λ row. length row ≡ n) rows → (i : ℕ) → i < length rows
+    → length (get_or rows i []) ≡ n
 row_length n [] all i hi = absurd (omega (arith, hi))
 row_length n (row ∷ rows) all zero hi = all.0
 row_length n (row ∷ rows) all (suc i) hi = row_length n rows all.1 i (omega (arith, hi))
@@ -54,17 +60,21 @@ row_there n rows are k hk =
     let size = length_flat n rows are.full in
     (div-lt_iff_lt-mul are.some).1 (omega (arith, hk, size))
 
-pub column_there : (n : ℕ) (rows : List (List (List ℕ))) → AreRows n rows → (k : ℕ) → k < length (flat rows) → k % n < length (get_or rows (k / n) [])
+pub column_there : (n : ℕ) (rows : List (List (List ℕ))) → AreRows n rows → (k : ℕ) → k < length (flat rows)
+    → k % n < length (get_or rows (k / n) [])
 column_there n rows are k hk = omega (arith, row_length n rows are.full (k / n) (row_there n rows are k hk), mod-lt k are.some)
 
-pub item_is : (n : ℕ) (rows : List (List (List ℕ))) → AreRows n rows → (k : ℕ) → k < length (flat rows) → get_or (get_or rows (k / n) []) (k % n) [] ≡ get_or (flat rows) k []
+pub item_is : (n : ℕ) (rows : List (List (List ℕ))) → AreRows n rows → (k : ℕ) → k < length (flat rows)
+    → get_or (get_or rows (k / n) []) (k % n) [] ≡ get_or (flat rows) k []
 item_is n rows are k hk =
-    sym (at_rows n rows are.full (k / n) (k % n) (row_there n rows are k hk) (mod-lt k are.some)) ∙ ap (λ m. get_or (flat rows) m []) (div-add-mod' k n)
+    sym (at_rows n rows are.full (k / n) (k % n) (row_there n rows are k hk) (mod-lt k are.some))
+    ∙ ap (λ m. get_or (flat rows) m []) (div-add-mod' k n)
 
 pub set_is : (n : ℕ) (rows : List (List (List ℕ))) → AreRows n rows → (k : ℕ) → k < length (flat rows) → (x : List ℕ)
     → flat (set rows (k / n) (set (get_or rows (k / n) []) (k % n) x)) ≡ set (flat rows) k x
 set_is n rows are k hk x =
-    set_rows n rows are.full (k / n) (k % n) (row_there n rows are k hk) (mod-lt k are.some) x ∙ ap (λ m. set (flat rows) m x) (div-add-mod' k n)
+    set_rows n rows are.full (k / n) (k % n) (row_there n rows are k hk) (mod-lt k are.some) x
+    ∙ ap (λ m. set (flat rows) m x) (div-add-mod' k n)
 
 -- the rows after a write to one
 pub still_rows : (n : ℕ) (rows : List (List (List ℕ))) → AreRows n rows → (k : ℕ) → k < length (flat rows) → (x : List ℕ)
@@ -80,7 +90,8 @@ pub record FirstRows (n k : ℕ) (all : List (List ℕ)) (rows : List (List (Lis
   pub are : AllByRecursion (λ row. length row ≡ n) rows
   pub value : flat rows ≡ take (k * n) all
 
-pub one_row_more : {n k : ℕ} {all : List (List ℕ)} {rows : List (List (List ℕ))} → FirstRows n k all rows → (next : List (List (List ℕ))) (row : List (List ℕ)) → next ≡ rows ++ row ∷ []
+pub one_row_more : {n k : ℕ} {all : List (List ℕ)} {rows : List (List (List ℕ))} → FirstRows n k all rows
+    → (next : List (List (List ℕ))) (row : List (List ℕ)) → next ≡ rows ++ row ∷ []
     → row ≡ take n (drop (k * n) all) → (k + 1) * n ≤ length all → FirstRows n (k + 1) all next
 one_row_more {n = n} {k = k} {all = all} {rows = rows} first next row is value within = record {
   are = subst (AllByRecursion (λ r. length r ≡ n)) (sym is) (all_append (λ r. length r ≡ n) rows (row ∷ []) first.are (size, tt));

@@ -20,7 +20,8 @@ written_whole p bytes size =
     let b = p.bpp in
     let whole : Plane = record { width = w; height = h; bpp = b; bytes = bytes } in
     let byte : ℕ → ℕ → ℕ → ℕ = λ x y c.
-    cond (has_point (sheet w h) (pos x) (pos y)) (slice_index bytes ((from_edge y (pos 0) * w + from_edge x (pos 0)) * b + c)) (byte_at p x y c) in
+    cond (has_point (sheet w h) (pos x) (pos y)) (slice_index bytes ((from_edge y (pos 0) * w + from_edge x (pos 0)) * b + c))
+    (byte_at p x y c) in
     plane-ext (written p (sheet w h) bytes) whole refl refl refl (length_over 0 0 w h b byte) size
     (λ x y c hx hy hc.
     let inside : is_in 0 0 w h x y ≡ true = grind (arith, nat_tests, hx, hy) in

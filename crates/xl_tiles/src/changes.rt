@@ -36,7 +36,9 @@ fn changed_in_row(
     requires row { row < grid.tiles_along sheet.height }
     requires room { length room.old ≡ 32768 }
     requires other_room { length other_room.old ≡ 32768 }
-    ensures value { result ≤ length (filter (differ_at (plane_by sheet.width sheet.height sheet.bpp tiles.now) (plane_by sheet.width sheet.height sheet.bpp others.now)) (map (λ col. tile col row) (count_from 0 (grid.tiles_along sheet.width)))) }
+    ensures value { result ≤ length (filter
+        (differ_at (plane_by sheet.width sheet.height sheet.bpp tiles.now) (plane_by sheet.width sheet.height sheet.bpp others.now))
+        (map (λ col. tile col row) (count_from 0 (grid.tiles_along sheet.width)))) }
     ensures few { result ≤ 128 }
 {
     if tiles.shares_row(others, row) {
@@ -63,7 +65,9 @@ pub fn changed(
     requires others { AreTiled sheet.width sheet.height sheet.bpp others.now }
     requires room { length room.old ≡ 32768 }
     requires other_room { length other_room.old ≡ 32768 }
-    ensures value { result ≤ length (filter (differ_at (plane_by sheet.width sheet.height sheet.bpp tiles.now) (plane_by sheet.width sheet.height sheet.bpp others.now)) (grid.all_tiles sheet.width sheet.height)) }
+    ensures value { result ≤ length (filter
+        (differ_at (plane_by sheet.width sheet.height sheet.bpp tiles.now) (plane_by sheet.width sheet.height sheet.bpp others.now))
+        (grid.all_tiles sheet.width sheet.height)) }
     ensures few { result ≤ 16384 }
 {
     let mut count = 0;

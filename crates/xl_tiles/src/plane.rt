@@ -1,4 +1,5 @@
-ghost use Rattle.std.specs.Prelude.{◌≡◌, ℕ, ◌+◌, ◌-◌, ◌*◌, ◌<◌, ◌≤◌, [], length, min, slice_index, slice_index_or, slice_set, IfOk, OnOk, IfErr, OnErr};
+ghost use Rattle.std.specs.Prelude.{◌≡◌, ℕ, ◌+◌, ◌-◌, ◌*◌, ◌<◌, ◌≤◌, [], length, min, slice_index, slice_index_or};
+ghost use Rattle.std.specs.Prelude.{slice_set, IfOk, OnOk, IfErr, OnErr};
 ghost use Rattle.spec_grid.specs.Grid as grid;
 ghost use Rattle.spec_grid.specs.Rect.{part_above_0};
 ghost use Rattle.spec_document.specs.Limits.{IsSide, AreBytes};
@@ -205,7 +206,9 @@ impl Plane {
         requires bytes { bytes.now ≡ bytes_in self.now rect }
         requires row { y < rect.h }
         ensures length { length result.now ≡ rect.w * self.now.bpp }
-        ensures each { (k c : ℕ) → k < rect.w → c < self.now.bpp → slice_index result.now (k * self.now.bpp + c) ≡ byte_at self.now (part_above_0 rect.x + k) (part_above_0 rect.y + y) c }
+        ensures each { (k c : ℕ) → k < rect.w → c < self.now.bpp
+            → slice_index result.now (k * self.now.bpp + c)
+            ≡ byte_at self.now (part_above_0 rect.x + k) (part_above_0 rect.y + y) c }
     {
         let area = area_of(rect);
         row_of(area, self.bpp as usize, bytes, y as usize)

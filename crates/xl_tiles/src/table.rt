@@ -1,4 +1,5 @@
-ghost use Rattle.std.specs.Prelude.{◌≡◌, ◌+◌, ◌*◌, ◌<◌, ◌≤◌, [], length, take, drop, slice_index_or, slice_set, IfOk, OnOk, IfErr, OnErr, flat_map};
+ghost use Rattle.std.specs.Prelude.{◌≡◌, ◌+◌, ◌*◌, ◌<◌, ◌≤◌, [], length, take, drop, slice_index_or, slice_set, IfOk};
+ghost use Rattle.std.specs.Prelude.{OnOk, IfErr, OnErr, flat_map};
 ghost use Rattle.xl_tiles.specs.TileRows.{AreRows};
 ghost use Rattle.spec_document.specs.Limits.{AreBytes};
 
@@ -134,7 +135,8 @@ fn replace_in_row(
     requires row { row < length rows.old.items }
     requires col { col < length (slice_index_or rows.old.items row []) }
     ensures result { IfOk result (λ t. t ≡ slice_index_or (slice_index_or rows.old.items row []) col []) }
-    ensures after { OnOk result (rows.new.items ≡ slice_set rows.old.items row (slice_set (slice_index_or rows.old.items row []) col tile)) }
+    ensures after { OnOk result (rows.new.items
+        ≡ slice_set rows.old.items row (slice_set (slice_index_or rows.old.items row []) col tile)) }
     ensures back { IfErr result (λ failed. failed.value ≡ tile) }
     ensures err { OnErr result (rows.new.items ≡ rows.old.items) }
     ensures bytes { AreBytes tile }

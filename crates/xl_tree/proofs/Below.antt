@@ -16,12 +16,14 @@ module _ {N : Type 0} where
       ap (λ b. cond b (1 + below level es) 0) no
 
   -- one more is deeper
-  pub below_more : (level : ℕ) (es : List (Entry N)) (i : ℕ) (e : Entry N) → i < length es → e ≡ get_or es i e → level < e.level → below level (drop i es) ≡ 1 + below level (drop (i + 1) es)
+  pub below_more : (level : ℕ) (es : List (Entry N)) (i : ℕ) (e : Entry N) → i < length es → e ≡ get_or es i e → level < e.level
+      → below level (drop i es) ≡ 1 + below level (drop (i + 1) es)
   below_more level es i e h at deep =
       ap (below level) (drop_more es i e h ∙ ap (λ x. x ∷ drop (i + 1) es) (sym at)) ∙ below_here level e (drop (i + 1) es) deep
 
   -- the next is not deeper
-  pub below_stop : (level : ℕ) (es : List (Entry N)) (i : ℕ) (e : Entry N) → i < length es → e ≡ get_or es i e → e.level ≤ level → below level (drop i es) ≡ 0
+  pub below_stop : (level : ℕ) (es : List (Entry N)) (i : ℕ) (e : Entry N) → i < length es → e ≡ get_or es i e → e.level ≤ level
+      → below level (drop i es) ≡ 0
   below_stop level es i e h at deep =
       ap (below level) (drop_more es i e h ∙ ap (λ x. x ∷ drop (i + 1) es) (sym at)) ∙ below_not_here level e (drop (i + 1) es) deep
 

@@ -1,5 +1,6 @@
 -- The levels of a forest, by the deepest of its entries.
-use Rattle.std.proofs.Common.{◌≡◌, ℕ, zero, suc, ◌+◌, ◌<◌, ◌≤◌, max, false, eqb, List, [], ◌∷◌, ◌++◌, length, get_or, drop, refl, sym, ◌∙◌, ap, arith}
+use Rattle.std.proofs.Common.{◌≡◌, ℕ, zero, suc, ◌+◌, ◌<◌, ◌≤◌, max, false, eqb, List, [], ◌∷◌, ◌++◌, length, get_or}
+use Rattle.std.proofs.Common.{drop, refl, sym, ◌∙◌, ap, arith}
 use Rattle.std.proofs.lemmas.List.{drop_more, drop_all}
 use Rattle.spec_forest.specs.Forest.{Forest, none, leaf, group, levels}
 use Rattle.xl_tree.specs.declared.entries.Entry.{Entry}
@@ -8,7 +9,8 @@ use Rattle.xl_tree.specs.Kept.{AreSiblings}
 
 module _ {N : Type 0} where
   -- one entry more, and none
-  pub deepest_more : (es : List (Entry N)) (i : ℕ) (e : Entry N) → i < length es → e ≡ get_or es i e → deepest (drop i es) ≡ max e.level (deepest (drop (i + 1) es))
+  pub deepest_more : (es : List (Entry N)) (i : ℕ) (e : Entry N) → i < length es → e ≡ get_or es i e
+      → deepest (drop i es) ≡ max e.level (deepest (drop (i + 1) es))
   deepest_more es i e h at = ap deepest (drop_more es i e h ∙ ap (λ x. x ∷ drop (i + 1) es) (sym at))
 
   pub deepest_end : (es : List (Entry N)) (i : ℕ) → length es ≤ i → deepest (drop i es) ≡ 0
@@ -23,9 +25,19 @@ module _ {N : Type 0} where
   deepest-flat level (leaf id w u) = omega (arith, deepest-flat level u)
   deepest-flat level (group id w none u) = omega (arith, deepest-flat level u)
   deepest-flat level (group id w (leaf i v x) u) =
-      omega (arith, deepest-flat (suc level) (leaf i v x), deepest-flat level u, deepest-append (flat (suc level) (leaf i v x)) (flat level u))
+      omega (
+        arith,
+        deepest-flat (suc level) (leaf i v x),
+        deepest-flat level u,
+        deepest-append (flat (suc level) (leaf i v x)) (flat level u),
+      )
   deepest-flat level (group id w (group i v d x) u) =
-      omega (arith, deepest-flat (suc level) (group i v d x), deepest-flat level u, deepest-append (flat (suc level) (group i v d x)) (flat level u))
+      omega (
+        arith,
+        deepest-flat (suc level) (group i v d x),
+        deepest-flat level u,
+        deepest-append (flat (suc level) (group i v d x)) (flat level u),
+      )
 
   deepest_some : (level : ℕ) (f : Forest N N) → 0 < length (flat level f) → deepest (flat level f) + 1 ≡ level + levels f
   deepest_some level none h = absurd (omega (arith, h))
@@ -33,7 +45,8 @@ module _ {N : Type 0} where
   deepest_some level (group id w c u) h = omega (arith, deepest-flat level (group id w c u))
 
   -- the levels of siblings
-  pub levels_from_deepest : (level : ℕ) (es : List (Entry N)) → AreSiblings level es → 0 < length es → deepest es + 1 ≡ level + levels (forest_of es)
+  pub levels_from_deepest : (level : ℕ) (es : List (Entry N)) → AreSiblings level es → 0 < length es
+      → deepest es + 1 ≡ level + levels (forest_of es)
   levels_from_deepest level es s h =
       ap (λ x. deepest x + 1) s.flat_is ∙ deepest_some level (forest_of es) (omega (arith, h, ap length s.flat_is))
 
@@ -41,7 +54,8 @@ module _ {N : Type 0} where
   no_levels level [] h = refl
   no_levels level (e ∷ es) h = absurd (omega (arith, h))
 
-  pub deepest_step : (es : List (Entry N)) (i level new : ℕ) (e : Entry N) → max level (deepest (drop i es)) ≡ deepest es → i < length es → e ≡ get_or es i e → new ≡ max level e.level → max new (deepest (drop (i + 1) es)) ≡ deepest es
+  pub deepest_step : (es : List (Entry N)) (i level new : ℕ) (e : Entry N) → max level (deepest (drop i es)) ≡ deepest es
+      → i < length es → e ≡ get_or es i e → new ≡ max level e.level → max new (deepest (drop (i + 1) es)) ≡ deepest es
   deepest_step es i level new e so_far h at is = omega (arith, so_far, is, deepest_more es i e h at)
 
 pub some_there : (n : ℕ) → eqb n 0 ≡ false → 0 < n

@@ -1,5 +1,6 @@
 -- The entries of a forest give the forest again.
-use Rattle.std.proofs.Common.{◌≡◌, ℕ, zero, suc, ◌+◌, ◌<◌, ◌≤◌, Bool, true, false, cond, nat_lt, List, [], ◌∷◌, ◌++◌, length, take, drop, refl, sym, ◌∙◌, ap, arith, length-append}
+use Rattle.std.proofs.Common.{◌≡◌, ℕ, zero, suc, ◌+◌, ◌<◌, ◌≤◌, Bool, true, false, cond, nat_lt, List, [], ◌∷◌, ◌++◌}
+use Rattle.std.proofs.Common.{length, take, drop, refl, sym, ◌∙◌, ap, arith, length-append}
 use Rattle.std.proofs.Math.Seq.{take-append_seam}
 use Rattle.std.proofs.lemmas.Bool.{lt-ltb}
 use Rattle.std.proofs.lemmas.Bool.Decides.{nat_tests}
@@ -17,7 +18,8 @@ module _ {N : Type 0} where
   pub length-flat : (level : ℕ) (f : Forest N N) → length (flat level f) ≡ size f
   length-flat level none = refl
   length-flat level (leaf id w u) = omega (arith, length-flat level u)
-  length-flat level (group id w c u) = omega (arith, length-append (flat (suc level) c) (flat level u), length-flat (suc level) c, length-flat level u)
+  length-flat level (group id w c u) =
+      omega (arith, length-append (flat (suc level) c) (flat level u), length-flat (suc level) c, length-flat level u)
 
   drop_front : (a x : List (Entry N)) → drop (length a) (a ++ x) ≡ x
   drop_front [] x = refl
@@ -27,14 +29,16 @@ module _ {N : Type 0} where
   below-flat_same : (level : ℕ) (f : Forest N N) → below level (flat level f) ≡ 0
   below-flat_same level none = refl
   below-flat_same level (leaf id w u) = ap (λ b. cond b (1 + below level (flat level u)) 0) (not_deeper level)
-  below-flat_same level (group id w c u) = ap (λ b. cond b (1 + below level (flat (suc level) c ++ flat level u)) 0) (not_deeper level)
+  below-flat_same level (group id w c u) =
+      ap (λ b. cond b (1 + below level (flat (suc level) c ++ flat level u)) 0) (not_deeper level)
 
   regroup : (x y z : List (Entry N)) → (x ++ y) ++ z ≡ x ++ (y ++ z)
   regroup [] y z = refl
   regroup (e ∷ x) y z = ap (λ es. e ∷ es) (regroup x y z)
 
   -- what is deeper is passed
-  pub below-flat_deeper : (low level : ℕ) → low < level → (f : Forest N N) (rest : List (Entry N)) → below low (flat level f ++ rest) ≡ size f + below low rest
+  pub below-flat_deeper : (low level : ℕ) → low < level → (f : Forest N N) (rest : List (Entry N))
+      → below low (flat level f ++ rest) ≡ size f + below low rest
   below-flat_deeper low level h none rest = omega arith
   below-flat_deeper low level h (leaf id w u) rest =
       cond_true (nat_lt low level) _ _ (lt-ltb low level h) ∙ omega (arith, below-flat_deeper low level h u rest)
@@ -45,16 +49,21 @@ module _ {N : Type 0} where
       ∙ omega (arith, below-flat_deeper low (suc level) deeper c (flat level u ++ rest), below-flat_deeper low level h u rest))
 
   -- the children of a group are what is deeper
-  pub below-flat_group : (level : ℕ) (c u : Forest N N) → below level (flat (suc level) c ++ flat level u) ≡ length (flat (suc level) c)
+  pub below-flat_group : (level : ℕ) (c u : Forest N N)
+      → below level (flat (suc level) c ++ flat level u) ≡ length (flat (suc level) c)
   below-flat_group level c u =
       let deeper : level < suc level = omega arith in
       omega (arith, below-flat_deeper level (suc level) deeper c (flat level u), below-flat_same level u, length-flat (suc level) c)
 
-  pub take-flat_group : (level : ℕ) (c u : Forest N N) → take (below level (flat (suc level) c ++ flat level u)) (flat (suc level) c ++ flat level u) ≡ flat (suc level) c
-  take-flat_group level c u = ap (λ m. take m (flat (suc level) c ++ flat level u)) (below-flat_group level c u) ∙ take-append_seam (flat (suc level) c) (flat level u)
+  pub take-flat_group : (level : ℕ) (c u : Forest N N)
+      → take (below level (flat (suc level) c ++ flat level u)) (flat (suc level) c ++ flat level u) ≡ flat (suc level) c
+  take-flat_group level c u = ap (λ m. take m (flat (suc level) c ++ flat level u)) (below-flat_group level c u)
+      ∙ take-append_seam (flat (suc level) c) (flat level u)
 
-  pub drop-flat_group : (level : ℕ) (c u : Forest N N) → drop (below level (flat (suc level) c ++ flat level u)) (flat (suc level) c ++ flat level u) ≡ flat level u
-  drop-flat_group level c u = ap (λ m. drop m (flat (suc level) c ++ flat level u)) (below-flat_group level c u) ∙ drop_front (flat (suc level) c) (flat level u)
+  pub drop-flat_group : (level : ℕ) (c u : Forest N N)
+      → drop (below level (flat (suc level) c ++ flat level u)) (flat (suc level) c ++ flat level u) ≡ flat level u
+  drop-flat_group level c u = ap (λ m. drop m (flat (suc level) c ++ flat level u)) (below-flat_group level c u)
+      ∙ drop_front (flat (suc level) c) (flat level u)
 
   pub forest_from-flat : (n level : ℕ) (f : Forest N N) → size f ≤ n → forest_from n (flat level f) ≡ f
   forest_from-flat zero level none h = refl

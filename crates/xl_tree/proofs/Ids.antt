@@ -16,13 +16,16 @@ module _ {N : Type 0} where
   ids_of-flat level none = refl
   ids_of-flat level (leaf id w u) = ap (λ is. id ∷ is) (ids_of-flat level u)
   ids_of-flat level (group id w c u) =
-      ap (λ is. id ∷ is) (ids_of-append (flat (suc level) c) (flat level u) ∙ (λ i. ids_of-flat (suc level) c i ++ ids_of-flat level u i))
+      ap (λ is. id ∷ is) (ids_of-append (flat (suc level) c) (flat level u)
+      ∙ (λ i. ids_of-flat (suc level) c i ++ ids_of-flat level u i))
 
   -- the entries of a forest have its ids
-  pub ids_are : (level : ℕ) (es : List (Entry N)) (f : Forest N N) → es ≡ flat level (forest_of es) → forest_of es ≡ f → ids_of es ≡ ids f
+  pub ids_are : (level : ℕ) (es : List (Entry N)) (f : Forest N N) → es ≡ flat level (forest_of es) → forest_of es ≡ f
+      → ids_of es ≡ ids f
   ids_are level es f flat_is forest_is = ap ids_of flat_is ∙ (ids_of-flat level (forest_of es) ∙ ap ids forest_is)
 
-  pub greatest_step : (es : List (Entry N)) (i most new all : ℕ) (e : Entry N) → fold max most (ids_of (drop i es)) ≡ all → i < length es → e ≡ get_or es i e → new ≡ max most e.id → fold max new (ids_of (drop (i + 1) es)) ≡ all
+  pub greatest_step : (es : List (Entry N)) (i most new all : ℕ) (e : Entry N) → fold max most (ids_of (drop i es)) ≡ all
+      → i < length es → e ≡ get_or es i e → new ≡ max most e.id → fold max new (ids_of (drop (i + 1) es)) ≡ all
   greatest_step es i most new all e so_far h at is =
       ap (λ m. fold max m (ids_of (drop (i + 1) es))) is
       ∙ (sym (ap (λ x. fold max most (ids_of x)) (drop_more es i e h ∙ ap (λ x. x ∷ drop (i + 1) es) (sym at))) ∙ so_far)

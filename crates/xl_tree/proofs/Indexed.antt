@@ -1,5 +1,6 @@
 -- Where ids stand among entries, and in the forest that these are.
-use Rattle.std.proofs.Common.{◌≡◌, ℕ, zero, suc, ◌+◌, ◌<◌, Bool, true, false, cond, eqb, List, [], ◌∷◌, ◌++◌, length, get_or, set, take, drop, refl, sym, ◌∙◌, ap, arith, rules}
+use Rattle.std.proofs.Common.{◌≡◌, ℕ, zero, suc, ◌+◌, ◌<◌, Bool, true, false, cond, eqb, List, [], ◌∷◌, ◌++◌, length}
+use Rattle.std.proofs.Common.{get_or, set, take, drop, refl, sym, ◌∙◌, ap, arith, rules}
 use Rattle.std.proofs.lemmas.Bool.{eq-eqb, eqb-true}
 use Rattle.std.proofs.lemmas.Bool.Decides.{nat_tests}
 use Rattle.std.proofs.lemmas.List.{take_more}
@@ -36,23 +37,31 @@ first_there : (x y : Option ℕ) → is_some x ≡ true → first_some x y ≡ x
 first_there None y some = cc
 first_there (Some n) y some = refl
 
-pub one_more : (len before : ℕ) (old : Option ℕ) → len ≡ before + (if is_some old then 0 else 1) → is_some old ≡ false → len ≡ before + 1
+pub one_more : (len before : ℕ) (old : Option ℕ) → len ≡ before + (if is_some old then 0 else 1) → is_some old ≡ false
+    → len ≡ before + 1
 one_more len before old len_is absent = len_is ∙ ap (λ b. before + (if b then 0 else 1)) absent
 
 module _ {N : Type 0} where
-  place_in-append : (id : ℕ) (xs ys : List (Entry N)) → place_in id (xs ++ ys) ≡ first_some (place_in id xs) (option_map (λ k. length xs + k) (place_in id ys))
+  place_in-append : (id : ℕ) (xs ys : List (Entry N))
+      → place_in id (xs ++ ys) ≡ first_some (place_in id xs) (option_map (λ k. length xs + k) (place_in id ys))
   place_in-append id [] ys = sym (mapped_none (place_in id ys))
   place_in-append id (e ∷ xs) ys =
       by_case (eqb id e.id) (place_in-append id xs ys) ∙ counted where
-        counted : first_some (place_in id (e ∷ xs)) (option_map (λ k. 1 + length xs + k) (place_in id ys)) ≡ first_some (place_in id (e ∷ xs)) (option_map (λ k. length (e ∷ xs) + k) (place_in id ys))
-        counted = let more : 1 + length xs ≡ length (e ∷ xs) = omega arith in ap (λ n. first_some (place_in id (e ∷ xs)) (option_map (λ k. n + k) (place_in id ys))) more
+        counted : first_some (place_in id (e ∷ xs)) (option_map (λ k. 1 + length xs + k) (place_in id ys))
+            ≡ first_some (place_in id (e ∷ xs)) (option_map (λ k. length (e ∷ xs) + k) (place_in id ys))
+        counted = let more : 1 + length xs ≡ length (e ∷ xs) = omega arith in
+            ap (λ n. first_some (place_in id (e ∷ xs)) (option_map (λ k. n + k) (place_in id ys))) more
 
-        by_case : (b : Bool) → place_in id (xs ++ ys) ≡ first_some (place_in id xs) (option_map (λ k. length xs + k) (place_in id ys)) → cond b (Some 0) (option_map (λ k. 1 + k) (place_in id (xs ++ ys)))
-            ≡ first_some (cond b (Some 0) (option_map (λ k. 1 + k) (place_in id xs))) (option_map (λ k. 1 + length xs + k) (place_in id ys))
+        by_case : (b : Bool) → place_in id (xs ++ ys)
+            ≡ first_some (place_in id xs) (option_map (λ k. length xs + k) (place_in id ys))
+            → cond b (Some 0) (option_map (λ k. 1 + k) (place_in id (xs ++ ys)))
+            ≡ first_some (cond b (Some 0) (option_map (λ k. 1 + k) (place_in id xs)))
+            (option_map (λ k. 1 + length xs + k) (place_in id ys))
         by_case true rest = refl
         by_case false rest =
             ap (option_map (λ k. 1 + k)) rest
-            ∙ (mapped_first (λ k. 1 + k) (place_in id xs) _ ∙ ap (first_some (option_map (λ k. 1 + k) (place_in id xs))) (mapped_more (length xs) (place_in id ys)))
+            ∙ (mapped_first (λ k. 1 + k) (place_in id xs) _
+            ∙ ap (first_some (option_map (λ k. 1 + k) (place_in id xs))) (mapped_more (length xs) (place_in id ys)))
 
   -- among the entries of a forest, a node stands where it stands in the forest
   place_in-flat : (id level : ℕ) (f : Forest N N) → place_in id (flat level f) ≡ place_of id f
@@ -62,8 +71,10 @@ module _ {N : Type 0} where
       ap (cond (eqb id i) (Some 0))
       (ap (option_map (λ k. 1 + k)) (place_in-append id (flat (suc level) c) (flat level u))
       ∙ (mapped_first (λ k. 1 + k) (place_in id (flat (suc level) c)) _
-      ∙ ((λ j. first_some (option_map (λ k. 1 + k) (place_in-flat id (suc level) c j)) (mapped_more (length (flat (suc level) c)) (place_in id (flat level u)) j))
-      ∙ (λ j. first_some (option_map (λ k. 1 + k) (place_of id c)) (option_map (λ k. 1 + length-flat (suc level) c j + k) (place_in-flat id level u j))))))
+      ∙ ((λ j. first_some (option_map (λ k. 1 + k) (place_in-flat id (suc level) c j))
+      (mapped_more (length (flat (suc level) c)) (place_in id (flat level u)) j))
+      ∙ (λ j. first_some (option_map (λ k. 1 + k) (place_of id c))
+      (option_map (λ k. 1 + length-flat (suc level) c j + k) (place_in-flat id level u j))))))
 
   pub place_is : (id : ℕ) (es : List (Entry N)) (f : Forest N N) → es ≡ flat 0 f → place_in id es ≡ place_of id f
   place_is id es f flat_is = ap (place_in id) flat_is ∙ place_in-flat id 0 f
@@ -72,41 +83,50 @@ module _ {N : Type 0} where
   pub from_place_is : (id at : ℕ) (es : List (Entry N)) → place_in id es ≡ Some at → from_id id es ≡ drop at es
   from_place_is id at [] there = cc
   from_place_is id at (e ∷ es) there = by_case (λ k is. from_place_is id k es is) (eqb id e.id) there where
-    behind : ((k : ℕ) → place_in id es ≡ Some k → from_id id es ≡ drop k es) → (n : Option ℕ) → place_in id es ≡ n → option_map (λ k. 1 + k) n ≡ Some at → from_id id es ≡ drop at (e ∷ es)
+    behind : ((k : ℕ) → place_in id es ≡ Some k → from_id id es ≡ drop k es) → (n : Option ℕ) → place_in id es ≡ n
+        → option_map (λ k. 1 + k) n ≡ Some at → from_id id es ≡ drop at (e ∷ es)
     behind rest None is there = cc
-    behind rest (Some k) is there = let at_is : 1 + k ≡ at = cc in let more : suc k ≡ at = omega (arith, at_is) in rest k is ∙ ap (λ m. drop m (e ∷ es)) more
+    behind rest (Some k) is there =
+        let at_is : 1 + k ≡ at = cc in let more : suc k ≡ at = omega (arith, at_is) in rest k is ∙ ap (λ m. drop m (e ∷ es)) more
 
-    by_case : ((k : ℕ) → place_in id es ≡ Some k → from_id id es ≡ drop k es) → (b : Bool) → cond b (Some 0) (option_map (λ k. 1 + k) (place_in id es)) ≡ Some at → cond b (e ∷ es) (from_id id es) ≡ drop at (e ∷ es)
+    by_case : ((k : ℕ) → place_in id es ≡ Some k → from_id id es ≡ drop k es) → (b : Bool)
+        → cond b (Some 0) (option_map (λ k. 1 + k) (place_in id es)) ≡ Some at → cond b (e ∷ es) (from_id id es) ≡ drop at (e ∷ es)
     by_case rest true there = let at_is : 0 ≡ at = cc in ap (λ m. drop m (e ∷ es)) at_is
     by_case rest false there = behind rest (place_in id es) refl there
 
   pub from_nowhere : (id : ℕ) (es : List (Entry N)) → place_in id es ≡ None → from_id id es ≡ []
   from_nowhere id [] there = refl
   from_nowhere id (e ∷ es) there = by_case (λ is. from_nowhere id es is) (eqb id e.id) there where
-    behind : (place_in id es ≡ None → from_id id es ≡ []) → (n : Option ℕ) → place_in id es ≡ n → option_map (λ k. 1 + k) n ≡ None → from_id id es ≡ []
+    behind : (place_in id es ≡ None → from_id id es ≡ []) → (n : Option ℕ) → place_in id es ≡ n → option_map (λ k. 1 + k) n ≡ None
+        → from_id id es ≡ []
     behind rest None is there = rest is
     behind rest (Some k) is there = cc
 
-    by_case : (place_in id es ≡ None → from_id id es ≡ []) → (b : Bool) → cond b (Some 0) (option_map (λ k. 1 + k) (place_in id es)) ≡ None → cond b (e ∷ es) (from_id id es) ≡ []
+    by_case : (place_in id es ≡ None → from_id id es ≡ []) → (b : Bool)
+        → cond b (Some 0) (option_map (λ k. 1 + k) (place_in id es)) ≡ None → cond b (e ∷ es) (from_id id es) ≡ []
     by_case rest true there = cc
     by_case rest false there = behind rest (place_in id es) refl there
 
   pub place_within : (id at : ℕ) (es : List (Entry N)) → place_in id es ≡ Some at → at < length es
   place_within id at [] there = cc
   place_within id at (e ∷ es) there = by_case (λ k is. place_within id k es is) (eqb id e.id) there where
-    behind : ((k : ℕ) → place_in id es ≡ Some k → k < length es) → (n : Option ℕ) → place_in id es ≡ n → option_map (λ k. 1 + k) n ≡ Some at → at < suc (length es)
+    behind : ((k : ℕ) → place_in id es ≡ Some k → k < length es) → (n : Option ℕ) → place_in id es ≡ n
+        → option_map (λ k. 1 + k) n ≡ Some at → at < suc (length es)
     behind rest None is there = cc
     behind rest (Some k) is there = let at_is : 1 + k ≡ at = cc in omega (arith, rest k is, at_is)
 
-    by_case : ((k : ℕ) → place_in id es ≡ Some k → k < length es) → (b : Bool) → cond b (Some 0) (option_map (λ k. 1 + k) (place_in id es)) ≡ Some at → at < suc (length es)
+    by_case : ((k : ℕ) → place_in id es ≡ Some k → k < length es) → (b : Bool)
+        → cond b (Some 0) (option_map (λ k. 1 + k) (place_in id es)) ≡ Some at → at < suc (length es)
     by_case rest true there = let at_is : 0 ≡ at = cc in omega (arith, at_is)
     by_case rest false there = behind rest (place_in id es) refl there
 
-  last_place : (id i : ℕ) (es : List (Entry N)) (e : Entry N) → i < length es → e ≡ get_or es i e → place_in id (take (i + 1) es) ≡ first_some (place_in id (take i es)) (cond (eqb id e.id) (Some i) None)
+  last_place : (id i : ℕ) (es : List (Entry N)) (e : Entry N) → i < length es → e ≡ get_or es i e
+      → place_in id (take (i + 1) es) ≡ first_some (place_in id (take i es)) (cond (eqb id e.id) (Some i) None)
   last_place id i es e h is =
       ap (place_in id) (take_more es i e h)
       ∙ (place_in-append id (take i es) (get_or es i e ∷ [])
-      ∙ ap (first_some (place_in id (take i es))) ((λ j. option_map (λ k. length_take i es h j + k) (place_in id (sym is j ∷ []))) ∙ last (eqb id e.id))) where
+      ∙ ap (first_some (place_in id (take i es))) ((λ j. option_map (λ k. length_take i es h j + k) (place_in id (sym is j ∷ [])))
+      ∙ last (eqb id e.id))) where
         length_take : (n : ℕ) (xs : List (Entry N)) → n < length xs → length (take n xs) ≡ n
         length_take n xs k = search (rules)
 
@@ -115,23 +135,30 @@ module _ {N : Type 0} where
         last false = refl
 
   -- an entry whose id has no place yet gets the next one
-  pub placed_new : (i : ℕ) (es : List (Entry N)) (e : Entry N) (old new : ℕ → Option ℕ) → i < length es → e ≡ get_or es i e → ((id : ℕ) → old id ≡ place_in id (take i es)) → is_some (old e.id) ≡ false → ((id : ℕ) → new id ≡ cond (eqb e.id id) (Some i) (old id)) → (id : ℕ) → new id ≡ place_in id (take (i + 1) es)
+  pub placed_new : (i : ℕ) (es : List (Entry N)) (e : Entry N) (old new : ℕ → Option ℕ) → i < length es → e ≡ get_or es i e
+      → ((id : ℕ) → old id ≡ place_in id (take i es)) → is_some (old e.id) ≡ false
+      → ((id : ℕ) → new id ≡ cond (eqb e.id id) (Some i) (old id)) → (id : ℕ) → new id ≡ place_in id (take (i + 1) es)
   placed_new i es e old new h is told absent put id =
       put id ∙ (by_case (eqb e.id id) refl ∙ sym (last_place id i es e h is)) where
-        by_case : (b : Bool) → eqb e.id id ≡ b → cond b (Some i) (old id) ≡ first_some (place_in id (take i es)) (cond (eqb id e.id) (Some i) None)
+        by_case : (b : Bool) → eqb e.id id ≡ b
+            → cond b (Some i) (old id) ≡ first_some (place_in id (take i es)) (cond (eqb id e.id) (Some i) None)
         by_case true same =
             let id_is : e.id ≡ id = eqb-true e.id id same in
             let before : place_in id (take i es) ≡ None = sym (told id) ∙ (ap old (sym id_is) ∙ none_there (old e.id) absent) in
             sym ((λ j. first_some (before j) (cond (eq-eqb id e.id (sym id_is) j) (Some i) None)))
         by_case false other =
             let differs : eqb id e.id ≡ false = grind (other, arith, nat_tests) in
-            told id ∙ sym (ap (λ b. first_some (place_in id (take i es)) (cond b (Some i) None)) differs ∙ first_some_none (place_in id (take i es)))
+            told id ∙ sym (ap (λ b. first_some (place_in id (take i es)) (cond b (Some i) None)) differs
+            ∙ first_some_none (place_in id (take i es)))
 
   -- an entry whose id has a place changes none
-  pub placed_old : (i : ℕ) (es : List (Entry N)) (e : Entry N) (old : ℕ → Option ℕ) → i < length es → e ≡ get_or es i e → ((id : ℕ) → old id ≡ place_in id (take i es)) → is_some (old e.id) ≡ true → (id : ℕ) → old id ≡ place_in id (take (i + 1) es)
+  pub placed_old : (i : ℕ) (es : List (Entry N)) (e : Entry N) (old : ℕ → Option ℕ) → i < length es → e ≡ get_or es i e
+      → ((id : ℕ) → old id ≡ place_in id (take i es)) → is_some (old e.id) ≡ true → (id : ℕ)
+      → old id ≡ place_in id (take (i + 1) es)
   placed_old i es e old h is told there id =
       told id ∙ (by_case (eqb id e.id) refl ∙ sym (last_place id i es e h is)) where
-        by_case : (b : Bool) → eqb id e.id ≡ b → place_in id (take i es) ≡ first_some (place_in id (take i es)) (cond b (Some i) None)
+        by_case : (b : Bool) → eqb id e.id ≡ b
+            → place_in id (take i es) ≡ first_some (place_in id (take i es)) (cond b (Some i) None)
         by_case true same =
             let id_is : id ≡ e.id = eqb-true id e.id same in
             sym (first_there (place_in id (take i es)) (Some i) (ap is_some (sym (told id) ∙ ap old id_is) ∙ there))
@@ -142,7 +169,8 @@ module _ {N : Type 0} where
   same_index index xs es told same id = told id ∙ ap (place_in id) same
 
   -- what is written into an entry leaves its place
-  pub place_in-set : (id at : ℕ) (es : List (Entry N)) (e d : Entry N) → d ≡ get_or es at d → e.id ≡ d.id → place_in id (set es at e) ≡ place_in id es
+  pub place_in-set : (id at : ℕ) (es : List (Entry N)) (e d : Entry N) → d ≡ get_or es at d → e.id ≡ d.id
+      → place_in id (set es at e) ≡ place_in id es
   place_in-set id at [] e d there same = refl
   place_in-set id zero (o ∷ es) e d there same =
       ap (λ i. cond (eqb id i) (Some 0) (option_map (λ k. 1 + k) (place_in id es))) (same ∙ ap (λ x. x.id) there)

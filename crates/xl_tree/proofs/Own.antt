@@ -22,7 +22,8 @@ use Rattle.xl_tree.specs.Slots.{IsSlot}
 use Rattle.xl_tree.specs.Writes.{with_node}
 
 -- a run of ids that is put among others
-pub own_joined : (run rest whole : List ℕ) → HasRun run rest whole → AreOwn run → AreOwn rest → IsDistinct nat_eq (run ++ rest) → AreOwn whole
+pub own_joined : (run rest whole : List ℕ) → HasRun run rest whole → AreOwn run → AreOwn rest → IsDistinct nat_eq (run ++ rest)
+    → AreOwn whole
 own_joined run rest whole r a b d = record {
   distinct = run-distinct run rest whole r d;
   positive = run-all run rest whole r (λ id. 1 ≤ id) a.positive b.positive;
@@ -43,7 +44,8 @@ module _ {L G : Type 0} where
   own_same x y e o = let P : Forest L G → Type 0 = λ z. AreOwn (ids z) in subst P e o
 
   -- a branch that is put into a hole
-  pub own_put : (h : Hole L G) (branch under old new : Forest L G) → old ≡ plug h under → new ≡ plug h (above branch under) → AreOwn (ids branch) → AreOwn (ids old) → IsDistinct nat_eq (ids branch ++ ids old) → AreOwn (ids new)
+  pub own_put : (h : Hole L G) (branch under old new : Forest L G) → old ≡ plug h under → new ≡ plug h (above branch under)
+      → AreOwn (ids branch) → AreOwn (ids old) → IsDistinct nat_eq (ids branch ++ ids old) → AreOwn (ids new)
   own_put h branch under old new old_is new_is a b d =
       own_joined (ids branch) (ids old) (ids new)
       (run_in_hole h (above branch under) under new old (ids branch) new_is old_is (ids-above branch under)) a b d
@@ -69,11 +71,13 @@ module _ {L G : Type 0} where
 module _ {N : Type 0} where
   -- no entries
   pub none_siblings : (es : List (Entry N)) → es ≡ [] → AreSiblings 0 es
-  none_siblings es e = let P : List (Entry N) → Type 0 = AreSiblings 0 in subst P (sym e) (record { flat_is = refl; few = omega arith; low = omega arith })
+  none_siblings es e = let P : List (Entry N) → Type 0 = AreSiblings 0 in
+      subst P (sym e) (record { flat_is = refl; few = omega arith; low = omega arith })
 
   pub none_own : (es : List (Entry N)) → es ≡ [] → AreOwn (ids (forest_of es))
   unfolding IsDistinct
-  none_own es e = let P : List (Entry N) → Type 0 = λ x. AreOwn (ids (forest_of x)) in subst P (sym e) (record { distinct = tt; positive = tt })
+  none_own es e =
+      let P : List (Entry N) → Type 0 = λ x. AreOwn (ids (forest_of x)) in subst P (sym e) (record { distinct = tt; positive = tt })
 
   ids-alone : (mark : Bool) (id : ℕ) (node : N) → ids (alone mark id node) ≡ id ∷ []
   ids-alone true id node = refl
@@ -85,17 +89,21 @@ module _ {N : Type 0} where
       let P : List ℕ → Type 0 = AreOwn in
       subst P (sym (ids-alone mark id node)) (record { distinct = (tt, tt); positive = (new.positive, tt) })
 
-  pub alone_apart : (mark : Bool) (id : ℕ) (node : N) (f : Forest N N) → IsNew id f → AreOwn (ids f) → IsDistinct nat_eq (ids (alone mark id node) ++ ids f)
+  pub alone_apart : (mark : Bool) (id : ℕ) (node : N) (f : Forest N N) → IsNew id f → AreOwn (ids f)
+      → IsDistinct nat_eq (ids (alone mark id node) ++ ids f)
   alone_apart mark id node f new o =
       let P : List ℕ → Type 0 = λ xs. IsDistinct nat_eq (xs ++ ids f) in
       subst P (sym (ids-alone mark id node)) (IsDistinct-cons nat_eq id (ids f) (not_there id f new.nowhere) o.distinct)
 
   -- a branch that is put into a slot
-  pub own_in_slot : (stack place : ℕ) (f b : Forest N N) (at level : ℕ) → IsSlot stack place f at level → AreOwn (ids b) → AreOwn (ids f) → IsDistinct nat_eq (ids b ++ ids f) → AreOwn (ids (put_into stack place b f))
-  own_in_slot stack place f b at level s a o d = own_put s.hole b s.under f (put_into stack place b f) s.forest_is (s.put_is b) a o d
+  pub own_in_slot : (stack place : ℕ) (f b : Forest N N) (at level : ℕ) → IsSlot stack place f at level → AreOwn (ids b)
+      → AreOwn (ids f) → IsDistinct nat_eq (ids b ++ ids f) → AreOwn (ids (put_into stack place b f))
+  own_in_slot stack place f b at level s a o d =
+      own_put s.hole b s.under f (put_into stack place b f) s.forest_is (s.put_is b) a o d
 
   -- a node that is put last
-  pub own_last : (path : List ℕ) (f new : Forest N N) (mark : Bool) (id : ℕ) (node : N) → put_last path (alone mark id node) f ≡ Some new → IsNew id f → AreOwn (ids f) → AreOwn (ids new)
+  pub own_last : (path : List ℕ) (f new : Forest N N) (mark : Bool) (id : ℕ) (node : N)
+      → put_last path (alone mark id node) f ≡ Some new → IsNew id f → AreOwn (ids f) → AreOwn (ids new)
   own_last path f new mark id node put fresh o = from (hole_last path f) refl where
     b : Forest N N
     b = alone mark id node

@@ -1,5 +1,6 @@
 -- The end of the group that a path names.
-use Rattle.std.proofs.Common.{◌≡◌, ℕ, zero, suc, ◌+◌, ◌-◌, ◌<◌, ◌≤◌, List, [], ◌∷◌, length, get_or, drop, refl, sym, ◌∙◌, ap, add-one, arith}
+use Rattle.std.proofs.Common.{◌≡◌, ℕ, zero, suc, ◌+◌, ◌-◌, ◌<◌, ◌≤◌, List, [], ◌∷◌, length, get_or, drop, refl, sym}
+use Rattle.std.proofs.Common.{◌∙◌, ap, add-one, arith}
 use Rattle.std.proofs.lemmas.List.{drop_more}
 use Rattle.std.specs.Prelude.{Option, Some, None, option_map, is_some, IsSome}
 use Rattle.spec_forest.specs.Forest.{Forest, none, leaf, group, size}
@@ -35,7 +36,8 @@ module _ {L G : Type 0} where
   from_place_suc (suc i) (group id w c u) = from_place_suc i u
 
   -- a step of a path into a group
-  pub end_at_group : (place : ℕ) (path : List ℕ) (f c u : Forest L G) (id : ℕ) (w : G) (k : ℕ) → from_place place f ≡ group id w c u → k + (size c + size u) ≡ size f → end_at (place ∷ path) f ≡ option_map (λ n. k + n) (end_at path c)
+  pub end_at_group : (place : ℕ) (path : List ℕ) (f c u : Forest L G) (id : ℕ) (w : G) (k : ℕ) → from_place place f ≡ group id w c u
+      → k + (size c + size u) ≡ size f → end_at (place ∷ path) f ≡ option_map (λ n. k + n) (end_at path c)
   end_at_group zero path none c u id w k e s = cc
   end_at_group (suc place) path none c u id w k e s = cc
   end_at_group zero path (leaf i v x) c u id w k e s = cc
@@ -65,7 +67,8 @@ module _ {L G : Type 0} where
   end_at_none (suc place) path (leaf i v x) e = ap (option_map (λ n. 1 + n)) (end_at_none place path x e)
   end_at_none (suc place) path (group i v d x) e = ap (option_map (λ n. 1 + size d + n)) (end_at_none place path x e)
 
-  pub end_at_leaf : (place : ℕ) (path : List ℕ) (f u : Forest L G) (id : ℕ) (w : L) → from_place place f ≡ leaf id w u → end_at (place ∷ path) f ≡ None
+  pub end_at_leaf : (place : ℕ) (path : List ℕ) (f u : Forest L G) (id : ℕ) (w : L) → from_place place f ≡ leaf id w u
+      → end_at (place ∷ path) f ≡ None
   end_at_leaf place path none u id w e = refl
   end_at_leaf zero path (leaf i v x) u id w e = refl
   end_at_leaf zero path (group i v d x) u id w e = cc
@@ -76,7 +79,8 @@ module _ {L G : Type 0} where
   pub from_place_under_leaf : (i : ℕ) (f u : Forest L G) (id : ℕ) (w : L) → from_place i f ≡ leaf id w u → from_place (i + 1) f ≡ u
   from_place_under_leaf i f u id w e = rw add-one (from_place_suc i f ∙ ap (from_place 1) e)
 
-  pub from_place_under_group : (i : ℕ) (f c u : Forest L G) (id : ℕ) (w : G) → from_place i f ≡ group id w c u → from_place (i + 1) f ≡ u
+  pub from_place_under_group : (i : ℕ) (f c u : Forest L G) (id : ℕ) (w : G) → from_place i f ≡ group id w c u
+      → from_place (i + 1) f ≡ u
   from_place_under_group i f c u id w e = rw add-one (from_place_suc i f ∙ ap (from_place 1) e)
 
   -- past the end there is nothing
@@ -101,7 +105,8 @@ module _ {L G : Type 0} where
       ∙ (twice passed (λ n. 1 + n) (hole_last (place ∷ path) u) ∙ sym (twice (under_leaf id w) passed (hole_last (place ∷ path) u)))
   end_at-hole (suc place ∷ path) (group id w c u) =
       ap (option_map (λ n. 1 + size c + n)) (end_at-hole (place ∷ path) u)
-      ∙ (twice passed (λ n. 1 + size c + n) (hole_last (place ∷ path) u) ∙ sym (twice (under_group id w c) passed (hole_last (place ∷ path) u)))
+      ∙ (twice passed (λ n. 1 + size c + n) (hole_last (place ∷ path) u)
+      ∙ sym (twice (under_group id w c) passed (hole_last (place ∷ path) u)))
 
   -- a path has an end exactly where something may be put last
   pub leads : (path : List ℕ) (b f : Forest L G) → is_some (end_at path f) ≡ is_some (put_last path b f)
@@ -111,7 +116,10 @@ module _ {L G : Type 0} where
       ∙ (sym (is_some_map (λ h. plug h b) (hole_last path f)) ∙ sym (ap is_some (put_last-hole path b f))))
 
   -- the same, as far as a path was followed
-  pub end_more : (path : List ℕ) (i : ℕ) (f rest c u : Forest L G) (id : ℕ) (w : G) (before k : ℕ) → i < length path → end_at path f ≡ option_map (λ n. before + n) (end_at (drop i path) rest) → from_place (get_or path i 0) rest ≡ group id w c u → k + (size c + size u) ≡ size rest → end_at path f ≡ option_map (λ n. before + k + n) (end_at (drop (i + 1) path) c)
+  pub end_more : (path : List ℕ) (i : ℕ) (f rest c u : Forest L G) (id : ℕ) (w : G) (before k : ℕ) → i < length path
+      → end_at path f ≡ option_map (λ n. before + n) (end_at (drop i path) rest)
+      → from_place (get_or path i 0) rest ≡ group id w c u → k + (size c + size u) ≡ size rest
+      → end_at path f ≡ option_map (λ n. before + k + n) (end_at (drop (i + 1) path) c)
   end_more path i f rest c u id w before k h so_far e s =
       so_far
       ∙ (ap (λ p. option_map (λ n. before + n) (end_at p rest)) (drop_more path i 0 h)
@@ -119,17 +127,24 @@ module _ {L G : Type 0} where
       ∙ (twice (λ n. k + n) (λ n. before + n) (end_at (drop (i + 1) path) c)
       ∙ same_map _ (λ n. before + k + n) (end_at (drop (i + 1) path) c) (λ n. omega arith))))
 
-  pub end_past : (path : List ℕ) (i : ℕ) (f rest : Forest L G) (before : ℕ) → i < length path → end_at path f ≡ option_map (λ n. before + n) (end_at (drop i path) rest) → from_place (get_or path i 0) rest ≡ none → end_at path f ≡ None
+  pub end_past : (path : List ℕ) (i : ℕ) (f rest : Forest L G) (before : ℕ) → i < length path
+      → end_at path f ≡ option_map (λ n. before + n) (end_at (drop i path) rest) → from_place (get_or path i 0) rest ≡ none
+      → end_at path f ≡ None
   end_past path i f rest before h so_far e =
       so_far
-      ∙ ap (option_map (λ n. before + n)) (ap (λ p. end_at p rest) (drop_more path i 0 h) ∙ end_at_none (get_or path i 0) (drop (i + 1) path) rest e)
+      ∙ ap (option_map (λ n. before + n)) (ap (λ p. end_at p rest) (drop_more path i 0 h)
+      ∙ end_at_none (get_or path i 0) (drop (i + 1) path) rest e)
 
-  pub end_in_leaf : (path : List ℕ) (i : ℕ) (f rest u : Forest L G) (id : ℕ) (w : L) (before : ℕ) → i < length path → end_at path f ≡ option_map (λ n. before + n) (end_at (drop i path) rest) → from_place (get_or path i 0) rest ≡ leaf id w u → end_at path f ≡ None
+  pub end_in_leaf : (path : List ℕ) (i : ℕ) (f rest u : Forest L G) (id : ℕ) (w : L) (before : ℕ) → i < length path
+      → end_at path f ≡ option_map (λ n. before + n) (end_at (drop i path) rest) → from_place (get_or path i 0) rest ≡ leaf id w u
+      → end_at path f ≡ None
   end_in_leaf path i f rest u id w before h so_far e =
       so_far
-      ∙ ap (option_map (λ n. before + n)) (ap (λ p. end_at p rest) (drop_more path i 0 h) ∙ end_at_leaf (get_or path i 0) (drop (i + 1) path) rest u id w e)
+      ∙ ap (option_map (λ n. before + n)) (ap (λ p. end_at p rest) (drop_more path i 0 h)
+      ∙ end_at_leaf (get_or path i 0) (drop (i + 1) path) rest u id w e)
 
-  pub passed_within_rest : (place : ℕ) (rest c u : Forest L G) (id : ℕ) (w : G) → from_place place rest ≡ group id w c u → (size rest - size (from_place place rest) + 1) + (size c + size u) ≡ size rest
+  pub passed_within_rest : (place : ℕ) (rest c u : Forest L G) (id : ℕ) (w : G) → from_place place rest ≡ group id w c u
+      → (size rest - size (from_place place rest) + 1) + (size c + size u) ≡ size rest
   passed_within_rest place rest c u id w e = omega (arith, size-from_place place rest, ap size e)
 
   pub end_some : (path : List ℕ) (b f : Forest L G) → IsSome (put_last path b f) → IsSome (end_at path f)

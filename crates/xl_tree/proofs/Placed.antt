@@ -1,5 +1,6 @@
 -- A node at its place among the entries, and another in its stead.
-use Rattle.std.proofs.Common.{◌≡◌, ℕ, suc, ◌+◌, ◌<◌, ◌≤◌, Bool, true, false, cond, eqb, nat_eq, List, ◌∷◌, ◌++◌, length, get_or, set, refl, sym, ◌∙◌, subst, ap, eq-eqb, arith}
+use Rattle.std.proofs.Common.{◌≡◌, ℕ, suc, ◌+◌, ◌<◌, ◌≤◌, Bool, true, false, cond, eqb, nat_eq, List, ◌∷◌, ◌++◌}
+use Rattle.std.proofs.Common.{length, get_or, set, refl, sym, ◌∙◌, subst, ap, eq-eqb, arith}
 use Rattle.std.proofs.lemmas.List.{get_or_at, set_at}
 use Rattle.std.specs.Prelude.{Some, None, option_map}
 use Rattle.std.specs.List.{IsDistinct}
@@ -7,8 +8,10 @@ use Rattle.spec_forest.specs.Forest.{Forest, none, leaf, group, size, levels, id
 use Rattle.spec_forest.specs.Changes.{with_group}
 use Rattle.spec_forest.specs.Holes.{Hole, here, under_leaf, under_group, in_group, plug, depth, passed}
 use Rattle.spec_forest.proofs.Holes.{size-plug, levels-plug, passed_within, depth_below_levels}
-use Rattle.spec_forest.proofs.Standing.{Fresh, Standing, nowhere, at_leaf, at_group, standing, lacks_leaf, lacks_group, find-at_leaf, find-at_group}
-use Rattle.spec_forest.proofs.Distinct.{lone_leaf, lone_group, with_leaf-at_leaf, with_leaf-at_group, with_group-at_leaf, with_group-at_group}
+use Rattle.spec_forest.proofs.Standing.{Fresh, Standing, nowhere, at_leaf, at_group, standing, lacks_leaf, lacks_group}
+use Rattle.spec_forest.proofs.Standing.{find-at_leaf, find-at_group}
+use Rattle.spec_forest.proofs.Distinct.{lone_leaf, lone_group, with_leaf-at_leaf, with_leaf-at_group}
+use Rattle.spec_forest.proofs.Distinct.{with_group-at_leaf, with_group-at_group}
 use Rattle.xl_tree.specs.declared.entries.Entry.{Entry}
 use Rattle.xl_tree.specs.Flat.{flat, forest_of}
 use Rattle.xl_tree.specs.Kept.{AreSiblings}
@@ -26,34 +29,45 @@ module _ {L G : Type 0} where
   place_of-nowhere id none n = refl
   place_of-nowhere id (leaf i w u) n =
       let l = lacks_leaf w (find id u) (eqb id i) n in
-      ap (λ b. cond b (Some 0) (option_map (λ k. 1 + k) (place_of id u))) l.0 ∙ ap (option_map (λ k. 1 + k)) (place_of-nowhere id u l.1)
+      ap (λ b. cond b (Some 0) (option_map (λ k. 1 + k) (place_of id u))) l.0
+      ∙ ap (option_map (λ k. 1 + k)) (place_of-nowhere id u l.1)
   place_of-nowhere id (group i w c u) n =
       let l = lacks_group w c (find id c) (find id u) (eqb id i) n in
-      ap (λ b. cond b (Some 0) (first_some (option_map (λ k. 1 + k) (place_of id c)) (option_map (λ k. 1 + size c + k) (place_of id u)))) l.0
-      ∙ (λ j. first_some (option_map (λ k. 1 + k) (place_of-nowhere id c l.1 j)) (option_map (λ k. 1 + size c + k) (place_of-nowhere id u l.2 j)))
+      ap (λ b. cond b (Some 0) (first_some (option_map (λ k. 1 + k) (place_of id c))
+      (option_map (λ k. 1 + size c + k) (place_of id u)))) l.0
+      ∙ (λ j. first_some (option_map (λ k. 1 + k) (place_of-nowhere id c l.1 j))
+      (option_map (λ k. 1 + size c + k) (place_of-nowhere id u l.2 j)))
 
-  pub place_of-plug : (id : ℕ) (h : Hole L G) (f : Forest L G) → Fresh id h → place_of id f ≡ Some 0 → place_of id (plug h f) ≡ Some (passed h)
+  pub place_of-plug : (id : ℕ) (h : Hole L G) (f : Forest L G) → Fresh id h → place_of id f ≡ Some 0
+      → place_of id (plug h f) ≡ Some (passed h)
   place_of-plug id here f fresh top = top
   place_of-plug id (under_leaf i w h) f fresh top =
-      ap (λ b. cond b (Some 0) (option_map (λ k. 1 + k) (place_of id (plug h f)))) fresh.0 ∙ ap (option_map (λ k. 1 + k)) (place_of-plug id h f fresh.1 top)
+      ap (λ b. cond b (Some 0) (option_map (λ k. 1 + k) (place_of id (plug h f)))) fresh.0
+      ∙ ap (option_map (λ k. 1 + k)) (place_of-plug id h f fresh.1 top)
   place_of-plug id (under_group i w c h) f fresh top =
-      ap (λ b. cond b (Some 0) (first_some (option_map (λ k. 1 + k) (place_of id c)) (option_map (λ k. 1 + size c + k) (place_of id (plug h f))))) fresh.0
-      ∙ (λ j. first_some (option_map (λ k. 1 + k) (place_of-nowhere id c fresh.1 j)) (option_map (λ k. 1 + size c + k) (place_of-plug id h f fresh.2 top j)))
+      ap (λ b. cond b (Some 0) (first_some (option_map (λ k. 1 + k) (place_of id c))
+      (option_map (λ k. 1 + size c + k) (place_of id (plug h f))))) fresh.0
+      ∙ (λ j. first_some (option_map (λ k. 1 + k) (place_of-nowhere id c fresh.1 j))
+      (option_map (λ k. 1 + size c + k) (place_of-plug id h f fresh.2 top j)))
   place_of-plug id (in_group i w h u) f fresh top =
-      ap (λ b. cond b (Some 0) (first_some (option_map (λ k. 1 + k) (place_of id (plug h f))) (option_map (λ k. 1 + size (plug h f) + k) (place_of id u)))) fresh.0
-      ∙ (λ j. first_some (option_map (λ k. 1 + k) (place_of-plug id h f fresh.1 top j)) (option_map (λ k. 1 + size (plug h f) + k) (place_of id u)))
+      ap (λ b. cond b (Some 0) (first_some (option_map (λ k. 1 + k) (place_of id (plug h f)))
+      (option_map (λ k. 1 + size (plug h f) + k) (place_of id u)))) fresh.0
+      ∙ (λ j. first_some (option_map (λ k. 1 + k) (place_of-plug id h f fresh.1 top j))
+      (option_map (λ k. 1 + size (plug h f) + k) (place_of id u)))
 
   place_of-leaf : (id : ℕ) (w : L) (u : Forest L G) → place_of id (leaf id w u) ≡ Some 0
   place_of-leaf id w u = ap (λ b. cond b (Some 0) (option_map (λ k. 1 + k) (place_of id u))) (eq-eqb id id refl)
 
   place_of-group : (id : ℕ) (w : G) (c u : Forest L G) → place_of id (group id w c u) ≡ Some 0
   place_of-group id w c u =
-      ap (λ b. cond b (Some 0) (first_some (option_map (λ k. 1 + k) (place_of id c)) (option_map (λ k. 1 + size c + k) (place_of id u)))) (eq-eqb id id refl)
+      ap (λ b. cond b (Some 0) (first_some (option_map (λ k. 1 + k) (place_of id c))
+      (option_map (λ k. 1 + size c + k) (place_of id u)))) (eq-eqb id id refl)
 
   -- a place leads to a leaf or a group in its hole
   pub data Spot (id place : ℕ) (f : Forest L G) : Type 0 where
     a_leaf_at : (h : Hole L G) (w : L) (u : Forest L G) → f ≡ plug h (leaf id w u) → Fresh id h → passed h ≡ place → Spot id place f
-    a_group_at : (h : Hole L G) (w : G) (c u : Forest L G) → f ≡ plug h (group id w c u) → Fresh id h → passed h ≡ place → Spot id place f
+    a_group_at : (h : Hole L G) (w : G) (c u : Forest L G) → f ≡ plug h (group id w c u) → Fresh id h → passed h ≡ place
+        → Spot id place f
 
   pub spot : (id place : ℕ) (f : Forest L G) → place_of id f ≡ Some place → Spot id place f
   spot id place f e = from (standing id f) where
@@ -91,11 +105,15 @@ module _ {N : Type 0} where
     pub view : forest_of new ≡ with_node id w f
     pub siblings : AreSiblings 0 new
 
-  pub written : (id place : ℕ) (es : List (Entry N)) (f : Forest N N) (e : Entry N) (w : N) → AreSiblings 0 es → forest_of es ≡ f → place_of id f ≡ Some place → IsDistinct nat_eq (ids f) → e ≡ get_or es place e → Written id f e w (set es place (rewritten e w))
+  pub written : (id place : ℕ) (es : List (Entry N)) (f : Forest N N) (e : Entry N) (w : N) → AreSiblings 0 es → forest_of es ≡ f
+      → place_of id f ≡ Some place → IsDistinct nat_eq (ids f) → e ≡ get_or es place e
+      → Written id f e w (set es place (rewritten e w))
   written id place es f e w s view_is at_place distinct e_is = from (spot id place f at_place) where
     made : (h : Hole N N) (old new : Forest N N) (mark : Bool) (v : N) (tail : List (Entry N)) → f ≡ plug h old → passed h ≡ place →
-        flat (0 + depth h) old ++ back 0 h ≡ entry_of (0 + depth h) id mark v ∷ tail → flat (0 + depth h) new ++ back 0 h ≡ entry_of (0 + depth h) id mark w ∷ tail →
-        levels new ≡ levels old → size new ≡ size old → node_of (find id f) ≡ Some v → with_node id w f ≡ plug h new → Written id f e w (set es place (rewritten e w))
+        flat (0 + depth h) old ++ back 0 h ≡ entry_of (0 + depth h) id mark v ∷ tail
+        → flat (0 + depth h) new ++ back 0 h ≡ entry_of (0 + depth h) id mark w ∷ tail →
+        levels new ≡ levels old → size new ≡ size old → node_of (find id f) ≡ Some v → with_node id w f ≡ plug h new
+        → Written id f e w (set es place (rewritten e w))
     made h old new mark v tail is at old_is new_is same_levels same_size found change =
         let split : es ≡ front 0 h ++ (entry_of (0 + depth h) id mark v ∷ tail) =
         s.flat_is ∙ (ap (flat 0) (view_is ∙ is) ∙ (flat-plug 0 h old ∙ ap (λ x. front 0 h ++ x) old_is)) in
@@ -121,12 +139,15 @@ module _ {N : Type 0} where
         let l = lone_leaf id h v u (let P : Forest N N → Type 0 = λ x. IsDistinct nat_eq (ids x) in subst P is distinct) in
         made h (leaf id v u) (leaf id w u) false v (flat (0 + depth h) u ++ back 0 h) is at refl refl refl refl
         (ap (λ x. node_of (find id x)) is ∙ ap node_of (find-at_leaf id h v u fresh))
-        (ap (with_node id w) is ∙ (ap (with_group id (λ _. w)) (with_leaf-at_leaf id (λ _. w) h v u fresh l) ∙ with_group-at_leaf id (λ _. w) h w u fresh l))
+        (ap (with_node id w) is ∙ (ap (with_group id (λ _. w)) (with_leaf-at_leaf id (λ _. w) h v u fresh l)
+        ∙ with_group-at_leaf id (λ _. w) h w u fresh l))
     from (a_group_at h v c u is fresh at) =
         let l = lone_group id h v c u (let P : Forest N N → Type 0 = λ x. IsDistinct nat_eq (ids x) in subst P is distinct) in
-        made h (group id v c u) (group id w c u) true v ((flat (suc (0 + depth h)) c ++ flat (0 + depth h) u) ++ back 0 h) is at refl refl refl refl
+        made h (group id v c u) (group id w c u) true v ((flat (suc (0 + depth h)) c ++ flat (0 + depth h) u)
+        ++ back 0 h) is at refl refl refl refl
         (ap (λ x. node_of (find id x)) is ∙ ap node_of (find-at_group id h v c u fresh))
-        (ap (with_node id w) is ∙ (ap (with_group id (λ _. w)) (with_leaf-at_group id (λ _. w) h v c u fresh l) ∙ with_group-at_group id (λ _. w) h v c u fresh l))
+        (ap (with_node id w) is ∙ (ap (with_group id (λ _. w)) (with_leaf-at_group id (λ _. w) h v c u fresh l)
+        ∙ with_group-at_group id (λ _. w) h v c u fresh l))
 
 module _ {L G : Type 0} where
   -- a node with a place is there, and one without is not

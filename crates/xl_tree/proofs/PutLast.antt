@@ -5,7 +5,8 @@ use Rattle.std.specs.List.{insert}
 use Rattle.spec_forest.specs.Forest.{Forest, none, size, levels}
 use Rattle.spec_forest.specs.Changes.{put_last}
 use Rattle.spec_forest.specs.Holes.{Hole, plug, depth, passed}
-use Rattle.spec_forest.proofs.Holes.{hole_last, plug-hole_last, depth-hole_last, put_last-hole, size-plug, levels-plug, passed_within}
+use Rattle.spec_forest.proofs.Holes.{hole_last, plug-hole_last, depth-hole_last, put_last-hole, size-plug, levels-plug}
+use Rattle.spec_forest.proofs.Holes.{passed_within}
 use Rattle.xl_tree.specs.declared.entries.Entry.{Entry}
 use Rattle.xl_tree.specs.Flat.{flat, forest_of}
 use Rattle.xl_tree.specs.Kept.{AreSiblings}
@@ -29,7 +30,8 @@ module _ {N : Type 0} where
   levels-alone id true node = refl
   levels-alone id false node = refl
 
-  hole_from_end : (path : List ℕ) (f : Forest N N) (at : ℕ) (o : Option (Hole N N)) → option_map passed o ≡ Some at → (h : Hole N N) × (o ≡ Some h) × (passed h ≡ at)
+  hole_from_end : (path : List ℕ) (f : Forest N N) (at : ℕ) (o : Option (Hole N N)) → option_map passed o ≡ Some at
+      → (h : Hole N N) × (o ≡ Some h) × (passed h ≡ at)
   hole_from_end path f at None e = cc
   hole_from_end path f at (Some h) e = (h, refl, cc)
 
@@ -43,7 +45,9 @@ module _ {N : Type 0} where
     pub view : put_last path branch f ≡ Some (forest_of new)
     pub siblings : AreSiblings 0 new
 
-  pub put_last_entry : (path : List ℕ) (es new : List (Entry N)) (f : Forest N N) (at id : ℕ) (mark : Bool) (node : N) → AreSiblings 0 es → forest_of es ≡ f → end_at path f ≡ Some at → length path < 8 → size f < MAX_NODES → new ≡ insert es at (entry_of (length path) id mark node) → PutLast path (alone mark id node) f new
+  pub put_last_entry : (path : List ℕ) (es new : List (Entry N)) (f : Forest N N) (at id : ℕ) (mark : Bool) (node : N)
+      → AreSiblings 0 es → forest_of es ≡ f → end_at path f ≡ Some at → length path < 8 → size f < MAX_NODES
+      → new ≡ insert es at (entry_of (length path) id mark node) → PutLast path (alone mark id node) f new
   put_last_entry path es new f at id mark node s is e short few new_is =
       let b : Forest N N = alone mark id node in
       let m = hole_from_end path f at (hole_last path f) (sym (end_at-hole path f) ∙ e) in
@@ -54,10 +58,14 @@ module _ {N : Type 0} where
       ap (λ l. flat l b) (omega (arith, deep)) ∙ flat-alone (length path) id mark node in
       let es_is : es ≡ flat 0 (plug h none) = s.flat_is ∙ ap (flat 0) (is ∙ sym hole_is) in
       let new_flat : new ≡ flat 0 (plug h b) =
-      new_is ∙ ((λ i. insert (es_is i) (sym m.2 i) (entry_of (length path) id mark node)) ∙ insert-plug 0 h (entry_of (length path) id mark node) b one) in
-      let new_size : size (plug h b) ≤ MAX_NODES = omega (arith, few, size-plug h none b, size-alone id mark node, ap size hole_is) in
-      let low : 0 + levels (plug h b) ≤ 8 = omega (arith, s.low, short, deep, levels-plug h none b, levels-alone id mark node, ap levels hole_is, ap levels is) in
+      new_is ∙ ((λ i. insert (es_is i) (sym m.2 i) (entry_of (length path) id mark node))
+      ∙ insert-plug 0 h (entry_of (length path) id mark node) b one) in
+      let new_size : size (plug h b) ≤ MAX_NODES =
+      omega (arith, few, size-plug h none b, size-alone id mark node, ap size hole_is) in
+      let low : 0 + levels (plug h b) ≤ 8 =
+      omega (arith, s.low, short, deep, levels-plug h none b, levels-alone id mark node, ap levels hole_is, ap levels is) in
       record {
-        view = put_last-hole path b f ∙ (ap (option_map (λ x. plug x b)) m.1 ∙ ap Some (sym (forest_of_is 0 new (plug h b) new_flat)));
+        view =
+            put_last-hole path b f ∙ (ap (option_map (λ x. plug x b)) m.1 ∙ ap Some (sym (forest_of_is 0 new (plug h b) new_flat)));
         siblings = siblings 0 new (plug h b) new_flat new_size low;
       }

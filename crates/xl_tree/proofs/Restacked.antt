@@ -1,11 +1,13 @@
 -- A node that moves from one stack to another.
-use Rattle.std.proofs.Common.{◌≡◌, ℕ, ◌+◌, ◌-◌, ◌≤◌, Bool, true, false, cond, eqb, nat_eq, List, [], ◌∷◌, ◌++◌, length, map, take, drop, refl, sym, ◌∙◌, subst, ap, arith, length-append}
+use Rattle.std.proofs.Common.{◌≡◌, ℕ, ◌+◌, ◌-◌, ◌≤◌, Bool, true, false, cond, eqb, nat_eq, List, [], ◌∷◌, ◌++◌, length}
+use Rattle.std.proofs.Common.{map, take, drop, refl, sym, ◌∙◌, subst, ap, arith, length-append}
 use Rattle.std.proofs.lemmas.Bool.{eqb-false, ne_eqb}
 use Rattle.std.specs.Result.{IsErrAnd}
 use Rattle.xl_tree.specs.declared.naming.NodeId.{NodeId}
 use Rattle.std.specs.Prelude.{Option, Some, None, Result, Ok, Err, option_map, unwrap_or, ◌||◌}
 use Rattle.std.specs.List.{IsDistinct, list_any}
-use Rattle.spec_forest.specs.Forest.{Forest, leaf, group, size, levels, ids, Found, nothing, a_leaf, a_group, or_else, find, ancestors}
+use Rattle.spec_forest.specs.Forest.{Forest, leaf, group, size, levels, ids, Found, nothing, a_leaf, a_group, or_else}
+use Rattle.spec_forest.specs.Forest.{find, ancestors}
 use Rattle.spec_forest.specs.Changes.{above, without, branch_of}
 use Rattle.spec_forest.proofs.Holes.{passed_within, size-plug, depth_below_levels}
 use Rattle.spec_forest.proofs.Distinct.{lone_leaf, lone_group, without-at_leaf, without-at_group, distinct-plug, fewer_under}
@@ -17,7 +19,8 @@ use Rattle.xl_tree.specs.Flat.{flat, forest_of}
 use Rattle.xl_tree.specs.Kept.{AreSiblings}
 use Rattle.xl_tree.specs.Moves.{shifted, AreShallow}
 use Rattle.xl_tree.specs.Places.{place_of, first_some}
-use Rattle.xl_tree.specs.Refusals.{no_node, no_stack, no_group, bad_place, put_refusal, stands_in, inside, restack_refusal, answer_of}
+use Rattle.xl_tree.specs.Refusals.{no_node, no_stack, no_group, bad_place, put_refusal, stands_in, inside}
+use Rattle.xl_tree.specs.Refusals.{restack_refusal, answer_of}
 use Rattle.xl_tree.proofs.Flat.{length-flat, forest_of_is, size-forest_of}
 use Rattle.xl_tree.proofs.Placed.{Spot, a_leaf_at, a_group_at, spot}
 use Rattle.xl_tree.proofs.Moved.{Taken, parts, size-above}
@@ -42,7 +45,8 @@ module _ {L G : Type 0} where
   kind_group p (a_leaf w) e = absurd (eqb-false 1 2 refl e)
   kind_group p (a_group w c) e = refl
 
-  stack_kept : (p : ℕ) (f g : Forest L G) (b : Bool) → eqb p 0 ≡ b → kind (find p f) ≡ kind (find p g) → no_stack p f ≡ None → no_stack p g ≡ None
+  stack_kept : (p : ℕ) (f g : Forest L G) (b : Bool) → eqb p 0 ≡ b → kind (find p f) ≡ kind (find p g) → no_stack p f ≡ None
+      → no_stack p g ≡ None
   stack_kept p f g true z same there = ap (λ x. cond x None (no_group p (find p g))) z
   stack_kept p f g false z same there =
       let there_f : no_group p (find p f) ≡ None = sym (ap (λ x. cond x None (no_group p (find p f))) z) ∙ there in
@@ -53,7 +57,8 @@ module _ {L G : Type 0} where
   nothing_or_some (a_leaf w) n e = eqb-false 1 0 refl e
   nothing_or_some (a_group w c) n e = eqb-false 2 0 refl e
 
-  kind_here : (p id : ℕ) (w : G) (c u : Forest L G) → eqb p id ≡ false → find p c ≡ nothing → kind (find p (group id w c u)) ≡ kind (find p u)
+  kind_here : (p id : ℕ) (w : G) (c u : Forest L G) → eqb p id ≡ false → find p c ≡ nothing
+      → kind (find p (group id w c u)) ≡ kind (find p u)
   kind_here p id w c u ne n =
       ap (λ b. kind (cond b (a_group w c) (or_else (find p c) (find p u)))) ne ∙ ap (λ x. kind (or_else x (find p u))) n
 
@@ -65,7 +70,8 @@ module _ {L G : Type 0} where
     from (a_group w d) e = absurd (h (λ n. let k = sym e ∙ n in cc))
 
   -- a stack outside a node is there when the node is gone
-  pub stack_stays : (p id at : ℕ) (f : Forest L G) → place_of id f ≡ Some at → IsDistinct nat_eq (ids f) → no_stack p f ≡ None → stands_in f p id ≡ false → no_stack p (without id f) ≡ None
+  pub stack_stays : (p id at : ℕ) (f : Forest L G) → place_of id f ≡ Some at → IsDistinct nat_eq (ids f) → no_stack p f ≡ None
+      → stands_in f p id ≡ false → no_stack p (without id f) ≡ None
   stack_stays p id at f at_place distinct there outside = from (spot id at f at_place) where
     apart : (eqb p id ≡ false) × (unwrap_or (option_map (λ above. list_any (λ i. eqb i id) above) (ancestors p f)) false ≡ false)
     apart = or_false (eqb p id) _ outside
@@ -88,27 +94,34 @@ module _ {L G : Type 0} where
         let l = lone_group id h w c u d in
         let gone = ap (without id) is ∙ without-at_group id h w c u fresh l in
         let outside_c : find p c ≡ nothing = not_found p c (λ some.
-        let wrong : true ≡ false = sym (above_inside p id h w c u d apart.0 some) ∙ (ap (λ x. list_any (λ i. eqb i id) (unwrap_or (ancestors p x) [])) (sym is) ∙ not_above) in
+        let wrong : true ≡ false = sym (above_inside p id h w c u d apart.0 some)
+        ∙ (ap (λ x. list_any (λ i. eqb i id) (unwrap_or (ancestors p x) [])) (sym is) ∙ not_above) in
         cc) in
         stack_kept p f (without id f) (eqb p 0) refl
-        (ap (λ x. kind (find p x)) is ∙ (kind-plug p h (group id w c u) u (kind_here p id w c u apart.0 outside_c) ∙ ap (λ x. kind (find p x)) (sym gone))) there
+        (ap (λ x. kind (find p x)) is ∙ (kind-plug p h (group id w c u) u (kind_here p id w c u apart.0 outside_c)
+        ∙ ap (λ x. kind (find p x)) (sym gone))) there
 
   -- the refusals, as they come
-  pub no_node_refuses : (id p place : ℕ) (f : Forest L G) (r : TreeRefused) → no_node id (find id f) ≡ Some r → restack_refusal id p place f ≡ Some r
+  pub no_node_refuses : (id p place : ℕ) (f : Forest L G) (r : TreeRefused) → no_node id (find id f) ≡ Some r
+      → restack_refusal id p place f ≡ Some r
   no_node_refuses id p place f r e =
       ap (λ o. first_some o (first_some (no_stack p f) (first_some (inside id p f) (bad_place p place (without id f))))) e
 
-  pub after_node : (id p place : ℕ) (f : Forest L G) → no_node id (find id f) ≡ None → restack_refusal id p place f ≡ first_some (no_stack p f) (first_some (inside id p f) (bad_place p place (without id f)))
+  pub after_node : (id p place : ℕ) (f : Forest L G) → no_node id (find id f) ≡ None
+      → restack_refusal id p place f ≡ first_some (no_stack p f) (first_some (inside id p f) (bad_place p place (without id f)))
   after_node id p place f e =
       ap (λ o. first_some o (first_some (no_stack p f) (first_some (inside id p f) (bad_place p place (without id f))))) e
 
-  pub inside_refuses : (id p place : ℕ) (f : Forest L G) → no_node id (find id f) ≡ None → no_stack p f ≡ None → stands_in f p id ≡ true → restack_refusal id p place f ≡ Some (Inside p)
+  pub inside_refuses : (id p place : ℕ) (f : Forest L G) → no_node id (find id f) ≡ None → no_stack p f ≡ None
+      → stands_in f p id ≡ true → restack_refusal id p place f ≡ Some (Inside p)
   inside_refuses id p place f e s i =
       after_node id p place f e
       ∙ (ap (λ o. first_some o (first_some (inside id p f) (bad_place p place (without id f)))) s
       ∙ ap (λ b. first_some (cond b (Some (Inside p)) None) (bad_place p place (without id f))) i)
 
-  pub place_is_left : (id p place at : ℕ) (f : Forest L G) → Some at ≡ place_of id f → IsDistinct nat_eq (ids f) → no_node id (find id f) ≡ None → no_stack p f ≡ None → stands_in f p id ≡ false → restack_refusal id p place f ≡ put_refusal p place (without id f)
+  pub place_is_left : (id p place at : ℕ) (f : Forest L G) → Some at ≡ place_of id f → IsDistinct nat_eq (ids f)
+      → no_node id (find id f) ≡ None → no_stack p f ≡ None → stands_in f p id ≡ false
+      → restack_refusal id p place f ≡ put_refusal p place (without id f)
   place_is_left id p place at f at_place distinct e s i =
       after_node id p place f e
       ∙ (ap (λ o. first_some o (first_some (inside id p f) (bad_place p place (without id f)))) s
@@ -139,13 +152,16 @@ module _ {N : Type 0} where
     pub size_is : size (without id f) + size (branch_of id f) ≡ size f
     pub sizes : n ≡ size (without id f) + count
 
-  pub is_parked : (id at count level n : ℕ) (es parked : List (Entry N)) (f : Forest N N) → AreSiblings 0 es → forest_of es ≡ f → IsDistinct nat_eq (ids f) → Taken id at count level f es
-      → parked ≡ take at es ++ (drop count (drop at es) ++ map (shifted level 0) (take count (drop at es))) → n ≡ length parked → Parked id at count level n f parked
+  pub is_parked : (id at count level n : ℕ) (es parked : List (Entry N)) (f : Forest N N) → AreSiblings 0 es → forest_of es ≡ f
+      → IsDistinct nat_eq (ids f) → Taken id at count level f es
+      → parked ≡ take at es ++ (drop count (drop at es) ++ map (shifted level 0) (take count (drop at es))) → n ≡ length parked
+      → Parked id at count level n f parked
   is_parked id at count level n es parked f s view_is distinct t parked_is n_is =
       let r = t.removal_is in
       let few = size-forest_of 0 es s.flat_is in
       let flat_at : parked ≡ flat 0 (without id f) ++ flat 0 (branch_of id f) = parked_is ∙ t.out.parked in
-      let p = parts id at count n f parked (omega (arith, s.few, few, ap size view_is)) (omega (arith, s.low, ap levels view_is)) r t.count_is n_is flat_at in
+      let p = parts id at count n f parked (omega (arith, s.few, few, ap size view_is))
+      (omega (arith, s.low, ap levels view_is)) r t.count_is n_is flat_at in
       let length_is = ap length flat_at ∙ length-append (flat 0 (without id f)) (flat 0 (branch_of id f)) in
       let a = length-flat 0 (without id f) in
       let b = length-flat 0 (branch_of id f) in
@@ -155,33 +171,59 @@ module _ {N : Type 0} where
       record {
         within = omega (arith, n_is, length_is, b, count_at);
         at_within = omega (arith, n_is, length_is, a, b, count_at, r.at_is, passed_within r.hole r.under, ap size r.without_is);
-        low = omega (arith, s.low, t.level_is, depth_below_levels r.hole (above r.branch r.under), ap levels r.forest_is, ap levels view_is);
+        low = omega (
+          arith,
+          s.low,
+          t.level_is,
+          depth_below_levels r.hole (above r.branch r.under),
+          ap levels r.forest_is,
+          ap levels view_is,
+        );
         rest = p.rest_siblings;
         rest_is = forest_of_is 0 (take (n - count) parked) (without id f) p.rest_is;
-        distinct = subst P (sym r.without_is) (distinct-plug (above r.branch r.under) r.under (fewer_under r.branch r.under) r.hole (subst P r.forest_is distinct));
-        shallow = subst Q (sym p.branch_is) (shallow-flat 0 (branch_of id f) (omega (arith, p.branch_siblings.low, ap levels (forest_of_is 0 (drop (n - count) parked) (branch_of id f) p.branch_is))));
+        distinct = subst P (sym r.without_is)
+            (distinct-plug (above r.branch r.under) r.under (fewer_under r.branch r.under) r.hole (subst P r.forest_is distinct));
+        shallow = subst Q (sym p.branch_is)
+            (shallow-flat 0 (branch_of id f)
+            (omega (
+              arith,
+              p.branch_siblings.low,
+              ap levels (forest_of_is 0 (drop (n - count) parked) (branch_of id f) p.branch_is),
+            )));
         flat_is = flat_at;
         count_is = count_at;
-        size_is = omega (arith, ap size r.without_is, ap size r.branch_is, ap size r.forest_is, size-plug r.hole r.under (above r.branch r.under), size-above r.branch r.under);
+        size_is = omega (
+          arith,
+          ap size r.without_is,
+          ap size r.branch_is,
+          ap size r.forest_is,
+          size-plug r.hole r.under (above r.branch r.under),
+          size-above r.branch r.under,
+        );
         sizes = omega (arith, n_is, length_is, a, b, count_at);
       }
 
 -- what a `?` hands on
-pub residual_is : (answer : Result (Unit {0}) TreeRefused) (P : TreeRefused → Type 0) (r : TreeRefused) → IsErrAnd answer P → ((e : TreeRefused) → P e → e ≡ r) → answer ≡ Err r
+pub residual_is : (answer : Result (Unit {0}) TreeRefused) (P : TreeRefused → Type 0) (r : TreeRefused) → IsErrAnd answer P
+    → ((e : TreeRefused) → P e → e ≡ r) → answer ≡ Err r
 residual_is (Ok x) P r h f = absurd h
 residual_is (Err e) P r h f = ap (λ x. Err x) (f e h)
 
 -- whether a node is among those above another
-any_ids : (xs : List NodeId) (test : NodeId → Bool) (id : ℕ) → ((y : NodeId) → test y ≡ eqb y.0 id) → list_any test xs ≡ list_any (λ i. eqb i id) (map (λ (i : NodeId). i.0) xs)
+any_ids : (xs : List NodeId) (test : NodeId → Bool) (id : ℕ) → ((y : NodeId) → test y ≡ eqb y.0 id)
+    → list_any test xs ≡ list_any (λ i. eqb i id) (map (λ (i : NodeId). i.0) xs)
 any_ids [] test id e = refl
 any_ids (x ∷ xs) test id e = λ j. e x j || any_ids xs test id e j
 
-pub stands_above : {N : Type 0} (f : Forest N N) (node other : ℕ) (xs : List NodeId) (test : NodeId → Bool) → (node ≡ other → ⊥) → map (λ (i : NodeId). i.0) xs ≡ unwrap_or (ancestors node f) [] → ((y : NodeId) → test y ≡ eqb y.0 other) → list_any test xs ≡ stands_in f node other
+pub stands_above : {N : Type 0} (f : Forest N N) (node other : ℕ) (xs : List NodeId) (test : NodeId → Bool) → (node ≡ other → ⊥)
+    → map (λ (i : NodeId). i.0) xs ≡ unwrap_or (ancestors node f) [] → ((y : NodeId) → test y ≡ eqb y.0 other)
+    → list_any test xs ≡ stands_in f node other
 stands_above f node other xs test ne above_is same =
     any_ids xs test other same
     ∙ (ap (list_any (λ i. eqb i other)) above_is
     ∙ (sym (any_of (list_any (λ i. eqb i other)) (ancestors node f) refl)
-    ∙ ap (λ b. b || unwrap_or (option_map (λ above. list_any (λ i. eqb i other) above) (ancestors node f)) false) (sym (ne_eqb node other ne))))
+    ∙ ap (λ b. b || unwrap_or (option_map (λ above. list_any (λ i. eqb i other) above) (ancestors node f)) false)
+    (sym (ne_eqb node other ne))))
 
 pub stack_refuses : (o rest : Option TreeRefused) (r : TreeRefused) → o ≡ Some r → first_some o rest ≡ Some r
 stack_refuses o rest r e = ap (λ x. first_some x rest) e

@@ -1,10 +1,12 @@
 -- The first entry with an id, and where its node stands.
-use Rattle.std.proofs.Common.{◌≡◌, ℕ, suc, ◌+◌, ◌<◌, ◌≤◌, Bool, true, false, cond, eqb, nat_lt, List, [], ◌∷◌, ◌++◌, length, get_or, take, drop, refl, sym, ◌∙◌, ap, arith, eq-eqb}
+use Rattle.std.proofs.Common.{◌≡◌, ℕ, suc, ◌+◌, ◌<◌, ◌≤◌, Bool, true, false, cond, eqb, nat_lt, List, [], ◌∷◌, ◌++◌}
+use Rattle.std.proofs.Common.{length, get_or, take, drop, refl, sym, ◌∙◌, ap, arith, eq-eqb}
 use Rattle.std.proofs.lemmas.Bool.{ne_eqb}
 use Rattle.std.proofs.lemmas.Bool.Decides.{nat_tests}
 use Rattle.std.proofs.lemmas.List.{drop_more, drop_all, append_assoc, append-nil, take_at}
 use Rattle.std.specs.Prelude.{Some}
-use Rattle.spec_forest.specs.Forest.{Forest, none, leaf, group, size, levels, Found, nothing, a_leaf, a_group, or_else, find, children_of, stack_at}
+use Rattle.spec_forest.specs.Forest.{Forest, none, leaf, group, size, levels, Found, nothing, a_leaf, a_group, or_else}
+use Rattle.spec_forest.specs.Forest.{find, children_of, stack_at}
 use Rattle.spec_forest.specs.Holes.{Hole, here, under_leaf, under_group, in_group, plug, depth}
 use Rattle.spec_forest.proofs.Holes.{depth_below_levels, passed_within}
 use Rattle.spec_forest.proofs.Standing.{Fresh, Standing, nowhere, at_leaf, at_group, standing, find-at_leaf, find-at_group}
@@ -22,7 +24,8 @@ module _ {N : Type 0} where
       let not_lower : nat_lt low e.level ≡ false = grind (arith, nat_tests) in
       ap (λ b. cond b (1 + below low es) 0) not_lower
 
-  below_seam_at : (low : ℕ) (e : Entry N) (xs ys : List (Entry N)) (b : Bool) → nat_lt low e.level ≡ b → cond (nat_lt low e.level) (1 + below low xs) 0 ≡ 0 → cond (nat_lt low e.level) (1 + below low (xs ++ ys)) 0 ≡ 0
+  below_seam_at : (low : ℕ) (e : Entry N) (xs ys : List (Entry N)) (b : Bool) → nat_lt low e.level ≡ b
+      → cond (nat_lt low e.level) (1 + below low xs) 0 ≡ 0 → cond (nat_lt low e.level) (1 + below low (xs ++ ys)) 0 ≡ 0
   below_seam_at low e xs ys true t h =
       let k : 1 + below low xs ≡ 0 = sym (ap (λ b. cond b (1 + below low xs) 0) t) ∙ h in absurd (omega (arith, k))
   below_seam_at low e xs ys false t h = ap (λ b. cond b (1 + below low (xs ++ ys)) 0) t
@@ -34,11 +37,14 @@ module _ {N : Type 0} where
   stop id e es y = ap (λ b. cond b (e ∷ es) (from_id id es)) y
 
   -- the search goes on, and ends
-  pub from_id_more : (id : ℕ) (es : List (Entry N)) (i : ℕ) (e : Entry N) → i < length es → e ≡ get_or es i e → (id ≡ e.id → ⊥) → from_id id (drop i es) ≡ from_id id (drop (i + 1) es)
+  pub from_id_more : (id : ℕ) (es : List (Entry N)) (i : ℕ) (e : Entry N) → i < length es → e ≡ get_or es i e → (id ≡ e.id → ⊥)
+      → from_id id (drop i es) ≡ from_id id (drop (i + 1) es)
   from_id_more id es i e h at ne =
-      ap (from_id id) (drop_more es i e h ∙ ap (λ x. x ∷ drop (i + 1) es) (sym at)) ∙ skip id e (drop (i + 1) es) (ne_eqb id e.id ne)
+      ap (from_id id) (drop_more es i e h ∙ ap (λ x. x ∷ drop (i + 1) es) (sym at))
+      ∙ skip id e (drop (i + 1) es) (ne_eqb id e.id ne)
 
-  pub from_id_stop : (id : ℕ) (es : List (Entry N)) (i : ℕ) (e : Entry N) → i < length es → e ≡ get_or es i e → id ≡ e.id → from_id id (drop i es) ≡ drop i es
+  pub from_id_stop : (id : ℕ) (es : List (Entry N)) (i : ℕ) (e : Entry N) → i < length es → e ≡ get_or es i e → id ≡ e.id
+      → from_id id (drop i es) ≡ drop i es
   from_id_stop id es i e h at same =
       let here_is : drop i es ≡ e ∷ drop (i + 1) es = drop_more es i e h ∙ ap (λ x. x ∷ drop (i + 1) es) (sym at) in
       ap (from_id id) here_is ∙ (stop id e (drop (i + 1) es) (eq-eqb id e.id same) ∙ sym here_is)
@@ -47,17 +53,20 @@ module _ {N : Type 0} where
   from_id_end id es i h = ap (from_id id) (drop_all i es h)
 
   -- entries without the id are passed
-  lacks_leaf : (id i : ℕ) (w : N) (u : Forest N N) (b : Bool) → eqb id i ≡ b → cond b (a_leaf w) (find id u) ≡ nothing → (b ≡ false) × (find id u ≡ nothing)
+  lacks_leaf : (id i : ℕ) (w : N) (u : Forest N N) (b : Bool) → eqb id i ≡ b → cond b (a_leaf w) (find id u) ≡ nothing
+      → (b ≡ false) × (find id u ≡ nothing)
   lacks_leaf id i w u true e n = cc
   lacks_leaf id i w u false e n = (refl, n)
 
-  lacks_group : (id i : ℕ) (w : N) (c u : Forest N N) (x y : Found N N) (b : Bool) → cond b (a_group w c) (or_else x y) ≡ nothing → (b ≡ false) × (x ≡ nothing) × (y ≡ nothing)
+  lacks_group : (id i : ℕ) (w : N) (c u : Forest N N) (x y : Found N N) (b : Bool) → cond b (a_group w c) (or_else x y) ≡ nothing
+      → (b ≡ false) × (x ≡ nothing) × (y ≡ nothing)
   lacks_group id i w c u x y true n = cc
   lacks_group id i w c u nothing y false n = (refl, refl, n)
   lacks_group id i w c u (a_leaf v) y false n = cc
   lacks_group id i w c u (a_group v d) y false n = cc
 
-  pub from_id-lacking : (id level : ℕ) (f : Forest N N) (rest : List (Entry N)) → find id f ≡ nothing → from_id id (flat level f ++ rest) ≡ from_id id rest
+  pub from_id-lacking : (id level : ℕ) (f : Forest N N) (rest : List (Entry N)) → find id f ≡ nothing
+      → from_id id (flat level f ++ rest) ≡ from_id id rest
   from_id-lacking id level none rest n = refl
   from_id-lacking id level (leaf i w u) rest n =
       let l = lacks_leaf id i w u (eqb id i) refl n in
@@ -68,7 +77,8 @@ module _ {N : Type 0} where
       ∙ (ap (from_id id) (append_assoc (flat (suc level) c) (flat level u) rest)
       ∙ (from_id-lacking id (suc level) c (flat level u ++ rest) l.1 ∙ from_id-lacking id level u rest l.2))
 
-  pub from_id-front : (id level : ℕ) (h : Hole N N) (rest : List (Entry N)) → Fresh id h → from_id id (front level h ++ rest) ≡ from_id id rest
+  pub from_id-front : (id level : ℕ) (h : Hole N N) (rest : List (Entry N)) → Fresh id h
+      → from_id id (front level h ++ rest) ≡ from_id id rest
   from_id-front id level here rest fresh = refl
   from_id-front id level (under_leaf i w h) rest fresh =
       skip id (entry_of level i false w) (front level h ++ rest) fresh.0 ∙ from_id-front id level h rest fresh.1
@@ -80,7 +90,8 @@ module _ {N : Type 0} where
       skip id (entry_of level i true w) (front (suc level) h ++ rest) fresh.0 ∙ from_id-front id (suc level) h rest fresh.1
 
   -- the entries from a node on that stands in a hole
-  pub from_id-plug : (id level : ℕ) (h : Hole N N) (f : Forest N N) (e : Entry N) (es : List (Entry N)) → Fresh id h → flat (level + depth h) f ++ back level h ≡ e ∷ es → eqb id e.id ≡ true → from_id id (flat level (plug h f)) ≡ e ∷ es
+  pub from_id-plug : (id level : ℕ) (h : Hole N N) (f : Forest N N) (e : Entry N) (es : List (Entry N)) → Fresh id h
+      → flat (level + depth h) f ++ back level h ≡ e ∷ es → eqb id e.id ≡ true → from_id id (flat level (plug h f)) ≡ e ∷ es
   from_id-plug id level h f e es fresh is same =
       ap (from_id id) (flat-plug level h f)
       ∙ (from_id-front id level h (flat (level + depth h) f ++ back level h) fresh
@@ -107,30 +118,43 @@ module _ {N : Type 0} where
       (below-low (level + suc (depth h)) level u (omega arith))
 
   -- the entries of a group's children, among those that follow it
-  inside_is : (level : ℕ) (c u : Forest N N) (rest : List (Entry N)) → below level rest ≡ 0 → take (below level ((flat (suc level) c ++ flat level u) ++ rest)) ((flat (suc level) c ++ flat level u) ++ rest) ≡ flat (suc level) c
+  inside_is : (level : ℕ) (c u : Forest N N) (rest : List (Entry N)) → below level rest ≡ 0
+      → take (below level ((flat (suc level) c ++ flat level u) ++ rest)) ((flat (suc level) c ++ flat level u) ++ rest)
+      ≡ flat (suc level) c
   inside_is level c u rest h =
       let es : List (Entry N) = (flat (suc level) c ++ flat level u) ++ rest in
       let split : es ≡ flat (suc level) c ++ (flat level u ++ rest) = append_assoc (flat (suc level) c) (flat level u) rest in
       let deeper : level < suc level = omega arith in
       let k : below level es ≡ length (flat (suc level) c) =
-      ap (below level) split ∙ omega (arith, below-flat_deeper level (suc level) deeper c (flat level u ++ rest), below-seam level (flat level u) rest (below-low level level u (omega arith)) h, length-flat (suc level) c) in
+      ap (below level) split ∙ omega (
+        arith,
+        below-flat_deeper level (suc level) deeper c (flat level u ++ rest),
+        below-seam level (flat level u) rest (below-low level level u (omega arith)) h,
+        length-flat (suc level) c,
+      ) in
       (λ i. take (k i) (split i)) ∙ take_at (flat (suc level) c) (flat level u ++ rest) (length (flat (suc level) c)) refl
 
   pub from_id-nowhere : (id : ℕ) (f : Forest N N) → find id f ≡ nothing → from_id id (flat 0 f) ≡ []
   from_id-nowhere id f n = ap (from_id id) (sym (append-nil (flat 0 f))) ∙ from_id-lacking id 0 f [] n
 
-  pub from_id-leaf : (id : ℕ) (f : Forest N N) (h : Hole N N) (w : N) (u : Forest N N) → f ≡ plug h (leaf id w u) → Fresh id h → from_id id (flat 0 f) ≡ entry_of (depth h) id false w ∷ (flat (0 + depth h) u ++ back 0 h)
+  pub from_id-leaf : (id : ℕ) (f : Forest N N) (h : Hole N N) (w : N) (u : Forest N N) → f ≡ plug h (leaf id w u) → Fresh id h
+      → from_id id (flat 0 f) ≡ entry_of (depth h) id false w ∷ (flat (0 + depth h) u ++ back 0 h)
   from_id-leaf id f h w u is fresh =
-      let first : flat (0 + depth h) (leaf id w u) ++ back 0 h ≡ entry_of (depth h) id false w ∷ (flat (0 + depth h) u ++ back 0 h) =
+      let first : flat (0 + depth h) (leaf id w u)
+      ++ back 0 h ≡ entry_of (depth h) id false w ∷ (flat (0 + depth h) u ++ back 0 h) =
       ap (λ l. entry_of l id false w ∷ (flat (0 + depth h) u ++ back 0 h)) (omega arith) in
-      ap (λ x. from_id id (flat 0 x)) is ∙ from_id-plug id 0 h (leaf id w u) (entry_of (depth h) id false w) _ fresh first (eq-eqb id id refl)
+      ap (λ x. from_id id (flat 0 x)) is
+      ∙ from_id-plug id 0 h (leaf id w u) (entry_of (depth h) id false w) _ fresh first (eq-eqb id id refl)
 
-  pub from_id-group : (id : ℕ) (f : Forest N N) (h : Hole N N) (w : N) (c u : Forest N N) → f ≡ plug h (group id w c u) → Fresh id h → from_id id (flat 0 f) ≡ entry_of (depth h) id true w ∷ ((flat (suc (depth h)) c ++ flat (depth h) u) ++ back 0 h)
+  pub from_id-group : (id : ℕ) (f : Forest N N) (h : Hole N N) (w : N) (c u : Forest N N) → f ≡ plug h (group id w c u) → Fresh id h
+      → from_id id (flat 0 f) ≡ entry_of (depth h) id true w ∷ ((flat (suc (depth h)) c ++ flat (depth h) u) ++ back 0 h)
   from_id-group id f h w c u is fresh =
-      let first : flat (0 + depth h) (group id w c u) ++ back 0 h ≡ entry_of (depth h) id true w ∷ ((flat (suc (depth h)) c ++ flat (depth h) u) ++ back 0 h) =
+      let first : flat (0 + depth h) (group id w c u)
+      ++ back 0 h ≡ entry_of (depth h) id true w ∷ ((flat (suc (depth h)) c ++ flat (depth h) u) ++ back 0 h) =
       let l_is : 0 + depth h ≡ depth h = omega arith in
       ap (λ l. entry_of l id true w ∷ ((flat (suc l) c ++ flat l u) ++ back 0 h)) l_is in
-      ap (λ x. from_id id (flat 0 x)) is ∙ from_id-plug id 0 h (group id w c u) (entry_of (depth h) id true w) _ fresh first (eq-eqb id id refl)
+      ap (λ x. from_id id (flat 0 x)) is
+      ∙ from_id-plug id 0 h (group id w c u) (entry_of (depth h) id true w) _ fresh first (eq-eqb id id refl)
 
   -- nothing is found
   pub found_none : (id : ℕ) (es : List (Entry N)) (f : Forest N N) → es ≡ flat 0 f → from_id id es ≡ [] → find id f ≡ nothing
@@ -144,7 +168,8 @@ module _ {N : Type 0} where
     none_from (at_group h w c u is fresh) = let k = sym (from_id-group id f h w c u is fresh) ∙ all in cc
 
   -- a leaf is found
-  pub found_leaf : (id : ℕ) (es : List (Entry N)) (f : Forest N N) (e : Entry N) (rest : List (Entry N)) → es ≡ flat 0 f → from_id id es ≡ e ∷ rest → e.group ≡ false → find id f ≡ a_leaf e.node
+  pub found_leaf : (id : ℕ) (es : List (Entry N)) (f : Forest N N) (e : Entry N) (rest : List (Entry N)) → es ≡ flat 0 f
+      → from_id id es ≡ e ∷ rest → e.group ≡ false → find id f ≡ a_leaf e.node
   found_leaf id es f e rest flat_is some_is mark = leaf_from (standing id f) where
     all : from_id id (flat 0 f) ≡ e ∷ rest
     all = ap (from_id id) (sym flat_is) ∙ some_is
@@ -167,7 +192,9 @@ module _ {N : Type 0} where
     pub deep : e.level + 1 ≤ 8
     pub children : AreSiblings (e.level + 1) inside
 
-  pub found_group : (id : ℕ) (es : List (Entry N)) (f : Forest N N) (e : Entry N) (rest inside : List (Entry N)) → AreSiblings 0 es → forest_of es ≡ f → from_id id es ≡ e ∷ rest → e.group ≡ true → inside ≡ take (below e.level rest) rest → FoundGroup id f e inside
+  pub found_group : (id : ℕ) (es : List (Entry N)) (f : Forest N N) (e : Entry N) (rest inside : List (Entry N)) → AreSiblings 0 es
+      → forest_of es ≡ f → from_id id es ≡ e ∷ rest → e.group ≡ true → inside ≡ take (below e.level rest) rest
+      → FoundGroup id f e inside
   found_group id es f e rest inside s view_is some_is mark inside_at = group_from (standing id f) where
     flat_at : es ≡ flat 0 f
     flat_at = s.flat_is ∙ ap (flat 0) view_is
@@ -187,7 +214,8 @@ module _ {N : Type 0} where
         let first : entry_of (depth h) id true w ≡ e = cc in
         let next : (flat (suc (depth h)) c ++ flat (depth h) u) ++ back 0 h ≡ rest = cc in
         let level_is : e.level ≡ depth h = sym (ap (λ x. x.level) first) in
-        let back_is : below (depth h) (back 0 h) ≡ 0 = let z : 0 + depth h ≡ depth h = omega arith in sym (ap (λ l. below l (back 0 h)) z) ∙ below-back 0 h in
+        let back_is : below (depth h) (back 0 h) ≡ 0 = let z : 0 + depth h ≡ depth h = omega arith in
+        sym (ap (λ l. below l (back 0 h)) z) ∙ below-back 0 h in
         let flat_inside : inside ≡ flat (suc (depth h)) c =
         inside_at ∙ ((λ i. take (below (level_is i) (sym next i)) (sym next i)) ∙ inside_is (depth h) c u (back 0 h) back_is) in
         let level_1 : suc (depth h) ≡ e.level + 1 = omega (arith, level_is) in
@@ -195,7 +223,8 @@ module _ {N : Type 0} where
         let within = passed_within h (group id w c u) in
         let low = depth_below_levels h (group id w c u) in
         record {
-          found = ap (find id) is ∙ (find-at_group id h w c u fresh ∙ (λ i. a_group (ap (λ x. x.node) first i) (sym (forest_of_is (e.level + 1) inside c flat_1) i)));
+          found = ap (find id) is ∙ (find-at_group id h w c u fresh
+              ∙ (λ i. a_group (ap (λ x. x.node) first i) (sym (forest_of_is (e.level + 1) inside c flat_1) i)));
           deep = omega (arith, s.low, low, level_is, ap levels is, ap levels view_is);
           children = siblings (e.level + 1) inside c flat_1
               (omega (arith, s.few, within, size-forest_of 0 es s.flat_is, ap size is, ap size view_is))
@@ -203,16 +232,19 @@ module _ {N : Type 0} where
         }
 
   -- a stack that is not the top is the children of a group
-  pub stack_below : (id : ℕ) (f : Forest N N) (found : Found N N) → (id ≡ 0 → ⊥) → find id f ≡ found → stack_at id f ≡ children_of found
+  pub stack_below : (id : ℕ) (f : Forest N N) (found : Found N N) → (id ≡ 0 → ⊥) → find id f ≡ found
+      → stack_at id f ≡ children_of found
   stack_below id f found ne is = ap (λ b. cond b (Some f) (children_of (find id f))) (ne_eqb id 0 ne) ∙ ap children_of is
 
-  pub is_found_leaf : (found : Found N N) (e : Entry N) (children : Forest N N) → found ≡ a_leaf e.node → e.group ≡ false → children ≡ none → IsFound found e children
+  pub is_found_leaf : (found : Found N N) (e : Entry N) (children : Forest N N) → found ≡ a_leaf e.node → e.group ≡ false
+      → children ≡ none → IsFound found e children
   is_found_leaf found e children is mark empty = record {
     found_is = is ∙ sym (ap (λ b. cond b (a_group e.node children) (a_leaf e.node)) mark);
     leaf_is = λ _. empty;
   }
 
-  pub is_found_group : (found : Found N N) (e : Entry N) (children : Forest N N) → found ≡ a_group e.node children → e.group ≡ true → IsFound found e children
+  pub is_found_group : (found : Found N N) (e : Entry N) (children : Forest N N) → found ≡ a_group e.node children → e.group ≡ true
+      → IsFound found e children
   is_found_group found e children is mark = record {
     found_is = is ∙ sym (ap (λ b. cond b (a_group e.node children) (a_leaf e.node)) mark);
     leaf_is = λ unmarked. let wrong : true ≡ false = sym mark ∙ unmarked in cc;

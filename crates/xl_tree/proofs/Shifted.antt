@@ -1,6 +1,8 @@
 -- Entries that were moved to another level.
-use Rattle.std.proofs.Common.{◌≡◌, ℕ, zero, suc, ◌+◌, ◌-◌, ◌<◌, ◌≤◌, Bool, true, false, List, [], ◌∷◌, ◌++◌, length, get_or, set, map, take, drop, refl, sym, ◌∙◌, ap, arith}
-use Rattle.std.proofs.lemmas.List.{map-append, get_or_at, set_at, drop_more, map_more, length-map, length-take-le, append_assoc, get_or-take}
+use Rattle.std.proofs.Common.{◌≡◌, ℕ, zero, suc, ◌+◌, ◌-◌, ◌<◌, ◌≤◌, Bool, true, false, List, [], ◌∷◌, ◌++◌, length}
+use Rattle.std.proofs.Common.{get_or, set, map, take, drop, refl, sym, ◌∙◌, ap, arith}
+use Rattle.std.proofs.lemmas.List.{map-append, get_or_at, set_at, drop_more, map_more, length-map, length-take-le}
+use Rattle.std.proofs.lemmas.List.{append_assoc, get_or-take}
 use Rattle.spec_forest.specs.Forest.{Forest, none, leaf, group, levels}
 use Rattle.xl_tree.specs.declared.entries.Entry.{Entry}
 use Rattle.xl_tree.specs.Flat.{flat}
@@ -9,7 +11,9 @@ use Rattle.xl_tree.proofs.FlatHoles.{entry_of}
 
 module _ {N : Type 0} where
   -- one entry more is moved
-  pub shift_more : (from to i : ℕ) (old xs : List (Entry N)) (e new : Entry N) → i < length old → xs ≡ map (shifted from to) (take i old) ++ drop i old → e ≡ get_or xs i e → new ≡ shifted from to e → set xs i new ≡ map (shifted from to) (take (i + 1) old) ++ drop (i + 1) old
+  pub shift_more : (from to i : ℕ) (old xs : List (Entry N)) (e new : Entry N) → i < length old
+      → xs ≡ map (shifted from to) (take i old) ++ drop i old → e ≡ get_or xs i e → new ≡ shifted from to e
+      → set xs i new ≡ map (shifted from to) (take (i + 1) old) ++ drop (i + 1) old
   shift_more from to i old xs e new h so_far e_is new_is =
       let f : Entry N → Entry N = shifted from to in
       let p : List (Entry N) = map f (take i old) in
@@ -35,11 +39,15 @@ module _ {N : Type 0} where
   pub shallow-flat : (level : ℕ) (f : Forest N N) → level + levels f ≤ 8 → AreShallow (flat level f)
   shallow-flat level none h = tt
   shallow-flat level (leaf id w u) h = (omega (arith, h), shallow-flat level u (omega (arith, h)))
-  shallow-flat level (group id w c u) h =
-      (omega (arith, h), shallow-append (flat (suc level) c) (flat level u) (shallow-flat (suc level) c (omega (arith, h))) (shallow-flat level u (omega (arith, h))))
+  shallow-flat level (group id w c u) h = (
+    omega (arith, h),
+    shallow-append (flat (suc level) c) (flat level u) (shallow-flat (suc level) c (omega (arith, h)))
+        (shallow-flat level u (omega (arith, h))),
+  )
 
   -- the entries of a forest that moves from one level to another
-  shift_entry : (from to d id : ℕ) (mark : Bool) (w : N) → shifted from to (entry_of (from + d) id mark w) ≡ entry_of (to + d) id mark w
+  shift_entry : (from to d id : ℕ) (mark : Bool) (w : N)
+      → shifted from to (entry_of (from + d) id mark w) ≡ entry_of (to + d) id mark w
   shift_entry from to d id mark w = let l : (from + d - from) + to ≡ to + d = omega arith in ap (λ k. entry_of k id mark w) l
 
   pub map-shifted_flat : (from to d : ℕ) (f : Forest N N) → map (shifted from to) (flat (from + d) f) ≡ flat (to + d) f
@@ -51,7 +59,8 @@ module _ {N : Type 0} where
       let inner : map (shifted from to) (flat (suc (from + d)) c) ≡ flat (suc (to + d)) c =
       ap (λ l. map (shifted from to) (flat l c)) a ∙ (map-shifted_flat from to (suc d) c ∙ ap (λ l. flat l c) b) in
       let both : map (shifted from to) (flat (suc (from + d)) c ++ flat (from + d) u) ≡ flat (suc (to + d)) c ++ flat (to + d) u =
-      map-append (shifted from to) (flat (suc (from + d)) c) (flat (from + d) u) ∙ (λ j. inner j ++ map-shifted_flat from to d u j) in
+      map-append (shifted from to) (flat (suc (from + d)) c) (flat (from + d) u)
+      ∙ (λ j. inner j ++ map-shifted_flat from to d u j) in
       λ j. shift_entry from to d id true w j ∷ both j
 
   pub map-down : (level : ℕ) (f : Forest N N) → map (shifted level 0) (flat level f) ≡ flat 0 f
@@ -65,11 +74,18 @@ module _ {N : Type 0} where
       map-shifted_flat 0 level 0 f ∙ ap (λ l. flat l f) z
 
   -- the entry that is next is not deep
-  pub shift_fits : (from to i count : ℕ) (old xs : List (Entry N)) (e : Entry N) → i < count → count ≤ length old → AreShallow (take count old) → xs ≡ map (shifted from to) (take i old) ++ drop i old → e ≡ get_or xs i e → e.level ≤ 8
+  pub shift_fits : (from to i count : ℕ) (old xs : List (Entry N)) (e : Entry N) → i < count → count ≤ length old
+      → AreShallow (take count old) → xs ≡ map (shifted from to) (take i old) ++ drop i old → e ≡ get_or xs i e → e.level ≤ 8
   shift_fits from to i count old xs e h within shallow so_far e_is =
       let p : List (Entry N) = map (shifted from to) (take i old) in
       let n : length p ≡ i = length-map (take i old) (shifted from to) ∙ length-take-le i old (omega (arith, h, within)) in
-      let split : xs ≡ p ++ get_or old i e ∷ drop (i + 1) old = so_far ∙ ap (λ x. p ++ x) (drop_more old i e (omega (arith, h, within))) in
+      let split : xs ≡ p ++ get_or old i e ∷ drop (i + 1) old = so_far
+      ∙ ap (λ x. p ++ x) (drop_more old i e (omega (arith, h, within))) in
       let y_is : e ≡ get_or (take count old) i e =
-      e_is ∙ (ap (λ x. get_or x i e) split ∙ (get_or_at p (get_or old i e) (drop (i + 1) old) e i n ∙ sym (get_or-take count old i e h))) in
-      omega (arith, ap (λ x. x.level) y_is, shallow_at (take count old) i e shallow (omega (arith, h, length-take-le count old within)))
+      e_is ∙ (ap (λ x. get_or x i e) split
+      ∙ (get_or_at p (get_or old i e) (drop (i + 1) old) e i n ∙ sym (get_or-take count old i e h))) in
+      omega (
+        arith,
+        ap (λ x. x.level) y_is,
+        shallow_at (take count old) i e shallow (omega (arith, h, length-take-le count old within)),
+      )

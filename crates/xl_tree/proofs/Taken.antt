@@ -9,8 +9,14 @@ use Rattle.spec_forest.specs.declared.TheConstants.{MAX_NODES}
 
 module _ {N : Type 0} where
   -- siblings, by their forest
-  pub siblings : (level : ℕ) (es : List (Entry N)) (f : Forest N N) → es ≡ flat level f → size f ≤ MAX_NODES → level + levels f ≤ 8 → AreSiblings level es
-  siblings level es f e few low = record { flat_is = flat_is level es f e; few = omega (arith, few, ap length e, length-flat level f); low = omega (arith, low, ap levels (forest_of_is level es f e)) }
+  pub siblings : (level : ℕ) (es : List (Entry N)) (f : Forest N N) → es ≡ flat level f → size f ≤ MAX_NODES → level + levels f ≤ 8
+      → AreSiblings level es
+  siblings level es f e few low = record {
+    flat_is = flat_is level es f e;
+    few =
+        omega (arith, few, ap length e, length-flat level f);
+    low = omega (arith, low, ap levels (forest_of_is level es f e));
+  }
 
   -- what follows a leaf
   pub record AfterLeaf (level : ℕ) (f : Forest N N) (e : Entry N) (rest : List (Entry N)) : Type 0 where
@@ -25,7 +31,8 @@ module _ {N : Type 0} where
     pub children : AreSiblings (level + 1) (take (below e.level rest) rest)
     pub under : AreSiblings level (drop (below e.level rest) rest)
 
-  pub after_leaf : (level : ℕ) (f : Forest N N) (e : Entry N) (rest : List (Entry N)) → e ∷ rest ≡ flat level f → size f ≤ MAX_NODES → level + levels f ≤ 8 → e.group ≡ false → AfterLeaf level f e rest
+  pub after_leaf : (level : ℕ) (f : Forest N N) (e : Entry N) (rest : List (Entry N)) → e ∷ rest ≡ flat level f → size f ≤ MAX_NODES
+      → level + levels f ≤ 8 → e.group ≡ false → AfterLeaf level f e rest
   after_leaf level none e rest is few low g = cc
   after_leaf level (leaf id w u) e rest is few low g =
       let first : e ≡ record { id = id; level = level; group = false; node = w } = cc in
@@ -40,7 +47,8 @@ module _ {N : Type 0} where
       let yes : true ≡ false = sym (ap (λ x. x.group) first) ∙ g in
       cc
 
-  pub after_group : (level : ℕ) (f : Forest N N) (e : Entry N) (rest : List (Entry N)) → e ∷ rest ≡ flat level f → size f ≤ MAX_NODES → level + levels f ≤ 8 → e.group ≡ true → AfterGroup level f e rest
+  pub after_group : (level : ℕ) (f : Forest N N) (e : Entry N) (rest : List (Entry N)) → e ∷ rest ≡ flat level f
+      → size f ≤ MAX_NODES → level + levels f ≤ 8 → e.group ≡ true → AfterGroup level f e rest
   after_group level none e rest is few low g = cc
   after_group level (leaf id w u) e rest is few low g =
       let first : e ≡ record { id = id; level = level; group = false; node = w } = cc in
@@ -72,12 +80,16 @@ module _ {N : Type 0} where
     pub children : AreSiblings (e.level + 1) inside
     pub under : AreSiblings level after
 
-  pub parted : (level : ℕ) (es : List (Entry N)) (f : Forest N N) (e : Entry N) (rest : List (Entry N)) (k : ℕ) (inside after : List (Entry N)) → AreSiblings level es → forest_of es ≡ f → es ≡ e ∷ rest → e.group ≡ true → k ≡ below e.level rest → inside ≡ take k rest → after ≡ drop k rest → Parted level f e inside after
+  pub parted : (level : ℕ) (es : List (Entry N)) (f : Forest N N) (e : Entry N) (rest : List (Entry N)) (k : ℕ)
+      (inside after : List (Entry N)) → AreSiblings level es → forest_of es ≡ f → es ≡ e ∷ rest → e.group ≡ true
+      → k ≡ below e.level rest → inside ≡ take k rest → after ≡ drop k rest → Parted level f e inside after
   parted level es f e rest k inside after s is split g k_is inside_is after_is =
-      let a = after_group level (forest_of es) e rest (sym split ∙ s.flat_is) (omega (arith, s.few, size-forest_of level es s.flat_is)) s.low g in
+      let a = after_group level (forest_of es) e rest (sym split
+      ∙ s.flat_is) (omega (arith, s.few, size-forest_of level es s.flat_is)) s.low g in
       let first : inside ≡ take (below e.level rest) rest = inside_is ∙ ap (λ n. take n rest) k_is in
       let second : after ≡ drop (below e.level rest) rest = after_is ∙ ap (λ n. drop n rest) k_is in
-      let children_at : AreSiblings (e.level + 1) (take (below e.level rest) rest) = let P : ℕ → Type 0 = λ l. AreSiblings (l + 1) (take (below e.level rest) rest) in subst P (sym a.level_is) a.children in
+      let children_at : AreSiblings (e.level + 1) (take (below e.level rest) rest) = let P : ℕ
+      → Type 0 = λ l. AreSiblings (l + 1) (take (below e.level rest) rest) in subst P (sym a.level_is) a.children in
       let P : List (Entry N) → Type 0 = λ x. AreSiblings (e.level + 1) x in
       let Q : List (Entry N) → Type 0 = λ x. AreSiblings level x in
       record {

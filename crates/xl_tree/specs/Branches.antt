@@ -12,4 +12,5 @@ pub record Held (N : Type 0) : Type 0 where
 -- it is stored as the pair of its fields
 abbrev pub held_code : {N : Type 0} → Coded N → Coded (Held N)
 held_code {N} c =
-    code_by (Forest N N × ℕ) (coded× (coded_forest c c) coded_ℕ) (λ h. (h.forest, h.room)) (λ p. record { forest = p.0; room = p.1 }) (λ _. refl)
+    code_by (Forest N N × ℕ) (coded× (coded_forest c c) coded_ℕ) (λ h. (h.forest, h.room))
+    (λ p. record { forest = p.0; room = p.1 }) (λ _. refl)

@@ -1,5 +1,6 @@
 -- A list of entries in preorder, each with its depth, as a forest.
-use Rattle.std.specs.Prelude.{ℕ, max, zero, suc, Bool, true, false, nat_lt, List, [], ◌∷◌, ◌++◌, length, take, drop, ◌==◌, if◌then◌else◌}
+use Rattle.std.specs.Prelude.{ℕ, max, zero, suc, Bool, true, false, nat_lt, List, [], ◌∷◌, ◌++◌, length, take, drop}
+use Rattle.std.specs.Prelude.{◌==◌, if◌then◌else◌}
 use Rattle.std.specs.List.{prefix_len}
 use Rattle.spec_forest.specs.Forest.{Forest, none, leaf, group}
 use Rattle.xl_tree.specs.declared.entries.Entry.{Entry}

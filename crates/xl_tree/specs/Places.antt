@@ -1,5 +1,6 @@
 -- Places in a forest, counted from the top.
-use Rattle.std.specs.Prelude.{ℕ, zero, suc, ◌+◌, ◌==◌, if◌then◌else◌, Bool, true, false, List, [], ◌∷◌, Option, Some, None, option_map}
+use Rattle.std.specs.Prelude.{ℕ, zero, suc, ◌+◌, ◌==◌, if◌then◌else◌, Bool, true, false, List, [], ◌∷◌, Option, Some}
+use Rattle.std.specs.Prelude.{None, option_map}
 use Rattle.spec_forest.specs.Forest.{Forest, none, leaf, group, size}
 
 -- how many nodes come, in preorder, before what is put last in the group that a path names
@@ -25,4 +26,5 @@ abbrev pub place_of : {L G : Type 0} → (id : ℕ) → Forest L G → Option �
 place_of id none = None
 place_of id (leaf i what under) = if id == i then Some 0 else option_map (λ n. 1 + n) (place_of id under)
 place_of id (group i what children under) =
-    if id == i then Some 0 else first_some (option_map (λ n. 1 + n) (place_of id children)) (option_map (λ n. 1 + size children + n) (place_of id under))
+    if id == i then Some 0 else first_some (option_map (λ n. 1 + n) (place_of id children))
+    (option_map (λ n. 1 + size children + n) (place_of id under))

@@ -1,5 +1,6 @@
 -- Why a tree is not changed.
-use Rattle.std.specs.Prelude.{ℕ, ◌==◌, ◌||◌, Bool, false, nat_le, if◌then◌else◌, Option, Some, None, option_map, unwrap_or, Result, Ok, Err}
+use Rattle.std.specs.Prelude.{ℕ, ◌==◌, ◌||◌, Bool, false, nat_le, if◌then◌else◌, Option, Some, None, option_map}
+use Rattle.std.specs.Prelude.{unwrap_or, Result, Ok, Err}
 use Rattle.std.specs.List.{list_any}
 use Rattle.spec_forest.specs.Forest.{Forest, count, Found, nothing, a_leaf, a_group, find, stack_at, ancestors}
 use Rattle.spec_forest.specs.Changes.{without}

@@ -54,7 +54,8 @@ module _ {T E : Type 0} {C : Ghosts T E} where
     pub made_stays : made_of after ≡ made_of before
     pub weight_stays : weight_of after ≡ weight_of before
 
--- A list that may be left is the one that was entered, or has one entry more. Where that entry closes a place, the place is in `made`.
+-- A list that may be left is the one that was entered, or has one entry more. Where that entry closes a place, the
+-- place is in `made`.
 abbrev pub MayLeave : {E : Type 0} → (List E → Option ℕ) → ℕ → List ℕ → List E → List E → Type 0
 MayLeave {E} closes start made entered left =
     (left ≡ entered)

@@ -85,7 +85,8 @@ abbrev pub IsWithin : {E : Type 0} → ℕ → List E → List ℕ → Type 0
 IsWithin start xs made = (i : ℕ) → 0 < times i made → start + i < length xs
 
 module _ {E : Type 0} (closes : List E → Option ℕ) where
-  -- The entry at the place i of the list closes the earlier place j. Places are counted after the first `start` entries, those of the opening list.
+  -- The entry at the place i of the list closes the earlier place j. Places are counted after the first `start`
+  -- entries, those of the opening list.
   abbrev pub Closes : ℕ → List E → ℕ → ℕ → Type 0
   Closes start xs i j = (j < i) × (start + i < length xs) × (closes (take (start + i + 1) xs) ≡ Some (start + j))
 
@@ -103,7 +104,8 @@ module _ {E : Type 0} (closes : List E → Option ℕ) where
     pub is_closed : IsClosed from log v.made
 
 module _ {T E : Type 0} (entries : T → List E) (closes : List E → Option ℕ) where
-  -- There is one history, which begins with the opening list. Tickets are counted without end, and the words hold them modulo 2 ^ 64.
+  -- There is one history, which begins with the opening list. Tickets are counted without end, and the words hold
+  -- them modulo 2 ^ 64.
   pub record Kept (opening : List E) (s : State (Option T) (View E)) : Type 0 where
     pub served : ℕ
     pub drawn : ℕ

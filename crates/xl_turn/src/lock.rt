@@ -1,9 +1,11 @@
-ghost use Rattle.std.specs.Prelude.{◌≡◌, ℕ, ◌+◌, ◌-◌, ◌%◌, ◌^◌, ◌<◌, ◌≤◌, [], ◌∷◌, ◌++◌, length, IfOk, IfErr, MatchBool, Some, None};
+ghost use Rattle.std.specs.Prelude.{◌≡◌, ℕ, ◌+◌, ◌-◌, ◌%◌, ◌^◌, ◌<◌, ◌≤◌, [], ◌∷◌, ◌++◌, length, IfOk, IfErr};
+ghost use Rattle.std.specs.Prelude.{MatchBool, Some, None};
 ghost use mathlib.Core.List.{IsPrefix};
 ghost use Rattle.xl_turn.specs.Sums.{times};
 ghost use Rattle.xl_turn.specs.Turns.{waiting_with, counted_with, back_to_idle, longer, past, Closes, IsWithin, IsClosed};
 ghost use Rattle.xl_turn.specs.Steps.{Takes};
-ghost use Rattle.xl_turn.specs.Seats.{opened_with, front_of, made_of, start_of, weight_of, entered_by, IsOf, IsIdle, Holds, Keeps, MayLeave, made_after, IsApart, IsEachOnce};
+ghost use Rattle.xl_turn.specs.Seats.{opened_with, front_of, made_of, start_of, weight_of, entered_by, IsOf, IsIdle};
+ghost use Rattle.xl_turn.specs.Seats.{Holds, Keeps, MayLeave, made_after, IsApart, IsEachOnce};
 ghost use Rattle.xl_turn.specs.declared.view.Stage.TheVariants as stages;
 
 use crate::rule::{Compare, Count, Draw, Halves, Look, Pass};
@@ -39,7 +41,8 @@ impl<T: Chronicle> TurnLock<T> {
         }
     }
 
-    /// Waits for the turn, and takes the value out. Its list begins with the seat's front, and nobody else closed an entry of this seat.
+    /// Waits for the turn, and takes the value out. Its list begins with the seat's front, and nobody else closed an
+    /// entry of this seat.
     pub fn enter<W: Wait>(&self, rt: &W, seat: &mut Seat<T>) -> Held<T>
         requires seat { IsOf self.now seat.old × IsIdle seat.old }
         ensures seat { IsOf self.now seat.new × Holds seat.new result × Keeps seat.old seat.new }
@@ -73,7 +76,8 @@ impl<T: Chronicle> TurnLock<T> {
         requires lock { seat.old.seat.table_id ≡ self.now.table.shared.table_id }
         requires waits { (seat.old.seat.me.0.stage ≡ stages.Waiting) × (ticket ≡ seat.old.seat.me.0.ticket % 2 ^ 64) }
         ensures lock { seat.new.seat.table_id ≡ seat.old.seat.table_id }
-        ensures found { MatchBool result (Takes T.entries T.closes seat.old.seat.me seat.new.seat.me) (seat.new.seat.me ≡ seat.old.seat.me) }
+        ensures found { MatchBool result (Takes T.entries T.closes seat.old.seat.me seat.new.seat.me) (seat.new.seat.me
+            ≡ seat.old.seat.me) }
     {
         self.table.shared.load::<Look>(&mut seat.seat, 1) == ticket
     }
@@ -93,14 +97,16 @@ impl<T: Chronicle> TurnLock<T> {
         Held { value, ticket, len }
     }
 
-    /// Puts the value back, counts its new entry, if it has one, and passes the turn on. The list may have one entry more than when it was
+    /// Puts the value back, counts its new entry, if it has one, and passes the turn on. The list may have one entry
+    /// more than when it was
     /// entered. Where that entry closes an earlier one, this seat made the earlier one.
     pub fn leave(&self, held: Held<T>, seat: &mut Seat<T>)
         requires seat { IsOf self.now seat.old × Holds seat.old held }
         requires may { MayLeave T.closes (start_of seat.old) (made_of seat.old) (entered_by seat.old) (T.entries held.value) }
         ensures seat { IsOf self.now seat.new × IsIdle seat.new × (weight_of seat.new ≡ weight_of seat.old) }
         ensures front { front_of seat.new ≡ T.entries held.value }
-        ensures made { made_of seat.new ≡ made_after (start_of seat.old) (made_of seat.old) (entered_by seat.old) (T.entries held.value) }
+        ensures made { made_of seat.new
+            ≡ made_after (start_of seat.old) (made_of seat.old) (entered_by seat.old) (T.entries held.value) }
     {
         let Held { value, ticket, len } = held;
         let grown = len < value.len();
@@ -126,9 +132,13 @@ impl<T: Chronicle> TurnLock<T> {
     fn count(&self, seat: &mut Seat<T>)
         requires lock { seat.old.seat.table_id ≡ self.now.table.shared.table_id }
         requires serves { seat.old.seat.me.0.stage ≡ stages.Served }
-        requires grown { (x : T) × (seat.old.seat.me.1 ≡ (0, Some x) ∷ []) × (e : _) × (T.entries x ≡ seat.old.seat.me.0.entered ++ e ∷ []) × ((j : ℕ) → Closes T.closes (start_of seat.old) (T.entries x) (length (entered_by seat.old) - start_of seat.old) j → 0 < times j (made_of seat.old)) }
+        requires grown { (x : T) × (seat.old.seat.me.1 ≡ (0, Some x) ∷ []) × (e : _)
+            × (T.entries x ≡ seat.old.seat.me.0.entered ++ e ∷ [])
+            × ((j : ℕ) → Closes T.closes (start_of seat.old) (T.entries x) (length (entered_by seat.old) - start_of seat.old) j
+            → 0 < times j (made_of seat.old)) }
         ensures lock { seat.new.seat.table_id ≡ seat.old.seat.table_id }
-        ensures view { (x : T) × (seat.old.seat.me.1 ≡ (0, Some x) ∷ []) × (seat.new.seat.me ≡ (counted_with seat.old.seat.me.0 (T.entries x), seat.old.seat.me.1)) }
+        ensures view { (x : T) × (seat.old.seat.me.1 ≡ (0, Some x) ∷ [])
+            × (seat.new.seat.me ≡ (counted_with seat.old.seat.me.0 (T.entries x), seat.old.seat.me.1)) }
     {
         self.table.shared.fetch_add::<Count>(&mut seat.seat, 2, 1);
     }
@@ -150,15 +160,18 @@ impl<T: Chronicle> TurnLock<T> {
     pub fn split(&self, seat: &mut Seat<T>) -> Seat<T>
         requires seat { IsOf self.now seat.old × IsIdle seat.old }
         requires weight { 2 ≤ weight_of seat.old }
-        ensures old { IsOf self.now seat.new × IsIdle seat.new × (front_of seat.new ≡ front_of seat.old) × (made_of seat.new ≡ made_of seat.old) × (weight_of seat.new + 1 ≡ weight_of seat.old) }
-        ensures new { IsOf self.now result × IsIdle result × (front_of result ≡ front_of seat.old) × (made_of result ≡ []) × (weight_of result ≡ 1) }
+        ensures old { IsOf self.now seat.new × IsIdle seat.new × (front_of seat.new ≡ front_of seat.old)
+            × (made_of seat.new ≡ made_of seat.old) × (weight_of seat.new + 1 ≡ weight_of seat.old) }
+        ensures new { IsOf self.now result × IsIdle result × (front_of result ≡ front_of seat.old) × (made_of result ≡ [])
+            × (weight_of result ≡ 1) }
     {
         Seat {
             seat: self.table.shared.split_seat::<Halves>(&mut seat.seat),
         }
     }
 
-    /// Joins two seats. The joined one knows the longer front, which both old ones begin, and made what both made. No place is of both.
+    /// Joins two seats. The joined one knows the longer front, which both old ones begin, and made what both made. No
+    /// place is of both.
     pub fn join(&self, seat: &mut Seat<T>, other: Seat<T>)
         requires seat { IsOf self.now seat.old × IsIdle seat.old }
         requires other { IsOf self.now other × IsIdle other }

@@ -4,7 +4,8 @@ use atomic_table::{Join, Play, Split, TableRule};
 use std::marker::PhantomData;
 use std::snapshot::Snapshot;
 
-/// The words are how many tickets were drawn, which ticket has the turn, and how many entries were made. The one slot has the value.
+/// The words are how many tickets were drawn, which ticket has the turn, and how many entries were made. The one slot
+/// has the value.
 pub struct Turn<T> {
     of: PhantomData<T>,
 }

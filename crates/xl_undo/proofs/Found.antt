@@ -11,7 +11,8 @@ use Rattle.xl_doc.specs.Nodes.{nodes_of, layer_of, group_of, IsLeaf, MarksAgree}
 use Rattle.spec_undo.specs.Changed.{over_layers}
 use Rattle.xl_undo.specs.Seen.{IsLayerOf, IsSeen}
 
-either : (x y : Found Layer Group) (a b : Found Node Node) → IsSeen x (node_of a) → IsSeen y (node_of b) → IsSeen (or_else x y) (node_of (or_else a b))
+either : (x y : Found Layer Group) (a b : Found Node Node) → IsSeen x (node_of a) → IsSeen y (node_of b)
+    → IsSeen (or_else x y) (node_of (or_else a b))
 either nothing y nothing b p q = q
 either nothing y (a_leaf n) b p q = absurd p
 either nothing y (a_group n c) b p q = absurd p
@@ -40,10 +41,12 @@ seen_at id (leaf i n under) h =
 seen_at id (group i n children under) h =
     by_test (id == i) (a_group (group_of n) (nodes_of children)) (or_else (find id (nodes_of children)) (find id (nodes_of under)))
     (a_group n children) (or_else (find id children) (find id under)) h.0
-    (either (find id (nodes_of children)) (find id (nodes_of under)) (find id children) (find id under) (seen_at id children h.1.0) (seen_at id under h.1.1))
+    (either (find id (nodes_of children)) (find id (nodes_of under)) (find id children) (find id under) (seen_at id children h.1.0)
+    (seen_at id under h.1.1))
 
 -- what the tree has at an id is what the document has there
-pub seen : (id : ℕ) (f : Forest Node Node) (o : Option Node) → MarksAgree f → o ≡ node_of (find id f) → IsSeen (find id (nodes_of f)) o
+pub seen : (id : ℕ) (f : Forest Node Node) (o : Option Node) → MarksAgree f → o ≡ node_of (find id f)
+    → IsSeen (find id (nodes_of f)) o
 seen id f o h is = subst (IsSeen (find id (nodes_of f))) (sym is) (seen_at id f h)
 
 -- the layer on top
@@ -51,8 +54,10 @@ pub top_is : (f under : Forest Node Node) (id : ℕ) (n : Node) → MarksAgree f
 top_is f under id n h is = layer_is n n.body (subst MarksAgree (sym is) h).0
 
 -- the layer on top and all below it
-pub leaf_bound : (count : Layer → Found Layer Group → ℕ) (other nodes under : Forest Node Node) (id : ℕ) (n : Node) (one rest sum : ℕ) → leaf id n under ≡ nodes
-    → one ≤ count (layer_of n) (find id (nodes_of other)) → rest ≤ over_layers count (nodes_of other) (nodes_of under) → sum ≤ one + rest
+pub leaf_bound : (count : Layer → Found Layer Group
+    → ℕ) (other nodes under : Forest Node Node) (id : ℕ) (n : Node) (one rest sum : ℕ) → leaf id n under ≡ nodes
+    → one ≤ count (layer_of n) (find id (nodes_of other)) → rest ≤ over_layers count (nodes_of other) (nodes_of under)
+    → sum ≤ one + rest
     → sum ≤ over_layers count (nodes_of other) (nodes_of nodes)
 leaf_bound count other nodes under id n one rest sum is a b s =
     subst (λ f. sum ≤ over_layers count (nodes_of other) (nodes_of f)) is (omega (arith, a, b, s))

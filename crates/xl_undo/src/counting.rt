@@ -150,7 +150,8 @@ fn changed_layer(before: &Layer, after: &Layer, room: &mut [u8], other_room: &mu
 fn changed_body(before: &Body, after: Option<&Node>, room: &mut [u8], other_room: &mut [u8]) -> u32
     requires room { length room.old ≡ 32768 }
     requires other_room { length other_room.old ≡ 32768 }
-    ensures { (l : sheet.Layer) (found : Found sheet.Layer sheet.Group) → IsLayerOf l before.now → IsSeen found (option_copied after.entry) → result ≤ doc.changed_layer l found }
+    ensures { (l : sheet.Layer) (found : Found sheet.Layer sheet.Group) → IsLayerOf l before.now
+        → IsSeen found (option_copied after.entry) → result ≤ doc.changed_layer l found }
 {
     let Body::Leaf(before) = before else {
         return 0;
@@ -166,7 +167,8 @@ fn changed_body(before: &Body, after: Option<&Node>, room: &mut [u8], other_room
 
 // Of the layer of a node that another document has not at its id.
 fn body_alone(body: &Body, other: Option<&Node>) -> u32
-    ensures { (l : sheet.Layer) (found : Found sheet.Layer sheet.Group) → IsLayerOf l body.now → IsSeen found (option_copied other.entry) → result ≤ doc.count_if_alone l found }
+    ensures { (l : sheet.Layer) (found : Found sheet.Layer sheet.Group) → IsLayerOf l body.now
+        → IsSeen found (option_copied other.entry) → result ≤ doc.count_if_alone l found }
 {
     let Body::Leaf(layer) = body else {
         return 0;

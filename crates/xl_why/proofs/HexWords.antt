@@ -9,7 +9,8 @@ use Rattle.xl_why.specs.Kinds.{is_colours_length, are_colour_digits}
 abbrev pub joined : (high low : Option ℕ) (rest : Option (List ℕ)) → Option (List ℕ)
 joined high low rest = high >>= λ h. low >>= λ l. rest >>= λ bytes. Some ((16 * h + l) ∷ bytes)
 
-both : (high low : Option ℕ) (rest : Option (List ℕ)) → is_some high ≡ true → is_some low ≡ true → is_some rest ≡ is_some (joined high low rest)
+both : (high low : Option ℕ) (rest : Option (List ℕ)) → is_some high ≡ true → is_some low ≡ true
+    → is_some rest ≡ is_some (joined high low rest)
 both None low rest e f = cc
 both (Some h) None rest e f = cc
 both (Some h) (Some l) None e f = refl

@@ -1,5 +1,6 @@
 -- Looking a word up in the code's table of keywords.
-use Rattle.std.proofs.Common.{◌≡◌, ℕ, suc, ◌+◌, ◌<◌, ◌≤◌, Bool, true, false, List, ◌∷◌, length, map, drop, slice_index_or, refl, ap, sym, ◌∙◌, arith, Bor}
+use Rattle.std.proofs.Common.{◌≡◌, ℕ, suc, ◌+◌, ◌<◌, ◌≤◌, Bool, true, false, List, ◌∷◌, length, map, drop}
+use Rattle.std.proofs.Common.{slice_index_or, refl, ap, sym, ◌∙◌, arith, Bor}
 use Rattle.std.proofs.lemmas.List.{drop_all}
 use Rattle.std.proofs.Math.Seq.{drop-cons}
 use Rattle.spec_script.specs.Commands.{is_word, keywords}
@@ -21,7 +22,8 @@ pub record IsLeft (entries : List Entry) (place : ℕ) (word : List ℕ) : Type 
   pub same : from entries place word ≡ is_keyword word
 
 at_place : (entries : List Entry) (place : ℕ) (word : List ℕ) (d : Entry) → place < length entries
-    → from entries place word ≡ is_among ((slice_index_or entries place d).0.now ∷ map (λ e. e.0.now) (drop (suc place) entries)) word
+    → from entries place word ≡ is_among ((slice_index_or entries place d).0.now
+    ∷ map (λ e. e.0.now) (drop (suc place) entries)) word
 at_place entries place word d h =
     let P : List Entry → Bool = λ es. is_among (map (λ e. e.0.now) es) word in ap P (drop-cons entries place d h)
 

@@ -4,7 +4,10 @@ use Rattle.spec_script.specs.Words.{number_below}
 use Rattle.xl_why.specs.Kinds.{has}
 use Rattle.xl_why.specs.Keywords.{is_keyword}
 use Rattle.xl_why.specs.declared.cause.Cause.{Cause}
-use Rattle.xl_why.specs.declared.cause.Cause.TheVariants.{TooLong, Tab, CarriageReturn, Blank, NoSession, NoKeyword, UnknownWord, WordCount, LeadingZero, BadWord, EndOutside, InsideGroup, EmptyGroup, FullGroup, NotEnded, DroppedFilter, NoFilter, TooManyCalls, Unknown}
+use Rattle.xl_why.specs.declared.cause.Cause.TheVariants.{TooLong, Tab, CarriageReturn, Blank, NoSession, NoKeyword}
+use Rattle.xl_why.specs.declared.cause.Cause.TheVariants.{UnknownWord, WordCount, LeadingZero, BadWord, EndOutside}
+use Rattle.xl_why.specs.declared.cause.Cause.TheVariants.{InsideGroup, EmptyGroup, FullGroup, NotEnded, DroppedFilter}
+use Rattle.xl_why.specs.declared.cause.Cause.TheVariants.{NoFilter, TooManyCalls, Unknown}
 
 -- The grammar refuses a word that is named as the cause: it is no session, no keyword, or not of the kind that is wanted of it.
 abbrev pub Blames : Cause → Type 0

@@ -22,7 +22,14 @@ size-nodes_of (group id n children under) = omega (arith, size-nodes_of children
 pub items_count : (d : Document) (f : Forest Node Node) → nodes_of f ≡ d.nodes → size f ≡ length (items d)
 items_count d f e = sym (length_items d [] 0 d.nodes ∙ (ap size (sym e) ∙ size-nodes_of f))
 
-pub can_walk : (d : Document) (path : List ℕ) (f : Forest Node Node) (at : ℕ) → IsDocument d → [] ≡ path → d.nodes ≡ nodes_of f → begin_of d ≡ at → CanWalk d path 0 (nodes_of f) at
+pub can_walk : (d : Document) (path : List ℕ) (f : Forest Node Node) (at : ℕ) → IsDocument d → [] ≡ path → d.nodes ≡ nodes_of f
+    → begin_of d ≡ at → CanWalk d path 0 (nodes_of f) at
 can_walk d path f at is ep en ea =
     moved d [] path 0 d.nodes (nodes_of f) (begin_of d) at ep en ea
-    record { writable = items_writable d is; groups = groups_found d is; few = omega (arith, is.few); compression = is.compression; room = omega (arith, room d is) }
+    record {
+      writable = items_writable d is;
+      groups = groups_found d is;
+      few = omega (arith, is.few);
+      compression = is.compression;
+      room = omega (arith, room d is);
+    }

@@ -1,5 +1,6 @@
 -- The bytes of a group's own picture.
-use Rattle.std.proofs.Common.{◌≡◌, ℕ, zero, suc, ◌+◌, ◌*◌, ◌<◌, ◌≤◌, List, [], ◌∷◌, ◌++◌, length, take, slice_index, refl, sym, ap, ◌∙◌, arith}
+use Rattle.std.proofs.Common.{◌≡◌, ℕ, zero, suc, ◌+◌, ◌*◌, ◌<◌, ◌≤◌, List, [], ◌∷◌, ◌++◌, length, take, slice_index}
+use Rattle.std.proofs.Common.{refl, sym, ap, ◌∙◌, arith}
 use Rattle.std.specs.Prelude.{flat_map}
 use Rattle.spec_blend.specs.declared.Pixel.{Pixel}
 use Rattle.spec_grid.specs.declared.Rect.{Rect}
@@ -26,7 +27,8 @@ shifted_0 f a n = let e : a + 0 ≡ a = omega arith in shifted f a 0 n ∙ ap (�
 
 -- bytes of each point of a rectangle, where the points are counted from its corner
 over_points : (f : ℕ → ℕ → List ℕ) (x y w h : ℕ)
-    → flat_map (λ row. flat_map (λ column. f (x + column) (y + row)) (count_from 0 w)) (count_from 0 h) ≡ flat_map (λ v. flat_map (λ u. f u v) (count_from x w)) (count_from y h)
+    → flat_map (λ row. flat_map (λ column. f (x + column) (y + row)) (count_from 0 w)) (count_from 0 h)
+    ≡ flat_map (λ v. flat_map (λ u. f u v) (count_from x w)) (count_from y h)
 over_points f x y w h =
     ap (λ (g : ℕ → List ℕ). flat_map g (count_from 0 h)) (λ i. λ row. shifted_0 (λ u. f u (y + row)) x w i)
     ∙ shifted_0 (λ v. flat_map (λ u. f u v) (count_from x w)) y h
@@ -34,55 +36,70 @@ over_points f x y w h =
 two_bytes : Pixel → List ℕ
 two_bytes p = p.r ∷ p.a ∷ []
 
-row_picked : (P : ℕ → Pixel) (us rest : List ℕ) → red_and_alpha (flat_map (λ u. pixel_bytes (P u)) us ++ rest) ≡ flat_map (λ u. (P u).r ∷ (P u).a ∷ []) us ++ red_and_alpha rest
+row_picked : (P : ℕ → Pixel) (us rest : List ℕ)
+    → red_and_alpha (flat_map (λ u. pixel_bytes (P u)) us ++ rest) ≡ flat_map (λ u. (P u).r ∷ (P u).a ∷ []) us ++ red_and_alpha rest
 row_picked P [] rest = refl
 row_picked P (u ∷ us) rest = ap (λ xs. (P u).r ∷ (P u).a ∷ xs) (row_picked P us rest)
 
 rows_picked : (P : ℕ → ℕ → Pixel) (us vs : List ℕ)
-    → red_and_alpha (flat_map (λ v. flat_map (λ u. pixel_bytes (P u v)) us) vs) ≡ flat_map (λ v. flat_map (λ u. (P u v).r ∷ (P u v).a ∷ []) us) vs
+    → red_and_alpha (flat_map (λ v. flat_map (λ u. pixel_bytes (P u v)) us) vs)
+    ≡ flat_map (λ v. flat_map (λ u. (P u v).r ∷ (P u v).a ∷ []) us) vs
 rows_picked P us [] = refl
 rows_picked P us (v ∷ vs) =
-    row_picked (λ u. P u v) us (flat_map (λ v. flat_map (λ u. pixel_bytes (P u v)) us) vs) ∙ ap (λ xs. flat_map (λ u. (P u v).r ∷ (P u v).a ∷ []) us ++ xs) (rows_picked P us vs)
+    row_picked (λ u. P u v) us (flat_map (λ v. flat_map (λ u. pixel_bytes (P u v)) us) vs)
+    ∙ ap (λ xs. flat_map (λ u. (P u v).r ∷ (P u v).a ∷ []) us ++ xs) (rows_picked P us vs)
 
 -- the plane of a group in a document of this base
 abbrev plane_in : Base → Document → (id : ℕ) → Rect → Plane
-plane_in base d id r = plane_of r.w r.h (group_bpp base) (λ x y c. group_byte base (picture d id (part_above_0 r.x + x) (part_above_0 r.y + y)) c)
+plane_in base d id r =
+    plane_of r.w r.h (group_bpp base) (λ x y c. group_byte base (picture d id (part_above_0 r.x + x) (part_above_0 r.y + y)) c)
 
 abbrev made_of : Rect → (bpp : ℕ) → List ℕ → Plane
 made_of r bpp bytes = record { width = r.w; height = r.h; bpp = bpp; bytes = bytes }
 
-rgb_plane : (d : Document) (id : ℕ) (r : Rect) (bytes : List ℕ) → Rgb ≡ d.base → bytes ≡ picture_bytes d id (part_above_0 r.x) (part_above_0 r.y) r.w r.h → made_of r 4 bytes ≡ group_plane d id r
+rgb_plane : (d : Document) (id : ℕ) (r : Rect) (bytes : List ℕ) → Rgb ≡ d.base
+    → bytes ≡ picture_bytes d id (part_above_0 r.x) (part_above_0 r.y) r.w r.h → made_of r 4 bytes ≡ group_plane d id r
 rgb_plane d id r bytes is e =
-    ap (made_of r 4) (e ∙ sym (over_points (λ u v. pixel_bytes (picture d id u v)) (part_above_0 r.x) (part_above_0 r.y) r.w r.h)) ∙ ap (λ base. plane_in base d id r) is
+    ap (made_of r 4) (e ∙ sym (over_points (λ u v. pixel_bytes (picture d id u v)) (part_above_0 r.x) (part_above_0 r.y) r.w r.h))
+    ∙ ap (λ base. plane_in base d id r) is
 
-grey_plane : (d : Document) (id : ℕ) (r : Rect) (rgba bytes : List ℕ) → Grey ≡ d.base → rgba ≡ picture_bytes d id (part_above_0 r.x) (part_above_0 r.y) r.w r.h → bytes ≡ red_and_alpha rgba
+grey_plane : (d : Document) (id : ℕ) (r : Rect) (rgba bytes : List ℕ) → Grey ≡ d.base
+    → rgba ≡ picture_bytes d id (part_above_0 r.x) (part_above_0 r.y) r.w r.h → bytes ≡ red_and_alpha rgba
     → made_of r 2 bytes ≡ group_plane d id r
 grey_plane d id r rgba bytes is e eb =
     let x = part_above_0 r.x in
     let y = part_above_0 r.y in
-    ap (made_of r 2) (eb ∙ (ap red_and_alpha e ∙ (rows_picked (λ u v. picture d id u v) (count_from x r.w) (count_from y r.h) ∙ sym (over_points (λ u v. (picture d id u v).r ∷ (picture d id u v).a ∷ []) x y r.w r.h))))
+    ap (made_of r 2) (eb ∙ (ap red_and_alpha e
+    ∙ (rows_picked (λ u v. picture d id u v) (count_from x r.w) (count_from y r.h)
+    ∙ sym (over_points (λ u v. (picture d id u v).r ∷ (picture d id u v).a ∷ []) x y r.w r.h))))
     ∙ ap (λ base. plane_in base d id r) is
 
 turned : (w h n : ℕ) → h * (w * n) ≡ w * h * n
 turned w h n = omega arith
 
 -- in either base
-pub own_plane : (d : Document) (id : ℕ) (r : Rect) (base : Base) (rgba : List ℕ) → base ≡ d.base → MayHaveGroups base → rgba ≡ picture_bytes d id (part_above_0 r.x) (part_above_0 r.y) r.w r.h
+pub own_plane : (d : Document) (id : ℕ) (r : Rect) (base : Base) (rgba : List ℕ) → base ≡ d.base → MayHaveGroups base
+    → rgba ≡ picture_bytes d id (part_above_0 r.x) (part_above_0 r.y) r.w r.h
     → plane_over base r rgba ≡ group_plane d id r
 own_plane d id r Rgb rgba is may e = rgb_plane d id r rgba is e
 own_plane d id r Grey rgba is may e = grey_plane d id r rgba (red_and_alpha rgba) is e refl
 own_plane d id r Indexed rgba is may e = absurd may
 
-pub plane_length : (d : Document) (id : ℕ) (r : Rect) (p : Plane) → p ≡ group_plane d id r → length p.bytes ≡ r.w * r.h * group_bpp d.base
+pub plane_length : (d : Document) (id : ℕ) (r : Rect) (p : Plane) → p ≡ group_plane d id r
+    → length p.bytes ≡ r.w * r.h * group_bpp d.base
 plane_length d id r p e =
     ap (λ (p : Plane). length p.bytes) e
-    ∙ (length-plane_of (λ x y c. group_byte d.base (picture d id (part_above_0 r.x + x) (part_above_0 r.y + y)) c) r.w r.h (group_bpp d.base) ∙ turned r.w r.h (group_bpp d.base))
+    ∙ (length-plane_of (λ x y c. group_byte d.base (picture d id (part_above_0 r.x + x) (part_above_0 r.y + y)) c) r.w r.h
+    (group_bpp d.base) ∙ turned r.w r.h (group_bpp d.base))
 
 -- four bytes more
-pub picked_more : (n k : ℕ) (xs : List ℕ) → n ≡ 4 * k → n + 4 ≤ length xs → red_and_alpha (take (suc (suc (suc (suc n)))) xs) ≡ red_and_alpha (take n xs) ++ slice_index xs n ∷ slice_index xs (suc (suc (suc n))) ∷ []
+pub picked_more : (n k : ℕ) (xs : List ℕ) → n ≡ 4 * k → n + 4 ≤ length xs
+    → red_and_alpha (take (suc (suc (suc (suc n)))) xs) ≡ red_and_alpha (take n xs)
+    ++ slice_index xs n ∷ slice_index xs (suc (suc (suc n))) ∷ []
 picked_more zero k (r ∷ g ∷ b ∷ a ∷ xs) e h = refl
 picked_more (suc (suc (suc (suc n)))) zero xs e h = absurd (omega (arith, e))
-picked_more (suc (suc (suc (suc n)))) (suc k) (r ∷ g ∷ b ∷ a ∷ xs) e h = ap (λ zs. r ∷ a ∷ zs) (picked_more n k xs (omega (arith, e)) (omega (arith, h)))
+picked_more (suc (suc (suc (suc n)))) (suc k) (r ∷ g ∷ b ∷ a ∷ xs) e h =
+    ap (λ zs. r ∷ a ∷ zs) (picked_more n k xs (omega (arith, e)) (omega (arith, h)))
 picked_more zero k [] e h = absurd (omega (arith, h))
 picked_more zero k (r ∷ []) e h = absurd (omega (arith, h))
 picked_more zero k (r ∷ g ∷ []) e h = absurd (omega (arith, h))
@@ -110,4 +127,5 @@ picked_all (suc (suc (suc (suc n)))) (suc k) [] e h = refl
 picked_all (suc (suc (suc (suc n)))) (suc k) (r ∷ []) e h = refl
 picked_all (suc (suc (suc (suc n)))) (suc k) (r ∷ g ∷ []) e h = refl
 picked_all (suc (suc (suc (suc n)))) (suc k) (r ∷ g ∷ b ∷ []) e h = refl
-picked_all (suc (suc (suc (suc n)))) (suc k) (r ∷ g ∷ b ∷ a ∷ xs) e h = ap (λ zs. r ∷ a ∷ zs) (picked_all n k xs (omega (arith, e)) (omega (arith, h)))
+picked_all (suc (suc (suc (suc n)))) (suc k) (r ∷ g ∷ b ∷ a ∷ xs) e h =
+    ap (λ zs. r ∷ a ∷ zs) (picked_all n k xs (omega (arith, e)) (omega (arith, h)))

@@ -1,5 +1,6 @@
 -- Each group of a document is found by its id, since ids are distinct.
-use Rattle.std.proofs.Common.{◌≡◌, ℕ, ◌≤◌, Bool, true, false, cond, nat_eq, List, [], ◌∷◌, ◌++◌, ◌⊎◌, inl, inr, refl, sym, ◌∙◌, subst, eq-eqb, arith}
+use Rattle.std.proofs.Common.{◌≡◌, ℕ, ◌≤◌, Bool, true, false, cond, nat_eq, List, [], ◌∷◌, ◌++◌, ◌⊎◌, inl, inr, refl}
+use Rattle.std.proofs.Common.{sym, ◌∙◌, subst, eq-eqb, arith}
 use Rattle.std.specs.Prelude.{Option, Some, IsSome, ◌==◌}
 use Rattle.std.specs.List.{AllByRecursion, IsDistinct}
 use Rattle.std.proofs.lemmas.Bool.{ne_eqb, eqb-false}
@@ -48,14 +49,18 @@ found id (group i g children under) d (inl e) =
     let this : (id == i) ≡ true = eq-eqb id i (sym e) in
     subst (λ b. IsSome (children_of (cond b (a_group g children) (or_else (find id children) (find id under))))) (sym this) refl
 found id (group i g children under) d (inr (inl m)) =
-    let other : (id == i) ≡ false = is_not i id (ids children ++ ids under) d.0 (member-left id (ids children) (ids under) (member_of id children m)) in
+    let other : (id == i) ≡ false = is_not i id (ids children
+    ++ ids under) d.0 (member-left id (ids children) (ids under) (member_of id children m)) in
     subst (λ b. IsSome (children_of (cond b (a_group g children) (or_else (find id children) (find id under))))) (sym other)
     (first_is_group (find id children) (find id under) (found id children (distinct-left (ids children) (ids under) d.1) m))
 found id (group i g children under) d (inr (inr m)) =
-    let other : (id == i) ≡ false = is_not i id (ids children ++ ids under) d.0 (member-right id (ids children) (ids under) (member_of id under m)) in
-    let absent : find id children ≡ nothing = nothing_from_ids id children (apart_before id (ids children) (ids under) d.1 (member_of id under m)) in
+    let other : (id == i) ≡ false = is_not i id (ids children
+    ++ ids under) d.0 (member-right id (ids children) (ids under) (member_of id under m)) in
+    let absent : find id children ≡ nothing =
+    nothing_from_ids id children (apart_before id (ids children) (ids under) d.1 (member_of id under m)) in
     subst (λ b. IsSome (children_of (cond b (a_group g children) (or_else (find id children) (find id under))))) (sym other)
-    (subst (λ found. IsSome (children_of (or_else found (find id under)))) (sym absent) (found id under (distinct-right (ids children) (ids under) d.1) m))
+    (subst (λ found. IsSome (children_of (or_else found (find id under)))) (sym absent)
+    (found id under (distinct-right (ids children) (ids under) d.1) m))
 
 some_at : (b : Bool) (f : Nodes) (o : Option Nodes) → IsSome o → IsSome (cond b (Some f) o)
 some_at true f o h = refl
@@ -75,4 +80,8 @@ all_groups d (group id g children under) each =
 pub groups_found : (d : Document) → IsDocument d → AreGroupsOf d d.nodes
 groups_found d is = all_groups d d.nodes (λ id m.
     let positive : 1 ≤ id = member_has (λ n. 1 ≤ n) id (ids d.nodes) is.ids.positive (member_of id d.nodes m) in
-    record { some = λ e. absurd (omega (arith, positive, e)); stack = some_at (id == 0) d.nodes (children_of (find id d.nodes)) (found id d.nodes is.ids.distinct m) })
+    record {
+      some = λ e. absurd (omega (arith, positive, e));
+      stack =
+          some_at (id == 0) d.nodes (children_of (find id d.nodes)) (found id d.nodes is.ids.distinct m);
+    })

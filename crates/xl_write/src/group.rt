@@ -46,7 +46,8 @@ fn picture_of<P: Pictures>(
     requires width { IsSide rect.w }
     requires height { IsSide rect.h }
     requires inside { IsInside doc.now.width doc.now.height rect }
-    ensures { IfOk result (λ bytes. bytes.items ≡ picture_bytes doc.now id.0 (part_above_0 rect.x) (part_above_0 rect.y) rect.w rect.h) }
+    ensures { IfOk result (λ bytes. bytes.items
+        ≡ picture_bytes doc.now id.0 (part_above_0 rect.x) (part_above_0 rect.y) rect.w rect.h) }
 {
     let mut bytes = vec![in alloc; 0; 4 * (rect.w as usize * rect.h as usize)]?;
     pictures.fill(alloc, doc, id, rect, bytes.as_mut_slice())?;

@@ -73,7 +73,9 @@ fn path_of(alloc: Global, places: &[u32]) -> Result<Option<Path>, AllocError>
 }
 
 fn values(alloc: Global, item: &Item<'_>) -> Result<Known, AllocError>
-    ensures { IfOk result (λ known. known ≡ layer_known item.now.is_group item.now.path item.now.opacity item.now.mode item.now.visible item.now.apply_mask item.now.x item.now.y) }
+    ensures { IfOk result (λ known. known
+        ≡ layer_known item.now.is_group item.now.path item.now.opacity item.now.mode item.now.visible item.now.apply_mask item.now.x
+        item.now.y) }
 {
     Ok(Known {
         colours: None,
@@ -101,7 +103,8 @@ fn put_front(
 ) -> Result<(), AllocError>
     requires name { IsName name.now }
     requires list { CanBeWritten known.now kept.now }
-    ensures { OnOk result (out.new.items ≡ out.old.items ++ (words (plane.now.width ∷ plane.now.height ∷ kind ∷ []) ++ (text name.now ++ written known.now kept.now))) }
+    ensures { OnOk result (out.new.items ≡ out.old.items
+        ++ (words (plane.now.width ∷ plane.now.height ∷ kind ∷ []) ++ (text name.now ++ written known.now kept.now))) }
 {
     put_u32(alloc, out, plane.width())?;
     put_u32(alloc, out, plane.height())?;

@@ -40,7 +40,8 @@ fn put_front(
 ) -> Result<(), AllocError>
     requires name { IsName name.now }
     requires list { CanBeWritten (record unknown { selection = is_selection }) kept.now }
-    ensures { OnOk result (out.new.items ≡ out.old.items ++ sheet_front is_selection (record { name = name.now; kept = kept.now; plane = plane.now })) }
+    ensures { OnOk result (out.new.items ≡ out.old.items
+        ++ sheet_front is_selection (record { name = name.now; kept = kept.now; plane = plane.now })) }
 {
     put_u32(alloc, out, plane.width())?;
     put_u32(alloc, out, plane.height())?;
@@ -63,7 +64,8 @@ pub fn put_sheet<C: PlaneCoder>(
     requires list { CanBeWritten (record unknown { selection = is_selection }) kept.now }
     requires compression { compression ≤ 1 }
     requires room { vec_len out.old + kept_bytes kept.now + 7000 < 2 ^ 31 }
-    ensures { OnOk result (SheetAppended C.fits compression is_selection (record { name = name.now; kept = kept.now; plane = plane.now }) out.old.items out.new.items) }
+    ensures { OnOk result (SheetAppended C.fits compression is_selection
+        (record { name = name.now; kept = kept.now; plane = plane.now }) out.old.items out.new.items) }
 {
     put_front(alloc, out, name, kept, plane, is_selection)?;
     let pixels = out.len() as u32 + 4;

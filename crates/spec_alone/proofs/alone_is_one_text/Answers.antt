@@ -16,7 +16,13 @@ whole : (base : Document) (scripts : List (List Line)) (chests : List (List Filt
     → IsRest base (initial base) [] (unwrap_or (slice_get chests 0) []) es
 whole base scripts chests out es text first alone =
     let P : List Entry → Type 0 = λ xs. HaveTables (unwrap_or (slice_get chests 0) []) xs in
-    record { run = text.legal.run; first = first; tables = subst P (all_mine es first) (text.tables 0 (lit< tt)); alone = alone; owed = tt }
+    record {
+      run = text.legal.run;
+      first = first;
+      tables = subst P (all_mine es first) (text.tables 0 (lit< tt));
+      alone = alone;
+      owed = tt;
+    }
 
 called : (base : Document) (scripts : List (List Line)) (chests : List (List FilterState)) (out : List ℕ) (es : List Entry)
     → IsTextOf out base scripts chests es → AllByRecursion (λ e. e.session ≡ 0) es

@@ -16,4 +16,7 @@ opaque p is big = omega arith
 
 pub returns-in-Some : goal.returns-in-Some
 returns-in-Some c =
-    on_true (leb 4278190080 c.least_word.result) ((k : ℕ) → k < length c.args.row.now → (slice_index_or c.args.row.now k clear).a ≡ 255) (λ test k h. opaque _ (c.least_word.ensures.pixels k h) (omega (arith, leb-true 4278190080 c.least_word.result test, c.least_word.ensures.least k h)))
+    on_true (leb 4278190080 c.least_word.result) ((k : ℕ) → k < length c.args.row.now
+    → (slice_index_or c.args.row.now k clear).a ≡ 255)
+    (λ test k h. opaque _ (c.least_word.ensures.pixels k h)
+    (omega (arith, leb-true 4278190080 c.least_word.result test, c.least_word.ensures.least k h)))

@@ -7,4 +7,6 @@ use Rattle.xl_blend.proofs.blended_rows.lay_blended.Goals as goal
 
 pub returns-then-is_clear : goal.returns-then-is_clear
 returns-then-is_clear c =
-    sym (map-zip_first _ (λ p. p) _ _ clear clear c.requires.lengths (λ k h. blended_by_clear c.args.mode (slice_index_or c.args.below.now k clear) (slice_index_or c.args.above.now k clear) (c.if-is_clear.ensures k (omega arith))) ∙ map-id _)
+    sym (map-zip_first _ (λ p. p) _ _ clear clear c.requires.lengths
+    (λ k h. blended_by_clear c.args.mode (slice_index_or c.args.below.now k clear) (slice_index_or c.args.above.now k clear)
+    (c.if-is_clear.ensures k (omega arith))) ∙ map-id _)

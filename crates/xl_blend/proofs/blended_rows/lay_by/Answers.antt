@@ -10,7 +10,8 @@ loop-i-init c = record { done = so_far-none _ _ _; rest = λ k _ h. c.requires.e
 pub loop-i-preserved : goal.loop-i-preserved
 loop-i-preserved c = record {
   done = so_far-more _ _ _ _ _ _ _ (omega arith) (omega arith) c.blend_by.ensures ∙ c.loop-i.invariant.done;
-  rest = rest-more (λ k p. slice_index_or c.args.weights.now k 0 ≡ weight p (slice_index_or c.args.above.now k clear)) _ _ _ _ c.loop-i.invariant.rest;
+  rest = rest-more (λ k p. slice_index_or c.args.weights.now k 0
+      ≡ weight p (slice_index_or c.args.above.now k clear)) _ _ _ _ c.loop-i.invariant.rest;
 }
 
 pub returns : goal.returns

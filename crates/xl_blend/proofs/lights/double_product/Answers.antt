@@ -5,4 +5,5 @@ pub returns-clause-exact : goal.returns-clause-exact
 returns-clause-exact c = double_by_shifts c.args.a c.args.b c.requires.left c.requires.right
 
 pub returns-clause-part_of_right : goal.returns-clause-part_of_right
-returns-clause-part_of_right c = rw (double_by_shifts c.args.a c.args.b c.requires.left c.requires.right) (double_part c.args.a c.args.b c.requires.left)
+returns-clause-part_of_right c =
+    rw (double_by_shifts c.args.a c.args.b c.requires.left c.requires.right) (double_part c.args.a c.args.b c.requires.left)

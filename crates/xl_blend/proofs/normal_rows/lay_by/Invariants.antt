@@ -10,5 +10,6 @@ use Rattle.xl_blend.proofs.normal_rows.lay_by.Given as goal
 abbrev pub invariant-loop-i : goal.invariant-loop-i
 invariant-loop-i l = record {
   done : so_far (λ (p : Pixel × Pixel). over Normal p.0 p.1) l.i l.below l.above ≡ over_rows Normal l.initial.below l.above;
-  rest : (k : ℕ) → l.i ≤ k → k < length l.below → slice_index_or l.wholes k 0 ≡ alpha_over (slice_index_or l.below k clear) (slice_index_or l.above k clear);
+  rest : (k : ℕ) → l.i ≤ k → k < length l.below
+      → slice_index_or l.wholes k 0 ≡ alpha_over (slice_index_or l.below k clear) (slice_index_or l.above k clear);
 }

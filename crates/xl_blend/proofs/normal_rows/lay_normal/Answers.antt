@@ -9,11 +9,13 @@ use Rattle.xl_blend.proofs.normal_rows.lay_normal.Goals as goal
 pub returns-then-is_opaque : goal.returns-then-is_opaque
 returns-then-is_opaque c =
     c.copy_from_slice.ensures.after
-    ∙ sym (map-zip_second _ (λ p. p) _ _ clear clear c.requires.lengths (λ k h. over_by_opaque _ _ (c.if-is_opaque.ensures k (omega arith))) ∙ map-id _)
+    ∙ sym (map-zip_second _ (λ p. p) _ _ clear clear c.requires.lengths
+    (λ k h. over_by_opaque _ _ (c.if-is_opaque.ensures k (omega arith))) ∙ map-id _)
 
 pub returns-then-is_clear : goal.returns-then-is_clear
 returns-then-is_clear c =
-    c.show.ensures ∙ sym (map-zip_first _ shown _ _ clear clear c.requires.lengths (λ k h. over_by_clear _ _ (c.if-is_clear.ensures k (omega arith))))
+    c.show.ensures ∙ sym (map-zip_first _ shown _ _ clear clear c.requires.lengths
+    (λ k h. over_by_clear _ _ (c.if-is_clear.ensures k (omega arith))))
 
 pub returns-then-is_clear-2 : goal.returns-then-is_clear-2
 returns-then-is_clear-2 c =

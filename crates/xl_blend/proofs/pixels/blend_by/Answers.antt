@@ -4,10 +4,29 @@ use Rattle.xl_blend.proofs.pixels.blend_by.Goals as goal
 
 pub returns : goal.returns
 returns c =
-    blended_by_weight c.args.mode c.args.below c.args.above c.of_bytes.result c.args.whole c.mean_by-r.result c.mean_by-g.result c.mean_by-b.result c.requires.whole
-    (rw (c.from-red.ensures, c.blend.ensures, c.min-part.ensures, c.wide_of-lower.ensures, c.wide_of-upper.ensures) at c.mean_by-r.ensures.value)
-    (rw (c.from-green.ensures, c.blend-2.ensures, c.min-part.ensures, c.wide_of-lower.ensures, c.wide_of-upper.ensures) at c.mean_by-g.ensures.value)
-    (rw (c.from-blue.ensures, c.blend-3.ensures, c.min-part.ensures, c.wide_of-lower.ensures, c.wide_of-upper.ensures) at c.mean_by-b.ensures.value)
+    blended_by_weight c.args.mode c.args.below c.args.above c.of_bytes.result c.args.whole c.mean_by-r.result c.mean_by-g.result
+    c.mean_by-b.result c.requires.whole
+    (rw (
+      c.from-red.ensures,
+      c.blend.ensures,
+      c.min-part.ensures,
+      c.wide_of-lower.ensures,
+      c.wide_of-upper.ensures,
+    ) at c.mean_by-r.ensures.value)
+    (rw (
+      c.from-green.ensures,
+      c.blend-2.ensures,
+      c.min-part.ensures,
+      c.wide_of-lower.ensures,
+      c.wide_of-upper.ensures,
+    ) at c.mean_by-g.ensures.value)
+    (rw (
+      c.from-blue.ensures,
+      c.blend-3.ensures,
+      c.min-part.ensures,
+      c.wide_of-lower.ensures,
+      c.wide_of-upper.ensures,
+    ) at c.mean_by-b.ensures.value)
     (rw c.wide_of-lower.ensures at c.of_bytes.ensures)
 
 pub mean_by-r-requires-clause-byte : goal.mean_by-r-requires-clause-byte

@@ -13,10 +13,13 @@ returns-in_default-clause-refused c =
 
 pub returns-in-Leaf-clause-found : goal.returns-in-Leaf-clause-found
 returns-in-Leaf-clause-found c =
-    let e : node_of (find c.args.id.0 c.doc.inside.tree) ≡ Some c.in-Some.node.now = sym c.find.ensures ∙ ap option_copied c.in-Some.is in
-    rw (← c.doc.view_is) (leaf_found c.args.id.0 c.doc.inside.tree c.in-Some.node.now c.in-Leaf.layer c.doc.invariant.marks e c.in-Leaf.is)
+    let e : node_of (find c.args.id.0 c.doc.inside.tree) ≡ Some c.in-Some.node.now = sym c.find.ensures
+    ∙ ap option_copied c.in-Some.is in
+    rw (← c.doc.view_is) (leaf_found c.args.id.0 c.doc.inside.tree c.in-Some.node.now c.in-Leaf.layer c.doc.invariant.marks e
+    c.in-Leaf.is)
 
 pub returns-in-Group-clause-refused : goal.returns-in-Group-clause-refused
 returns-in-Group-clause-refused c =
-    let e : node_of (find c.args.id.0 c.doc.inside.tree) ≡ Some c.in-Some.node.now = sym c.find.ensures ∙ ap option_copied c.in-Some.is in
+    let e : node_of (find c.args.id.0 c.doc.inside.tree) ≡ Some c.in-Some.node.now = sym c.find.ensures
+    ∙ ap option_copied c.in-Some.is in
     rw (← c.doc.view_is) (group_refused c.args.id.0 c.doc.inside.tree c.in-Some.node.now c.doc.invariant.marks e c.in-Group.is)

@@ -10,7 +10,9 @@ pub returns-in_err-check_copy-clause-refused : goal.returns-in_err-check_copy-cl
 returns-in_err-check_copy-clause-refused c =
     let two = c.in_ok-two.two in
     let d = c.args.doc.now in
-    let refused : refusal d (edits.copy_rect c.args.id.0 c.args.rect c.args.from.0 c.args.u c.args.v) ≡ Some c.in_err-check_copy.field-0.0 =
-    copy_rules d c.args.id.0 c.args.from.0 c.args.rect c.args.u c.args.v two.to.now two.from.now c.in_ok-two.ensures.to c.in_ok-two.ensures.from
+    let refused : refusal d (edits.copy_rect c.args.id.0 c.args.rect c.args.from.0 c.args.u c.args.v)
+    ≡ Some c.in_err-check_copy.field-0.0 =
+    copy_rules d c.args.id.0 c.args.from.0 c.args.rect c.args.u c.args.v two.to.now two.from.now c.in_ok-two.ensures.to
+    c.in_ok-two.ensures.from
     ∙ outcome_refused _ _ (sym c.in_err-check_copy.was ∙ c.check_copy.ensures.value) in
     search rules

@@ -14,5 +14,6 @@ returns-in-None-clause-refused c =
 
 pub returns-in-Some-clause-there : goal.returns-in-Some-clause-there
 returns-in-Some-clause-there c =
-    let e : node_of (find c.args.id.0 c.doc.inside.tree) ≡ Some c.in-Some.field-0.now = sym c.find.ensures ∙ ap option_copied c.in-Some.is in
+    let e : node_of (find c.args.id.0 c.doc.inside.tree) ≡ Some c.in-Some.field-0.now = sym c.find.ensures
+    ∙ ap option_copied c.in-Some.is in
     rw (← c.doc.view_is) (node_seen c.args.id.0 c.doc.inside.tree c.in-Some.field-0.now c.doc.invariant.marks e)

@@ -19,6 +19,8 @@ returns-clause-value c =
     let p = c.args.stack.0 in
     let z : eqb p 0 ≡ false = search rules in
     let many : length c.as_slice.result.now ≡ length (unwrap_or (ancestors p t) []) =
-    ap length c.as_slice.ensures.ids ∙ (sym (length-map c.ancestors-above.result (λ (i : NodeId). i.0)) ∙ ap length c.ancestors-above.ensures) in
+    ap length c.as_slice.ensures.ids
+    ∙ (sym (length-map c.ancestors-above.result (λ (i : NodeId). i.0)) ∙ ap length c.ancestors-above.ensures) in
     ap (λ n. 2 + n) (many ∙ sym (length_or (ancestors p t)))
-    ∙ (sym (λ j. cond (z j) 1 (2 + unwrap_or (option_map length (ancestors-nodes_of p t j)) 0)) ∙ ap (λ (x : Document). depth_below x.nodes p) c.doc.view_is)
+    ∙ (sym (λ j. cond (z j) 1 (2 + unwrap_or (option_map length (ancestors-nodes_of p t j)) 0))
+    ∙ ap (λ (x : Document). depth_below x.nodes p) c.doc.view_is)

@@ -5,5 +5,8 @@ use Rattle.xl_command.proofs.reading.command_of.Goals as goal
 pub returns-in_default-verb-clause-asked : goal.returns-in_default-verb-clause-asked
 returns-in_default-verb-clause-asked c =
     let verb = c.in-Some.verb.now.now in
-    none_among c.args.arguments.now c.in-Some.verb.now (search rules) (differ_in_bytes verb (codes "edit") c.in_default-verb.not-edit) (differ_in_bytes verb (codes "render") c.in_default-verb.not-render)
-    (differ_in_bytes verb (codes "info") c.in_default-verb.not-info) (differ_in_bytes verb (codes "make") c.in_default-verb.not-make)
+    none_among c.args.arguments.now c.in-Some.verb.now (search rules)
+    (differ_in_bytes verb (codes "edit") c.in_default-verb.not-edit)
+    (differ_in_bytes verb (codes "render") c.in_default-verb.not-render)
+    (differ_in_bytes verb (codes "info") c.in_default-verb.not-info)
+    (differ_in_bytes verb (codes "make") c.in_default-verb.not-make)

@@ -10,14 +10,17 @@ use Rattle.xl_command.proofs.reading.edit.Goals as goal
 pub number_in-requires : goal.number_in-requires
 number_in-requires c =
     let found = rw c.in-Some.is at c.in_ok-matches.ensures.ok in
-    λ text has. number_is_small 8 text (omega arith) (workers_are_taken c.in_ok-edit_command.field-0 c.in-Some.matches found.2 c.in_ok-edit_command.ensures text has)
+    λ text has. number_is_small 8 text (omega arith)
+    (workers_are_taken c.in_ok-edit_command.field-0 c.in-Some.matches found.2 c.in_ok-edit_command.ensures text has)
 
 pub returns-clause-asked : goal.returns-clause-asked
 returns-clause-asked c =
     let found = rw c.in-Some.is at c.in_ok-matches.ensures.ok in
     let name = rw c.in-Some-file_in.is at c.file_in.ensures in
     ap (λ n. Some (edit c.in-Some-file_in.name.now n)) c.number_in.ensures
-    ∙ asked_given (app_of c.in_ok-edit_command.field-0) edit_app (arguments_of c.args.arguments.now) edit_of c.in-Some.matches c.in-Some-file_in.name.now c.in_ok-edit_command.ensures found.0 found.1 name
+    ∙ asked_given (app_of c.in_ok-edit_command.field-0) edit_app
+    (arguments_of c.args.arguments.now) edit_of c.in-Some.matches c.in-Some-file_in.name.now c.in_ok-edit_command.ensures
+    found.0 found.1 name
 
 pub returns-clause-few : goal.returns-clause-few
 returns-clause-few c =

@@ -10,7 +10,8 @@ use Rattle.xl_command.proofs.reading.make.Goals as goal
 pub number_in-requires : goal.number_in-requires
 number_in-requires c =
     let found = rw c.in-Some.is at c.in_ok-matches.ensures.ok in
-    λ text has. number_is_small (2 ^ 32 - 1) text (omega arith) (number_is_taken c.in_ok-make_command.field-0 c.in-Some.matches found.2 (codes "make") (codes "seed") (2 ^ 32 - 1) true refl
+    λ text has. number_is_small (2 ^ 32 - 1) text (omega arith)
+    (number_is_taken c.in_ok-make_command.field-0 c.in-Some.matches found.2 (codes "make") (codes "seed") (2 ^ 32 - 1) true refl
     (λ e. let bad = ap (λ l. slice_index l 0) e in absurd (omega (arith, bad)))
     (λ auto. elim auto [
       | inl e ↦ let bad = ap (λ l. slice_index l 0) e in absurd (omega (arith, bad))
@@ -23,4 +24,6 @@ returns-clause-asked c =
     let found = rw c.in-Some.is at c.in_ok-matches.ensures.ok in
     let name = rw c.in-Some-file_in.is at c.file_in.ensures in
     ap (λ n. Some (make c.in-Some-file_in.name.now n)) c.number_in.ensures
-    ∙ asked_given (app_of c.in_ok-make_command.field-0) make_app (arguments_of c.args.arguments.now) make_of c.in-Some.matches c.in-Some-file_in.name.now c.in_ok-make_command.ensures found.0 found.1 name
+    ∙ asked_given (app_of c.in_ok-make_command.field-0) make_app
+    (arguments_of c.args.arguments.now) make_of c.in-Some.matches c.in-Some-file_in.name.now c.in_ok-make_command.ensures
+    found.0 found.1 name

@@ -11,8 +11,10 @@ returns-in-Leaf-clause-laid g c =
     let m = at + points c.args.band - at in
     let same : m ≡ points c.args.band = omega arith in
     let fits : at + points c.args.band ≤ length c.args.room.now = omega (arith, c.requires.fits.0) in
-    let many : length (take m (drop at c.args.room.now)) ≡ points c.args.band = length-take-le m (drop at c.args.room.now) (omega (arith, same, fits, length-drop at c.args.room.now)) ∙ same in
-    leaf_laid c.args.colours.now c.args.band c.args.piece.now c.in-Leaf.mode c.in-Leaf.opacity c.in-Leaf.layer m c.args.room.now c.lay_layer.new.picture c.in-Leaf.is
+    let many : length (take m (drop at c.args.room.now)) ≡ points c.args.band =
+    length-take-le m (drop at c.args.room.now) (omega (arith, same, fits, length-drop at c.args.room.now)) ∙ same in
+    leaf_laid c.args.colours.now c.args.band c.args.piece.now c.in-Leaf.mode c.in-Leaf.opacity c.in-Leaf.layer m c.args.room.now
+    c.lay_layer.new.picture c.in-Leaf.is
     same (c.lay_layer.ensures.length ∙ many) fits c.lay_layer.ensures.each
 
 pub returns-in-Clean-clause-laid : goal.returns-in-Clean-clause-laid
@@ -21,7 +23,9 @@ returns-in-Clean-clause-laid g c =
     let m = at + points c.args.band - at in
     let same : m ≡ points c.args.band = omega arith in
     let fits : at + points c.args.band ≤ length c.args.room.now = omega (arith, c.requires.fits.0) in
-    let many : length (take m (drop at c.args.room.now)) ≡ points c.args.band = length-take-le m (drop at c.args.room.now) (omega (arith, same, fits, length-drop at c.args.room.now)) ∙ same in
+    let many : length (take m (drop at c.args.room.now)) ≡ points c.args.band =
+    length-take-le m (drop at c.args.room.now) (omega (arith, same, fits, length-drop at c.args.room.now)) ∙ same in
     let bytes_are : c.bytes.result.now ≡ c.in-Clean.picture = c.bytes.ensures in
-    clean_laid c.args.colours.now c.args.band c.args.piece.now c.in-Clean.picture m c.args.room.now c.kept_row.new.row c.in-Clean.is same (c.kept_row.ensures.length ∙ many) fits
+    clean_laid c.args.colours.now c.args.band c.args.piece.now c.in-Clean.picture m c.args.room.now c.kept_row.new.row c.in-Clean.is
+    same (c.kept_row.ensures.length ∙ many) fits
     (λ k h. c.kept_row.ensures.each k (omega (arith, h, many)) ∙ ap (λ bytes. kept_pixel bytes k) bytes_are)

@@ -14,8 +14,11 @@ lay_piece-requires-clause-neat g c =
     let P : ℕ → Type 0 = λ n. AreIn n c.args.band c.args.pieces.now in
     let fit : AreIn (length c.loop-i.room) c.args.band c.args.pieces.now = subst P (sym c.loop-i.invariant.size) c.requires.fit in
     let Q : Piece → Type 0 = λ q. IsIn (length c.loop-i.room) c.args.band q in
-    let inside : IsIn (length c.loop-i.room) c.args.band p = subst Q (sym c.index-pieces-i.is) (in_at (length c.loop-i.room) c.args.band c.args.pieces.now c.loop-i.i p (omega arith) fit) in
-    room_neat c.args.colours.now c.args.band c.loop-i.i c.args.pieces.now c.loop-i.room p.level fit c.loop-i.invariant.shown inside.0
+    let inside : IsIn (length c.loop-i.room) c.args.band p =
+    subst Q (sym c.index-pieces-i.is)
+    (in_at (length c.loop-i.room) c.args.band c.args.pieces.now c.loop-i.i p (omega arith) fit) in
+    room_neat c.args.colours.now c.args.band c.loop-i.i c.args.pieces.now c.loop-i.room p.level fit c.loop-i.invariant.shown
+    inside.0
 
 pub loop-i-preserved : goal.loop-i-preserved
 loop-i-preserved g c =
@@ -26,9 +29,13 @@ loop-i-preserved g c =
     let P : ℕ → Type 0 = λ n. AreIn n c.args.band c.args.pieces.now in
     let fit : AreIn (length c.loop-i.room) c.args.band c.args.pieces.now = subst P (sym c.loop-i.invariant.size) c.requires.fit in
     let Q : Piece → Type 0 = λ q. IsIn (length c.loop-i.room) c.args.band q in
-    let inside : IsIn (length c.loop-i.room) c.args.band p = subst Q (sym c.index-pieces-i.is) (in_at (length c.loop-i.room) c.args.band c.args.pieces.now c.loop-i.i p (omega arith) fit) in
+    let inside : IsIn (length c.loop-i.room) c.args.band p =
+    subst Q (sym c.index-pieces-i.is)
+    (in_at (length c.loop-i.room) c.args.band c.args.pieces.now c.loop-i.i p (omega arith) fit) in
     rw more record {
       size = c.lay_piece.ensures.length ∙ c.loop-i.invariant.size;
-      shown = laid_more c.args.colours.now c.args.band so_far p c.loop-i.room c.lay_piece.new.room c.lay_piece.ensures.length inside.0 c.loop-i.invariant.shown c.lay_piece.ensures.laid;
-      cost = piece_cost c.args.steps.now c.loop-i.steps c.lay_piece.new.steps (weights so_far) (weight p.what) (points c.args.band) (weights (so_far ++ p ∷ [])) (weights-push so_far p) c.loop-i.invariant.cost c.lay_piece.ensures.cost;
+      shown = laid_more c.args.colours.now c.args.band so_far p c.loop-i.room c.lay_piece.new.room c.lay_piece.ensures.length
+          inside.0 c.loop-i.invariant.shown c.lay_piece.ensures.laid;
+      cost = piece_cost c.args.steps.now c.loop-i.steps c.lay_piece.new.steps (weights so_far) (weight p.what) (points c.args.band)
+          (weights (so_far ++ p ∷ [])) (weights-push so_far p) c.loop-i.invariant.cost c.lay_piece.ensures.cost;
     }

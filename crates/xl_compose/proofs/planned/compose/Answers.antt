@@ -8,7 +8,8 @@ pub returns-clause-done : goal.returns-clause-done
 returns-clause-done g c =
     let band = c.job.inside.band in
     let room = c.lay_pieces.new.room in
-    let fits : points band ≤ length room = omega (arith, c.lay_pieces.ensures.length, c.as_mut_slice.ensures.len, c.job.invariant.first) in
+    let fits : points band ≤ length room =
+    omega (arith, c.lay_pieces.ensures.length, c.as_mut_slice.ensures.len, c.job.invariant.first) in
     record {
       node_is = ap (λ j. j.stack) c.job.view_is;
       at_is = ap (λ j. j.at) c.job.view_is;

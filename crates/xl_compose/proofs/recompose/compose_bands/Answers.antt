@@ -13,16 +13,19 @@ use Rattle.xl_compose.proofs.recompose.compose_bands.Goals as goal
 use Rattle.spec_grid.specs.declared.TheConstants.{MAX_SIDE}
 
 pub unwrap-nodes-requires : goal.unwrap-nodes-requires
-unwrap-nodes-requires g c = rw c.stack.ensures.value (some_stack c.args.stack.0 c.doc.inside.tree (rw (← c.doc.view_is) at c.requires.stack))
+unwrap-nodes-requires g c =
+    rw c.stack.ensures.value (some_stack c.args.stack.0 c.doc.inside.tree (rw (← c.doc.view_is) at c.requires.stack))
 
 pub compose_band-requires-clause-agree : goal.compose_band-requires-clause-agree
 compose_band-requires-clause-agree g c =
-    rw c.again.ensures (agrees_in c.args.stack.0 c.doc.inside.tree c.unwrap-nodes.result c.doc.invariant.marks (sym c.stack.ensures.value ∙ c.unwrap-nodes.ensures))
+    rw c.again.ensures (agrees_in c.args.stack.0 c.doc.inside.tree c.unwrap-nodes.result c.doc.invariant.marks
+    (sym c.stack.ensures.value ∙ c.unwrap-nodes.ensures))
 
 pub slice_bounds-part-end : goal.slice_bounds-part-end
 slice_bounds-part-end g c =
     let many : length c.loop-b.out ≡ 4 * (c.args.rect.w * c.args.rect.h) = omega arith in
-    let fits = rows_fit c.args.rect.w c.args.rect.h (64 * c.loop-b.b + c.min.result) (4 * c.args.rect.w) c.loop-b.out refl many (omega arith) in
+    let fits = rows_fit c.args.rect.w c.args.rect.h (64 * c.loop-b.b + c.min.result) (4 * c.args.rect.w) c.loop-b.out refl many
+    (omega arith) in
     omega (arith, fits)
 
 pub loop-b-preserved : goal.loop-b-preserved
@@ -35,19 +38,27 @@ loop-b-preserved g c =
     let is : stack_at stack c.doc.inside.tree ≡ Some c.unwrap-nodes.result = sym c.stack.ensures.value ∙ c.unwrap-nodes.ensures in
     let point : (u v : ℕ) → stack_pixel c.as_slice-colours.result.now u v (nodes_of c.again.result) ≡ picture d stack u v =
     λ u v. ap (λ nodes. stack_pixel c.as_slice-colours.result.now u v (nodes_of nodes)) c.again.ensures
-    ∙ (ap (λ colours. stack_pixel colours u v (nodes_of c.unwrap-nodes.result)) (c.as_slice-colours.ensures ∙ ap (λ d. d.colours) c.doc.view_is)
+    ∙ (ap (λ colours. stack_pixel colours u v (nodes_of c.unwrap-nodes.result)) (c.as_slice-colours.ensures
+    ∙ ap (λ d. d.colours) c.doc.view_is)
     ∙ sym (picture_is d stack u v c.doc.inside.tree c.unwrap-nodes.result (ap (λ d. d.nodes) (sym c.doc.view_is)) is)) in
     let many : length c.loop-b.out ≡ 4 * (c.args.rect.w * c.args.rect.h) = omega arith in
     let size : length c.compose_band.new.out ≡ 4 * (c.min.result * c.args.rect.w) = c.compose_band.ensures.length in
     let counted : visible_in (nodes_of c.again.result) ≡ visible_below d stack =
     ap (λ nodes. visible_in (nodes_of nodes)) c.again.ensures
     ∙ sym (count_is d stack c.doc.inside.tree c.unwrap-nodes.result (ap (λ d. d.nodes) (sym c.doc.view_is)) is) in
-    let added : c.compose_band.new.steps ≤ c.loop-b.steps + visible_below d stack * (c.min.result * c.args.rect.w) = rw counted at c.compose_band.ensures.cost in
+    let added : c.compose_band.new.steps ≤ c.loop-b.steps + visible_below d stack * (c.min.result * c.args.rect.w) =
+    rw counted at c.compose_band.ensures.cost in
     record {
-      written = bands_more of y c.loop-b.b c.args.rect.h c.min.result (4 * c.args.rect.w) c.loop-b.out c.compose_band.new.out (omega arith) (omega arith) (omega (arith, size))
-          (c.compose_band.ensures.shows ∙ (λ i. flat_map (λ v. flat_map (λ u. pixel_bytes (point u v i)) (count_from x c.args.rect.w)) (count_from (y + 64 * c.loop-b.b) c.min.result)))
-          c.loop-b.invariant.written (rows_fit c.args.rect.w c.args.rect.h (64 * c.loop-b.b) (4 * c.args.rect.w) c.loop-b.out refl many (omega arith));
-      cost = band_cost c.args.steps.now c.loop-b.steps c.compose_band.new.steps (visible_below d stack) c.args.rect.w c.args.rect.h c.loop-b.b c.min.result c.loop-b.invariant.cost added (omega arith) (omega arith);
+      written = bands_more of y c.loop-b.b c.args.rect.h c.min.result (4 * c.args.rect.w) c.loop-b.out c.compose_band.new.out
+          (omega arith) (omega arith) (omega (arith, size))
+          (c.compose_band.ensures.shows ∙ (λ i.
+          flat_map (λ v. flat_map (λ u. pixel_bytes (point u v i)) (count_from x c.args.rect.w))
+          (count_from (y + 64 * c.loop-b.b) c.min.result)))
+          c.loop-b.invariant.written (rows_fit c.args.rect.w c.args.rect.h (64 * c.loop-b.b)
+          (4 * c.args.rect.w) c.loop-b.out refl many (omega arith));
+      cost = band_cost c.args.steps.now c.loop-b.steps c.compose_band.new.steps
+          (visible_below d stack) c.args.rect.w c.args.rect.h c.loop-b.b c.min.result c.loop-b.invariant.cost added (omega arith)
+          (omega arith);
     }
 
 pub returns-clause-cost : goal.returns-clause-cost
@@ -62,8 +73,11 @@ returns-clause-picture g c =
     let many : length c.loop-b.out ≡ 4 * (c.args.rect.w * c.args.rect.h) = omega arith in
     let small_w : d.width ≤ MAX_SIDE = rw (← c.doc.view_is) c.doc.invariant.limits.width.1 in
     let small_h : d.height ≤ MAX_SIDE = rw (← c.doc.view_is) c.doc.invariant.limits.height.1 in
-    let x = c.natural-x.ensures ∙ natural_is c.args.rect.x c.args.rect.w d.width c.requires.inside.left c.requires.inside.right small_w in
-    let y = c.natural-y.ensures ∙ natural_is c.args.rect.y c.args.rect.h d.height c.requires.inside.top c.requires.inside.bottom small_h in
+    let x = c.natural-x.ensures ∙ natural_is c.args.rect.x c.args.rect.w d.width c.requires.inside.left c.requires.inside.right
+    small_w in
+    let y = c.natural-y.ensures ∙ natural_is c.args.rect.y c.args.rect.h d.height c.requires.inside.top c.requires.inside.bottom
+    small_h in
     let all : min (64 * c.loop-b.b) c.args.rect.h ≡ c.args.rect.h = omega arith in
-    rows_all c.args.rect.w c.args.rect.h (min (64 * c.loop-b.b) c.args.rect.h) (4 * c.args.rect.w) c.loop-b.out _ refl many all (c.loop-b.invariant.written ∙ ap (picture_bytes d c.args.stack.0 c.natural-x.result c.natural-y.result c.args.rect.w) all)
+    rows_all c.args.rect.w c.args.rect.h (min (64 * c.loop-b.b) c.args.rect.h) (4 * c.args.rect.w) c.loop-b.out _ refl many all
+    (c.loop-b.invariant.written ∙ ap (picture_bytes d c.args.stack.0 c.natural-x.result c.natural-y.result c.args.rect.w) all)
     ∙ (λ i. picture_bytes d c.args.stack.0 (x i) (y i) c.args.rect.w c.args.rect.h)

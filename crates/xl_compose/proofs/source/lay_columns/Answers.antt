@@ -10,7 +10,8 @@ loop-done-init g c = record {
   few = omega arith;
   size = refl;
   cost = omega arith;
-  laid = no_columns c.args.mode c.args.across.skip c.args.across.from c.args.down.skip c.args.down.from c.args.down.count c.args.band.w c.args.band.h
+  laid = no_columns c.args.mode c.args.across.skip c.args.across.from c.args.down.skip c.args.down.from c.args.down.count
+      c.args.band.w c.args.band.h
       (sheet_pixel c.args.colours.now c.args.opacity c.args.layer.now) c.args.picture.now c.requires.neat;
 }
 
@@ -18,21 +19,30 @@ pub loop-done-preserved : goal.loop-done-preserved
 loop-done-preserved g c = record {
   few = omega (arith, c.columns_at.ensures.within);
   size = c.lay_rect.ensures.length ∙ c.loop-done.invariant.size;
-  cost = column_cost c.args.steps.now c.loop-done.steps c.lay_rect.new.steps c.args.down.count c.loop-done.done c.columns_at.result c.common-part.result.h c.common-part.result.w
+  cost = column_cost c.args.steps.now c.loop-done.steps c.lay_rect.new.steps c.args.down.count c.loop-done.done c.columns_at.result
+      c.common-part.result.h c.common-part.result.w
       c.loop-done.invariant.cost c.lay_rect.ensures.cost c.common-part.ensures.h c.common-part.ensures.w;
-  laid = more_columns_at c.args.mode c.args.across.skip c.args.across.from c.loop-done.done c.columns_at.result c.args.down.skip c.args.down.from c.args.down.count c.args.band.w c.args.band.h
-      (c.args.across.skip + c.loop-done.done) (part_above_0 c.common-part.result.x) c.common-part.result.w (part_above_0 c.common-part.result.y) c.common-part.result.h
-      (sheet_pixel c.args.colours.now c.args.opacity c.args.layer.now) c.args.picture.now c.loop-done.picture c.lay_rect.new.picture c.requires.neat
-      refl c.common-part.ensures.x c.common-part.ensures.w c.common-part.ensures.y c.common-part.ensures.h c.loop-done.invariant.laid c.lay_rect.ensures.each;
+  laid = more_columns_at c.args.mode c.args.across.skip c.args.across.from c.loop-done.done c.columns_at.result c.args.down.skip
+      c.args.down.from c.args.down.count c.args.band.w c.args.band.h
+      (c.args.across.skip + c.loop-done.done) (part_above_0 c.common-part.result.x) c.common-part.result.w
+      (part_above_0 c.common-part.result.y) c.common-part.result.h
+      (sheet_pixel c.args.colours.now c.args.opacity c.args.layer.now) c.args.picture.now c.loop-done.picture c.lay_rect.new.picture
+      c.requires.neat
+      refl c.common-part.ensures.x c.common-part.ensures.w c.common-part.ensures.y c.common-part.ensures.h
+      c.loop-done.invariant.laid c.lay_rect.ensures.each;
 }
 
 pub lay_rect-requires-clause-neat : goal.lay_rect-requires-clause-neat
 lay_rect-requires-clause-neat g c =
-    still_neat c.args.mode c.args.across.skip c.args.across.from c.loop-done.done c.args.down.skip c.args.down.from c.args.down.count c.args.band.w c.args.band.h
-    (sheet_pixel c.args.colours.now c.args.opacity c.args.layer.now) c.args.picture.now c.loop-done.picture c.requires.neat c.loop-done.invariant.laid
+    still_neat c.args.mode c.args.across.skip c.args.across.from c.loop-done.done c.args.down.skip c.args.down.from
+    c.args.down.count c.args.band.w c.args.band.h
+    (sheet_pixel c.args.colours.now c.args.opacity c.args.layer.now) c.args.picture.now c.loop-done.picture c.requires.neat
+    c.loop-done.invariant.laid
 
 pub returns-clause-each : goal.returns-clause-each
 returns-clause-each g c =
     let all : c.loop-done.done ≡ c.args.across.count = omega (arith, c.loop-done.invariant.few) in
-    subst (λ (n : _). AreLaidTo c.args.mode c.args.across.skip c.args.across.from n c.args.down.skip c.args.down.from c.args.down.count c.args.band.w c.args.band.h
-    (sheet_pixel c.args.colours.now c.args.opacity c.args.layer.now) c.args.picture.now c.loop-done.picture) all c.loop-done.invariant.laid
+    subst (λ (n : _). AreLaidTo c.args.mode c.args.across.skip c.args.across.from n c.args.down.skip c.args.down.from
+    c.args.down.count c.args.band.w c.args.band.h
+    (sheet_pixel c.args.colours.now c.args.opacity c.args.layer.now) c.args.picture.now c.loop-done.picture) all
+    c.loop-done.invariant.laid

@@ -19,17 +19,22 @@ returns-then-down-eq0-clause-each g c = λ v k hv hk.
     let fits_x : SFits w32 i.x = offset_fits i.x c.layer.invariant.x in
     let fits_y : SFits w32 i.y = offset_fits i.y c.layer.invariant.y in
     let row : place i.y i.plane.height (c.args.band.y + v) ≡ place_by down.skip down.from down.count v =
-    ap (λ n. place i.y n (c.args.band.y + v)) (sym c.height.ensures.value) ∙ (simp to_z-of_z at (c.overlap-down.ensures.place v hv)) in
+    ap (λ n. place i.y n (c.args.band.y + v)) (sym c.height.ensures.value)
+    ∙ (simp to_z-of_z at (c.overlap-down.ensures.place v hv)) in
     let column : place i.x i.plane.width (c.args.band.x + k) ≡ place_by across.skip across.from across.count k =
-    ap (λ n. place i.x n (c.args.band.x + k)) (sym c.width.ensures.value) ∙ (simp to_z-of_z at (c.overlap-across.ensures.place k hk)) in
+    ap (λ n. place i.x n (c.args.band.x + k)) (sym c.width.ensures.value)
+    ∙ (simp to_z-of_z at (c.overlap-across.ensures.place k hk)) in
     rw (← c.layer.view_is) (elim c.then-down-eq0.either [
-      | inl none ↦ no_row_there c.args.mode c.args.colours.now c.args.opacity s (c.args.band.x + k) (c.args.band.y + v) down.skip down.from down.count v p (c.requires.neat v k hv hk) row none
-      | inr others ↦ no_column_there c.args.mode c.args.colours.now c.args.opacity s (c.args.band.x + k) (c.args.band.y + v) across.skip across.from across.count k p (c.requires.neat v k hv hk) column others.1
+      | inl none ↦ no_row_there c.args.mode c.args.colours.now c.args.opacity s (c.args.band.x + k)
+          (c.args.band.y + v) down.skip down.from down.count v p (c.requires.neat v k hv hk) row none
+      | inr others ↦ no_column_there c.args.mode c.args.colours.now c.args.opacity s (c.args.band.x + k)
+          (c.args.band.y + v) across.skip across.from across.count k p (c.requires.neat v k hv hk) column others.1
     ])
 
 pub returns-clause-cost : goal.returns-clause-cost
 returns-clause-cost g c =
-    part_cost c.args.steps.now c.lay_columns.new.steps c.overlap-down.result.count c.overlap-across.result.count c.args.band.h c.args.band.w c.lay_columns.ensures.cost
+    part_cost c.args.steps.now c.lay_columns.new.steps c.overlap-down.result.count c.overlap-across.result.count c.args.band.h
+    c.args.band.w c.lay_columns.ensures.cost
     (omega (arith, c.overlap-down.ensures.row)) (omega (arith, c.overlap-across.ensures.row))
 
 pub returns-clause-each : goal.returns-clause-each
@@ -42,8 +47,11 @@ returns-clause-each g c = λ v k hv hk.
     let fits_x : SFits w32 i.x = offset_fits i.x c.layer.invariant.x in
     let fits_y : SFits w32 i.y = offset_fits i.y c.layer.invariant.y in
     let row : place i.y i.plane.height (c.args.band.y + v) ≡ place_by down.skip down.from down.count v =
-    ap (λ n. place i.y n (c.args.band.y + v)) (sym c.height.ensures.value) ∙ (simp to_z-of_z at (c.overlap-down.ensures.place v hv)) in
+    ap (λ n. place i.y n (c.args.band.y + v)) (sym c.height.ensures.value)
+    ∙ (simp to_z-of_z at (c.overlap-down.ensures.place v hv)) in
     let column : place i.x i.plane.width (c.args.band.x + k) ≡ place_by across.skip across.from across.count k =
-    ap (λ n. place i.x n (c.args.band.x + k)) (sym c.width.ensures.value) ∙ (simp to_z-of_z at (c.overlap-across.ensures.place k hk)) in
+    ap (λ n. place i.x n (c.args.band.x + k)) (sym c.width.ensures.value)
+    ∙ (simp to_z-of_z at (c.overlap-across.ensures.place k hk)) in
     c.lay_columns.ensures.each v k hv hk
-    ∙ rw (← c.layer.view_is) (by_place c.args.mode c.args.colours.now c.args.opacity s (c.args.band.x + k) (c.args.band.y + v) (place_by across.skip across.from across.count k) (place_by down.skip down.from down.count v) p column row)
+    ∙ rw (← c.layer.view_is) (by_place c.args.mode c.args.colours.now c.args.opacity s (c.args.band.x + k) (c.args.band.y + v)
+    (place_by across.skip across.from across.count k) (place_by down.skip down.from down.count v) p column row)

@@ -9,5 +9,6 @@ abbrev pub invariant-loop-r : goal.invariant-loop-r
 invariant-loop-r g l = record {
   row : length l.row ≡ l.fn.part.w;
   cost : l.steps ≡ l.fn.steps + l.r * l.fn.part.w;
-  laid : AreLaidTo l.fn.mode l.fn.left (part_above_0 l.fn.part.x) l.fn.part.w l.fn.top (part_above_0 l.fn.part.y) l.r l.fn.band.w l.fn.band.h (sheet_pixel l.colours l.fn.opacity l.layer) l.fn.picture l.picture;
+  laid : AreLaidTo l.fn.mode l.fn.left (part_above_0 l.fn.part.x) l.fn.part.w l.fn.top
+      (part_above_0 l.fn.part.y) l.r l.fn.band.w l.fn.band.h (sheet_pixel l.colours l.fn.opacity l.layer) l.fn.picture l.picture;
 }

@@ -12,5 +12,6 @@ set_len-requires g c =
 
 pub returns-clause-cost : goal.returns-clause-cost
 returns-clause-cost g c =
-    let size : c.tile_rect-rect.result.w * c.tile_rect-rect.result.h ≡ tile_points c.args.doc.now c.args.at = ap (λ r. r.w * r.h) c.tile_rect-rect.ensures ∙ ap (λ d. tile_points d c.args.at) c.doc.view_is in
+    let size : c.tile_rect-rect.result.w * c.tile_rect-rect.result.h ≡ tile_points c.args.doc.now c.args.at =
+    ap (λ r. r.w * r.h) c.tile_rect-rect.ensures ∙ ap (λ d. tile_points d c.args.at) c.doc.view_is in
     rw size at c.compose.ensures.cost

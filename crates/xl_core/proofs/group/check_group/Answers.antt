@@ -7,7 +7,8 @@ use Rattle.xl_core.proofs.group.check_group.Goals as goal
 
 pub returns-in-Err-clause-refused : goal.returns-in-Err-clause-refused
 returns-in-Err-clause-refused c =
-    refusal_same (at c.args.document.now c.args.next_id) (edits_of c.args.edits.now) c.args.tables [] c.in-Err.refused c.in-Err.ensures.refused
+    refusal_same (at c.args.document.now c.args.next_id)
+    (edits_of c.args.edits.now) c.args.tables [] c.in-Err.refused c.in-Err.ensures.refused
 
 pub returns-clause-allowed : goal.returns-clause-allowed
 returns-clause-allowed c = λ others.

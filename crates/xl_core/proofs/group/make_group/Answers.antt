@@ -16,12 +16,15 @@ returns-then-is_empty-clause-asked g c =
     let none : length c.in_ok-blank.blank ≡ 0 = ap length (sym c.as_slice.ensures) ∙ empty in
     let plain : filter_count edits ≡ 0 = sym c.in_ok-blank.ensures ∙ none in
     IfOk-weaker c.try_group.result _ _
-    (λ made same. subst (AreAsked _ _ edits) (sym (same ∙ no_tables c.in_ok-blank.blank none)) (no_filters-asked _ edits plain)) c.try_group.ensures.tables
+    (λ made same. subst (AreAsked _ _ edits) (sym (same ∙ no_tables c.in_ok-blank.blank none)) (no_filters-asked _ edits plain))
+    c.try_group.ensures.tables
 
 pub returns-clause-chest : goal.returns-clause-chest
 returns-clause-chest g c =
     let old = at c.args.document.now c.args.next_id in
     let edits = edits_of c.args.edits.now in
     let tables = c.in_ok-tables.tables in
-    IfErr-weaker c.try_group-2.result _ _ (λ e refusal. leaves _ _ old edits tables e (c.in_ok-check_group.ensures.allowed tables) c.in_ok-tables.ensures.asked refusal)
+    IfErr-weaker c.try_group-2.result _ _
+    (λ e refusal. leaves _ _ old edits tables e
+    (c.in_ok-check_group.ensures.allowed tables) c.in_ok-tables.ensures.asked refusal)
     c.try_group-2.ensures.refused

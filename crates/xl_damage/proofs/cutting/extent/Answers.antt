@@ -19,18 +19,21 @@ returns-in_default-clause-value c =
     let e : node_of (find c.args.id.0 c.doc.inside.tree) ≡ None = sym c.find.ensures ∙ ap option_copied c.in_default.is in
     let gone = no_node_seen c.args.id.0 c.doc.inside.tree c.doc.invariant.marks e in
     let at = ap (λ f. rect_found f) gone in
-    c.cut.ensures ∙ (ap (λ r. meet r (sheet c.args.doc.now.width c.args.doc.now.height)) (c.no_rect.ensures.value ∙ (sym at ∙ ap (λ d. rect_found (find c.args.id.0 d.nodes)) c.doc.view_is)))
+    c.cut.ensures ∙ (ap (λ r. meet r (sheet c.args.doc.now.width c.args.doc.now.height)) (c.no_rect.ensures.value
+    ∙ (sym at ∙ ap (λ d. rect_found (find c.args.id.0 d.nodes)) c.doc.view_is)))
 
 pub group_extent-requires-clause-some : goal.group_extent-requires-clause-some
 group_extent-requires-clause-some c =
-    let e : node_of (find c.args.id.0 c.doc.inside.tree) ≡ Some c.in-Some.node.now = sym c.find.ensures ∙ ap option_copied c.in-Some.is in
+    let e : node_of (find c.args.id.0 c.doc.inside.tree) ≡ Some c.in-Some.node.now = sym c.find.ensures
+    ∙ ap option_copied c.in-Some.is in
     let at : IsGroupAt c.args.id.0 c.in-Some.node.now c.doc.inside.tree =
     group_seen c.args.id.0 c.doc.inside.tree c.in-Some.node.now c.doc.invariant.marks e (subst IsGroup (sym c.in-Group.is) tt) in
     group_not_0 c.args.id.0 (nodes_of c.doc.inside.tree) _ _ c.doc.invariant.limits.ids.positive at.seen
 
 pub group_extent-requires-clause-group : goal.group_extent-requires-clause-group
 group_extent-requires-clause-group c =
-    let e : node_of (find c.args.id.0 c.doc.inside.tree) ≡ Some c.in-Some.node.now = sym c.find.ensures ∙ ap option_copied c.in-Some.is in
+    let e : node_of (find c.args.id.0 c.doc.inside.tree) ≡ Some c.in-Some.node.now = sym c.find.ensures
+    ∙ ap option_copied c.in-Some.is in
     let at : IsGroupAt c.args.id.0 c.in-Some.node.now c.doc.inside.tree =
     group_seen c.args.id.0 c.doc.inside.tree c.in-Some.node.now c.doc.invariant.marks e (subst IsGroup (sym c.in-Group.is) tt) in
     let P : Document → Type 0 = λ d. IsSome (stack_at c.args.id.0 d.nodes) in
@@ -38,7 +41,8 @@ group_extent-requires-clause-group c =
 
 pub returns-in-Leaf-clause-value : goal.returns-in-Leaf-clause-value
 returns-in-Leaf-clause-value c =
-    let e : node_of (find c.args.id.0 c.doc.inside.tree) ≡ Some c.in-Some.node.now = sym c.find.ensures ∙ ap option_copied c.in-Some.is in
+    let e : node_of (find c.args.id.0 c.doc.inside.tree) ≡ Some c.in-Some.node.now = sym c.find.ensures
+    ∙ ap option_copied c.in-Some.is in
     let at : IsLeafAt c.args.id.0 c.in-Some.node.now c.doc.inside.tree =
     leaf_seen c.args.id.0 c.doc.inside.tree c.in-Some.node.now c.doc.invariant.marks e (subst IsLeaf (sym c.in-Leaf.is) tt) in
     let own = ap (λ b. nodes.sheet_of b) c.in-Leaf.is in

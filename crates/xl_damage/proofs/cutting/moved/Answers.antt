@@ -21,22 +21,26 @@ held false cause e = cc
 pub returns-in_default-clause-value : goal.returns-in_default-clause-value
 returns-in_default-clause-value c =
     let e : node_of (find c.args.id.0 c.doc.inside.tree) ≡ None = sym c.find.ensures ∙ ap option_copied c.in_default.is in
-    c.no_rect.ensures.value ∙ (ap (λ f. moved f c.args.rect) (sym (no_node_seen c.args.id.0 c.doc.inside.tree c.doc.invariant.marks e))
+    c.no_rect.ensures.value ∙ (ap (λ f. moved f c.args.rect)
+    (sym (no_node_seen c.args.id.0 c.doc.inside.tree c.doc.invariant.marks e))
     ∙ ap (λ d. moved (find c.args.id.0 d.nodes) c.args.rect) c.doc.view_is)
 
 pub placed-requires : goal.placed-requires
 placed-requires c =
-    let e : node_of (find c.args.id.0 c.doc.inside.tree) ≡ Some c.in-Some.node.now = sym c.find.ensures ∙ ap option_copied c.in-Some.is in
+    let e : node_of (find c.args.id.0 c.doc.inside.tree) ≡ Some c.in-Some.node.now = sym c.find.ensures
+    ∙ ap option_copied c.in-Some.is in
     let at : IsLeafAt c.args.id.0 c.in-Some.node.now c.doc.inside.tree =
     leaf_seen c.args.id.0 c.doc.inside.tree c.in-Some.node.now c.doc.invariant.marks e (subst IsLeaf (sym c.in-Leaf.is) tt) in
     let own = ap (λ b. nodes.sheet_of b) c.in-Leaf.is in
-    let rule : Found Layer Group → Option EditRefused = λ f. of_leaf (λ l. unless (lies_on l.plane.width l.plane.height c.args.rect) OutsideLayer) f in
+    let rule : Found Layer Group → Option EditRefused =
+    λ f. of_leaf (λ l. unless (lies_on l.plane.width l.plane.height c.args.rect) OutsideLayer) f in
     let passed = ap rule (sym at.seen) ∙ (ap (λ d. rule (find c.args.id.0 d.nodes)) c.doc.view_is ∙ c.requires) in
     ap (λ s. lies_on s.plane.width s.plane.height c.args.rect) (sym own) ∙ held _ OutsideLayer passed
 
 pub returns-in-Leaf-clause-value : goal.returns-in-Leaf-clause-value
 returns-in-Leaf-clause-value c =
-    let e : node_of (find c.args.id.0 c.doc.inside.tree) ≡ Some c.in-Some.node.now = sym c.find.ensures ∙ ap option_copied c.in-Some.is in
+    let e : node_of (find c.args.id.0 c.doc.inside.tree) ≡ Some c.in-Some.node.now = sym c.find.ensures
+    ∙ ap option_copied c.in-Some.is in
     let at : IsLeafAt c.args.id.0 c.in-Some.node.now c.doc.inside.tree =
     leaf_seen c.args.id.0 c.doc.inside.tree c.in-Some.node.now c.doc.invariant.marks e (subst IsLeaf (sym c.in-Leaf.is) tt) in
     let own = ap (λ b. nodes.sheet_of b) c.in-Leaf.is in
@@ -46,7 +50,8 @@ returns-in-Leaf-clause-value c =
 
 pub returns-in-Group-clause-value : goal.returns-in-Group-clause-value
 returns-in-Group-clause-value c =
-    let e : node_of (find c.args.id.0 c.doc.inside.tree) ≡ Some c.in-Some.node.now = sym c.find.ensures ∙ ap option_copied c.in-Some.is in
+    let e : node_of (find c.args.id.0 c.doc.inside.tree) ≡ Some c.in-Some.node.now = sym c.find.ensures
+    ∙ ap option_copied c.in-Some.is in
     let at : IsGroupAt c.args.id.0 c.in-Some.node.now c.doc.inside.tree =
     group_seen c.args.id.0 c.doc.inside.tree c.in-Some.node.now c.doc.invariant.marks e (subst IsGroup (sym c.in-Group.is) tt) in
     c.no_rect-in-Group.ensures.value

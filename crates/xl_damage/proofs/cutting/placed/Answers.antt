@@ -7,7 +7,8 @@ use Rattle.xl_damage.proofs.cutting.placed.Goals as goal
 pub shifted-requires-clause-rect : goal.shifted-requires-clause-rect
 shifted-requires-clause-rect c =
     let whole = c.layer_rect.result in
-    own_small whole c.args.rect c.layer_rect.ensures.reach (lies whole.w whole.h c.args.rect (ap (λ r. lies_on r.w r.h c.args.rect) c.layer_rect.ensures.value ∙ c.requires))
+    own_small whole c.args.rect c.layer_rect.ensures.reach
+    (lies whole.w whole.h c.args.rect (ap (λ r. lies_on r.w r.h c.args.rect) c.layer_rect.ensures.value ∙ c.requires))
 
 pub returns-clause-small : goal.returns-clause-small
 returns-clause-small c =

@@ -7,5 +7,7 @@ use Rattle.xl_damage.proofs.pairs.damage_between.Goals as goal
 pub returns : goal.returns
 returns c =
     c.in_ok-add_pairs.ensures
-    ∙ (ap (λ xs. pairs_of xs ++ damage_between c.args.before.now c.args.after.now c.args.next_id (edit_of c.args.edit.now)) c.new-list.ensures.items
-    ∙ settled c.args.before.now c.args.after.now c.args.next_id (edit_of c.args.edit.now) c.limits.ensures c.requires.positive c.requires.above c.requires.made)
+    ∙ (ap (λ xs. pairs_of xs ++ damage_between c.args.before.now c.args.after.now c.args.next_id (edit_of c.args.edit.now))
+    c.new-list.ensures.items
+    ∙ settled c.args.before.now c.args.after.now c.args.next_id
+    (edit_of c.args.edit.now) c.limits.ensures c.requires.positive c.requires.above c.requires.made)

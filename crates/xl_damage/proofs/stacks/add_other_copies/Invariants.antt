@@ -6,4 +6,5 @@ use Rattle.xl_damage.proofs.stacks.add_other_copies.Given as goal
 
 abbrev pub invariant-loop-stack : goal.invariant-loop-stack
 invariant-loop-stack l =
-    Adds l.initial.list.items l.list.items (copies l.rect (filter (λ n. not (list_any (λ m. eqb m n) (numbers l.before))) (numbers (take l.stack-index l.stacks))))
+    Adds l.initial.list.items l.list.items
+    (copies l.rect (filter (λ n. not (list_any (λ m. eqb m n) (numbers l.before))) (numbers (take l.stack-index l.stacks))))

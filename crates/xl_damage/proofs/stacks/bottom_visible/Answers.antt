@@ -5,4 +5,5 @@ use Rattle.xl_damage.proofs.stacks.bottom_visible.Goals as goal
 
 pub returns : goal.returns
 returns c =
-    c.bottom_visible.ensures ∙ (sym (bottom-stack c.args.stack.0 c.doc.inside.tree) ∙ ap (λ d. damage.bottom_visible d c.args.stack.0) c.doc.view_is)
+    c.bottom_visible.ensures ∙ (sym (bottom-stack c.args.stack.0 c.doc.inside.tree)
+    ∙ ap (λ d. damage.bottom_visible d c.args.stack.0) c.doc.view_is)

@@ -13,5 +13,6 @@ invariant_of-doc c =
     record {
       marks = c.doc.invariant.marks;
       limits = limits_of_channels _ d (λ (channels : List Channel). remove channels index) _ c.doc.view_is c.doc.invariant.limits
-          (limits_after d (edits.drop_channel index) tt refl (not_refused _ (sym c.in_ok-check_channel.was ∙ c.check_channel.ensures.value))) c.remove.ensures.others;
+          (limits_after d (edits.drop_channel index) tt refl
+          (not_refused _ (sym c.in_ok-check_channel.was ∙ c.check_channel.ensures.value))) c.remove.ensures.others;
     }

@@ -12,4 +12,5 @@ repeated-requires c =
 
 pub returns : goal.returns
 returns c =
-    IfOk-weaker c.repeated.result _ _ (λ v alike. repeated_flat (c.args.rect.w * c.args.rect.h) c.args.value v.items alike) c.repeated.ensures
+    IfOk-weaker c.repeated.result _ _
+    (λ v alike. repeated_flat (c.args.rect.w * c.args.rect.h) c.args.value v.items alike) c.repeated.ensures

@@ -18,7 +18,8 @@ invariant_of-doc c =
     let allowed : refusal d e ≡ None = search rules in
     let byte : c.args.value ≤ 255 = omega arith in
     let kept : KeepsLimits d (record d { selection = Some w }) =
-    subst (λ x. KeepsLimits d x) (selection_written d s w c.args.rect c.args.value 0 [] c.in_ok-selection.ensures c.in_ok-write_channel.ensures) (limits_after d e byte refl allowed) in
+    subst (λ x. KeepsLimits d x) (selection_written d s w c.args.rect c.args.value 0 [] c.in_ok-selection.ensures
+    c.in_ok-write_channel.ensures) (limits_after d e byte refl allowed) in
     record {
       marks = c.doc.invariant.marks;
       limits = limits_set _ d (λ (x : Document). record x { selection = Some w }) c.doc.view_is c.doc.invariant.limits kept;
@@ -32,5 +33,6 @@ returns c =
     let e = edits.select c.args.rect c.args.value in
     let allowed : refusal d e ≡ None = search rules in
     made d _ e refl allowed
-    (λ table next. selection_written d s w c.args.rect c.args.value next table c.in_ok-selection.ensures c.in_ok-write_channel.ensures
+    (λ table next. selection_written d s w c.args.rect c.args.value next table c.in_ok-selection.ensures
+    c.in_ok-write_channel.ensures
     ∙ ap (λ (x : Document). record x { selection = Some w }) (sym c.doc.view_is))

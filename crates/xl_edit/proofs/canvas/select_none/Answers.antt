@@ -10,5 +10,6 @@ invariant_of-doc c =
     let d = c.args.doc.now in
     record {
       marks = c.doc.invariant.marks;
-      limits = limits_set _ d (λ (x : Document). record x { selection = None }) c.doc.view_is c.doc.invariant.limits (limits_after d edits.select_none tt refl refl);
+      limits = limits_set _ d (λ (x : Document). record x { selection = None }) c.doc.view_is c.doc.invariant.limits
+          (limits_after d edits.select_none tt refl refl);
     }

@@ -13,6 +13,7 @@ returns c =
     let P : Channel → Type 0 = λ x. IsWithin x.plane.width x.plane.height c.args.rect in
     on_ok_weaker c.write_rect.result
     (λ e. ap (λ p. record ch { plane = p }) e
-    ∙ (channel_written ch c.args.rect c.args.value c.args.bytes.now c.channel.invariant (subst P (sym c.channel.view_is) c.requires.within) c.requires.flat
+    ∙ (channel_written ch c.args.rect c.args.value c.args.bytes.now c.channel.invariant
+    (subst P (sym c.channel.view_is) c.requires.within) c.requires.flat
     ∙ ap (with_plane (with_rect c.args.rect (λ x y k. c.args.value))) c.channel.view_is))
     c.write_rect.ensures.ok

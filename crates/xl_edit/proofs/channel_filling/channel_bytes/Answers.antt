@@ -10,6 +10,7 @@ pub returns-clause-paints : goal.returns-clause-paints
 returns-clause-paints c = λ other at.
     let d = c.args.doc.now in
     let n = c.in_ok-channel.channel.now in
-    let same : n ≡ other = one_there c.args.index d.channels n other c.in_ok-channel.ensures.there c.in_ok-channel.ensures.channel at in
+    let same : n ≡ other = one_there c.args.index d.channels n other c.in_ok-channel.ensures.there c.in_ok-channel.ensures.channel
+    at in
     let P : Channel → Type 0 = λ q. PaintsPlane d canvas_site c.args.rect c.args.value c.in_ok-bytes.bytes.items q.plane in
     subst P (c.channel.view_is ∙ same) c.in_ok-bytes.ensures

@@ -14,7 +14,8 @@ returns-clause-ok c =
     let with : Plane → Channel = λ p. record { name = c.channel.inside.name; kept = c.channel.inside.kept; plane = p } in
     let change : Channel → Channel = with_plane (λ p. written p c.args.rect c.args.bytes.now) in
     on_ok_weaker c.write_rect.result
-    (λ e. set_changed change c.args.index c.args.channels.now c.get_mut-channel.result.now (with c.write_rect.new.self) c.get_mut-channel.ensures.value c.requires.there
+    (λ e. set_changed change c.args.index c.args.channels.now c.get_mut-channel.result.now
+    (with c.write_rect.new.self) c.get_mut-channel.ensures.value c.requires.there
     (ap with e ∙ ap change c.channel.view_is))
     c.write_rect.ensures.ok
 

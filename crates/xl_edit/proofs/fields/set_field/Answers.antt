@@ -11,5 +11,6 @@ set_field_in-requires-clause-ids c = distinct_in _ _ refl c.doc.invariant.limits
 pub invariant_of-doc : goal.invariant_of-doc
 invariant_of-doc c = record {
   marks = c.set_field_in.ensures.marks;
-  limits = limits_kept _ c.args.doc.now (with_field c.args.field c.args.id.0) _ c.doc.view_is c.doc.invariant.limits c.requires.limits c.set_field_in.ensures.done;
+  limits = limits_kept _ c.args.doc.now
+      (with_field c.args.field c.args.id.0) _ c.doc.view_is c.doc.invariant.limits c.requires.limits c.set_field_in.ensures.done;
 }

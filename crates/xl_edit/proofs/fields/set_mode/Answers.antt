@@ -17,4 +17,5 @@ set_field-requires-clause-limits c =
     let id = c.args.id.0 in
     let allowed : refusal d (edits.set_mode id c.args.mode) ≡ None = search rules in
     let P : Mode → Type 0 = λ m. KeepsLimits d (record d { nodes = with_field (fields.Blend m) id d.nodes }) in
-    subst P (ap (λ o. unwrap_or o Normal) c.in_ok-mode.ensures.mode) (limits_after d (edits.set_mode id c.args.mode) tt refl allowed)
+    subst P (ap (λ o. unwrap_or o Normal) c.in_ok-mode.ensures.mode)
+    (limits_after d (edits.set_mode id c.args.mode) tt refl allowed)

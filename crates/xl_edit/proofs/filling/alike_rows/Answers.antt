@@ -5,5 +5,6 @@ use Rattle.xl_edit.proofs.filling.alike_rows.Goals as goal
 pub returns : goal.returns
 returns c =
     IfOk-weaker c.repeated-2.result _ _
-    (λ v rows. alike_are_rows c.args.w c.args.h c.args.pixel.now c.in_ok-row.row.items v.items c.in_ok-row.ensures (rw c.deref.ensures.value at rows))
+    (λ v rows. alike_are_rows c.args.w c.args.h c.args.pixel.now c.in_ok-row.row.items v.items c.in_ok-row.ensures
+    (rw c.deref.ensures.value at rows))
     c.repeated-2.ensures

@@ -15,13 +15,15 @@ returns-then-is_whole c =
     IfOk-weaker c.alike_rows.result _ _
     (λ v rows.
     let P : ℕ → Type 0 = λ n. AreRows rect.w rect.h n new v.items in
-    whole_rows c.args.doc.now c.args.site c.args.plane.now rect new v.items (sym c.if-is_whole.ensures) (subst P c.requires.pixel rows))
+    whole_rows c.args.doc.now c.args.site c.args.plane.now rect new v.items (sym c.if-is_whole.ensures)
+    (subst P c.requires.pixel rows))
     c.alike_rows.ensures
 
 pub weighed-requires-clause-new : goal.weighed-requires-clause-new
 weighed-requires-clause-new c =
     let P : List ℕ → Type 0 = AreAlike c.args.pixel.now c.args.rect.w in
-    one_row c.args.rect.w c.args.rect.h c.args.plane.now.bpp c.args.pixel.now c.deref.result.now c.requires.pixel (subst P (sym c.deref.ensures.value) c.in_ok-row.ensures)
+    one_row c.args.rect.w c.args.rect.h c.args.plane.now.bpp c.args.pixel.now c.deref.result.now c.requires.pixel
+    (subst P (sym c.deref.ensures.value) c.in_ok-row.ensures)
 
 pub returns : goal.returns
 returns c =

@@ -5,5 +5,6 @@ use Rattle.xl_edit.proofs.filling.filled_flat.Goals as goal
 pub returns : goal.returns
 returns c =
     IfOk-weaker c.filled.result _ _
-    (λ v rows. flat_painted c.args.doc.now c.args.site c.args.plane.now c.args.rect c.args.value v.items c.requires.bpp c.requires.within rows)
+    (λ v rows. flat_painted c.args.doc.now c.args.site c.args.plane.now c.args.rect c.args.value v.items c.requires.bpp
+    c.requires.within rows)
     c.filled.ensures

@@ -21,14 +21,20 @@ returns c =
     let old = c.deref_mut.result.now in
     let new = c.pixels_through.new.bytes in
     let P : ℕ → List ℕ → ℕ → Type 0 = λ n t colours. (k b : ℕ) → k < rect.w * rect.h → b < n
-    → slice_index new (k * n + b) ≡ cond (nat_lt b colours) (slice_index t (slice_index old (k * n + b))) (slice_index old (k * n + b)) in
+    → slice_index new (k * n + b) ≡ cond (nat_lt b colours) (slice_index t (slice_index old (k * n + b)))
+    (slice_index old (k * n + b)) in
     let one : P p.bpp c.as_slice.result.now c.colour_bytes-colours.result =
     subst (λ n. P n c.as_slice.result.now c.colour_bytes-colours.result) c.bpp-bpp.ensures.value c.pixels_through.ensures.each in
-    let two : P p.bpp table c.colour_bytes-colours.result = subst (λ t. P p.bpp t c.colour_bytes-colours.result) c.as_slice.ensures.value one in
+    let two : P p.bpp table c.colour_bytes-colours.result =
+    subst (λ t. P p.bpp t c.colour_bytes-colours.result) c.as_slice.ensures.value one in
     let each : P p.bpp table (colours_of s) = subst (λ m. P p.bpp table m) c.colour_bytes-colours.ensures.value two in
     let through : AreFiltered table (colours_of s) rect p new =
-    rows_through table (colours_of s) rect p old new (c.deref_mut.ensures.value ∙ c.in_ok-bytes.ensures) c.pixels_through.ensures.size each in
-    let of_layer : AreFiltered table (colours_of s) rect s.plane new = subst (λ (q : Sheet). AreFiltered table (colours_of s) rect q.plane new) c.layer.view_is through in
+    rows_through table (colours_of s) rect p old new (c.deref_mut.ensures.value
+    ∙ c.in_ok-bytes.ensures) c.pixels_through.ensures.size each in
+    let of_layer : AreFiltered table (colours_of s) rect s.plane new =
+    subst (λ (q : Sheet). AreFiltered table (colours_of s) rect q.plane new) c.layer.view_is through in
     let full : c.in_ok-bytes.bytes.len ≡ length c.in_ok-bytes.bytes.items = search rules in
-    let same : length new ≡ length c.in_ok-bytes.bytes.items = c.pixels_through.ensures.size ∙ ap length c.deref_mut.ensures.value in
-    subst (AreFiltered table (colours_of s) rect s.plane) (sym (whole_taken c.in_ok-bytes.bytes.len new c.in_ok-bytes.bytes.items full same)) of_layer
+    let same : length new ≡ length c.in_ok-bytes.bytes.items = c.pixels_through.ensures.size
+    ∙ ap length c.deref_mut.ensures.value in
+    subst (AreFiltered table (colours_of s) rect s.plane)
+    (sym (whole_taken c.in_ok-bytes.bytes.len new c.in_ok-bytes.bytes.items full same)) of_layer

@@ -20,5 +20,6 @@ returns c = λ slot.
     let d = c.args.doc.now in
     let change = filters d c.args.rect c.args.table.now in
     let P : List ℕ → Type 0 = λ bytes. IsLayer (Paints Pixels c.args.rect bytes change) (node d c.args.id.0) in
-    paint_made d _ (edits.filter c.args.id.0 c.args.rect slot) c.args.id.0 Pixels c.args.rect _ change refl c.in_ok-bytes.ensures.allowed c.args.table.now (λ next. refl)
+    paint_made d _ (edits.filter c.args.id.0 c.args.rect slot) c.args.id.0 Pixels c.args.rect _ change refl
+    c.in_ok-bytes.ensures.allowed c.args.table.now (λ next. refl)
     c.put.ensures.ids (subst P (sym c.deref.ensures.value) c.in_ok-bytes.ensures.paints) c.in_ok-put.ensures.ok

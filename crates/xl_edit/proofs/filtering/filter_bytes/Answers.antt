@@ -24,8 +24,10 @@ returns-clause-paints c =
     let new = c.in_ok-new.new.items in
     let bytes = c.in_ok-bytes.bytes.items in
     let Seen : Sheet → Type 0 = λ q.
-    AreRows rect.w rect.h q.plane.bpp (byte_in d c.site_of-site.result q.plane rect (in_rows (rect.w * q.plane.bpp) q.plane.bpp new)) bytes in
-    let P : Site → Type 0 = λ site. AreRows rect.w rect.h s.plane.bpp (byte_in d site s.plane rect (in_rows (rect.w * s.plane.bpp) s.plane.bpp new)) bytes in
+    AreRows rect.w rect.h q.plane.bpp
+    (byte_in d c.site_of-site.result q.plane rect (in_rows (rect.w * q.plane.bpp) q.plane.bpp new)) bytes in
+    let P : Site → Type 0 = λ site. AreRows rect.w rect.h s.plane.bpp
+    (byte_in d site s.plane rect (in_rows (rect.w * s.plane.bpp) s.plane.bpp new)) bytes in
     of_sheet (Paints Pixels rect bytes (filters d rect c.args.table.now)) s (node d c.args.id.0) c.in_ok-layer.ensures.found
     (filter_painted d s rect c.args.table.now new bytes c.in_ok-layer.ensures.within c.in_ok-new.ensures
     (subst P c.site_of-site.ensures.value (subst Seen c.layer.view_is c.in_ok-bytes.ensures)))

@@ -4,4 +4,5 @@ use Rattle.xl_edit.proofs.filtering.part_through.Given as goal
 
 -- the bytes so far went through the table
 abbrev pub invariant-loop-c : goal.invariant-loop-c
-invariant-loop-c l = (k : ℕ) → slice_index l.bytes k ≡ byte_after l.at l.c (slice_index l.initial.bytes k) (slice_index l.table (slice_index l.initial.bytes k)) k
+invariant-loop-c l = (k : ℕ) → slice_index l.bytes k
+    ≡ byte_after l.at l.c (slice_index l.initial.bytes k) (slice_index l.table (slice_index l.initial.bytes k)) k

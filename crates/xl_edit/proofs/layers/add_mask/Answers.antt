@@ -16,7 +16,8 @@ change_layer-requires-clause-limits c = λ is.
     let d = c.args.doc.now in
     let m = c.in_ok-mask.mask in
     let P : Nodes → Type 0 = λ ns. IsDocument (record d { nodes = ns }) in
-    let same = leaf_agrees d c.args.id.0 c.in_ok-layer.layer.now (layer_changed (changes.AddMask m)) (λ l. record l { mask = Some (mask_of l); apply_mask = true }) is
+    let same = leaf_agrees d c.args.id.0 c.in_ok-layer.layer.now (layer_changed (changes.AddMask m))
+    (λ l. record l { mask = Some (mask_of l); apply_mask = true }) is
     c.in_ok-layer.ensures.found
     (λ l e. ap (λ x. record l { mask = Some x; apply_mask = true }) (c.in_ok-mask.ensures ∙ ap mask_of_sheet (sym e))) in
     subst P (sym same) (limits_after d (edits.add_mask c.args.id.0) tt refl c.in_ok-layer.ensures.allowed is)
@@ -25,7 +26,8 @@ pub returns : goal.returns
 returns c =
     let d = c.args.doc.now in
     let m = c.in_ok-mask.mask in
-    let same = leaf_agrees d c.args.id.0 c.in_ok-layer.layer.now (layer_changed (changes.AddMask m)) (λ l. record l { mask = Some (mask_of l); apply_mask = true }) c.know_limits.ensures
+    let same = leaf_agrees d c.args.id.0 c.in_ok-layer.layer.now (layer_changed (changes.AddMask m))
+    (λ l. record l { mask = Some (mask_of l); apply_mask = true }) c.know_limits.ensures
     c.in_ok-layer.ensures.found
     (λ l e. ap (λ x. record l { mask = Some x; apply_mask = true }) (c.in_ok-mask.ensures ∙ ap mask_of_sheet (sym e))) in
     made d c.change_layer.new.doc (edits.add_mask c.args.id.0) refl c.in_ok-layer.ensures.allowed

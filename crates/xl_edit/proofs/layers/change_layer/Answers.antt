@@ -12,5 +12,7 @@ change_layer_in-requires-clause-ids c = distinct_in _ _ refl c.doc.invariant.lim
 pub invariant_of-doc : goal.invariant_of-doc
 invariant_of-doc c = record {
   marks = c.change_layer_in.ensures.marks;
-  limits = limits_kept _ c.args.doc.now (with_leaf c.args.id.0 (layer_changed c.args.change)) _ c.doc.view_is c.doc.invariant.limits c.requires.limits c.change_layer_in.ensures.done;
+  limits = limits_kept _ c.args.doc.now
+      (with_leaf c.args.id.0 (layer_changed c.args.change)) _ c.doc.view_is c.doc.invariant.limits c.requires.limits
+      c.change_layer_in.ensures.done;
 }

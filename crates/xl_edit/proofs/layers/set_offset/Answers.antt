@@ -16,7 +16,8 @@ change_layer-requires-clause-limits c =
     let allowed : refusal d (edits.set_offset c.args.id.0 c.args.x c.args.y) ≡ None = search rules in
     let x : to_z w32 (of_z w32 c.args.x) ≡ c.args.x = search rules in
     let y : to_z w32 (of_z w32 c.args.y) ≡ c.args.y = search rules in
-    let P : ℤ → ℤ → Type 0 = λ left top. KeepsLimits d (record d { nodes = with_leaf id (λ (l : Layer). record l { x = left; y = top }) d.nodes }) in
+    let P : ℤ → ℤ → Type 0 = λ left top.
+    KeepsLimits d (record d { nodes = with_leaf id (λ (l : Layer). record l { x = left; y = top }) d.nodes }) in
     let P-top : ℤ → Type 0 = λ top. P c.args.x top in
     let P-left : ℤ → Type 0 = λ left. P left (to_z w32 (of_z w32 c.args.y)) in
     subst P-left (sym x) (subst P-top (sym y) (limits_after d (edits.set_offset c.args.id.0 c.args.x c.args.y) tt refl allowed))

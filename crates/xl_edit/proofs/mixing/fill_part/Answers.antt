@@ -4,4 +4,5 @@ use Rattle.xl_edit.proofs.mixing.fill_part.Goals as goal
 
 pub loop-c-preserved : goal.loop-c-preserved
 loop-c-preserved c =
-    byte_more c.loop-c.out c.args.at c.loop-c.c c.args.value (λ k. c.args.value) (slice_index c.args.out.now) (omega arith) refl c.loop-c.invariant
+    byte_more c.loop-c.out c.args.at c.loop-c.c c.args.value (λ k. c.args.value) (slice_index c.args.out.now)
+    (omega arith) refl c.loop-c.invariant

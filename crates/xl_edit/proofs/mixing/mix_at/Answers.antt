@@ -11,6 +11,8 @@ loop-k-preserved c =
     let old : ℕ → ℕ = slice_index c.args.bytes.now in
     let of : ℕ → ℕ = λ k. mixed (slice_index c.args.weights.now (k - at)) (slice_index c.args.new.now (k - at)) (old k) in
     let column : at + here - at ≡ here = omega arith in
-    let still : slice_index c.loop-k.bytes (at + here) ≡ old (at + here) = c.loop-k.invariant (at + here) ∙ after_behind at here _ _ (at + here) (omega arith) in
+    let still : slice_index c.loop-k.bytes (at + here) ≡ old (at + here) = c.loop-k.invariant (at + here)
+    ∙ after_behind at here _ _ (at + here) (omega arith) in
     byte_more c.loop-k.bytes at here _ of old (omega arith)
-    (c.mixed.ensures ∙ (λ i. mixed (slice_index c.args.weights.now (sym column i)) (slice_index c.args.new.now (sym column i)) (still i))) c.loop-k.invariant
+    (c.mixed.ensures ∙ (λ i. mixed (slice_index c.args.weights.now (sym column i)) (slice_index c.args.new.now (sym column i))
+    (still i))) c.loop-k.invariant

@@ -6,4 +6,5 @@ use Rattle.xl_edit.proofs.mixing.mix_at.Given as goal
 -- the bytes so far are mixed
 abbrev pub invariant-loop-k : goal.invariant-loop-k
 invariant-loop-k l = (k : ℕ) → slice_index l.bytes k
-    ≡ byte_after l.at l.k (slice_index l.initial.bytes k) (mixed (slice_index l.weights (k - l.at)) (slice_index l.new (k - l.at)) (slice_index l.initial.bytes k)) k
+    ≡ byte_after l.at l.k (slice_index l.initial.bytes k)
+    (mixed (slice_index l.weights (k - l.at)) (slice_index l.new (k - l.at)) (slice_index l.initial.bytes k)) k

@@ -7,4 +7,5 @@ fill_part-requires c = omega (arith, pixel_fits c.loop-k.k (length c.args.weight
 
 pub loop-k-preserved : goal.loop-k-preserved
 loop-k-preserved c =
-    spread_more c.args.weights.now c.loop-k.out c.fill_part.new.out c.loop-k.k c.args.bpp c.loop-k.invariant c.fill_part.ensures.each
+    spread_more c.args.weights.now c.loop-k.out c.fill_part.new.out c.loop-k.k c.args.bpp c.loop-k.invariant
+    c.fill_part.ensures.each

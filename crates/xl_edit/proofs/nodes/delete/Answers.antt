@@ -16,5 +16,6 @@ pub invariant_of-doc-2 : goal.invariant_of-doc-2
 invariant_of-doc-2 c = record {
   marks = c.take_node.ensures.marks;
   limits = limits_kept _ c.args.doc.now (without c.args.id.0) _ c.doc.view_is c.doc.invariant.limits
-      (limits_after c.args.doc.now (edits.delete c.args.id.0) tt refl c.in_ok-check_node.ensures.there) c.in_ok-take_node.ensures.ok;
+      (limits_after c.args.doc.now (edits.delete c.args.id.0) tt refl c.in_ok-check_node.ensures.there)
+      c.in_ok-take_node.ensures.ok;
 }

@@ -18,7 +18,8 @@ put_node-requires-clause-limits c =
     let n = c.args.next_id.now in
     let P : Nodes → Type 0 = λ b. KeepsLimits d (record d { nodes = put_into a.parent.0 a.place b d.nodes }) in
     subst P (sym (one_group n c.in_ok-node.node (group_made a.name.now) c.in_ok-node.ensures.body c.in_ok-node.ensures.group))
-    (limits_with_node d n (edits.new_group a.parent.0 a.place a.name.now) c.requires.bytes c.requires.next refl c.in_ok-check_new_group.ensures.allowed)
+    (limits_with_node d n (edits.new_group a.parent.0 a.place a.name.now) c.requires.bytes c.requires.next refl
+    c.in_ok-check_new_group.ensures.allowed)
 
 pub returns : goal.returns
 returns c = λ table.
@@ -26,5 +27,6 @@ returns c = λ table.
     let d = c.args.doc.now in
     let n = c.args.next_id.now in
     let one = one_group n c.in_ok-node.node (group_made a.name.now) c.in_ok-node.ensures.body c.in_ok-node.ensures.group in
-    node_made d c.put_node.new.doc n table (edits.new_group a.parent.0 a.place a.name.now) refl c.in_ok-check_new_group.ensures.allowed
+    node_made d c.put_node.new.doc n table
+    (edits.new_group a.parent.0 a.place a.name.now) refl c.in_ok-check_new_group.ensures.allowed
     (sym (c.put_node.ensures ∙ ap (λ b. record d { nodes = put_into a.parent.0 a.place b d.nodes }) one))

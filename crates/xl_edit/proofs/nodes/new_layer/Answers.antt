@@ -20,11 +20,16 @@ put_node-requires-clause-limits c =
     let x : to_z w32 (of_z w32 c.args.x) ≡ c.args.x = search rules in
     let y : to_z w32 (of_z w32 c.args.y) ≡ c.args.y = search rules in
     let allowed : refusal d (edits.new_layer a.parent.0 a.place a.x a.y a.w a.h a.kind a.name.now) ≡ None =
-    (λ i. refusal d (edits.new_layer a.parent.0 a.place (sym x i) (sym y i) a.w a.h a.kind a.name.now)) ∙ c.in_ok-check_new_layer.ensures.allowed in
+    (λ i. refusal d (edits.new_layer a.parent.0 a.place (sym x i) (sym y i) a.w a.h a.kind a.name.now))
+    ∙ c.in_ok-check_new_layer.ensures.allowed in
     let is = c.in_ok-node.ensures.layer ∙ (λ i. layer_made (x i) (y i) a.w a.h a.kind a.name.now) in
     let P : Nodes → Type 0 = λ b. KeepsLimits d (record d { nodes = put_into a.parent.0 a.place b d.nodes }) in
     subst P (sym (one_layer n c.in_ok-node.node (layer_made a.x a.y a.w a.h a.kind a.name.now) c.in_ok-node.ensures.body is))
-    (limits_with_node d n (edits.new_layer a.parent.0 a.place a.x a.y a.w a.h a.kind a.name.now) (c.requires.width, c.requires.height, c.requires.bytes) c.requires.next refl allowed)
+    (limits_with_node d n (edits.new_layer a.parent.0 a.place a.x a.y a.w a.h a.kind a.name.now) (
+      c.requires.width,
+      c.requires.height,
+      c.requires.bytes,
+    ) c.requires.next refl allowed)
 
 pub returns : goal.returns
 returns c = λ table.
@@ -34,7 +39,8 @@ returns c = λ table.
     let x : to_z w32 (of_z w32 c.args.x) ≡ c.args.x = search rules in
     let y : to_z w32 (of_z w32 c.args.y) ≡ c.args.y = search rules in
     let allowed : refusal d (edits.new_layer a.parent.0 a.place a.x a.y a.w a.h a.kind a.name.now) ≡ None =
-    (λ i. refusal d (edits.new_layer a.parent.0 a.place (sym x i) (sym y i) a.w a.h a.kind a.name.now)) ∙ c.in_ok-check_new_layer.ensures.allowed in
+    (λ i. refusal d (edits.new_layer a.parent.0 a.place (sym x i) (sym y i) a.w a.h a.kind a.name.now))
+    ∙ c.in_ok-check_new_layer.ensures.allowed in
     let is = c.in_ok-node.ensures.layer ∙ (λ i. layer_made (x i) (y i) a.w a.h a.kind a.name.now) in
     let one = one_layer n c.in_ok-node.node (layer_made a.x a.y a.w a.h a.kind a.name.now) c.in_ok-node.ensures.body is in
     node_made d c.put_node.new.doc n table (edits.new_layer a.parent.0 a.place a.x a.y a.w a.h a.kind a.name.now) refl

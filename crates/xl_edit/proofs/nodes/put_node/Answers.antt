@@ -12,5 +12,7 @@ put_node_in-requires-clause-ids c = distinct_in _ _ refl c.doc.invariant.limits
 pub invariant_of-doc : goal.invariant_of-doc
 invariant_of-doc c = record {
   marks = c.put_node_in.ensures.marks;
-  limits = limits_kept _ c.args.doc.now (put_into c.args.parent.0 c.args.place (one_node c.args.id.0 c.args.node)) _ c.doc.view_is c.doc.invariant.limits c.requires.limits c.put_node_in.ensures.done;
+  limits = limits_kept _ c.args.doc.now
+      (put_into c.args.parent.0 c.args.place (one_node c.args.id.0 c.args.node)) _ c.doc.view_is c.doc.invariant.limits
+      c.requires.limits c.put_node_in.ensures.done;
 }

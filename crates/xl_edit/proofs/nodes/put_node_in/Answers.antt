@@ -21,12 +21,14 @@ insert-requires-clause-few c = let P : ℕ → Type 0 = λ n. n < MAX_NODES in s
 
 pub insert-requires-clause-low : goal.insert-requires-clause-low
 insert-requires-clause-low c = λ free.
-    low_with_one c.args.parent.0 c.args.place c.args.id.0 c.args.node c.args.tree.now c.requires.ids c.requires.place c.requires.deep c.told.ensures
+    low_with_one c.args.parent.0 c.args.place c.args.id.0 c.args.node c.args.tree.now c.requires.ids c.requires.place
+    c.requires.deep c.told.ensures
 
 pub unreachable-requires : goal.unreachable-requires
 unreachable-requires c =
     let free = sym (put_refusal-nodes_of c.args.parent.0 c.args.place c.args.tree.now c.requires.marks) ∙ c.requires.place in
-    let e : Ok tt ≡ Err c.in_default.field-0 = sym (c.insert.ensures.answer ∙ ap (λ o. answer_with o c.args.node) free) ∙ c.in_default.is in
+    let e : Ok tt ≡ Err c.in_default.field-0 = sym (c.insert.ensures.answer ∙ ap (λ o. answer_with o c.args.node) free)
+    ∙ c.in_default.is in
     cc
 
 pub returns-clause-done : goal.returns-clause-done

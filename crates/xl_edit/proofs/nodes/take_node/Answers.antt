@@ -11,17 +11,20 @@ use Rattle.xl_edit.proofs.nodes.take_node.Goals as goal
 pub unreachable-requires : goal.unreachable-requires
 unreachable-requires c =
     let e : Ok tt ≡ Err c.in_default.field-0 =
-    sym (c.remove.ensures.answer ∙ ap answer_of (found_there c.args.id.0 c.args.tree.now c.requires.marks c.requires.node)) ∙ c.in_default.is in
+    sym (c.remove.ensures.answer ∙ ap answer_of (found_there c.args.id.0 c.args.tree.now c.requires.marks c.requires.node))
+    ∙ c.in_default.is in
     cc
 
 pub returns-clause-ok : goal.returns-clause-ok
 returns-clause-ok c =
     let t = c.args.tree.now in
-    let is : c.remove.new.self ≡ without c.args.id.0 t = c.remove.ensures.tree ∙ ap (λ r. cond (is_ok r) (without c.args.id.0 t) t) c.in-Ok.is in
+    let is : c.remove.new.self ≡ without c.args.id.0 t = c.remove.ensures.tree
+    ∙ ap (λ r. cond (is_ok r) (without c.args.id.0 t) t) c.in-Ok.is in
     ap nodes_of is ∙ nodes-without c.args.id.0 t
 
 pub returns-clause-marks : goal.returns-clause-marks
 returns-clause-marks c =
     let t = c.args.tree.now in
-    let is : c.remove.new.self ≡ without c.args.id.0 t = c.remove.ensures.tree ∙ ap (λ r. cond (is_ok r) (without c.args.id.0 t) t) c.in-Ok.is in
+    let is : c.remove.new.self ≡ without c.args.id.0 t = c.remove.ensures.tree
+    ∙ ap (λ r. cond (is_ok r) (without c.args.id.0 t) t) c.in-Ok.is in
     subst MarksAgree (sym is) (marks-without c.args.id.0 t c.requires.marks)

@@ -19,4 +19,5 @@ invariant_of-doc-2 c = record {
 }
 
 pub returns-clause-ok : goal.returns-clause-ok
-returns-clause-ok c = put_is _ c.args.doc.now c.args.id.0 c.args.part c.args.rect c.args.bytes.now _ c.doc.view_is c.in_ok-put_at.ensures.ok
+returns-clause-ok c =
+    put_is _ c.args.doc.now c.args.id.0 c.args.part c.args.rect c.args.bytes.now _ c.doc.view_is c.in_ok-put_at.ensures.ok

@@ -16,8 +16,10 @@ pub laid_or_given-requires-clause-new : goal.laid_or_given-requires-clause-new
 laid_or_given-requires-clause-new c =
     let rect = c.args.rect in
     let source = c.in_ok-two.two.from.now in
-    let bpp : source.plane.bpp ≡ c.to.inside.plane.bpp = c.in_ok-two.ensures.bpp ∙ ap (λ (s : Sheet). s.plane.bpp) (sym c.to.view_is) in
-    old_length source.plane (rect_from c.args.u c.args.v rect) c.in_ok-new.new.items c.in_ok-new.ensures ∙ (ap (λ n. rect.h * (rect.w * n)) bpp ∙ omega arith)
+    let bpp : source.plane.bpp ≡ c.to.inside.plane.bpp = c.in_ok-two.ensures.bpp
+    ∙ ap (λ (s : Sheet). s.plane.bpp) (sym c.to.view_is) in
+    old_length source.plane (rect_from c.args.u c.args.v rect) c.in_ok-new.new.items c.in_ok-new.ensures
+    ∙ (ap (λ n. rect.h * (rect.w * n)) bpp ∙ omega arith)
 
 pub returns-clause-paints : goal.returns-clause-paints
 returns-clause-paints c =
@@ -29,8 +31,11 @@ returns-clause-paints c =
     let bytes = c.in_ok-bytes.bytes.items in
     let from = c.args.from.0 in
     let Seen : Sheet → Type 0 = λ q.
-    AreRows rect.w rect.h q.plane.bpp (byte_in d c.site_of-site.result q.plane rect (in_rows (rect.w * q.plane.bpp) q.plane.bpp new)) bytes in
-    let P : Site → Type 0 = λ site. AreRows rect.w rect.h s.plane.bpp (byte_in d site s.plane rect (in_rows (rect.w * s.plane.bpp) s.plane.bpp new)) bytes in
+    AreRows rect.w rect.h q.plane.bpp
+    (byte_in d c.site_of-site.result q.plane rect (in_rows (rect.w * q.plane.bpp) q.plane.bpp new)) bytes in
+    let P : Site → Type 0 = λ site. AreRows rect.w rect.h s.plane.bpp
+    (byte_in d site s.plane rect (in_rows (rect.w * s.plane.bpp) s.plane.bpp new)) bytes in
     of_sheet (Paints Pixels rect bytes (copies d rect from c.args.u c.args.v)) s (node d c.args.id.0) c.in_ok-two.ensures.to
-    (copy_painted d s source rect from c.args.u c.args.v new bytes c.in_ok-two.ensures.within c.in_ok-two.ensures.from c.in_ok-two.ensures.bpp c.in_ok-new.ensures
+    (copy_painted d s source rect from c.args.u c.args.v new bytes c.in_ok-two.ensures.within c.in_ok-two.ensures.from
+    c.in_ok-two.ensures.bpp c.in_ok-new.ensures
     (subst P c.site_of-site.ensures.value (subst Seen c.to.view_is c.in_ok-bytes.ensures)))

@@ -19,5 +19,6 @@ returns c = λ table.
     let d = c.args.doc.now in
     let change = copies c.args.doc.now c.args.rect c.args.from.0 c.args.u c.args.v in
     let P : List ℕ → Type 0 = λ bytes. IsLayer (Paints Pixels c.args.rect bytes change) (node d c.args.id.0) in
-    paint_made d _ (edits.copy_rect c.args.id.0 c.args.rect c.args.from.0 c.args.u c.args.v) c.args.id.0 Pixels c.args.rect _ change refl c.in_ok-bytes.ensures.allowed table (λ next. refl)
+    paint_made d _ (edits.copy_rect c.args.id.0 c.args.rect c.args.from.0 c.args.u c.args.v) c.args.id.0 Pixels c.args.rect _ change
+    refl c.in_ok-bytes.ensures.allowed table (λ next. refl)
     c.put.ensures.ids (subst P (sym c.deref.ensures.value) c.in_ok-bytes.ensures.paints) c.in_ok-put.ensures.ok

@@ -21,5 +21,6 @@ returns-clause-paints c =
     let Seen : Sheet → Type 0 = λ q. AreRows rect.w rect.h q.plane.bpp (byte_in d c.site_of-site.result q.plane rect new) bytes in
     let P : Site → Type 0 = λ site. AreRows rect.w rect.h s.plane.bpp (byte_in d site s.plane rect new) bytes in
     of_sheet (Paints Pixels rect bytes (fills d rect c.args.pixel.now)) s (node d c.args.id.0) c.in_ok-layer.ensures.found
-    (λ l is. pixels_painted d s rect new new bytes (fills d rect c.args.pixel.now) c.in_ok-layer.ensures.within (λ column row b hx hy hb. refl)
+    (λ l is. pixels_painted d s rect new new bytes (fills d rect c.args.pixel.now) c.in_ok-layer.ensures.within
+    (λ column row b hx hy hb. refl)
     (subst P c.site_of-site.ensures.value (subst Seen c.layer.view_is c.in_ok-bytes.ensures)) l is refl)

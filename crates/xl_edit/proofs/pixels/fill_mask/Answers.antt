@@ -19,5 +19,6 @@ returns c = λ table.
     let d = c.args.doc.now in
     let change = fills_mask c.args.doc.now c.args.rect c.args.value in
     let P : List ℕ → Type 0 = λ bytes. IsLayer (Paints Mask c.args.rect bytes change) (node d c.args.id.0) in
-    paint_made d _ (edits.fill_mask c.args.id.0 c.args.rect c.args.value) c.args.id.0 Mask c.args.rect _ change refl c.in_ok-bytes.ensures.allowed table (λ next. refl)
+    paint_made d _ (edits.fill_mask c.args.id.0 c.args.rect c.args.value) c.args.id.0 Mask c.args.rect _ change refl
+    c.in_ok-bytes.ensures.allowed table (λ next. refl)
     c.put.ensures.ids (subst P (sym c.deref.ensures.value) c.in_ok-bytes.ensures.paints) c.in_ok-put.ensures.ok

@@ -15,8 +15,10 @@ put-requires c =
 pub returns-then-is_whole : goal.returns-then-is_whole
 returns-then-is_whole c = λ table.
     let d = c.args.doc.now in
-    paint_made d _ (edits.write c.args.id.0 c.args.rect c.args.bytes.now) c.args.id.0 Pixels c.args.rect _ (writes d c.args.rect c.args.bytes.now) refl
-    c.in_ok-check_given.ensures.allowed table (λ next. refl) c.put.ensures.ids c.in_ok-check_given.ensures.paints c.in_ok-put.ensures.ok
+    paint_made d _ (edits.write c.args.id.0 c.args.rect c.args.bytes.now) c.args.id.0 Pixels c.args.rect _
+    (writes d c.args.rect c.args.bytes.now) refl
+    c.in_ok-check_given.ensures.allowed table
+    (λ next. refl) c.put.ensures.ids c.in_ok-check_given.ensures.paints c.in_ok-put.ensures.ok
 
 pub put-requires-2 : goal.put-requires-2
 put-requires-2 c =
@@ -29,5 +31,6 @@ returns c = λ table.
     let d = c.args.doc.now in
     let change = writes d c.args.rect c.args.bytes.now in
     let P : List ℕ → Type 0 = λ bytes. IsLayer (Paints Pixels c.args.rect bytes change) (node d c.args.id.0) in
-    paint_made d _ (edits.write c.args.id.0 c.args.rect c.args.bytes.now) c.args.id.0 Pixels c.args.rect _ change refl c.in_ok-mixed.ensures.allowed table (λ next. refl)
+    paint_made d _ (edits.write c.args.id.0 c.args.rect c.args.bytes.now) c.args.id.0 Pixels c.args.rect _ change refl
+    c.in_ok-mixed.ensures.allowed table (λ next. refl)
     c.put-2.ensures.ids (subst P (sym c.deref.ensures.value) c.in_ok-mixed.ensures.paints) c.in_ok-put-2.ensures.ok

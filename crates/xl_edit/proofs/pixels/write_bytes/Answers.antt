@@ -18,7 +18,10 @@ returns-clause-paints c =
     let s = c.in_ok-layer.layer.now in
     let mixed = c.in_ok-mixed.mixed.items in
     let Seen : Sheet → Type 0 = λ q.
-    AreRows rect.w rect.h q.plane.bpp (byte_in d c.site_of-site.result q.plane rect (in_rows (rect.w * q.plane.bpp) q.plane.bpp given)) mixed in
-    let P : Site → Type 0 = λ site. AreRows rect.w rect.h s.plane.bpp (byte_in d site s.plane rect (in_rows (rect.w * s.plane.bpp) s.plane.bpp given)) mixed in
+    AreRows rect.w rect.h q.plane.bpp
+    (byte_in d c.site_of-site.result q.plane rect (in_rows (rect.w * q.plane.bpp) q.plane.bpp given)) mixed in
+    let P : Site → Type 0 = λ site. AreRows rect.w rect.h s.plane.bpp
+    (byte_in d site s.plane rect (in_rows (rect.w * s.plane.bpp) s.plane.bpp given)) mixed in
     of_sheet (Paints Pixels rect mixed (writes d rect given)) s (node d c.args.id.0) c.in_ok-layer.ensures.found
-    (write_painted d s rect given mixed c.in_ok-layer.ensures.within (subst P c.site_of-site.ensures.value (subst Seen c.layer.view_is c.in_ok-mixed.ensures)))
+    (write_painted d s rect given mixed c.in_ok-layer.ensures.within
+    (subst P c.site_of-site.ensures.value (subst Seen c.layer.view_is c.in_ok-mixed.ensures)))

@@ -16,7 +16,8 @@ returns-clause-value c =
     let id = c.args.id.0 in
     let t = c.doc.inside.tree in
     c.levels.ensures
-    ∙ (levels-branch-nodes_of id t (distinct_in t _ refl c.doc.invariant.limits) ∙ ap (λ (x : Document). levels (branch_of id x.nodes)) c.doc.view_is)
+    ∙ (levels-branch-nodes_of id t (distinct_in t _ refl c.doc.invariant.limits)
+    ∙ ap (λ (x : Document). levels (branch_of id x.nodes)) c.doc.view_is)
 
 pub returns-clause-some : goal.returns-clause-some
 returns-clause-some c =
@@ -24,7 +25,8 @@ returns-clause-some c =
     let t = c.doc.inside.tree in
     let P : Document → Type 0 = λ x. no_node x id ≡ None in
     let Q : ℕ → Type 0 = λ n. 1 ≤ n in
-    subst Q (sym c.levels.ensures) (some_levels id (find id t) (found_there id t c.doc.invariant.marks (subst P (sym c.doc.view_is) c.requires.there)))
+    subst Q (sym c.levels.ensures) (some_levels id (find id t)
+    (found_there id t c.doc.invariant.marks (subst P (sym c.doc.view_is) c.requires.there)))
 
 pub returns-clause-few : goal.returns-clause-few
 returns-clause-few c =
@@ -32,5 +34,6 @@ returns-clause-few c =
     let t = c.doc.inside.tree in
     let value : c.levels.result ≡ levels (branch_of id c.args.doc.now.nodes) =
     c.levels.ensures
-    ∙ (levels-branch-nodes_of id t (distinct_in t _ refl c.doc.invariant.limits) ∙ ap (λ (x : Document). levels (branch_of id x.nodes)) c.doc.view_is) in
+    ∙ (levels-branch-nodes_of id t (distinct_in t _ refl c.doc.invariant.limits)
+    ∙ ap (λ (x : Document). levels (branch_of id x.nodes)) c.doc.view_is) in
     omega (arith, value, levels-branch_of id c.args.doc.now.nodes, c.know_limits.ensures.low)

@@ -10,11 +10,15 @@ use Rattle.xl_edit.proofs.NodesRestacked.{restack_refusal-nodes_of, nodes-restac
 use Rattle.xl_edit.proofs.restacking.move_node.Goals as goal
 
 pub restack-requires : goal.restack-requires
-restack-requires c = record { low = λ free. omega (arith, levels-restacked c.args.id.0 c.args.parent.0 c.args.place c.args.tree.now, c.requires.low) }
+restack-requires c = record {
+  low =
+      λ free. omega (arith, levels-restacked c.args.id.0 c.args.parent.0 c.args.place c.args.tree.now, c.requires.low);
+}
 
 pub unreachable-requires : goal.unreachable-requires
 unreachable-requires c =
-    let free = sym (restack_refusal-nodes_of c.args.id.0 c.args.parent.0 c.args.place c.args.tree.now c.requires.marks) ∙ c.requires.free in
+    let free = sym (restack_refusal-nodes_of c.args.id.0 c.args.parent.0 c.args.place c.args.tree.now c.requires.marks)
+    ∙ c.requires.free in
     let e : Ok tt ≡ Err c.in_default.field-0 = sym (c.restack.ensures.answer ∙ ap answer_of free) ∙ c.in_default.is in
     cc
 

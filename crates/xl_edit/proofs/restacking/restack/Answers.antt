@@ -29,5 +29,6 @@ invariant_of-doc c =
     record {
       marks = c.move_node.ensures.marks;
       limits = limits_kept _ c.args.doc.now change _ c.doc.view_is c.doc.invariant.limits
-          (limits_after c.args.doc.now (edits.restack a.id.0 a.parent.0 a.place) tt refl c.in_ok-check_restack.ensures.allowed) c.move_node.ensures.done;
+          (limits_after c.args.doc.now (edits.restack a.id.0 a.parent.0 a.place) tt refl c.in_ok-check_restack.ensures.allowed)
+          c.move_node.ensures.done;
     }

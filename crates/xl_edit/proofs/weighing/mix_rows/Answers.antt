@@ -41,20 +41,26 @@ loop-row-preserved c =
     let next = c.mix_at.new.bytes in
     let len : length c.args.wide.now ≡ w * n = c.requires.wide in
     let Put : ℕ → Type 0 = λ m. (k : ℕ) → slice_index next k
-    ≡ byte_after (r * m) (length line) (slice_index now k) (mixed (slice_index weights (k - r * m)) (slice_index line (k - r * m)) (slice_index now k)) k in
+    ≡ byte_after (r * m) (length line) (slice_index now k)
+    (mixed (slice_index weights (k - r * m)) (slice_index line (k - r * m)) (slice_index now k)) k in
     let is : (column b : ℕ) → column < w → b < n
-    → mixed (slice_index weights (column * n + b)) (slice_index line (column * n + b)) (slice_index c.args.bytes.now (r * (w * n) + (column * n + b))) ≡ byte column r b =
+    → mixed (slice_index weights (column * n + b)) (slice_index line (column * n + b))
+    (slice_index c.args.bytes.now (r * (w * n) + (column * n + b))) ≡ byte column r b =
     λ column b hx hb.
     let inside : column * n + b < w * n = omega (arith, mul-add-lt column n b w hx hb) in
     let weight : slice_index weights (column * n + b) ≡ weight_at d site (part_above_0 rect.x + column) (part_above_0 rect.y + r) =
     ap (λ m. slice_index weights (column * m + b)) (sym c.bpp-bpp.ensures.value)
-    ∙ (c.weigh_row.ensures.each column b (omega (arith, hx, c.loop-row.auto.weights, c.requires.weights)) (omega (arith, hb, c.bpp-bpp.ensures.value))
+    ∙ (c.weigh_row.ensures.each column b (omega (arith, hx, c.loop-row.auto.weights, c.requires.weights))
+    (omega (arith, hb, c.bpp-bpp.ensures.value))
     ∙ (λ i. weight_at d site (c.corner-x.ensures.x i + column) (c.corner-x.ensures.y i + r))) in
-    let new : slice_index line (column * n + b) ≡ in_rows c.args.step n c.args.new.now column r b = c.part-line.ensures.each (column * n + b) (omega (arith, inside, len)) in
-    let old : slice_index c.args.bytes.now (r * (w * n) + (column * n + b)) ≡ byte_at p (part_above_0 rect.x + column) (part_above_0 rect.y + r) b =
+    let new : slice_index line (column * n + b) ≡ in_rows c.args.step n c.args.new.now column r b =
+    c.part-line.ensures.each (column * n + b) (omega (arith, inside, len)) in
+    let old : slice_index c.args.bytes.now (r * (w * n) + (column * n + b))
+    ≡ byte_at p (part_above_0 rect.x + column) (part_above_0 rect.y + r) b =
     old_byte p rect c.args.bytes.now c.requires.bytes column r b hx c.loop-row-test.true hb in
     λ i. mixed (weight i) (new i) (old i) in
-    row_mixed w n r byte c.args.bytes.now now next weights line c.loop-row.invariant (c.part-line.ensures.length ∙ len) c.mix_at.ensures.size
+    row_mixed w n r byte c.args.bytes.now now next weights line c.loop-row.invariant (c.part-line.ensures.length
+    ∙ len) c.mix_at.ensures.size
     (subst Put len c.mix_at.ensures.each) is
 
 pub returns : goal.returns

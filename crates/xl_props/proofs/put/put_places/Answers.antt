@@ -7,4 +7,5 @@ pub returns-clause-ok : goal.returns-clause-ok
 returns-clause-ok c =
     let places = c.args.places.now in
     onto c.put_words.result _ _ _
-    (headed c.args.out.now.items c.put_head.new.out.items (words places) 30 (4 * length places) c.in_ok-put_head.ensures.ok (omega (arith, length_words places))) c.put_words.ensures.ok
+    (headed c.args.out.now.items c.put_head.new.out.items (words places) 30 (4 * length places) c.in_ok-put_head.ensures.ok
+    (omega (arith, length_words places))) c.put_words.ensures.ok

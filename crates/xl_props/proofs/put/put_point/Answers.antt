@@ -18,4 +18,5 @@ returns-clause-ok c =
     let long : 8 ≡ length (word m ++ word n) = omega (arith, length-append (word m) (word n), length_word m, length_word n) in
     onto c.put_word-2.result _ _ _
     (ap (λ k. first ++ word k) y
-    ∙ headed_parts c.args.out.now.items head first (word m) (word n) 15 8 c.in_ok-put_head.ensures.ok (c.in_ok-put_word.ensures.ok ∙ ap (λ k. head ++ word k) x) long) c.put_word-2.ensures.ok
+    ∙ headed_parts c.args.out.now.items head first (word m) (word n) 15 8 c.in_ok-put_head.ensures.ok (c.in_ok-put_word.ensures.ok
+    ∙ ap (λ k. head ++ word k) x) long) c.put_word-2.ensures.ok

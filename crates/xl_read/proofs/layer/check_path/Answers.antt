@@ -13,7 +13,8 @@ returns-then-path-ge-MAX_DEPTH-clause-rule c =
 
 pub returns-then-not-leads-clause-rule : goal.returns-then-not-leads-clause-rule
 returns-then-not-leads-clause-rule c =
-    leads_not c.args.draft.now c.args.head.now c.parent-path.result.now c.path_place-then-not-leads.result c.refused-then-not-leads.result
+    leads_not c.args.draft.now c.args.head.now c.parent-path.result.now c.path_place-then-not-leads.result
+    c.refused-then-not-leads.result
     (c.parent-path.ensures ∙ ap (λ h. path_to h.props.list) c.head.view_is)
     (c.path_place-then-not-leads.ensures ∙ ap (λ h. place_of ITEM_PATH h.props.list) c.head.view_is)
     c.refused-then-not-leads.ensures (omega arith) (search rules)

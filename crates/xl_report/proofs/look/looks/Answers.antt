@@ -11,7 +11,8 @@ loop-layer-preserved c =
     let so_far = c.loop-layer.looks.items in
     rw c.in_ok-push.ensures.items
     (record {
-      drawn = times_step look n (n + 1) c.args.draws.now c.loop-layer.draws c.drawn.new.draws so_far c.drawn.result refl c.loop-layer.invariant.drawn c.drawn.ensures.drawn;
+      drawn = times_step look n (n + 1) c.args.draws.now c.loop-layer.draws c.drawn.new.draws so_far c.drawn.result refl
+          c.loop-layer.invariant.drawn c.drawn.ensures.drawn;
       many = omega (arith, length-append so_far (c.drawn.result ∷ []), c.loop-layer.invariant.many);
       each = all-append IsLook so_far (c.drawn.result ∷ []) c.loop-layer.invariant.each (c.drawn.ensures.fits, tt);
     })
@@ -19,4 +20,5 @@ loop-layer-preserved c =
 pub returns-clause-drawn : goal.returns-clause-drawn
 returns-clause-drawn c =
     let end : c.loop-layer._layer ≡ 8 = search rules in
-    times_all look c.loop-layer._layer 8 c.args.draws.now c.loop-layer.draws c.loop-layer.looks.items end c.loop-layer.invariant.drawn
+    times_all look c.loop-layer._layer 8 c.args.draws.now c.loop-layer.draws c.loop-layer.looks.items end
+    c.loop-layer.invariant.drawn

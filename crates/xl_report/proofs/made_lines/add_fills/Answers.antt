@@ -17,13 +17,15 @@ loop-fill-preserved c =
     let fills = fill c.args.layer in
     same_added (times (n + 1) fills) c.args.draws.now c.fill.new.draws (lines_of c.args.lines.now) _ _
     (line_more c.loop-fill.lines c.push.new.self c.in_ok-line.line c.in_ok-push.ensures.ok)
-    (adds_step fills n (n + 1) c.args.draws.now c.loop-fill.draws c.fill.new.draws (lines_of c.args.lines.now) (lines_of c.loop-fill.lines) (line_of c.in_ok-line.line) refl
+    (adds_step fills n (n + 1) c.args.draws.now c.loop-fill.draws c.fill.new.draws (lines_of c.args.lines.now)
+    (lines_of c.loop-fill.lines) (line_of c.in_ok-line.line) refl
     c.loop-fill.invariant c.in_ok-line.ensures)
 
 pub returns : goal.returns
 returns c =
     let end : c.loop-fill._fill ≡ 32 = search rules in
-    adds_all (fill c.args.layer) c.loop-fill._fill 32 c.args.draws.now c.loop-fill.draws (lines_of c.args.lines.now) (lines_of c.loop-fill.lines) end c.loop-fill.invariant
+    adds_all (fill c.args.layer) c.loop-fill._fill 32 c.args.draws.now c.loop-fill.draws (lines_of c.args.lines.now)
+    (lines_of c.loop-fill.lines) end c.loop-fill.invariant
 
 pub returns-in_err-push : goal.returns-in_err-push
 returns-in_err-push c = IfOk-from_err c.from_residual-in_err-push.result _ c.from_residual-in_err-push.ensures.0

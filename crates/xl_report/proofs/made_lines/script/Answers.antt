@@ -14,9 +14,12 @@ loop-session-preserved c =
     let so_far = c.loop-session.lists.items in
     let list = c.in_ok-list.list in
     record {
-      drawn = same_drawn (for_each (count_from 0 (n + 1)) session_lines) c.args.draws.now c.args.draws.now c.session_lines.new.draws _ _ refl
+      drawn = same_drawn (for_each (count_from 0 (n + 1)) session_lines) c.args.draws.now c.args.draws.now c.session_lines.new.draws
+          _ _ refl
           (list_more so_far c.push.new.self.items list c.in_ok-push.ensures.items)
-          (for_each_step session_lines (count_from 0 n) (count_from 0 (n + 1)) n c.args.draws.now c.loop-session.draws c.session_lines.new.draws (lists_of so_far) (lines_of list) (count_more n)
+          (for_each_step session_lines (count_from 0 n)
+          (count_from 0 (n + 1)) n c.args.draws.now c.loop-session.draws c.session_lines.new.draws (lists_of so_far)
+          (lines_of list) (count_more n)
           c.loop-session.invariant.drawn c.in_ok-list.ensures);
       many = omega (arith, ap length c.in_ok-push.ensures.items, length-append so_far (list ∷ []), c.loop-session.invariant.many);
     }
@@ -25,8 +28,10 @@ pub returns : goal.returns
 returns c =
     let end : c.loop-session.session ≡ 8 = search rules in
     let all = c.loop-session.lists.items in
-    same_drawn (for_each (count_from 0 8) session_lines) c.args.draws.now c.args.draws.now c.loop-session.draws (lists_of all) _ refl (ap lists_of c.of.ensures)
-    (each_all session_lines c.loop-session.session 8 c.args.draws.now c.loop-session.draws (lists_of all) end c.loop-session.invariant.drawn)
+    same_drawn (for_each (count_from 0 8) session_lines) c.args.draws.now c.args.draws.now c.loop-session.draws
+    (lists_of all) _ refl (ap lists_of c.of.ensures)
+    (each_all session_lines c.loop-session.session 8 c.args.draws.now c.loop-session.draws
+    (lists_of all) end c.loop-session.invariant.drawn)
 
 pub returns-in_err-push : goal.returns-in_err-push
 returns-in_err-push c = IfOk-from_err c.from_residual-in_err-push.result _ c.from_residual-in_err-push.ensures.0

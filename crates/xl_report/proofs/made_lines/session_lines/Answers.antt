@@ -12,12 +12,16 @@ loop-part-init c = λ i. record { what = lines_of (sym c.new-lines.ensures i); s
 pub loop-part-preserved : goal.loop-part-preserved
 loop-part-preserved c =
     let n = c.loop-part._part in
-    parts_step (fills_and_tile c.layer_of_session-layer.result) n (n + 1) c.args.draws.now c.loop-part.draws c.add_fills_and_tile.new.draws (lines_of c.loop-part.lines) (lines_of c.add_fills_and_tile.new.lines) refl
+    parts_step (fills_and_tile c.layer_of_session-layer.result) n
+    (n + 1) c.args.draws.now c.loop-part.draws c.add_fills_and_tile.new.draws (lines_of c.loop-part.lines)
+    (lines_of c.add_fills_and_tile.new.lines) refl
     c.loop-part.invariant c.in_ok-add_fills_and_tile.ensures
 
 pub returns : goal.returns
 returns c =
     let end : c.loop-part._part ≡ 3 = search rules in
-    same_drawn (session_lines c.args.session) c.args.draws.now c.args.draws.now c.loop-part.draws _ _ refl (line_more c.loop-part.lines c.push.new.self _ c.in_ok-push.ensures.ok)
+    same_drawn (session_lines c.args.session) c.args.draws.now c.args.draws.now c.loop-part.draws _ _ refl
+    (line_more c.loop-part.lines c.push.new.self _ c.in_ok-push.ensures.ok)
     (save_last c.args.session c.args.draws.now c.loop-part.draws (lines_of c.loop-part.lines)
-    (parts_all c.args.session c.layer_of_session-layer.result c.loop-part._part c.args.draws.now _ end c.layer_of_session-layer.ensures c.loop-part.invariant))
+    (parts_all c.args.session c.layer_of_session-layer.result c.loop-part._part c.args.draws.now _ end
+    c.layer_of_session-layer.ensures c.loop-part.invariant))

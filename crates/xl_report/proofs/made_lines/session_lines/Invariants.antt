@@ -7,4 +7,5 @@ use Rattle.xl_report.proofs.made_lines.session_lines.Given as goal
 
 -- the parts so far
 abbrev pub invariant-loop-part : goal.invariant-loop-part
-invariant-loop-part l = joined (times l._part (fills_and_tile l.layer) l.fn.draws) ≡ record { what = lines_of l.lines; state = l.draws }
+invariant-loop-part l =
+    joined (times l._part (fills_and_tile l.layer) l.fn.draws) ≡ record { what = lines_of l.lines; state = l.draws }

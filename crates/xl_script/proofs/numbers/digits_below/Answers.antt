@@ -6,5 +6,6 @@ use Rattle.xl_script.proofs.numbers.digits_below.Goals as goal
 pub returns-then-value-limit : goal.returns-then-value-limit
 returns-then-value-limit c =
     let word = c.args.word.now in
-    let digit : is_digit (get_or word c.loop-b.b-index 0) ≡ true = sym c.is_ascii_digit.ensures.value ∙ c.if-not-is_ascii_digit.false in
+    let digit : is_digit (get_or word c.loop-b.b-index 0) ≡ true = sym c.is_ascii_digit.ensures.value
+    ∙ c.if-not-is_ascii_digit.false in
     sym (reads_past c.args.limit c.loop-b.value c.loop-b.b-index word c.loop-b.invariant (omega arith) digit (omega arith))

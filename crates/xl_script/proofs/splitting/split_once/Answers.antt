@@ -6,7 +6,8 @@ pub returns-in-Some-clause-pieces : goal.returns-in-Some-clause-pieces
 returns-in-Some-clause-pieces c =
     let bytes = c.args.bytes.now in
     let after = c.in-Some.place + 1 in
-    let whole : take (length bytes - after) (drop after bytes) ≡ drop after bytes = take_all _ _ (omega (arith, length-drop after bytes)) in
+    let whole : take (length bytes - after) (drop after bytes) ≡ drop after bytes =
+    take_all _ _ (omega (arith, length-drop after bytes)) in
     rw whole (split_by c.args.separator bytes (Some c.in-Some.place) c.in-Some.ensures)
 
 pub returns-in-None-clause-pieces : goal.returns-in-None-clause-pieces

@@ -1,6 +1,7 @@
 use Rattle.std.proofs.Common.{ap, ◌∙◌, [], ◌∷◌, length, length-append, arith}
 use Rattle.std.proofs.lemmas.List.{nil_from_length}
-use Rattle.xl_sessions.proofs.JoinedSeats.{joining_none, joining_seat, joining_more, joined_made, joined_weight, joined_begins, joined_known, joined_shown, joined_done}
+use Rattle.xl_sessions.proofs.JoinedSeats.{joining_none, joining_seat, joining_more, joined_made, joined_weight}
+use Rattle.xl_sessions.proofs.JoinedSeats.{joined_begins, joined_known, joined_shown, joined_done}
 use Rattle.xl_sessions.proofs.joining.join_players.Goals as goal
 
 pub loop-player-init : goal.loop-player-init

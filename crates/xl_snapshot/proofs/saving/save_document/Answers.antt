@@ -5,11 +5,13 @@ use Rattle.xl_snapshot.proofs.saving.save_document.Goals as goal
 pub returns-in-Ok-save_file : goal.returns-in-Ok-save_file
 returns-in-Ok-save_file g c =
     let d = c.args.document.now in
-    let wrote : Written c.deref.result.now d = subst (λ (bytes : List ℕ). Written bytes d) (sym c.deref.ensures.value) c.in-Ok.ensures in
+    let wrote : Written c.deref.result.now d =
+    subst (λ (bytes : List ℕ). Written bytes d) (sym c.deref.ensures.value) c.in-Ok.ensures in
     c.in-Ok-save_file.ensures.saved d wrote
 
 pub returns : goal.returns
 returns g c =
     let d = c.args.document.now in
-    let wrote : Written c.deref.result.now d = subst (λ (bytes : List ℕ). Written bytes d) (sym c.deref.ensures.value) c.in-Ok.ensures in
+    let wrote : Written c.deref.result.now d =
+    subst (λ (bytes : List ℕ). Written bytes d) (sym c.deref.ensures.value) c.in-Ok.ensures in
     c.in-Err.ensures.failed d wrote

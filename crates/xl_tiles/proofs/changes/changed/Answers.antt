@@ -8,14 +8,17 @@ use Rattle.xl_tiles.proofs.changes.changed.Goals as goal
 
 pub loop-row-preserved : goal.loop-row-preserved
 loop-row-preserved c =
-    let few : c.loop-row.count + c.changed_in_row-count.result ≤ 128 * (c.loop-row.row + 1) = omega (arith, c.loop-row.invariant.few, c.changed_in_row-count.ensures.few) in
+    let few : c.loop-row.count + c.changed_in_row-count.result ≤ 128 * (c.loop-row.row + 1) =
+    omega (arith, c.loop-row.invariant.few, c.changed_in_row-count.ensures.few) in
     record {
       room = c.changed_in_row-count.auto.room ∙ c.loop-row.invariant.room;
       other_room = c.changed_in_row-count.auto.other_room ∙ c.loop-row.invariant.other_room;
       few = few;
       counted =
           list_counted
-          (differ_at (plane_by c.args.sheet.width c.args.sheet.height c.args.sheet.bpp c.args.tiles.now) (plane_by c.args.sheet.width c.args.sheet.height c.args.sheet.bpp c.args.others.now))
-          (λ row. map (λ col. tile col row) (count_from 0 (tiles_along c.args.sheet.width))) c.loop-row.row c.loop-row.count c.changed_in_row-count.result c.loop-row.invariant.counted
+          (differ_at (plane_by c.args.sheet.width c.args.sheet.height c.args.sheet.bpp c.args.tiles.now)
+          (plane_by c.args.sheet.width c.args.sheet.height c.args.sheet.bpp c.args.others.now))
+          (λ row. map (λ col. tile col row) (count_from 0 (tiles_along c.args.sheet.width))) c.loop-row.row c.loop-row.count
+          c.changed_in_row-count.result c.loop-row.invariant.counted
           c.changed_in_row-count.ensures.value;
     }

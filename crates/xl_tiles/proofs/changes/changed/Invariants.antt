@@ -12,5 +12,8 @@ invariant-loop-row l = record {
   room : length l.room ≡ 32768;
   other_room : length l.other_room ≡ 32768;
   few : l.count ≤ 128 * l.row;
-  counted : l.count ≤ length (filter (differ_at (plane_by l.sheet.width l.sheet.height l.sheet.bpp l.tiles) (plane_by l.sheet.width l.sheet.height l.sheet.bpp l.others)) (flat_map (λ row. map (λ col. tile col row) (count_from 0 (tiles_along l.sheet.width))) (count_from 0 l.row)));
+  counted : l.count ≤ length (filter
+      (differ_at (plane_by l.sheet.width l.sheet.height l.sheet.bpp l.tiles)
+      (plane_by l.sheet.width l.sheet.height l.sheet.bpp l.others))
+      (flat_map (λ row. map (λ col. tile col row) (count_from 0 (tiles_along l.sheet.width))) (count_from 0 l.row)));
 }

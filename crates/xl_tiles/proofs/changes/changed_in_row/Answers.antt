@@ -14,14 +14,20 @@ loop-col-preserved c =
     let q = plane_by c.args.sheet.width c.args.sheet.height c.args.sheet.bpp c.args.others.now in
     let there : c.loop-col.col < tiles_along c.args.sheet.width = omega arith in
     let own : c.at.result.now ≡ tile_bytes p (tile c.loop-col.col c.args.row) =
-    c.at.ensures ∙ tile_is c.args.sheet.width c.args.sheet.height c.args.sheet.bpp c.args.tiles.now c.requires.tiled c.loop-col.col c.args.row there c.requires.row in
+    c.at.ensures ∙ tile_is c.args.sheet.width c.args.sheet.height c.args.sheet.bpp c.args.tiles.now c.requires.tiled c.loop-col.col
+    c.args.row there c.requires.row in
     let other : c.at-in-loop-col.result.now ≡ tile_bytes q (tile c.loop-col.col c.args.row) =
-    c.at-in-loop-col.ensures ∙ tile_is c.args.sheet.width c.args.sheet.height c.args.sheet.bpp c.args.others.now c.requires.others c.loop-col.col c.args.row there c.requires.row in
-    let next : c.difference-count.result ≤ cond (not (bytes_eq (tile_bytes p (tile c.loop-col.col c.args.row)) (tile_bytes q (tile c.loop-col.col c.args.row)))) 1 0 =
-    subst (λ same. c.difference-count.result ≤ cond (not same) 1 0) (λ i. bytes_eq (own i) (other i)) c.difference-count.ensures.value in
+    c.at-in-loop-col.ensures ∙ tile_is c.args.sheet.width c.args.sheet.height c.args.sheet.bpp c.args.others.now c.requires.others
+    c.loop-col.col c.args.row there c.requires.row in
+    let next : c.difference-count.result
+    ≤ cond (not (bytes_eq (tile_bytes p (tile c.loop-col.col c.args.row)) (tile_bytes q (tile c.loop-col.col c.args.row)))) 1
+    0 =
+    subst (λ same. c.difference-count.result ≤ cond (not same) 1 0)
+    (λ i. bytes_eq (own i) (other i)) c.difference-count.ensures.value in
     record {
       room = c.difference-count.auto.room ∙ c.loop-col.invariant.room;
       other_room = c.difference-count.auto.other_room ∙ c.loop-col.invariant.other_room;
       few = omega (arith, c.loop-col.invariant.few, c.difference-count.ensures.few);
-      counted = one_counted (differ_at p q) (λ col. tile col c.args.row) c.loop-col.col c.loop-col.count c.difference-count.result c.loop-col.invariant.counted next;
+      counted = one_counted (differ_at p q)
+          (λ col. tile col c.args.row) c.loop-col.col c.loop-col.count c.difference-count.result c.loop-col.invariant.counted next;
     }

@@ -11,5 +11,8 @@ invariant-loop-col l = record {
   room : length l.room ≡ 32768;
   other_room : length l.other_room ≡ 32768;
   few : l.count ≤ l.col;
-  counted : l.count ≤ length (filter (differ_at (plane_by l.fn.sheet.width l.fn.sheet.height l.fn.sheet.bpp l.tiles) (plane_by l.fn.sheet.width l.fn.sheet.height l.fn.sheet.bpp l.others)) (map (λ col. tile col l.row) (count_from 0 l.col)));
+  counted : l.count ≤ length (filter
+      (differ_at (plane_by l.fn.sheet.width l.fn.sheet.height l.fn.sheet.bpp l.tiles)
+      (plane_by l.fn.sheet.width l.fn.sheet.height l.fn.sheet.bpp l.others))
+      (map (λ col. tile col l.row) (count_from 0 l.col)));
 }

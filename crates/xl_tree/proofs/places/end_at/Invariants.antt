@@ -7,4 +7,5 @@ use Rattle.spec_forest.specs.declared.TheConstants.{MAX_NODES}
 
 abbrev pub invariant-loop-place : goal.invariant-loop-place
 invariant-loop-place g l =
-    (end_at l.path l.fn.stack ≡ option_map (λ n. l.before + n) (end_at (drop l.place-index l.path) l.rest)) × (l.before + size l.rest ≤ MAX_NODES)
+    (end_at l.path l.fn.stack ≡ option_map (λ n. l.before + n) (end_at (drop l.place-index l.path) l.rest))
+    × (l.before + size l.rest ≤ MAX_NODES)

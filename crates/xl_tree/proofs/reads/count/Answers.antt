@@ -13,6 +13,12 @@ overflow_add-nodes g c =
 pub loop-under-preserved : goal.loop-under-preserved
 loop-under-preserved g c =
     elim c.match-split.branch [
-      | in-Leaf w ↦ (omega (arith, ap count w.in-Leaf.ensures.parts, ap count w.rest-is), omega (arith, w.in-Leaf.ensures.falls, ap size w.rest-is))
-      | in-Group w ↦ (omega (arith, ap count w.in-Group.ensures.parts, ap count w.rest-is), omega (arith, w.in-Group.ensures.falls, ap size w.rest-is))
+      | in-Leaf w ↦ (
+        omega (arith, ap count w.in-Leaf.ensures.parts, ap count w.rest-is),
+        omega (arith, w.in-Leaf.ensures.falls, ap size w.rest-is),
+      )
+      | in-Group w ↦ (
+        omega (arith, ap count w.in-Group.ensures.parts, ap count w.rest-is),
+        omega (arith, w.in-Group.ensures.falls, ap size w.rest-is),
+      )
     ]

@@ -8,12 +8,14 @@ pub loop-passed-preserved : goal.loop-passed-preserved
 loop-passed-preserved g c =
     elim c.match-split.branch [
       | in-Leaf w ↦ (
-        from_place_under_leaf c.loop-passed.passed c.args.stack _ _ _ (c.loop-passed.invariant.0 ∙ sym w.in-Leaf.ensures.parts) ∙ sym w.rest-is,
+        from_place_under_leaf c.loop-passed.passed c.args.stack _ _ _ (c.loop-passed.invariant.0 ∙ sym w.in-Leaf.ensures.parts)
+            ∙ sym w.rest-is,
         omega (arith, ap count w.in-Leaf.ensures.parts, ap count w.rest-is),
         c.loop-passed.invariant.2,
       )
       | in-Group w ↦ (
-        from_place_under_group c.loop-passed.passed c.args.stack _ _ _ _ (c.loop-passed.invariant.0 ∙ sym w.in-Group.ensures.parts) ∙ sym w.rest-is,
+        from_place_under_group c.loop-passed.passed c.args.stack _ _ _ _ (c.loop-passed.invariant.0 ∙ sym w.in-Group.ensures.parts)
+            ∙ sym w.rest-is,
         omega (arith, ap count w.in-Group.ensures.parts, ap count w.rest-is),
         c.loop-passed.invariant.2,
       )

@@ -11,6 +11,8 @@ returns-in-Leaf t c =
     let other = c.args.other.now in
     let id = c.in-Leaf.id.0 in
     let node = c.in-Leaf.node.now in
-    let one = c.changed_body.ensures (layer_of node) (find id (nodes_of other)) (top_is c.args.nodes c.in-Leaf.under id node c.requires.leaves c.in-Leaf.ensures.parts)
+    let one = c.changed_body.ensures (layer_of node) (find id (nodes_of other))
+    (top_is c.args.nodes c.in-Leaf.under id node c.requires.leaves c.in-Leaf.ensures.parts)
     (seen id other (option_copied c.find.result) c.requires.agree c.find.ensures) in
-    leaf_bound changed_layer other c.args.nodes c.in-Leaf.under id node c.changed_body.result c.changed_layers.result c.sum.result c.in-Leaf.ensures.parts one c.changed_layers.ensures c.sum.ensures
+    leaf_bound changed_layer other c.args.nodes c.in-Leaf.under id node c.changed_body.result c.changed_layers.result c.sum.result
+    c.in-Leaf.ensures.parts one c.changed_layers.ensures c.sum.ensures

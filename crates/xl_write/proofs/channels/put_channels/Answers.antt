@@ -8,17 +8,30 @@ use Rattle.xl_write.proofs.channels.put_channels.Goals as goal
 pub put_channel-requires-clause-sheet : goal.put_channel-requires-clause-sheet
 put_channel-requires-clause-sheet g c =
     let item = c.channel-item.result in
-    subst (λ c. IsWritableSheet (plain_sheet c)) (sym c.channel-item.is) (writable_at c.args.channels.now c.loop-channel.channel-index item c.loop-channel-test.true c.requires.sheets)
+    subst (λ c. IsWritableSheet (plain_sheet c)) (sym c.channel-item.is)
+    (writable_at c.args.channels.now c.loop-channel.channel-index item c.loop-channel-test.true c.requires.sheets)
 
 pub put_channel-requires-clause-room : goal.put_channel-requires-clause-room
 put_channel-requires-clause-room g c =
     let cs = c.args.channels.now in
     let i = c.loop-channel.channel-index in
-    let end = sheets_end g.C.PlaneCoder.fits c.args.compression (map plain_sheet (take i cs)) c.args.pieces.now.bytes.items c.loop-channel.pieces.bytes.items _ _ (writable_first cs i c.requires.sheets) c.loop-channel.invariant in
-    omega (arith, end, c.loop-channel.pieces.bytes.ok.0, c.args.pieces.now.bytes.ok.0, c.requires.room, costs_at cs i c.channel-item.result c.loop-channel-test.true, ap (λ c. sheet_cost (plain_sheet c)) c.channel-item.is)
+    let end = sheets_end g.C.PlaneCoder.fits c.args.compression
+    (map plain_sheet (take i cs)) c.args.pieces.now.bytes.items c.loop-channel.pieces.bytes.items _ _
+    (writable_first cs i c.requires.sheets) c.loop-channel.invariant in
+    omega (
+      arith,
+      end,
+      c.loop-channel.pieces.bytes.ok.0,
+      c.args.pieces.now.bytes.ok.0,
+      c.requires.room,
+      costs_at cs i c.channel-item.result c.loop-channel-test.true,
+      ap (λ c. sheet_cost (plain_sheet c)) c.channel-item.is,
+    )
 
 pub loop-channel-preserved : goal.loop-channel-preserved
 loop-channel-preserved g c =
-    one_channel_more g.C.PlaneCoder.fits c.args.compression c.args.channels.now c.loop-channel.channel-index c.channel-item.result c.channel-item.result c.args.pieces.now.bytes.items
-    c.loop-channel.pieces.bytes.items c.put_channel.new.pieces.bytes.items c.args.pieces.now.begins.items c.loop-channel.pieces.begins.items c.put_channel.new.pieces.begins.items
+    one_channel_more g.C.PlaneCoder.fits c.args.compression c.args.channels.now c.loop-channel.channel-index c.channel-item.result
+    c.channel-item.result c.args.pieces.now.bytes.items
+    c.loop-channel.pieces.bytes.items c.put_channel.new.pieces.bytes.items c.args.pieces.now.begins.items
+    c.loop-channel.pieces.begins.items c.put_channel.new.pieces.begins.items
     c.loop-channel-test.true c.channel-item.is c.loop-channel.invariant c.in_ok-put_channel.ensures

@@ -13,32 +13,47 @@ use Rattle.xl_write.proofs.channels.put_sheets.Goals as goal
 pub put_channels-requires-clause-sheets : goal.put_channels-requires-clause-sheets
 put_channels-requires-clause-sheets g c =
     let whole : map plain_sheet c.as_slice.result.now ++ selection_sheet c.doc.inside.selection ≡ sheets c.args.doc.now =
-    λ i. map plain_sheet ((c.as_slice.ensures ∙ ap (λ d. d.channels) c.doc.view_is) i) ++ selection_sheet (ap (λ d. d.selection) c.doc.view_is i) in
-    all_before IsWritableSheet (map plain_sheet c.as_slice.result.now) (selection_sheet c.doc.inside.selection) (subst (AllByRecursion IsWritableSheet) (sym whole) c.requires.sheets)
+    λ i. map plain_sheet ((c.as_slice.ensures ∙ ap (λ d. d.channels) c.doc.view_is) i)
+    ++ selection_sheet (ap (λ d. d.selection) c.doc.view_is i) in
+    all_before IsWritableSheet (map plain_sheet c.as_slice.result.now) (selection_sheet c.doc.inside.selection)
+    (subst (AllByRecursion IsWritableSheet) (sym whole) c.requires.sheets)
 
 pub put_channels-requires-clause-room : goal.put_channels-requires-clause-room
 put_channels-requires-clause-room g c =
     let xs = map plain_sheet c.as_slice.result.now in
     let ys = selection_sheet c.doc.inside.selection in
     let whole : xs ++ ys ≡ sheets c.args.doc.now =
-    λ i. map plain_sheet ((c.as_slice.ensures ∙ ap (λ d. d.channels) c.doc.view_is) i) ++ selection_sheet (ap (λ d. d.selection) c.doc.view_is i) in
+    λ i. map plain_sheet ((c.as_slice.ensures ∙ ap (λ d. d.channels) c.doc.view_is) i)
+    ++ selection_sheet (ap (λ d. d.selection) c.doc.view_is i) in
     omega (arith, c.requires.room, ap sheet_costs whole, sheet_costs-append xs ys)
 
 pub put_selection-requires-clause-sheets : goal.put_selection-requires-clause-sheets
 put_selection-requires-clause-sheets g c =
     let whole : map plain_sheet c.as_slice.result.now ++ selection_sheet c.doc.inside.selection ≡ sheets c.args.doc.now =
-    λ i. map plain_sheet ((c.as_slice.ensures ∙ ap (λ d. d.channels) c.doc.view_is) i) ++ selection_sheet (ap (λ d. d.selection) c.doc.view_is i) in
-    all_behind IsWritableSheet (map plain_sheet c.as_slice.result.now) (selection_sheet c.doc.inside.selection) (subst (AllByRecursion IsWritableSheet) (sym whole) c.requires.sheets)
+    λ i. map plain_sheet ((c.as_slice.ensures ∙ ap (λ d. d.channels) c.doc.view_is) i)
+    ++ selection_sheet (ap (λ d. d.selection) c.doc.view_is i) in
+    all_behind IsWritableSheet (map plain_sheet c.as_slice.result.now) (selection_sheet c.doc.inside.selection)
+    (subst (AllByRecursion IsWritableSheet) (sym whole) c.requires.sheets)
 
 pub put_selection-requires-clause-room : goal.put_selection-requires-clause-room
 put_selection-requires-clause-room g c =
     let xs = map plain_sheet c.as_slice.result.now in
     let ys = selection_sheet c.doc.inside.selection in
     let whole : xs ++ ys ≡ sheets c.args.doc.now =
-    λ i. map plain_sheet ((c.as_slice.ensures ∙ ap (λ d. d.channels) c.doc.view_is) i) ++ selection_sheet (ap (λ d. d.selection) c.doc.view_is i) in
+    λ i. map plain_sheet ((c.as_slice.ensures ∙ ap (λ d. d.channels) c.doc.view_is) i)
+    ++ selection_sheet (ap (λ d. d.selection) c.doc.view_is i) in
     let all = all_before IsWritableSheet xs ys (subst (AllByRecursion IsWritableSheet) (sym whole) c.requires.sheets) in
-    let end = sheets_end g.C.PlaneCoder.fits c.doc.inside.compression xs c.args.pieces.now.bytes.items c.put_channels.new.pieces.bytes.items _ _ all c.in_ok-put_channels.ensures in
-    omega (arith, end, c.put_channels.new.pieces.bytes.ok.0, c.args.pieces.now.bytes.ok.0, c.requires.room, ap sheet_costs whole, sheet_costs-append xs ys)
+    let end = sheets_end g.C.PlaneCoder.fits c.doc.inside.compression xs c.args.pieces.now.bytes.items
+    c.put_channels.new.pieces.bytes.items _ _ all c.in_ok-put_channels.ensures in
+    omega (
+      arith,
+      end,
+      c.put_channels.new.pieces.bytes.ok.0,
+      c.args.pieces.now.bytes.ok.0,
+      c.requires.room,
+      ap sheet_costs whole,
+      sheet_costs-append xs ys,
+    )
 
 pub returns : goal.returns
 returns g c =
@@ -52,9 +67,11 @@ returns g c =
     let b = c.put_channels.new.pieces.begins.items in
     let e = c.put_selection.new.pieces.begins.items in
     let whole : xs ++ ys ≡ sheets c.args.doc.now =
-    λ i. map plain_sheet ((c.as_slice.ensures ∙ ap (λ d. d.channels) c.doc.view_is) i) ++ selection_sheet (ap (λ d. d.selection) c.doc.view_is i) in
+    λ i. map plain_sheet ((c.as_slice.ensures ∙ ap (λ d. d.channels) c.doc.view_is) i)
+    ++ selection_sheet (ap (λ d. d.selection) c.doc.view_is i) in
     on_ok_weaker c.put_selection.result
-    (λ last. subst (λ n. PiecesAppended (IsSheetAt fits n) (sheets c.args.doc.now) old new a e) (ap (λ d. d.compression) c.doc.view_is)
+    (λ last. subst (λ n. PiecesAppended (IsSheetAt fits n) (sheets c.args.doc.now) old new a e)
+    (ap (λ d. d.compression) c.doc.view_is)
     (subst (λ ss. PiecesAppended (IsSheetAt fits c.doc.inside.compression) ss old new a e) whole
     (both_appended (IsSheetAt fits c.doc.inside.compression) xs ys old mid new a b e c.in_ok-put_channels.ensures last)))
     c.put_selection.ensures

@@ -10,4 +10,5 @@ pub returns-in-None-clause-few : goal.returns-in-None-clause-few
 returns-in-None-clause-few c = omega (arith, c.requires.few_channels, c.len.ensures, ap (λ d. length d.channels) c.doc.view_is)
 
 pub returns-in-Some-clause-few : goal.returns-in-Some-clause-few
-returns-in-Some-clause-few c = omega (arith, c.requires.few_channels, c.len-in-Some.ensures, ap (λ d. length d.channels) c.doc.view_is)
+returns-in-Some-clause-few c =
+    omega (arith, c.requires.few_channels, c.len-in-Some.ensures, ap (λ d. length d.channels) c.doc.view_is)

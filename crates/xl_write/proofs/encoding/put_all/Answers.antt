@@ -12,7 +12,8 @@ use Rattle.xl_write.proofs.encoding.put_all.Goals as goal
 pub put_nodes-requires-clause-can : goal.put_nodes-requires-clause-can
 put_nodes-requires-clause-can g c =
     let d = c.args.doc.now in
-    can_walk d c.new-path.result.items c.top.result _ c.requires.document (sym c.new-path.ensures.items) (ap (λ d. d.nodes) (sym c.doc.view_is) ∙ ap nodes_of (sym c.top.ensures.value))
+    can_walk d c.new-path.result.items c.top.result _ c.requires.document (sym c.new-path.ensures.items)
+    (ap (λ d. d.nodes) (sym c.doc.view_is) ∙ ap nodes_of (sym c.top.ensures.value))
     (omega (arith, c.requires.begin, c.args.pieces.now.bytes.ok.0))
 
 pub put_sheets-requires-clause-sheets : goal.put_sheets-requires-clause-sheets
@@ -22,7 +23,10 @@ pub put_sheets-requires-clause-room : goal.put_sheets-requires-clause-room
 put_sheets-requires-clause-room g c =
     let d = c.args.doc.now in
     let put : PiecesAppended (IsItem g.C.PlaneCoder.fits d.compression) (items d) _ _ _ _ =
-    put_moved g.C.PlaneCoder.fits d c.new-path.result.items [] 0 (nodes_of c.top.result) d.nodes c.args.pieces.now.bytes.items c.put_nodes.new.pieces.bytes.items _ _ c.new-path.ensures.items
+    put_moved g.C.PlaneCoder.fits d c.new-path.result.items [] 0
+    (nodes_of c.top.result) d.nodes c.args.pieces.now.bytes.items c.put_nodes.new.pieces.bytes.items _ _
+    c.new-path.ensures.items
     (ap nodes_of c.top.ensures.value ∙ ap (λ d. d.nodes) c.doc.view_is) c.in_ok-put_nodes.ensures.pieces in
-    let end = items_end g.C.PlaneCoder.fits d.compression d.base (items d) c.args.pieces.now.bytes.items c.put_nodes.new.pieces.bytes.items _ _ (items_writable d c.requires.document) put in
+    let end = items_end g.C.PlaneCoder.fits d.compression d.base
+    (items d) c.args.pieces.now.bytes.items c.put_nodes.new.pieces.bytes.items _ _ (items_writable d c.requires.document) put in
     omega (arith, end, room d c.requires.document, c.requires.begin, c.put_nodes.new.pieces.bytes.ok.0)

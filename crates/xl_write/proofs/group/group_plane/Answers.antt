@@ -12,7 +12,8 @@ plane_over-requires-clause-full g c =
     let rgba = c.in_ok-rgba.rgba.items in
     let is : c.doc.inside.base ≡ d.base = ap (λ d. d.base) c.doc.view_is in
     let may = subst MayHaveGroups (sym is) c.requires.base in
-    plane_length d c.args.id.0 r _ (own_plane d c.args.id.0 r c.doc.inside.base rgba is may c.in_ok-rgba.ensures) ∙ ap (λ b. r.w * r.h * group_bpp b) (sym is)
+    plane_length d c.args.id.0 r _ (own_plane d c.args.id.0 r c.doc.inside.base rgba is may c.in_ok-rgba.ensures)
+    ∙ ap (λ b. r.w * r.h * group_bpp b) (sym is)
 
 pub returns : goal.returns
 returns g c =
@@ -21,4 +22,5 @@ returns g c =
     let rgba = c.in_ok-rgba.rgba.items in
     let is : c.doc.inside.base ≡ d.base = ap (λ d. d.base) c.doc.view_is in
     let may = subst MayHaveGroups (sym is) c.requires.base in
-    IfOk-weaker c.plane_over.result _ _ (λ p h. h ∙ own_plane d c.args.id.0 r c.doc.inside.base rgba is may c.in_ok-rgba.ensures) c.plane_over.ensures
+    IfOk-weaker c.plane_over.result _ _ (λ p h. h
+    ∙ own_plane d c.args.id.0 r c.doc.inside.base rgba is may c.in_ok-rgba.ensures) c.plane_over.ensures

@@ -12,8 +12,10 @@ lies c =
     let d = c.args.doc.now in
     let wide : d.width ≤ MAX_SIDE = rw (← c.doc.view_is) c.doc.invariant.limits.width.1 in
     let high : d.height ≤ MAX_SIDE = rw (← c.doc.view_is) c.doc.invariant.limits.height.1 in
-    let some : is_empty (extent d c.args.id.0) ≡ false = ap is_empty (sym c.group_extent-extent.ensures) ∙ (sym c.is_empty.ensures ∙ c.if-is_empty.false) in
-    subst (LiesInside d.width d.height) (sym c.group_extent-extent.ensures) (cut_inside (rect_found (find c.args.id.0 d.nodes)) d.width d.height wide high some)
+    let some : is_empty (extent d c.args.id.0) ≡ false = ap is_empty (sym c.group_extent-extent.ensures)
+    ∙ (sym c.is_empty.ensures ∙ c.if-is_empty.false) in
+    subst (LiesInside d.width d.height) (sym c.group_extent-extent.ensures)
+    (cut_inside (rect_found (find c.args.id.0 d.nodes)) d.width d.height wide high some)
 
 pub returns-then-is_empty-clause-inside : goal.returns-then-is_empty-clause-inside
 returns-then-is_empty-clause-inside c =

@@ -11,7 +11,8 @@ loop-k-preserved c =
     let next : suc (suc (suc (suc n))) ≡ 4 * (c.loop-k.k + 1) = omega arith in
     let last : suc (suc (suc n)) ≡ n + 3 = omega arith in
     c.in_ok-push-2.ensures.items
-    ∙ (ap (λ ys. ys ++ slice_index xs (n + 3) ∷ []) (c.in_ok-push.ensures.items ∙ ap (λ ys. ys ++ slice_index xs n ∷ []) c.loop-k.invariant)
+    ∙ (ap (λ ys. ys ++ slice_index xs (n + 3) ∷ []) (c.in_ok-push.ensures.items
+    ∙ ap (λ ys. ys ++ slice_index xs n ∷ []) c.loop-k.invariant)
     ∙ (append_assoc (red_and_alpha (take n xs)) (slice_index xs n ∷ []) (slice_index xs (n + 3) ∷ [])
     ∙ (ap (λ m. red_and_alpha (take n xs) ++ slice_index xs n ∷ slice_index xs m ∷ []) (sym last)
     ∙ (sym (picked_more n c.loop-k.k xs refl (omega arith)) ∙ ap (λ m. red_and_alpha (take m xs)) next))))

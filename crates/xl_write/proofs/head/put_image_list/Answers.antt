@@ -10,4 +10,5 @@ returns c =
     let d : Document = c.args.doc.now in
     on_ok_weaker c.write_props.result
     (λ last. image_made c.args.out.now.items c.write_props.new.out.items d c.in_ok-known.known c.in_ok-known.ensures
-    (last ∙ ap (λ (x : Document). c.args.out.now.items ++ written c.in_ok-known.known x.kept) c.doc.view_is)) c.write_props.ensures.ok
+    (last ∙ ap (λ (x : Document). c.args.out.now.items ++ written c.in_ok-known.known x.kept) c.doc.view_is))
+    c.write_props.ensures.ok

@@ -6,7 +6,8 @@ use Rattle.spec_layout.specs.Layout.{IsItem}
 use Rattle.xl_doc.specs.Nodes.{MarksAgree, nodes_of, layer_of, group_of}
 use Rattle.xl_write.specs.Walk.{CanWalk}
 use Rattle.xl_write.proofs.Followed.{none_appended}
-use Rattle.xl_write.proofs.Walking.{under_leaf, in_group, under_group, leaf_walked, group_walked, moved, put_moved, piece_moved, compressed, popped}
+use Rattle.xl_write.proofs.Walking.{under_leaf, in_group, under_group, leaf_walked, group_walked, moved, put_moved}
+use Rattle.xl_write.proofs.Walking.{piece_moved, compressed, popped}
 use Rattle.xl_write.proofs.nodes.+put_nodes.Goals as goal
 
 pub put_nodes-requires : goal.put_nodes-requires
@@ -20,11 +21,13 @@ put_nodes-requires g t c κs within =
     let start : vec_len c.args.pieces.now.bytes ≡ length old = omega (arith, c.args.pieces.now.bytes.ok.0) in
     let end : length new ≡ vec_len c.put_layer_at.new.pieces.bytes = omega (arith, c.put_layer_at.new.pieces.bytes.ok.0) in
     let can : CanWalk d path c.args.place (leaf c.in-Leaf.id.0 l under) (length old) =
-    moved d path path c.args.place (nodes_of c.args.nodes) (leaf c.in-Leaf.id.0 l under) _ _ refl (ap nodes_of (sym c.in-Leaf.ensures.parts)) start c.requires.can in
+    moved d path path c.args.place (nodes_of c.args.nodes) (leaf c.in-Leaf.id.0 l under) _ _ refl
+    (ap nodes_of (sym c.in-Leaf.ensures.parts)) start c.requires.can in
     let next : CanWalk d c.put_layer_at.new.path.items (c.args.place + 1) under (vec_len c.put_layer_at.new.pieces.bytes) =
     moved d path _ (c.args.place + 1) under under _ _ (sym c.in_ok-put_layer_at-in-Leaf.ensures.path) refl end
     (under_leaf g.C.PlaneCoder.fits d path c.args.place c.in-Leaf.id.0 l under old new _ _ can
-    (compressed g.C.PlaneCoder.fits c.doc.inside.compression d.compression _ old new _ _ (ap (λ d. d.compression) c.doc.view_is) c.in_ok-put_layer_at-in-Leaf.ensures.piece)) in
+    (compressed g.C.PlaneCoder.fits c.doc.inside.compression d.compression _ old new _ _
+    (ap (λ d. d.compression) c.doc.view_is) c.in_ok-put_layer_at-in-Leaf.ensures.piece)) in
     let agree = subst MarksAgree (sym c.in-Leaf.ensures.parts) c.requires.agree in
     let less : size c.in-Leaf.under < t = omega (arith, c.decreases, c.in-Leaf.ensures.falls) in
     (less, (search, (search, (agree.1, next))))
@@ -42,8 +45,10 @@ put_nodes-requires-in-Group g t c κs within =
     let start : vec_len c.args.pieces.now.bytes ≡ length old = omega (arith, c.args.pieces.now.bytes.ok.0) in
     let end : length new ≡ vec_len c.put_group.new.pieces.bytes = omega (arith, c.put_group.new.pieces.bytes.ok.0) in
     let can : CanWalk d path c.args.place (group c.in-Group.id.0 gr children under) (length old) =
-    moved d path path c.args.place (nodes_of c.args.nodes) (group c.in-Group.id.0 gr children under) _ _ refl (ap nodes_of (sym c.in-Group.ensures.parts)) start c.requires.can in
-    let put = piece_moved g.C.PlaneCoder.fits d c.deref.result.now deep c.in-Group.id.0 gr old new _ _ (c.deref.ensures.value ∙ c.in_ok-push-in-Group.ensures.items) c.in_ok-put_group-in-Group.ensures in
+    moved d path path c.args.place (nodes_of c.args.nodes) (group c.in-Group.id.0 gr children under) _ _ refl
+    (ap nodes_of (sym c.in-Group.ensures.parts)) start c.requires.can in
+    let put = piece_moved g.C.PlaneCoder.fits d c.deref.result.now deep c.in-Group.id.0 gr old new _ _ (c.deref.ensures.value
+    ∙ c.in_ok-push-in-Group.ensures.items) c.in_ok-put_group-in-Group.ensures in
     let next : CanWalk d c.push.new.self.items 0 children (vec_len c.put_group.new.pieces.bytes) =
     moved d deep _ 0 children children _ _ (sym c.in_ok-push-in-Group.ensures.items) refl end
     (in_group g.C.PlaneCoder.fits d path c.args.place c.in-Group.id.0 gr children under old new _ _ can put) in
@@ -63,14 +68,19 @@ put_nodes-requires-in-Group-2 g t c κs within =
     let under = nodes_of c.in-Group.under in
     let gr = group_of c.in-Group.node.now in
     let start : vec_len c.args.pieces.now.bytes ≡ length old = omega (arith, c.args.pieces.now.bytes.ok.0) in
-    let end : length new ≡ vec_len c.put_nodes-in-Group.new.pieces.bytes = omega (arith, c.put_nodes-in-Group.new.pieces.bytes.ok.0) in
+    let end : length new ≡ vec_len c.put_nodes-in-Group.new.pieces.bytes =
+    omega (arith, c.put_nodes-in-Group.new.pieces.bytes.ok.0) in
     let back : c.pop.new.self.items ≡ path =
-    popped path c.put_nodes-in-Group.new.path.items c.pop.new.self.items c.args.place c.put_nodes-in-Group.new.path.len (c.in_ok-put_nodes-in-Group.ensures.path ∙ c.in_ok-push-in-Group.ensures.items)
+    popped path c.put_nodes-in-Group.new.path.items c.pop.new.self.items c.args.place c.put_nodes-in-Group.new.path.len
+    (c.in_ok-put_nodes-in-Group.ensures.path ∙ c.in_ok-push-in-Group.ensures.items)
     (omega (arith, c.put_nodes-in-Group.new.path.ok.0)) c.pop.ensures.rest in
     let can : CanWalk d path c.args.place (group c.in-Group.id.0 gr children under) (length old) =
-    moved d path path c.args.place (nodes_of c.args.nodes) (group c.in-Group.id.0 gr children under) _ _ refl (ap nodes_of (sym c.in-Group.ensures.parts)) start c.requires.can in
-    let put = piece_moved g.C.PlaneCoder.fits d c.deref.result.now deep c.in-Group.id.0 gr old mid _ _ (c.deref.ensures.value ∙ c.in_ok-push-in-Group.ensures.items) c.in_ok-put_group-in-Group.ensures in
-    let inside = put_moved g.C.PlaneCoder.fits d c.push.new.self.items deep 0 children children mid new _ _ c.in_ok-push-in-Group.ensures.items refl c.in_ok-put_nodes-in-Group.ensures.pieces in
+    moved d path path c.args.place (nodes_of c.args.nodes) (group c.in-Group.id.0 gr children under) _ _ refl
+    (ap nodes_of (sym c.in-Group.ensures.parts)) start c.requires.can in
+    let put = piece_moved g.C.PlaneCoder.fits d c.deref.result.now deep c.in-Group.id.0 gr old mid _ _ (c.deref.ensures.value
+    ∙ c.in_ok-push-in-Group.ensures.items) c.in_ok-put_group-in-Group.ensures in
+    let inside = put_moved g.C.PlaneCoder.fits d c.push.new.self.items deep 0 children children mid new _ _
+    c.in_ok-push-in-Group.ensures.items refl c.in_ok-put_nodes-in-Group.ensures.pieces in
     let next : CanWalk d c.pop.new.self.items (c.args.place + 1) under (vec_len c.put_nodes-in-Group.new.pieces.bytes) =
     moved d path _ (c.args.place + 1) under under _ _ (sym back) refl end
     (under_group g.C.PlaneCoder.fits d path c.args.place c.in-Group.id.0 gr children under old mid new _ _ _ can put inside) in
@@ -89,10 +99,13 @@ returns-in_ok-put_layer_at-in-Leaf-clause-pieces g t c =
     let under = nodes_of c.in-Leaf.under in
     let l = layer_of c.in-Leaf.node.now in
     on_ok_weaker c.put_nodes.result
-    (λ rest. put_moved fits d path path c.args.place (leaf c.in-Leaf.id.0 l under) (nodes_of c.args.nodes) old new _ _ refl (ap nodes_of c.in-Leaf.ensures.parts)
+    (λ rest. put_moved fits d path path c.args.place (leaf c.in-Leaf.id.0 l under) (nodes_of c.args.nodes) old new _ _ refl
+    (ap nodes_of c.in-Leaf.ensures.parts)
     (leaf_walked fits d path c.args.place c.in-Leaf.id.0 l under old mid new _ _ _
-    (compressed fits c.doc.inside.compression d.compression _ old mid _ _ (ap (λ d. d.compression) c.doc.view_is) c.in_ok-put_layer_at-in-Leaf.ensures.piece)
-    (put_moved fits d c.put_layer_at.new.path.items path (c.args.place + 1) under under mid new _ _ c.in_ok-put_layer_at-in-Leaf.ensures.path refl rest)))
+    (compressed fits c.doc.inside.compression d.compression _ old mid _ _
+    (ap (λ d. d.compression) c.doc.view_is) c.in_ok-put_layer_at-in-Leaf.ensures.piece)
+    (put_moved fits d c.put_layer_at.new.path.items path
+    (c.args.place + 1) under under mid new _ _ c.in_ok-put_layer_at-in-Leaf.ensures.path refl rest)))
     c.put_nodes.ensures.pieces
 
 pub returns-in_ok-put_nodes-in-Group-clause-pieces : goal.returns-in_ok-put_nodes-in-Group-clause-pieces
@@ -109,12 +122,16 @@ returns-in_ok-put_nodes-in-Group-clause-pieces g t c =
     let under = nodes_of c.in-Group.under in
     let gr = group_of c.in-Group.node.now in
     let back : c.pop.new.self.items ≡ path =
-    popped path c.put_nodes-in-Group.new.path.items c.pop.new.self.items c.args.place c.put_nodes-in-Group.new.path.len (c.in_ok-put_nodes-in-Group.ensures.path ∙ c.in_ok-push-in-Group.ensures.items)
+    popped path c.put_nodes-in-Group.new.path.items c.pop.new.self.items c.args.place c.put_nodes-in-Group.new.path.len
+    (c.in_ok-put_nodes-in-Group.ensures.path ∙ c.in_ok-push-in-Group.ensures.items)
     (omega (arith, c.put_nodes-in-Group.new.path.ok.0)) c.pop.ensures.rest in
-    let put = piece_moved fits d c.deref.result.now deep c.in-Group.id.0 gr old mid _ _ (c.deref.ensures.value ∙ c.in_ok-push-in-Group.ensures.items) c.in_ok-put_group-in-Group.ensures in
-    let inside = put_moved fits d c.push.new.self.items deep 0 children children mid far _ _ c.in_ok-push-in-Group.ensures.items refl c.in_ok-put_nodes-in-Group.ensures.pieces in
+    let put = piece_moved fits d c.deref.result.now deep c.in-Group.id.0 gr old mid _ _ (c.deref.ensures.value
+    ∙ c.in_ok-push-in-Group.ensures.items) c.in_ok-put_group-in-Group.ensures in
+    let inside = put_moved fits d c.push.new.self.items deep 0 children children mid far _ _ c.in_ok-push-in-Group.ensures.items
+    refl c.in_ok-put_nodes-in-Group.ensures.pieces in
     on_ok_weaker c.put_nodes-in-Group-2.result
-    (λ rest. put_moved fits d path path c.args.place (group c.in-Group.id.0 gr children under) (nodes_of c.args.nodes) old new _ _ refl (ap nodes_of c.in-Group.ensures.parts)
+    (λ rest. put_moved fits d path path c.args.place (group c.in-Group.id.0 gr children under)
+    (nodes_of c.args.nodes) old new _ _ refl (ap nodes_of c.in-Group.ensures.parts)
     (group_walked fits d path c.args.place c.in-Group.id.0 gr children under old mid far new _ _ _ _ put inside
     (put_moved fits d c.pop.new.self.items path (c.args.place + 1) under under far new _ _ back refl rest)))
     c.put_nodes-in-Group-2.ensures.pieces

@@ -11,7 +11,8 @@ pub returns : goal.returns
 returns c =
     let s : Channel = record { name = c.args.name.now; kept = c.args.kept.now; plane = c.args.plane.now } in
     on_ok_weaker c.write_props.result
-    (λ e. front_made c.args.out.now.items c.put_u32.new.out.items c.put_u32-2.new.out.items c.put_string.new.out.items c.write_props.new.out.items c.args.is_selection s
+    (λ e. front_made c.args.out.now.items c.put_u32.new.out.items c.put_u32-2.new.out.items c.put_string.new.out.items
+    c.write_props.new.out.items c.args.is_selection s
     (c.in_ok-put_u32.ensures.ok ∙ ap (λ n. c.args.out.now.items ++ word n) c.width.ensures.value)
     (c.in_ok-put_u32-2.ensures.ok ∙ ap (λ n. c.put_u32.new.out.items ++ word n) c.height.ensures.value)
     (c.in_ok-put_string.ensures.ok ∙ ap (λ name. c.put_u32-2.new.out.items ++ text name) c.as_slice.ensures)

@@ -8,7 +8,8 @@ use Rattle.xl_compose.proofs.planned.Job.new.Goals as goal
 pub invariant_of-result : goal.invariant_of-result
 invariant_of-result c =
     let n = points c.args.band in
-    let size : length c.in_ok-room.room.items ≡ c.args.deep * n = ap length c.in_ok-room.ensures ∙ length-replicate (c.args.deep * n) clear in
+    let size : length c.in_ok-room.room.items ≡ c.args.deep * n = ap length c.in_ok-room.ensures
+    ∙ length-replicate (c.args.deep * n) clear in
     let row : length c.in_ok-source.source.items ≡ 1 * n = ap length c.in_ok-source.ensures ∙ length-replicate (1 * n) clear in
     record {
       tile = c.requires.tile;

@@ -12,11 +12,13 @@ use Rattle.xl_core.proofs.standing.Standing.answer.Goals as goal
 pub returns-in-Edit-clause-chest : goal.returns-in-Edit-clause-chest
 returns-in-Edit-clause-chest g c =
     let same : limited.edits_of (call_of c.args.call.now) ≡ edits_of c.as_slice-edits.result.now = search rules in
-    part_same c.edit.result _ _ (limited.edits_of (call_of c.args.call.now)) (edits_of c.as_slice-edits.result.now) same c.edit.ensures.chest
+    part_same c.edit.result _ _ (limited.edits_of (call_of c.args.call.now))
+    (edits_of c.as_slice-edits.result.now) same c.edit.ensures.chest
 
 pub returns-in_ok-tile-in-Tile-clause-told : goal.returns-in_ok-tile-in-Tile-clause-told
 returns-in_ok-tile-in-Tile-clause-told g c =
     let same : call_of c.args.call.now ≡ machine.tile c.in-Tile.node.0 c.in-Tile.at = search rules in
     let tile = c.in_ok-tile-in-Tile.ensures.told in
-    subst (λ call. Tells (told c.args.self.now.what call c.args.seen c.unasked-in-Tile.result.tables) (reply_of c.unasked-in-Tile.result.reply) c.tile.new.self.what) (sym same)
+    subst (λ call. Tells (told c.args.self.now.what call c.args.seen c.unasked-in-Tile.result.tables)
+    (reply_of c.unasked-in-Tile.result.reply) c.tile.new.self.what) (sym same)
     (ap reply_of c.unasked-in-Tile.ensures.reply ∙ tile.0, tile.1)

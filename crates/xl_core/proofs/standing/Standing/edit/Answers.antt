@@ -10,18 +10,23 @@ use Rattle.xl_core.proofs.standing.Standing.edit.Goals as goal
 
 pub new-requires-clause-width : goal.new-requires-clause-width
 new-requires-clause-width g c =
-    (sides_same (at c.self-2.inside.document c.self-2.inside.next_id) (at c.in-Ok.made.document c.in-Ok.made.next_id) (edits_of c.args.edits.now) c.in-Ok.made.tables c.in-Ok.ensures.made).width
+    (sides_same (at c.self-2.inside.document c.self-2.inside.next_id) (at c.in-Ok.made.document c.in-Ok.made.next_id)
+    (edits_of c.args.edits.now) c.in-Ok.made.tables c.in-Ok.ensures.made).width
 
 pub new-requires-clause-height : goal.new-requires-clause-height
 new-requires-clause-height g c =
-    (sides_same (at c.self-2.inside.document c.self-2.inside.next_id) (at c.in-Ok.made.document c.in-Ok.made.next_id) (edits_of c.args.edits.now) c.in-Ok.made.tables c.in-Ok.ensures.made).height
+    (sides_same (at c.self-2.inside.document c.self-2.inside.next_id) (at c.in-Ok.made.document c.in-Ok.made.next_id)
+    (edits_of c.args.edits.now) c.in-Ok.made.tables c.in-Ok.ensures.made).height
 
 pub returns-in_err-change-clause-chest : goal.returns-in_err-change-clause-chest
-returns-in_err-change-clause-chest g c = on_err _ c.from_residual-in_err-change.result (all_part _ _ (edits_of c.args.edits.now) c.in-Ok.made.tables c.in-Ok.ensures.asked)
+returns-in_err-change-clause-chest g c =
+    on_err _ c.from_residual-in_err-change.result
+    (all_part _ _ (edits_of c.args.edits.now) c.in-Ok.made.tables c.in-Ok.ensures.asked)
 
 pub accept-reply-requires-clause-change : goal.accept-reply-requires-clause-change
 accept-reply-requires-clause-change g c =
-    let sides = sides_same (at c.self-2.inside.document c.self-2.inside.next_id) (at c.in-Ok.made.document c.in-Ok.made.next_id) (edits_of c.args.edits.now) c.in-Ok.made.tables c.in-Ok.ensures.made in
+    let sides = sides_same (at c.self-2.inside.document c.self-2.inside.next_id) (at c.in-Ok.made.document c.in-Ok.made.next_id)
+    (edits_of c.args.edits.now) c.in-Ok.made.tables c.in-Ok.ensures.made in
     let same = ap (λ (k : Change). k.damage) c.in_ok-change.ensures in
     let is : IsChange c.self-2.inside.document c.in-Ok.made.document c.in_ok-change.change = record {
       leads = c.in_ok-change.ensures ∙ ap (change_between c.self-2.inside.document c.in-Ok.made.document) (sym same);

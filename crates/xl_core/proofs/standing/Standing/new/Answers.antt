@@ -6,7 +6,8 @@ use Rattle.xl_core.proofs.Numbers.{ids-nodes_of, greatest_within}
 use Rattle.xl_core.proofs.standing.Standing.new.Goals as goal
 
 greatest : (c : goal.After-greatest_id-next_id) → c.greatest_id-next_id.result ≡ fold max 0 (ids c.args.document.nodes)
-greatest c = c.greatest_id-next_id.ensures ∙ (ap (fold max 0) (sym (ids-nodes_of c.document.inside.tree)) ∙ ap (λ d. fold max 0 (ids d.nodes)) c.document.view_is)
+greatest c = c.greatest_id-next_id.ensures
+    ∙ (ap (fold max 0) (sym (ids-nodes_of c.document.inside.tree)) ∙ ap (λ d. fold max 0 (ids d.nodes)) c.document.view_is)
 
 pub overflow_add-next_id : goal.overflow_add-next_id
 overflow_add-next_id c =
@@ -18,6 +19,15 @@ overflow_add-next_id c =
 pub returns-clause-first : goal.returns-clause-first
 returns-clause-first c =
     let greatest : c.greatest_id-next_id.result ≡ fold max 0 (ids c.args.document.nodes) =
-    c.greatest_id-next_id.ensures ∙ (ap (fold max 0) (sym (ids-nodes_of c.document.inside.tree)) ∙ ap (λ d. fold max 0 (ids d.nodes)) c.document.view_is) in
+    c.greatest_id-next_id.ensures ∙ (ap (fold max 0) (sym (ids-nodes_of c.document.inside.tree))
+    ∙ ap (λ d. fold max 0 (ids d.nodes)) c.document.view_is) in
     let next : c.greatest_id-next_id.result + 1 ≡ 1 + fold max 0 (ids c.args.document.nodes) = omega (arith, greatest) in
-    λ i. record { document = c.args.document; undo = reverse (c.new.ensures.items i); redo = reverse (c.new-2.ensures.items i); next_id = next i; next_group = 1; version = 0; cache = c.requires.cache i }
+    λ i. record {
+      document = c.args.document;
+      undo = reverse (c.new.ensures.items i);
+      redo = reverse (c.new-2.ensures.items i);
+      next_id = next i;
+      next_group = 1;
+      version = 0;
+      cache = c.requires.cache i;
+    }

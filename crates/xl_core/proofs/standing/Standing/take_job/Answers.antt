@@ -6,4 +6,5 @@ use Rattle.xl_core.proofs.standing.Standing.take_job.Goals as goal
 
 pub job-requires-clause-clean : goal.job-requires-clause-clean
 job-requires-clause-clean c =
-    are_clean_taken c.self.inside.document c.self.inside.cache c.take.new.self c.self.inside.version c.in-Some.at (subst (λ s. IsKeptNow s.what) (sym c.self.view_is) c.requires.kept) c.take.ensures.rest
+    are_clean_taken c.self.inside.document c.self.inside.cache c.take.new.self c.self.inside.version c.in-Some.at
+    (subst (λ s. IsKeptNow s.what) (sym c.self.view_is) c.requires.kept) c.take.ensures.rest

@@ -17,5 +17,7 @@ returns-clause-told g c =
       version = c.self.inside.version;
       cache = c.self.inside.cache;
     } in
-    subst (λ s. Tells (shown s.what c.args.node.0 c.args.at) (machine.tile_of c.self.inside.version) (with_cache what c.show.new.cache)) c.self.view_is
-    (told-tile what c.show.new.cache c.args.node.0 c.args.at (ap not (sym c.has_stack.ensures ∙ c.if-not-has_stack.false)) (ap not (sym c.has_tile.ensures ∙ c.if-not-has_tile.false)) c.in_ok-show.ensures.cache)
+    subst (λ s. Tells (shown s.what c.args.node.0 c.args.at) (machine.tile_of c.self.inside.version)
+    (with_cache what c.show.new.cache)) c.self.view_is
+    (told-tile what c.show.new.cache c.args.node.0 c.args.at (ap not (sym c.has_stack.ensures ∙ c.if-not-has_stack.false))
+    (ap not (sym c.has_tile.ensures ∙ c.if-not-has_tile.false)) c.in_ok-show.ensures.cache)

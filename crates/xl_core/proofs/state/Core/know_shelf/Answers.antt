@@ -16,4 +16,5 @@ is_in K (Out index version) (Some out) there none = cc
 pub returns : goal.returns
 returns g c =
     subst (λ (e : Editing _). out_of e.history ≡ None → IsSome e.shelf) c.self.view_is
-    (is_in g.row.D.Denot c.self.inside.place (replay c.self.inside.base c.self.inside.entries.items).out c.self.invariant.1.place_is)
+    (is_in g.row.D.Denot c.self.inside.place
+    (replay c.self.inside.base c.self.inside.entries.items).out c.self.invariant.1.place_is)

@@ -1,5 +1,6 @@
 -- The history goes on by the call, or it is full.
-use Rattle.std.proofs.Common.{◌≡◌, ◌+◌, ◌<◌, ◌≤◌, [], ◌∷◌, ◌++◌, length, slice_index, slice_set, arith, rules, refl, sym, ◌∙◌, ap, subst}
+use Rattle.std.proofs.Common.{◌≡◌, ◌+◌, ◌<◌, ◌≤◌, [], ◌∷◌, ◌++◌, length, slice_index, slice_set, arith, rules, refl}
+use Rattle.std.proofs.Common.{sym, ◌∙◌, ap, subst}
 use Rattle.std.specs.Prelude.{vec_capacity}
 use Rattle.spec_history.specs.Machine as machine
 use Rattle.spec_history.specs.Machine.{latest}
@@ -30,7 +31,11 @@ use Rattle.xl_core.proofs.state.Core.submit.Given as given
 
 pub answer-requires-clause-versions : goal.answer-requires-clause-versions
 answer-requires-clause-versions g c =
-    omega (arith, few-versions c.self.inside.base c.self.inside.entries.items c.self.inside.standing.what c.self.inside.made c.self.invariant.0)
+    omega (
+      arith,
+      few-versions c.self.inside.base c.self.inside.entries.items c.self.inside.standing.what c.self.inside.made
+          c.self.invariant.0,
+    )
 
 -- the entry that the call becomes
 entry : (g : given.Over) → goal.After-push_reserved g → Entry
@@ -45,7 +50,8 @@ owed : (g : given.Over) (c : goal.After-push_reserved g)
     → c.owed_in-owed.result ≡ entries_owed (replay c.self.inside.base c.self.inside.entries.items).out
 owed g c =
     c.owed_in-owed.ensures.value
-    ∙ owed_is g.row.D.Denot c.self.inside.place (replay c.self.inside.base c.self.inside.entries.items).out c.self.invariant.1.place_is
+    ∙ owed_is g.row.D.Denot c.self.inside.place
+    (replay c.self.inside.base c.self.inside.entries.items).out c.self.invariant.1.place_is
 
 few : (g : given.Over) (c : goal.After-push_reserved g)
     → length c.self.inside.entries.items + entries_owed (replay c.self.inside.base c.self.inside.entries.items).out < most_entries
@@ -54,20 +60,27 @@ few g c =
     omega (arith, len, owed g c, c.if-len-owed-ge-MOST_ENTRIES.false)
 
 -- the version that was seen is there
-seen_is : (g : given.Over) (c : goal.After-push_reserved g) → c.args.seen ≤ latest (replay c.self.inside.base c.self.inside.entries.items)
+seen_is : (g : given.Over) (c : goal.After-push_reserved g)
+    → c.args.seen ≤ latest (replay c.self.inside.base c.self.inside.entries.items)
 seen_is g c =
     let last = latest_of-legal c.self.inside.base c.self.inside.entries.items c.self.invariant.0.legal in
     subst (λ n. c.args.seen ≤ n) last (subst (λ e. c.args.seen ≤ version e.history) (sym c.self.view_is) c.requires.seen)
 
 -- what stands when the call was answered
 went : (g : given.Over) (c : goal.After-push_reserved g)
-    → GoesOn c.self.inside.base c.self.inside.entries.items c.self.inside.standing.what c.self.inside.made c.args.session (call_of c.args.call) c.args.seen c.in_ok-answered.answered.tables (reply_of c.in_ok-answered.answered.reply) c.answer.new.self.what
+    → GoesOn c.self.inside.base c.self.inside.entries.items c.self.inside.standing.what c.self.inside.made c.args.session
+    (call_of c.args.call) c.args.seen c.in_ok-answered.answered.tables
+    (reply_of c.in_ok-answered.answered.reply) c.answer.new.self.what
 went g c =
-    goes_on leaves-between group-joined c.self.inside.base c.self.inside.entries.items c.self.inside.standing.what c.answer.new.self.what c.self.inside.made c.args.session
-    (call_of c.args.call) c.args.seen c.in_ok-answered.answered.tables (reply_of c.in_ok-answered.answered.reply) c.self.invariant.0 c.self.told c.requires.session (seen_is g c) (few g c) c.requires.built
+    goes_on leaves-between group-joined c.self.inside.base c.self.inside.entries.items c.self.inside.standing.what
+    c.answer.new.self.what c.self.inside.made c.args.session
+    (call_of c.args.call) c.args.seen c.in_ok-answered.answered.tables
+    (reply_of c.in_ok-answered.answered.reply) c.self.invariant.0 c.self.told c.requires.session (seen_is g c)
+    (few g c) c.requires.built
     c.in_ok-answered.ensures.bytes c.in_ok-answered.ensures.told
 
-items : (g : given.Over) (c : goal.After-push_reserved g) → c.push_reserved.new.self.items ≡ c.self.inside.entries.items ++ entry g c ∷ []
+items : (g : given.Over) (c : goal.After-push_reserved g)
+    → c.push_reserved.new.self.items ≡ c.self.inside.entries.items ++ entry g c ∷ []
 unfolding entry
 items g c = c.push_reserved.ensures.items ∙ ap (λ es. es ++ entry g c ∷ []) c.in_ok-reserve.ensures.items
 
@@ -91,7 +104,8 @@ invariant_of-self-2 g c =
     let enough : length entries + 1 + entries_owed (replay base entries).out ≤ room =
     omega (arith, len, owed g c, c.len.ensures, c.in_ok-reserve.ensures.ok, c.push_reserved.ensures.capacity) in
     let holds = holds_called see base entries c.self.inside.standing.what c.self.inside.made c.self.invariant.0 opening handed place
-    (vec_capacity c.self.inside.entries) room c.args.session (slice_index c.self.inside.made c.args.session) (call_of c.args.call) c.in_ok-answered.answered.tables (reply_of c.in_ok-answered.answered.reply)
+    (vec_capacity c.self.inside.entries) room c.args.session (slice_index c.self.inside.made c.args.session)
+    (call_of c.args.call) c.in_ok-answered.answered.tables (reply_of c.in_ok-answered.answered.reply)
     c.self.invariant.1 enough in
     (stands g c, subst (λ es. Holds see base es opening handed place room) (sym (items g c)) holds)
 
@@ -103,7 +117,8 @@ returns-clause-right g c = is_right c.self.inside.base _ _ _ (stands g c)
 
 pub returns-then-len-owed-ge-MOST_ENTRIES-clause-right : goal.returns-then-len-owed-ge-MOST_ENTRIES-clause-right
 returns-then-len-owed-ge-MOST_ENTRIES-clause-right g c =
-    right_same _ _ c.self.view_is (is_right c.self.inside.base c.self.inside.entries.items c.self.inside.standing.what c.self.inside.made c.self.invariant.0)
+    right_same _ _ c.self.view_is (is_right c.self.inside.base c.self.inside.entries.items c.self.inside.standing.what
+    c.self.inside.made c.self.invariant.0)
 
 pub returns-clause-answered : goal.returns-clause-answered
 unfolding entry
@@ -121,7 +136,8 @@ returns-clause-answered g c = λ filters agrees.
     let expected : tables ≡ expected_tables filters (asked call []) reply =
     c.in_ok-answered.ensures.asked.answers filters agrees ∙ sym (tables_made filters call [] reply) in
     submitted_same _ _ c.self.view_is base new session call c.args.seen (expected_tables filters (asked call []) reply) reply
-    (subst (λ ts. (base ≡ base) × (reply ≡ (submit base old session call c.args.seen ts).reply) × (new ≡ (submit base old session call c.args.seen ts).world)) expected (refl, made.0, made.1))
+    (subst (λ ts. (base ≡ base) × (reply ≡ (submit base old session call c.args.seen ts).reply)
+    × (new ≡ (submit base old session call c.args.seen ts).world)) expected (refl, made.0, made.1))
 
 -- where the history is full it stays
 pub returns-then-len-owed-ge-MOST_ENTRIES-clause-answered : goal.returns-then-len-owed-ge-MOST_ENTRIES-clause-answered
@@ -133,18 +149,28 @@ returns-then-len-owed-ge-MOST_ENTRIES-clause-answered g c = λ filters agrees.
     let old = world_of base c.self.inside.entries.items c.self.inside.standing.what.cache in
     let len : length c.self.inside.entries.items ≡ c.len.result = search rules in
     let owed : c.owed_in-owed.result ≡ entries_owed (replay base c.self.inside.entries.items).out =
-    c.owed_in-owed.ensures.value ∙ owed_is g.row.D.Denot c.self.inside.place (replay base c.self.inside.entries.items).out c.self.invariant.1.place_is in
-    let full = refused-full base old session call c.args.seen tables (omega (arith, len, owed, c.if-len-owed-ge-MOST_ENTRIES.true)) in
-    submitted_same _ _ c.self.view_is c.args.self.now.history.base (world c.args.self.now) session call c.args.seen tables machine.history_full (ap (λ e. e.history.base) (sym c.self.view_is), full.0, ap world (sym c.self.view_is) ∙ full.1)
+    c.owed_in-owed.ensures.value ∙ owed_is g.row.D.Denot c.self.inside.place
+    (replay base c.self.inside.entries.items).out c.self.invariant.1.place_is in
+    let full = refused-full base old session call c.args.seen tables
+    (omega (arith, len, owed, c.if-len-owed-ge-MOST_ENTRIES.true)) in
+    submitted_same _ _ c.self.view_is c.args.self.now.history.base
+    (world c.args.self.now) session call c.args.seen tables machine.history_full (
+      ap (λ e. e.history.base) (sym c.self.view_is),
+      full.0,
+      ap world (sym c.self.view_is) ∙ full.1,
+    )
 
 pub answer-requires-clause-kept : goal.answer-requires-clause-kept
-answer-requires-clause-kept g c = kept-stands c.self.inside.base c.self.inside.entries.items c.self.inside.standing.what c.self.inside.made c.self.invariant.0
+answer-requires-clause-kept g c =
+    kept-stands c.self.inside.base c.self.inside.entries.items c.self.inside.standing.what c.self.inside.made c.self.invariant.0
 
 pub returns-clause-shown : goal.returns-clause-shown
 returns-clause-shown g c =
     shows c.self.inside.base c.push_reserved.new.self.items c.self.inside.standing.what c.answer.new.self.what
     (slice_set c.self.inside.made c.args.session (slice_index c.self.inside.made c.args.session + 1))
-    (call_of c.args.call) c.args.seen c.in_ok-answered.answered.tables (reply_of c.in_ok-answered.answered.reply) c.answer.new.desk.out c.in_ok-answered.ensures.told (stands g c) c.in_ok-answered.ensures.shown
+    (call_of c.args.call) c.args.seen c.in_ok-answered.answered.tables
+    (reply_of c.in_ok-answered.answered.reply) c.answer.new.desk.out c.in_ok-answered.ensures.told
+    (stands g c) c.in_ok-answered.ensures.shown
 
 pub answer-requires-clause-ids : goal.answer-requires-clause-ids
 answer-requires-clause-ids g c =
@@ -158,10 +184,12 @@ returns-in_err-reserve-clause-part g c = on_err _ c.from_residual.result (none_p
 
 pub returns-clause-no_step : goal.returns-clause-no_step
 returns-clause-no_step g c = λ needs.
-    c.answer.ensures.steps (needs_none c.self.inside.base c.self.inside.entries.items c.self.inside.standing.what c.self.inside.made (call_of c.args.call) c.self.invariant.0
+    c.answer.ensures.steps (needs_none c.self.inside.base c.self.inside.entries.items c.self.inside.standing.what c.self.inside.made
+    (call_of c.args.call) c.self.invariant.0
     (subst (λ e. NeedsNoStep e.history (call_of c.args.call)) (sym c.self.view_is) needs))
 
 pub returns-in_err-answered-clause-no_step : goal.returns-in_err-answered-clause-no_step
 returns-in_err-answered-clause-no_step g c = λ needs.
-    c.answer.ensures.steps (needs_none c.self.inside.base c.self.inside.entries.items c.self.inside.standing.what c.self.inside.made (call_of c.args.call) c.self.invariant.0
+    c.answer.ensures.steps (needs_none c.self.inside.base c.self.inside.entries.items c.self.inside.standing.what c.self.inside.made
+    (call_of c.args.call) c.self.invariant.0
     (subst (λ e. NeedsNoStep e.history (call_of c.args.call)) (sym c.self.view_is) needs))

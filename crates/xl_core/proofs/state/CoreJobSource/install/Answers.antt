@@ -10,7 +10,8 @@ use Rattle.xl_core.proofs.Submitted.{stands_handed}
 use Rattle.xl_core.proofs.state.CoreJobSource.install.Goals as goal
 use Rattle.xl_core.proofs.state.CoreJobSource.install.Given as given
 
-stands : (g : given.Over) (c : goal.After-finish g) → Stands c.self.inside.base c.self.inside.entries.items c.finish.new.self.what c.self.inside.made
+stands : (g : given.Over) (c : goal.After-finish g)
+    → Stands c.self.inside.base c.self.inside.entries.items c.finish.new.self.what c.self.inside.made
 stands g c =
     let h : History = record { base = c.self.inside.base; entries = c.self.inside.entries.items } in
     let is : IsPictureOf h c.args.done = subst (λ e. IsPictureOf e.history c.args.done) (sym c.self.view_is) c.requires.done in
@@ -29,5 +30,7 @@ returns-clause-by_history g c =
     let h : History = record { base = c.self.inside.base; entries = c.self.inside.entries.items } in
     let is : IsPictureOf h c.args.done = subst (λ e. IsPictureOf e.history c.args.done) (sym c.self.view_is) c.requires.done in
     c.finish.ensures.finished
-    ∙ (finish-by_history h.base h.entries c.self.inside.standing.what.cache (place_done c.args.done) c.args.done.version c.self.invariant.0.pictures is.on_grid
-    ∙ ap (λ (e : Editing _). finished_by e.history.base e.history.entries (place_done c.args.done) c.args.done.version) c.self.view_is)
+    ∙ (finish-by_history h.base h.entries c.self.inside.standing.what.cache
+    (place_done c.args.done) c.args.done.version c.self.invariant.0.pictures is.on_grid
+    ∙ ap (λ (e : Editing _). finished_by e.history.base e.history.entries (place_done c.args.done) c.args.done.version)
+    c.self.view_is)

@@ -12,16 +12,19 @@ use Rattle.xl_core.proofs.Submitted.{job_same}
 use Rattle.xl_core.proofs.state.CoreJobSource.next_job.Goals as goal
 use Rattle.xl_core.proofs.state.CoreJobSource.next_job.Given as given
 
-stands : (g : given.Over) (c : goal.After-take_job g) → Stands c.self.inside.base c.self.inside.entries.items c.take_job.new.self.what c.self.inside.made
+stands : (g : given.Over) (c : goal.After-take_job g)
+    → Stands c.self.inside.base c.self.inside.entries.items c.take_job.new.self.what c.self.inside.made
 stands g c =
     subst (λ n. Stands c.self.inside.base c.self.inside.entries.items n c.self.inside.made) (sym c.take_job.ensures.what)
     (stands-taken c.self.inside.base c.self.inside.entries.items c.self.inside.standing.what c.self.inside.made c.self.invariant.0)
 
 pub take_job-requires-clause-kept : goal.take_job-requires-clause-kept
-take_job-requires-clause-kept g c = kept-stands c.self.inside.base c.self.inside.entries.items c.self.inside.standing.what c.self.inside.made c.self.invariant.0
+take_job-requires-clause-kept g c =
+    kept-stands c.self.inside.base c.self.inside.entries.items c.self.inside.standing.what c.self.inside.made c.self.invariant.0
 
 pub take_job-requires-clause-place : goal.take_job-requires-clause-place
-take_job-requires-clause-place g c = next-there c.self.inside.base c.self.inside.entries.items c.self.inside.standing.what c.self.inside.made c.self.invariant.0
+take_job-requires-clause-place g c =
+    next-there c.self.inside.base c.self.inside.entries.items c.self.inside.standing.what c.self.inside.made c.self.invariant.0
 
 pub invariant_of-self : goal.invariant_of-self
 invariant_of-self g c = (stands g c, c.self.invariant.1)
@@ -46,4 +49,5 @@ returns-clause-there g c =
     let what = c.self.inside.standing.what in
     let made = c.self.inside.made in
     subst (λ (e : Editing _). IfSome (next_place e.cache) (IsTileOf (document e.history))) c.self.view_is
-    (subst (λ d. IfSome (next_place what.cache) (IsTileOf d)) (document_is base entries what made c.self.invariant.0) (next-there base entries what made c.self.invariant.0))
+    (subst (λ d. IfSome (next_place what.cache) (IsTileOf d)) (document_is base entries what made c.self.invariant.0)
+    (next-there base entries what made c.self.invariant.0))

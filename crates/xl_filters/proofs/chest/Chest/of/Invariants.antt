@@ -4,6 +4,7 @@ use Rattle.xl_filters.proofs.chest.Chest.of.Given as goal
 
 abbrev pub invariant-loop-filter : goal.invariant-loop-filter
 invariant-loop-filter g l = record {
-  put : l.slots.items ++ map (λ b. Some (record { filter = b })) l.filter-iterator.rest.items ≡ map (λ b. Some (record { filter = b })) l.fn.boxes.items;
+  put : l.slots.items ++ map (λ b. Some (record { filter = b })) l.filter-iterator.rest.items
+      ≡ map (λ b. Some (record { filter = b })) l.fn.boxes.items;
   capacity : length l.slots.items + length l.filter-iterator.rest.items ≤ vec_capacity l.slots;
 }

@@ -8,4 +8,5 @@ pub loop-stack-preserved : goal.loop-stack-preserved
 loop-stack-preserved c =
     let damage = c.as_slice-stack-items.result.now in
     ap (λ k. marked_by (pairs_of (drop (c.loop-stack.stack-index + 1) damage)) c.args.version k) c.mark.ensures
-    ∙ marked-next damage c.loop-stack.stack-index c.args.version c.args.cache.now c.loop-stack.cache _ c.loop-stack-test.true c.loop-stack.invariant
+    ∙ marked-next damage c.loop-stack.stack-index c.args.version c.args.cache.now c.loop-stack.cache _ c.loop-stack-test.true
+    c.loop-stack.invariant

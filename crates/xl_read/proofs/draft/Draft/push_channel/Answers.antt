@@ -4,5 +4,6 @@ use Rattle.xl_read.proofs.draft.Draft.push_channel.Goals as goal
 
 pub invariant_of-self : goal.invariant_of-self
 invariant_of-self c =
-    channel_added c.self.inside.parts _ c.self.inside.area c.self.inside.kept_bytes c.canvas.result c.payload_bytes.result _ _ c.args.channel c.self.invariant
+    channel_added c.self.inside.parts _ c.self.inside.area c.self.inside.kept_bytes c.canvas.result c.payload_bytes.result _ _
+    c.args.channel c.self.invariant
     (search rules) (search rules) (search rules) (search rules) (search rules) (search rules) (search rules)

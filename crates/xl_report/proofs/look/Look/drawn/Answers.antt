@@ -8,7 +8,8 @@ use Rattle.xl_report.proofs.look.Look.drawn.Goals as goal
 pub returns-clause-drawn : goal.returns-clause-drawn
 returns-clause-drawn c =
     rw c.mode_at-mode.ensures
-    (look_is _ _ _ _ _ _ _ _ _ _ _ c.draw-x.ensures.value c.draw-y.ensures.value c.draw.ensures.value c.draw-2.ensures.value c.pixel-pixel.ensures.drawn)
+    (look_is _ _ _ _ _ _ _ _ _ _ _ c.draw-x.ensures.value c.draw-y.ensures.value c.draw.ensures.value c.draw-2.ensures.value
+    c.pixel-pixel.ensures.drawn)
 
 near : (n : ℕ) → n < 512 → pos n ≤ℤ MAX_OFFSET
 near n h = omega (arith, ints, h)

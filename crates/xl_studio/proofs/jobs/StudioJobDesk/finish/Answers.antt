@@ -35,14 +35,16 @@ base_is g c =
 begins : (g : given.Over) (c : After-leave g) → IsPrefix (front_of c.args.seat.now) (turns.front_of c.leave.new.seat)
 begins g c =
     subst (IsPrefix (front_of c.args.seat.now)) (sym c.leave.ensures.front)
-    (begins_stayed _ c.enter-held.result.value c.finish-finished.new.self c.enter-held.ensures.front c.finish-finished.ensures.stays)
+    (begins_stayed _ c.enter-held.result.value c.finish-finished.new.self c.enter-held.ensures.front
+    c.finish-finished.ensures.stays)
 
 pub returns-clause-front : goal.returns-clause-front
 returns-clause-front g c = begins g (goal.at.returns-clause-front g c).After-leave
 
 pub returns-clause-begins : goal.returns-clause-begins
 returns-clause-begins g c =
-    entries-prefix (front_of c.args.seat.now) (turns.front_of c.leave.new.seat) (begins g (goal.at.returns-clause-begins g c).After-leave)
+    entries-prefix (front_of c.args.seat.now) (turns.front_of c.leave.new.seat)
+    (begins g (goal.at.returns-clause-begins g c).After-leave)
 
 pub returns-clause-seat : goal.returns-clause-seat
 returns-clause-seat g c =

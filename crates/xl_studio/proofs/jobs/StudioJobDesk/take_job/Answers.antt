@@ -23,7 +23,8 @@ returns-clause-front g c = begins g (goal.at.returns-clause-front g c).After-lea
 
 pub returns-clause-begins : goal.returns-clause-begins
 returns-clause-begins g c =
-    entries-prefix (front_of c.args.seat.now) (turns.front_of c.leave.new.seat) (begins g (goal.at.returns-clause-begins g c).After-leave)
+    entries-prefix (front_of c.args.seat.now) (turns.front_of c.leave.new.seat)
+    (begins g (goal.at.returns-clause-begins g c).After-leave)
 
 pub returns-clause-seat : goal.returns-clause-seat
 returns-clause-seat g c =
@@ -33,7 +34,8 @@ returns-clause-seat g c =
     let stays = c.take-taken.ensures.stays in
     let front = turns.front_of c.leave.new.seat in
     let entered =
-    base_entered (opened_with c.args.self.now.lock).core held (front_of c.args.seat.now) seat.front.begins c.enter-held.ensures.front in
+    base_entered (opened_with c.args.self.now.lock).core held
+    (front_of c.args.seat.now) seat.front.begins c.enter-held.ensures.front in
     let base = entered ∙ sym (ap (λ h. h.base) stays.history) in
     record {
       seat = record {

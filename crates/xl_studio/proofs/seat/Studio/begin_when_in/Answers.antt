@@ -12,7 +12,9 @@ returns-in_default g c =
       seat = c.begin.ensures.seat;
       weight = c.begin.ensures.weight ∙ i.4;
       begins = prefix_trans _ _ _ i.3.begins c.begin.ensures.begins;
-      begun = after_wait (known g.D.Shelf.selected g.D.Shelf.disk g.D.Shelf.reading_faults g.D.Shelf.saving_faults) (opening_shelf c.args.self.now) (base_of c.args.self.now) c.args.session
-          c.in_ok-begun.begun (known_by c.args.seat.now) (known_by c.loop.seat) (known_by c.begin.new.seat) i.3 c.in_default.not-Out c.in_ok-begun.ensures.begun;
+      begun = after_wait (known g.D.Shelf.selected g.D.Shelf.disk g.D.Shelf.reading_faults g.D.Shelf.saving_faults)
+          (opening_shelf c.args.self.now) (base_of c.args.self.now) c.args.session
+          c.in_ok-begun.begun (known_by c.args.seat.now) (known_by c.loop.seat)
+          (known_by c.begin.new.seat) i.3 c.in_default.not-Out c.in_ok-begun.ensures.begun;
       failed = tt;
     }

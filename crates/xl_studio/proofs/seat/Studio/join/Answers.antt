@@ -8,5 +8,6 @@ returns-clause-seat g c =
     record {
       of = e.seat.0;
       idle = e.seat.1;
-      front = front_joined _ _ _ _ _ _ _ _ _ _ _ c.requires.seat.front c.requires.other.front e.begins.0 e.begins.1 e.front c.max-seat.ensures (e.seat.0.1 ∙ sym c.requires.seat.of.1);
+      front = front_joined _ _ _ _ _ _ _ _ _ _ _ c.requires.seat.front c.requires.other.front e.begins.0 e.begins.1 e.front
+          c.max-seat.ensures (e.seat.0.1 ∙ sym c.requires.seat.of.1);
     }

@@ -7,4 +7,5 @@ use Rattle.xl_studio.proofs.seat.Studio.tile.Goals as goal
 
 pub returns-clause-made : goal.returns-clause-made
 returns-clause-made g c =
-    plain_after _ reply_of c.call.result (base_of c.args.self.now) c.args.session (machine.tile c.args.node.0 c.args.at) (known_by c.args.seat.now) (known_by c.call.new.seat) _ (λ filters reply. refl) c.call.ensures.answered
+    plain_after _ reply_of c.call.result (base_of c.args.self.now) c.args.session (machine.tile c.args.node.0 c.args.at)
+    (known_by c.args.seat.now) (known_by c.call.new.seat) _ (λ filters reply. refl) c.call.ensures.answered

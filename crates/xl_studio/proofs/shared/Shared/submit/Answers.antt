@@ -10,12 +10,16 @@ use Rattle.xl_studio.proofs.shared.Shared.submit.Given as given
 use Rattle.xl_studio.proofs.shared.Shared.submit.Goals as goal
 
 calls : (g : given.Over) (c : goal.After-self-1 g) → AddsCalls (moments_of c.self.inside.core) (moments_of c.submit-reply.new.self)
-calls g c = let e = c.submit-reply.ensures in calls_after _ reply_of c.submit-reply.result _ _ _ c.args.session (call_of c.args.call) c.args.seen _ refl e.shelf e.answered e.as_before
+calls g c = let e = c.submit-reply.ensures in
+    calls_after _ reply_of c.submit-reply.result _ _ _ c.args.session
+    (call_of c.args.call) c.args.seen _ refl e.shelf e.answered e.as_before
 
 kept : (g : given.Over) (c : goal.After-self-1 g) → IsKept c.submit-reply.new.self
 kept g c =
     let e = c.submit-reply.ensures in
-    kept_after _ _ c.self.invariant.0 c.know_right.ensures e.few (base_after _ reply_of c.submit-reply.result _ _ _ c.args.session (call_of c.args.call) c.args.seen _ refl e.answered e.as_before) e.shelf (calls g c)
+    kept_after _ _ c.self.invariant.0 c.know_right.ensures e.few
+    (base_after _ reply_of c.submit-reply.result _ _ _ c.args.session
+    (call_of c.args.call) c.args.seen _ refl e.answered e.as_before) e.shelf (calls g c)
 
 pub invariant_of-self : goal.invariant_of-self
 invariant_of-self g c = (
@@ -30,26 +34,33 @@ returns-clause-kept g c = kept g c
 pub returns-clause-calls : goal.returns-clause-calls
 returns-clause-calls g c =
     let e = c.submit-reply.ensures in
-    calls_after _ reply_of c.submit-reply.result _ _ _ c.args.session (call_of c.args.call) c.args.seen _ (ap (λ (s : State _). s.core) c.self.view_is) e.shelf e.answered e.as_before
+    calls_after _ reply_of c.submit-reply.result _ _ _ c.args.session (call_of c.args.call) c.args.seen _
+    (ap (λ (s : State _). s.core) c.self.view_is) e.shelf e.answered e.as_before
 
 pub returns-clause-answered : goal.returns-clause-answered
 returns-clause-answered g c =
     let e = c.submit-reply.ensures in
-    adds_after _ reply_of c.submit-reply.result _ _ _ c.args.session (call_of c.args.call) c.args.seen _ (ap (λ (s : State _). s.core) c.self.view_is) e.shelf e.answered
+    adds_after _ reply_of c.submit-reply.result _ _ _ c.args.session (call_of c.args.call) c.args.seen _
+    (ap (λ (s : State _). s.core) c.self.view_is) e.shelf e.answered
 
 pub returns-clause-base : goal.returns-clause-base
 returns-clause-base g c =
     let e = c.submit-reply.ensures in
-    base_after _ reply_of c.submit-reply.result _ _ _ c.args.session (call_of c.args.call) c.args.seen _ (ap (λ (s : State _). s.core) c.self.view_is) e.answered e.as_before
+    base_after _ reply_of c.submit-reply.result _ _ _ c.args.session (call_of c.args.call) c.args.seen _
+    (ap (λ (s : State _). s.core) c.self.view_is) e.answered e.as_before
 
 pub returns-clause-fresh : goal.returns-clause-fresh
 returns-clause-fresh g c =
     let e = c.submit-reply.ensures in
-    fresh_after _ reply_of c.submit-reply.result c.self.inside.core c.args.self.now.core c.submit-reply.new.self c.args.session (call_of c.args.call) c.args.seen _ (ap (λ (s : State _). s.core) c.self.view_is) e.answered c.self.invariant.0.right.legal c.requires.seen
+    fresh_after _ reply_of c.submit-reply.result c.self.inside.core c.args.self.now.core c.submit-reply.new.self c.args.session
+    (call_of c.args.call) c.args.seen _
+    (ap (λ (s : State _). s.core) c.self.view_is) e.answered c.self.invariant.0.right.legal c.requires.seen
 
 pub returns-clause-no_step : goal.returns-clause-no_step
 returns-clause-no_step g c = λ needs.
-    c.submit-reply.ensures.no_step (subst (λ (s : State _). NeedsNoStep s.core.history (call_of c.args.call)) (sym c.self.view_is) needs)
+    c.submit-reply.ensures.no_step (subst (λ (s : State _). NeedsNoStep s.core.history (call_of c.args.call))
+    (sym c.self.view_is) needs)
 
 pub returns-clause-full : goal.returns-clause-full
-returns-clause-full g c = λ full. c.submit-reply.ensures.full (subst (λ (s : State _). is_full s.core.history ≡ true) (sym c.self.view_is) full)
+returns-clause-full g c =
+    λ full. c.submit-reply.ensures.full (subst (λ (s : State _). is_full s.core.history ≡ true) (sym c.self.view_is) full)

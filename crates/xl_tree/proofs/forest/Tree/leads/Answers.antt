@@ -7,4 +7,5 @@ use Rattle.xl_tree.proofs.forest.Tree.leads.Goals as goal
 
 pub returns : goal.returns
 returns g c =
-    c.is_some.ensures ∙ (ap is_some (c.end_at.ensures ∙ ap (end_at c.args.path.now) c.top.ensures.value) ∙ leads c.args.path.now none c.args.self.now)
+    c.is_some.ensures ∙ (ap is_some (c.end_at.ensures ∙ ap (end_at c.args.path.now) c.top.ensures.value)
+    ∙ leads c.args.path.now none c.args.self.now)

@@ -16,7 +16,11 @@ returns-then-is_empty-clause-levels g c =
 pub returns-clause-levels : goal.returns-clause-levels
 returns-clause-levels g c =
     let there = some_there (length c.self.inside.entries.now) (sym c.is_empty.ensures ∙ c.if-is_empty.false) in
-    omega (arith, levels_from_deepest c.self.inside.level c.self.inside.entries.now c.self.invariant there, ap levels c.self.view_is)
+    omega (
+      arith,
+      levels_from_deepest c.self.inside.level c.self.inside.entries.now c.self.invariant there,
+      ap levels c.self.view_is,
+    )
 
 pub returns-clause-low : goal.returns-clause-low
 returns-clause-low g c =

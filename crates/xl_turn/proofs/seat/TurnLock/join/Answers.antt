@@ -10,14 +10,16 @@ join_seat-requires g c = let is = c.into_inner.ensures in (
   ap (λ s. s.table_id) is ∙ c.requires.other.0.0,
   ap (λ s. s.me.1) is ∙ c.requires.other.1.1,
   omega (arith, c.args.self.now.sized.0),
-  joins g.T.Chronicle.entries g.T.Chronicle.closes _ _ _ _ _ (ap (λ s. s.me.0.stage) is ∙ c.requires.other.1.0) c.args.seat.now.live,
+  joins g.T.Chronicle.entries g.T.Chronicle.closes _ _ _ _ _ (ap (λ s. s.me.0.stage) is
+      ∙ c.requires.other.1.0) c.args.seat.now.live,
 )
 
 pub load-requires : goal.load-requires
 load-requires g c = (
   c.join_seat.ensures.0 ∙ c.requires.seat.0.0,
   omega (arith, c.args.self.now.sized.0),
-  compares g.T.Chronicle.entries g.T.Chronicle.closes _ _ _ _ (omega (arith, ap (λ m. m.0.weight) c.join_seat.ensures.2, c.args.seat.now.live)),
+  compares g.T.Chronicle.entries g.T.Chronicle.closes _ _ _ _
+      (omega (arith, ap (λ m. m.0.weight) c.join_seat.ensures.2, c.args.seat.now.live)),
 )
 
 pub returns-clause-apart : goal.returns-clause-apart
