@@ -2,7 +2,7 @@
 use Rattle.std.proofs.Common.{◌≡◌, ℕ, zero, suc, ◌+◌, ◌-◌, ◌<◌, ◌≤◌, Bool, true, false, cond, List, [], ◌++◌, length}
 use Rattle.std.proofs.Common.{replicate, drop, slice_index, nat_lt, refl, ap, ◌∙◌, append_assoc, append-nil, sym}
 use Rattle.std.proofs.Common.{arith, inl, inr, length-drop, length-take-le}
-use Rattle.std.specs.Prelude.{Ok, Err, nat_le}
+use Rattle.std.specs.Prelude.{Some, Ok, Err, nat_le}
 use Rattle.std.proofs.lemmas.List.{length-replicate}
 use Rattle.std.proofs.lemmas.Bool.{lt-ltb, le-leb, cases_lt}
 use Rattle.std.proofs.lemmas.Bool.Decides.{nat_tests}
@@ -12,6 +12,8 @@ use Rattle.spec_fields.specs.Reading.{Read, ◌>>=◌, fault, wants}
 use Rattle.spec_fields.specs.Field.{bytes_at}
 use Rattle.spec_fields.proofs.Steps.{pass, onward}
 use Rattle.spec_rle.specs.Reading.{Head, head_of, body_length, body_pixels, Part, code_at, codes_at, plane_at}
+use Rattle.xl_rle.specs.HeadAt.{HeadAt, as_read}
+use Rattle.xl_rle.specs.declared.head.Head as code
 
 -- a rule that fails ends the reading
 fails : {A : Type 0} (test : Bool) (refused : ReadRefused) (rest : Unit {0} → Read A) → test ≡ false
@@ -57,6 +59,9 @@ pub record Begins (file : List ℕ) (at : ℕ) (h : Head) : Type 0 where
   pub is : h ≡ head_of file at (slice_index file at)
   pub starts : at < length file
   pub fits : h.body ≤ length file
+
+pub head_begins : (file : List ℕ) (at : ℕ) (h : code.Head) → HeadAt file at (Some h) → Begins file at (as_read h)
+head_begins file at h head = record { is = head.0; starts = omega (arith, head.1, head.2); fits = head.2 }
 
 -- the rules of the plane, and of the body
 abbrev rest_of : (file : List ℕ) (at codes room : ℕ) → Head → Read Part

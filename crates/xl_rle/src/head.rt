@@ -1,5 +1,5 @@
 ghost use Rattle.std.specs.Prelude.{◌≡◌, ◌<◌, ◌+◌, ◌*◌, length, slice_index};
-ghost use Rattle.xl_rle.specs.HeadAt.{HeadAt};
+ghost use Rattle.xl_rle.specs.HeadAt.{HeadAt, ShortAt};
 
 /// The head of a code: how many bytes of the plane it gives, and where its value or its bytes begin.
 #[derive(Clone, Copy)]
@@ -13,6 +13,9 @@ pub struct Head {
 const LONG_RUN: u8 = 127;
 
 const LONG_LITERAL: u8 = 128;
+
+/// Most codes give at most so many bytes. They are put by one write of so many: the codes behind put the rest.
+pub const BLOCK: usize = 32;
 
 fn long_count(bytes: &[u8], at: usize) -> usize
     requires { at + 2 < length bytes.now }
@@ -51,4 +54,30 @@ pub fn head_at(bytes: &[u8], at: usize) -> Option<Head>
         count: long_count(bytes, at),
         body: at + 3,
     })
+}
+
+/// The head of the code at an offset, where it is a short one of a block at most, and a block stands behind the head.
+#[inline(always)]
+pub fn short_at(bytes: &[u8], at: usize) -> Option<Head>
+    ensures { ShortAt bytes.now at result }
+{
+    if bytes.len().saturating_sub(BLOCK) <= at {
+        return None;
+    }
+    let first = bytes[at] as usize;
+    if first < BLOCK {
+        return Some(Head {
+            is_run: true,
+            count: first + 1,
+            body: at + 1,
+        });
+    }
+    if first >= 256 - BLOCK {
+        return Some(Head {
+            is_run: false,
+            count: 256 - first,
+            body: at + 1,
+        });
+    }
+    None
 }
