@@ -5,8 +5,9 @@ use std::io::{Read, Write};
 use std::marker::PhantomData;
 use xl_blend::{fade_row, fade_row_by, mode_of, Mode, Pixel, Plain, Steps};
 use xl_compose::{bytes::write_row, lay::lay_part, own::own_row};
-use xl_tiles::block::{copy_block, Block, Spot};
-use xl_tiles::spelled::spelled_tile;
+use xl_tiles::block::{Block, Spot};
+use xl_tiles::planes::join_block;
+use xl_tiles::spelled::planes_at;
 
 const CLEAR: Pixel = Pixel { r: 0, g: 0, b: 0, a: 0 };
 
@@ -89,12 +90,11 @@ fn read_columns(file: &[u8], plane: &Plane, x: usize, wide: usize, y: usize, out
     let (across, row) = ((plane.width + 63) / 64, y / 64);
     for col in x / 64..(x + wide + 63) / 64 {
         let (w, h) = (side(plane.width, col), side(plane.height, row));
-        let (planes, tile) = room.split_at_mut(16384);
-        let (planes, tile) = (&mut planes[..w * h * plane.bpp], &mut tile[..w * h * plane.bpp]);
-        spelled_tile(file, plane.tiles[row * across + col], w * h, plane.bpp, planes, tile).unwrap();
+        let planes = &mut room[..w * h * plane.bpp];
+        planes_at(file, plane.tiles[row * across + col], w * h, plane.bpp, planes).unwrap();
         let to = Spot { x: 64 * col - x, y: 0, stride: wide };
         let from = Spot { x: 0, y: 0, stride: w };
-        copy_block(out, to, tile, from, Block { w, h, bpp: plane.bpp });
+        join_block(out, to, planes, w * h, from, Block { w, h, bpp: plane.bpp });
     }
 }
 
@@ -160,7 +160,7 @@ fn main() {
         at += 4;
     }
     let columns = std::env::var("COLUMNS_AT_A_TIME").map_or(512, |text| text.parse().unwrap());
-    let mut room = Room { bytes: vec![0; 256 * width], masks: vec![0; 64 * width], tile: vec![0; 32768], row: vec![CLEAR; width], columns };
+    let mut room = Room { bytes: vec![0; 256 * width], masks: vec![0; 64 * width], tile: vec![0; 16384], row: vec![CLEAR; width], columns };
     let mut picture = vec![CLEAR; 64 * width];
     let mut levels = vec![CLEAR; 512 * width];
     let mut piece = vec![0; 256 * width];

@@ -23,7 +23,7 @@ stripped() {
 stripped spec_blend 'none'
 stripped xl_blend 'tests|count'
 stripped xl_rle 'lib|coder|greedy|tests'
-python3 "$here/strip.py" "$top" "$out" xl_tiles join block area spelled rows
+python3 "$here/strip.py" "$top" "$out" xl_tiles join block planes area spelled rows
 python3 "$here/strip.py" "$top" "$out" xl_compose own lay bytes
 
 # a counter of steps that is a number
@@ -53,7 +53,7 @@ echo 'pub struct Rect { pub x: i32, pub y: i32, pub w: u32, pub h: u32 }' > "$ou
 rm -f "$out/xl_rle/lib.rs"
 modules=$(cd "$out/xl_rle" && ls | sed 's/\.rs$//')
 { for module in $modules; do echo "mod $module;"; done; echo 'pub use check::check_plane; pub use decode::decode_plane;'; } > "$out/xl_rle/lib.rs"
-echo 'pub mod join; pub mod block; pub mod area; pub mod spelled; pub mod rows;' > "$out/xl_tiles/lib.rs"
+echo 'pub mod join; pub mod block; pub mod planes; pub mod area; pub mod spelled; pub mod rows;' > "$out/xl_tiles/lib.rs"
 echo 'pub mod own; pub mod lay; pub mod bytes;' > "$out/xl_compose/lib.rs"
 
 flags="-L $out --edition 2021 -A warnings -C opt-level=3 -C target-cpu=x86-64-v2 -C debuginfo=1"

@@ -3,6 +3,7 @@ pub mod Blocks
 pub mod Counts
 pub mod Decoded
 pub mod FreshTiles
+pub mod JoinedBlocks
 pub mod JoinedTiles
 pub mod OtherTile
 pub mod PackedTiles

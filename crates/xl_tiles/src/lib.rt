@@ -9,6 +9,7 @@ mod fill;
 mod join;
 mod packed;
 mod plane;
+mod planes;
 mod reading;
 mod rows;
 mod shares;
