@@ -5,46 +5,11 @@ use Rattle.std.proofs.lemmas.Bool.{eqb-false}
 use Rattle.spec_rle.specs.Codes.{short_run, Spells}
 use Rattle.spec_layout.proofs.OnePlain.{one_plain}
 use Rattle.spec_blend.specs.declared.Mode.TheVariants.{Normal}
-use Rattle.spec_document.specs.declared.Base.TheVariants.{Rgb}
-use Rattle.spec_forest.specs.Forest.{none, leaf}
 use Rattle.spec_document.specs.Document.{Document}
+use Rattle.spec_document.proofs.SampleFiles.{one, one_document}
 use Rattle.spec_hierarchy.specs.Layout.{words}
 use Rattle.spec_props.specs.Layout.{property_list}
 use Rattle.spec_layout.specs.Layout.{Item, item_values, Written}
-
-abbrev one : List ℕ
-one = 103 ∷ 105 ∷ 109 ∷ 112 ∷ 32 ∷ 120 ∷ 99 ∷ 102 ∷ 32 ∷ 102 ∷ 105 ∷ 108 ∷ 101 ∷ 0 ∷ 0 ∷ 0 ∷ 0 ∷ 1 ∷ 0 ∷ 0 ∷ 0 ∷ 1 ∷ 0 ∷ 0 ∷ 0 ∷ 0
-    ∷ 0 ∷ 0 ∷ 0 ∷ 17 ∷ 0 ∷ 0 ∷ 0 ∷ 1 ∷ 0 ∷ 0 ∷ 0 ∷ 0 ∷ 0 ∷ 0 ∷ 0 ∷ 0 ∷ 0 ∷ 0 ∷ 0 ∷ 0 ∷ 55 ∷ 0 ∷ 0 ∷ 0 ∷ 0 ∷ 0 ∷ 0 ∷ 0 ∷ 0 ∷ 0 ∷ 0
-    ∷ 0 ∷ 1 ∷ 0 ∷ 0 ∷ 0 ∷ 1 ∷ 0 ∷ 0 ∷ 0 ∷ 1 ∷ 0 ∷ 0 ∷ 0 ∷ 2 ∷ 65 ∷ 0 ∷ 0 ∷ 0 ∷ 0 ∷ 6 ∷ 0 ∷ 0 ∷ 0 ∷ 4 ∷ 0 ∷ 0 ∷ 0 ∷ 255 ∷ 0 ∷ 0 ∷ 0
-    ∷ 7 ∷ 0 ∷ 0 ∷ 0 ∷ 4 ∷ 0 ∷ 0 ∷ 0 ∷ 0 ∷ 0 ∷ 0 ∷ 0 ∷ 8 ∷ 0 ∷ 0 ∷ 0 ∷ 4 ∷ 0 ∷ 0 ∷ 0 ∷ 1 ∷ 0 ∷ 0 ∷ 0 ∷ 11 ∷ 0 ∷ 0 ∷ 0 ∷ 4 ∷ 0 ∷ 0 ∷ 0
-    ∷ 1 ∷ 0 ∷ 0 ∷ 0 ∷ 15 ∷ 0 ∷ 0 ∷ 0 ∷ 8 ∷ 0 ∷ 0 ∷ 0 ∷ 0 ∷ 0 ∷ 0 ∷ 0 ∷ 0 ∷ 0 ∷ 0 ∷ 0 ∷ 0 ∷ 0 ∷ 0 ∷ 0 ∷ 0 ∷ 0 ∷ 0 ∷ 0 ∷ 153 ∷ 0 ∷ 0
-    ∷ 0 ∷ 0 ∷ 0 ∷ 0 ∷ 0 ∷ 1 ∷ 0 ∷ 0 ∷ 0 ∷ 1 ∷ 0 ∷ 0 ∷ 0 ∷ 4 ∷ 0 ∷ 0 ∷ 0 ∷ 173 ∷ 0 ∷ 0 ∷ 0 ∷ 0 ∷ 0 ∷ 0 ∷ 0 ∷ 1 ∷ 0 ∷ 0 ∷ 0 ∷ 1 ∷ 0
-    ∷ 0 ∷ 0 ∷ 189 ∷ 0 ∷ 0 ∷ 0 ∷ 0 ∷ 200 ∷ 100 ∷ 50 ∷ 255 ∷ []
-
-abbrev one_document : Document
-one_document = record {
-  width = 1;
-  height = 1;
-  base = Rgb;
-  compression = 0;
-  colours = [];
-  kept = [];
-  nodes = leaf 1 (record {
-    name = 65 ∷ [];
-    opacity = 255;
-    mode = Normal;
-    visible = true;
-    kept = [];
-    kind = 1;
-    x = pos 0;
-    y = pos 0;
-    plane = record { width = 1; height = 1; bpp = 4; bytes = 200 ∷ 100 ∷ 50 ∷ 255 ∷ [] };
-    mask = None;
-    apply_mask = true;
-  }) none;
-  channels = [];
-  selection = None;
-}
 
 one_written : Written one one_document
 one_written = record {
