@@ -3,8 +3,8 @@ use Rattle.std.specs.Prelude.{◌≡◌, ℕ, ◌+◌, ◌*◌, ◌%◌, Bool, t
 use Rattle.std.specs.Prelude.{fold, count_by, flat_map, slice_get, slice_index_or, Some, None, refl}
 use Rattle.spec_blend.specs.declared.Mode.TheVariants.{Normal, Multiply, Screen, Addition, SoftLight}
 use Rattle.spec_forest.specs.Forest.{none, leaf, ids}
-use Rattle.spec_document.specs.declared.Base.TheVariants.{Rgb}
 use Rattle.spec_document.specs.Document.{Document}
+use Rattle.spec_document.proofs.Samples.{layer_of, canvas}
 use Rattle.spec_picture.specs.Picture.{picture_bytes}
 use Rattle.spec_edit.specs.Edit as edits
 use Rattle.spec_edit.specs.Edit.{Edit}
@@ -116,29 +116,7 @@ last_state = refl
 
 -- the document after the calls of two sessions, the second one's fill last, and the tile between changes nothing
 abbrev tiny : Document
-tiny = record {
-  width = 1;
-  height = 1;
-  base = Rgb;
-  compression = 0;
-  colours = [];
-  kept = [];
-  nodes = leaf 1 (record {
-    name = [];
-    opacity = 255;
-    mode = Normal;
-    visible = true;
-    kept = [];
-    kind = 1;
-    x = pos 0;
-    y = pos 0;
-    plane = record { width = 1; height = 1; bpp = 4; bytes = 0 ∷ 0 ∷ 0 ∷ 0 ∷ [] };
-    mask = None;
-    apply_mask = true;
-  }) none;
-  channels = [];
-  selection = None;
-}
+tiny = canvas 1 1 (leaf 1 (layer_of (record { width = 1; height = 1; bpp = 4; bytes = 0 ∷ 0 ∷ 0 ∷ 0 ∷ [] })) none)
 
 abbrev fills_tiny : List ℕ → Line
 fills_tiny colour = call (machine.edit None (edits.fill 1 (record { x = pos 0; y = pos 0; w = 1; h = 1 }) colour ∷ []))

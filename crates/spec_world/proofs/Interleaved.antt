@@ -5,6 +5,7 @@ use Rattle.spec_grid.specs.declared.TileAt.{TileAt}
 use Rattle.spec_forest.specs.Forest.{none, leaf, group}
 use Rattle.spec_document.specs.Plane.{Plane}
 use Rattle.spec_document.specs.Document.{Document}
+use Rattle.spec_document.proofs.Samples.{canvas, layer_of, plain_group}
 use Rattle.spec_edit.specs.declared.EditRefused.TheVariants.{NoNode, IsGroup}
 use Rattle.spec_edit.specs.Edit as edits
 use Rattle.spec_cache.specs.declared.Finished.TheVariants.{Installed, Late}
@@ -15,7 +16,6 @@ use Rattle.spec_world.specs.World.{first_world}
 use Rattle.spec_world.specs.Events.{Event, submits, takes, finishes, begins_save, ends_save}
 use Rattle.spec_world.proofs.Shown.{replied, took, came, silent, all_said, all_after, Short, in_short, picture_sums}
 use Rattle.spec_world.proofs.Shown.{all_kept, all_right}
-use Rattle.spec_world.proofs.Rows.{canvas, layer_of, plain_group}
 
 abbrev at : (col row : ℕ) → TileAt
 at c r = record { col = c; row = r }

@@ -1,11 +1,9 @@
 -- Worked worlds.
 use Rattle.std.specs.Prelude.{◌≡◌, ℕ, true, false, pos, negsuc, List, [], ◌∷◌, map, replicate, Some, None, refl}
-use Rattle.spec_blend.specs.declared.Mode.TheVariants.{Normal, Multiply}
 use Rattle.spec_grid.specs.declared.TileAt.{TileAt}
-use Rattle.spec_document.specs.declared.Base.TheVariants.{Rgb}
 use Rattle.spec_forest.specs.Forest.{none, leaf, group}
-use Rattle.spec_document.specs.Plane.{Plane}
-use Rattle.spec_document.specs.Document.{Document, Layer, Group, Nodes}
+use Rattle.spec_document.specs.Document.{Document}
+use Rattle.spec_document.proofs.Samples.{pixel, layer_of, plain_group, canvas, one, two}
 use Rattle.spec_edit.specs.Edit as edits
 use Rattle.spec_edit.specs.Edit.{Edit}
 use Rattle.spec_cache.specs.declared.Finished.TheVariants.{Late, Gone}
@@ -13,41 +11,6 @@ use Rattle.spec_history.specs.Machine.{Call, edit, undo, tile, peek, changed, ti
 use Rattle.spec_world.specs.World.{first_world}
 use Rattle.spec_world.specs.Events.{Event, submits, takes, finishes}
 use Rattle.spec_world.proofs.Shown.{Said, replied, took, came, all_said, all_after, Short, shorts, stacks, all_clean}
-
-abbrev pub canvas : (width height : ℕ) → Nodes → Document
-canvas w h nodes = record {
-  width = w;
-  height = h;
-  base = Rgb;
-  compression = 0;
-  colours = [];
-  kept = [];
-  nodes = nodes;
-  channels =
-      [];
-  selection = None;
-}
-
-abbrev pub layer_of : Plane → Layer
-layer_of plane = record {
-  name = [];
-  opacity = 255;
-  mode = Normal;
-  visible = true;
-  kept = [];
-  kind = 1;
-  x = pos 0;
-  y = pos 0;
-  plane = plane;
-  mask = None;
-  apply_mask = true;
-}
-
-abbrev pub pixel : Plane
-pixel = record { width = 1; height = 1; bpp = 4; bytes = 200 ∷ 100 ∷ 50 ∷ 255 ∷ [] }
-
-abbrev pub plain_group : Group
-plain_group = record { name = []; opacity = 255; mode = Normal; visible = true; kept = [] }
 
 abbrev pub call : Call → Event
 call c = submits 0 c 0 []
@@ -60,9 +23,6 @@ first = record { col = 0; row = 0 }
 
 abbrev pub place : (stack : ℕ) → Said
 place stack = took (Some (record { stack = stack; at = first }))
-
-abbrev pub one : Document
-one = canvas 1 1 (leaf 1 (layer_of pixel) none)
 
 -- ---- a peek shows what is kept, and no older job comes onto a newer mark
 
@@ -133,10 +93,6 @@ group_came = (refl, refl)
 -- ---- marks
 
 -- hiding the bottommost layer marks every tile
-abbrev two : Document
-two = canvas 200 200 (leaf 2 (record (layer_of (record { width = 200; height = 200; bpp = 4; bytes = replicate 160000 100 }))
-    { mode = Multiply }) (leaf 3 (layer_of pixel) none))
-
 all_marked : shorts (all_after two (all_clean (first_world two)) (edits_one (edits.set_visible 3 false) ∷ [])) 0 ≡
     replicate 16 (record { has = true; marked = true; good_to = 0; marked_at = 1 })
 all_marked = refl
