@@ -1,1 +1,2 @@
 pub mod AddedTiles
+pub mod Near
