@@ -67,7 +67,7 @@ parts file at k kind short h =
       payload = subst Q third last;
     }
 
-length_spelled : (k : Kept) → length (spelled k) ≡ 8 + length k.payload
+pub length_spelled : (k : Kept) → length (spelled k) ≡ 8 + length k.payload
 length_spelled k =
     omega (
       arith,
