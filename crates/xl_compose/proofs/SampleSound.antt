@@ -1,32 +1,16 @@
 -- The document of the tests of jobs is within the limits.
-use Rattle.std.proofs.Common.{◌≡◌, ℕ, ◌<◌, List, [], ◌∷◌, refl, arith, subst, sym}
+use Rattle.std.proofs.Common.{◌≡◌, [], ◌∷◌, refl, arith, subst, sym}
 use Rattle.std.proofs.lemmas.Int.{ints}
-use Rattle.std.specs.Prelude.{slice_index}
 use Rattle.std.specs.List.{IsDistinct}
-use Rattle.spec_document.specs.declared.Owner.{Owner}
 use Rattle.spec_document.specs.declared.Owner.TheVariants as owners
-use Rattle.spec_document.specs.Limits.{AreBytes, AreIds, AreKept, IsChannel, IsDocument, IsName, IsPlaneOf}
+use Rattle.spec_document.specs.Limits.{AreIds, IsDocument}
 use Rattle.spec_document.specs.Document.{Document}
-use Rattle.spec_document.proofs.BytesMade.{plane_made, index_byte}
 use Rattle.spec_forest.specs.Forest.{Forest, none, leaf, group}
 use Rattle.xl_doc.specs.declared.node.Node.{Node}
 use Rattle.xl_doc.specs.Nodes.{nodes_of}
-use Rattle.xl_doc.specs.Sample.{even, sheet}
 use Rattle.xl_doc.specs.Sound.{IsSound}
+use Rattle.xl_doc.proofs.Sample.{no_name, none_kept, even_is_plane, sheet_is_channel}
 use Rattle.xl_compose.specs.Sample.{inner, outer, sample}
-
-no_name : IsName []
-no_name = record { short = omega arith; bytes = tt; no_zero = tt }
-
-none_kept : (owner : Owner) → AreKept owner []
-none_kept owner = record { few = omega arith; each = tt }
-
-even_is_plane : (w h bpp : ℕ) (pixel : List ℕ) → AreBytes pixel → IsPlaneOf w h bpp (even w h bpp pixel)
-even_is_plane w h bpp pixel bytes = plane_made (λ x y c. slice_index pixel c) w h bpp (λ x y c. index_byte pixel c bytes)
-
-sheet_is_channel : (owner : Owner) (w h value : ℕ) → value < 256 → IsChannel owner w h (sheet w h value)
-sheet_is_channel owner w h value byte =
-    record { name = no_name; kept = none_kept owner; plane = even_is_plane w h 1 (value ∷ []) (byte, tt) }
 
 one_two : AreIds (1 ∷ 2 ∷ [])
 unfolding IsDistinct

@@ -16,16 +16,16 @@ use Rattle.xl_doc.specs.Sound.{IsSound}
 use Rattle.spec_document.proofs.BytesMade.{plane_made, index_byte}
 use Rattle.xl_doc.specs.Sample.{even, hat, sample, sheet}
 
-no_name : IsName []
+pub no_name : IsName []
 no_name = record { short = omega arith; bytes = tt; no_zero = tt }
 
-none_kept : (owner : Owner) → AreKept owner []
+pub none_kept : (owner : Owner) → AreKept owner []
 none_kept owner = record { few = omega arith; each = tt }
 
-even_is_plane : (w h bpp : ℕ) (pixel : List ℕ) → AreBytes pixel → IsPlaneOf w h bpp (even w h bpp pixel)
+pub even_is_plane : (w h bpp : ℕ) (pixel : List ℕ) → AreBytes pixel → IsPlaneOf w h bpp (even w h bpp pixel)
 even_is_plane w h bpp pixel bytes = plane_made (λ x y c. slice_index pixel c) w h bpp (λ x y c. index_byte pixel c bytes)
 
-sheet_is_channel : (owner : Owner) (w h value : ℕ) → value < 256 → IsChannel owner w h (sheet w h value)
+pub sheet_is_channel : (owner : Owner) (w h value : ℕ) → value < 256 → IsChannel owner w h (sheet w h value)
 sheet_is_channel owner w h value byte =
     record { name = no_name; kept = none_kept owner; plane = even_is_plane w h 1 (value ∷ []) (byte, tt) }
 
