@@ -4,5 +4,4 @@ pub mod HexPairs
 pub mod Looking
 pub mod Asking
 pub mod Steps
-pub mod Counted
 mod Fits
