@@ -1,5 +1,5 @@
 ghost use Rattle.std.specs.Prelude.{◌≡◌, ◌<◌, ◌+◌, ◌*◌, length, slice_index};
-ghost use Rattle.xl_rle.specs.HeadAt.{HeadAt, ShortAt};
+ghost use Rattle.xl_rle.specs.HeadAt.{HeadAt, SmallAt, ShortAt};
 
 /// The head of a code: how many bytes of the plane it gives, and where its value or its bytes begin.
 #[derive(Clone, Copy)]
@@ -56,14 +56,12 @@ pub fn head_at(bytes: &[u8], at: usize) -> Option<Head>
     })
 }
 
-/// The head of the code at an offset, where it is a short one of a block at most, and a block stands behind the head.
+/// The head of the code at an offset of the file, where it is a short one of a block at most.
 #[inline(always)]
-pub fn short_at(bytes: &[u8], at: usize) -> Option<Head>
-    ensures { ShortAt bytes.now at result }
+pub fn small_at(bytes: &[u8], at: usize) -> Option<Head>
+    requires { at < length bytes.now }
+    ensures { SmallAt bytes.now at result }
 {
-    if bytes.len().saturating_sub(BLOCK) <= at {
-        return None;
-    }
     let first = bytes[at] as usize;
     if first < BLOCK {
         return Some(Head {
@@ -80,4 +78,15 @@ pub fn short_at(bytes: &[u8], at: usize) -> Option<Head>
         });
     }
     None
+}
+
+/// The head of the code at an offset, where it is a short one of a block at most, and a block stands behind the head.
+#[inline(always)]
+pub fn short_at(bytes: &[u8], at: usize) -> Option<Head>
+    ensures { ShortAt bytes.now at result }
+{
+    if bytes.len().saturating_sub(BLOCK) <= at {
+        return None;
+    }
+    small_at(bytes, at)
 }
