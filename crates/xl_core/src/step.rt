@@ -10,12 +10,12 @@ use xl_doc::Document;
 use xl_marks::Change;
 use xl_undo::Record;
 
-/// A group of edits that was made, or undone: its number, the record that leads back, and what that does to the
+/// A group of edits that was made, or undone: its number, the record that leads back (`lead`), and what that does to the
 /// pictures that are kept.
 #[derive(Drop)]
 pub(crate) struct Step {
     group: u32,
-    record: Record,
+    lead: Record,
     change: Change,
 }
 
@@ -30,9 +30,9 @@ impl Model for Step {
 
     ghost coded = { Prim.hlevel (codes, coded_document) };
 
-    ghost view = { λ s. record { group = s.group; from = s.record.from; to = s.record.to; damage = s.change.damage } };
+    ghost view = { λ s. record { group = s.group; from = s.lead.from; to = s.lead.to; damage = s.change.damage } };
 
-    ghost invariant = { λ s. IsChange s.record.from s.record.to s.change };
+    ghost invariant = { λ s. IsChange s.lead.from s.lead.to s.change };
 }
 
 impl Step {
@@ -41,10 +41,10 @@ impl Step {
         requires change { IsChange after.now before change }
         ensures { result ≡ record { group = group; from = after.now; to = before; damage = change.damage } }
     {
-        let record = Record::new(before, after);
+        let lead = Record::new(before, after);
         Step {
             group,
-            record,
+            lead,
             change,
         }
     }
@@ -67,7 +67,7 @@ impl Step {
         ensures back { self.new ≡ stepped self.old }
     {
         limits(document);
-        self.record.revert(document);
+        self.lead.revert(document);
         limits(document);
         self.change.go(cache, version);
     }
