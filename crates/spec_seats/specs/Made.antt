@@ -26,8 +26,7 @@ pub record IsOf (session : ℕ) (places : List ℕ) (es : List Entry) : Type 0 w
   pub rise : Rise places
 
 -- They are the calls of its lines, once each and in order, with the tables of its filters; what each was shown is no
--- older than what
--- the session had seen.
+-- older than what the session had seen.
 pub record HasMade (session : ℕ) (filters : List FilterState) (lines : List Line) (places : List ℕ) (es : List Entry) : Type 0 where
   pub of : IsOf session places es
   pub printable : AllByRecursion (λ e. is_save_memory e.reply ≡ false) (picked places es)

@@ -14,11 +14,10 @@ pub enum SaveEnd {
     Memory,
 }
 
-/// Whatever calls, jobs and saves interleave, each world that comes of a document within its limits is right: its history is legal;
-/// just the stacks of the latest version have slots; each slot has its last mark, the picture of the latest version
-/// where it is clean
-/// and that of an earlier one, if any, where it is marked, and no older one than has to be kept; and the result of a job is
-/// installed only where the tile shows the same still.
+/// Whatever calls, jobs and saves interleave, each world that comes of a document within its limits is right: its
+/// history is legal; just the stacks of the latest version have slots; each slot has its last mark, the picture of
+/// the latest version where it is clean and that of an earlier one, if any, where it is marked, and no older one than
+/// has to be kept; and the result of a job is installed only where the tile shows the same still.
 pub fn worlds_are_right()
     ensures { (base : Document) → IsDocument base → WorldsAreRight base }
 {}
@@ -37,8 +36,7 @@ pub fn first_slots_are_exact()
 {}
 
 /// Where no result of a job is handed in, each slot of a right world keeps just what has to be kept: the picture of
-/// the last tile call
-/// of its tile, up to the version before the one that damages it next.
+/// the last tile call of its tile, up to the version before the one that damages it next.
 pub fn slots_stay_exact()
     ensures { (base : Document) → IsDocument base → StaysExact base }
 {}

@@ -4,8 +4,7 @@ use xl_blend::Mode;
 use xl_doc::Layer;
 
 /// A piece, and the level of the stack whose picture it changes. The stack that is asked for is at level 0, and the
-/// children of a group
-/// are one level above it.
+/// children of a group are one level above it.
 #[derive(Drop)]
 pub struct Piece {
     pub level: u32,

@@ -19,8 +19,7 @@ use xl_doc::{ColourMap, NodeId, TileAt};
 use xl_tiles::ROOM;
 
 /// The picture of a tile of a stack at a version, to be composed. It holds shares of the pixels that are to be laid
-/// over one another and
-/// all the room that composing needs, so that an edit changes nothing of it.
+/// over one another and all the room that composing needs, so that an edit changes nothing of it.
 #[derive(Drop)]
 pub struct Job {
     node: NodeId,

@@ -204,8 +204,7 @@ fn lay_rect<L: Ledger>(
 const COLUMNS: u32 = 512;
 
 // How many of the columns that are left are laid at a time, from a column of a layer on: up to the edge of a tile, so
-// that no tile is
-// unpacked twice.
+// that no tile is unpacked twice.
 fn columns_at(from: u32, left: u32) -> u32
     requires some { 0 < left }
     ensures some { 0 < result }

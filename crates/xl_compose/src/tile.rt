@@ -79,8 +79,7 @@ impl Picture {
 }
 
 /// The picture of a stack at the points of a tile, recomposed. After out of memory `out` and the steps are as before.
-/// It takes at most
-/// one step for each pixel of the tile and each visible node below the stack.
+/// It takes at most one step for each pixel of the tile and each visible node below the stack.
 pub fn recompose_tile<L: Ledger>(
     alloc: Global,
     doc: &Document,

@@ -5,8 +5,7 @@ use Rattle.spec_damage.specs.Damage.{Pair}
 use Rattle.xl_marks.specs.Change.{Change, change_between}
 
 -- A group of edits that was made, or undone: its number, the document that stood after that, the one before it, and
--- the rectangles in
--- which their pictures may differ.
+-- the rectangles in which their pictures may differ.
 pub record Step : Type 0 where
   pub group : ℕ
   pub from : Document

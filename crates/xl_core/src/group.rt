@@ -39,8 +39,7 @@ impl From<AllocError> for GroupRefusedOrMemory {
 }
 
 /// What a group of edits leaves: a document and its next id, the tables that the group's filters answered, and what
-/// of which pictures
-/// the group may have changed.
+/// of which pictures the group may have changed.
 #[derive(Drop)]
 pub(crate) struct Made {
     pub document: Document,
@@ -143,8 +142,7 @@ fn try_group(
 }
 
 // Applies the edits in turn, each filter with the next table. `next_id` is the id that the next new node gets, and
-// `damage` what the
-// edits so far may have changed.
+// `damage` what the edits so far may have changed.
 //
 // A refusal and out of memory leave what the edits before have made, which the caller drops.
 #[tactic(auto, using(crate::proofs::Groups::begins, crate::proofs::Groups::next_is_edit, crate::proofs::Groups::next_has_id, crate::proofs::Groups::next_has_table, crate::proofs::Groups::stops, crate::proofs::Groups::is_done, crate::proofs::Groups::is_damaged))]

@@ -1,10 +1,9 @@
 //! The state of an editing run: a document with its history.
 //!
 //! A contract sees a [`Core`] as the document with which it was opened, the list of its entries, the pictures of
-//! tiles that are kept
-//! and the shelf on which it is saved. What stands now follows from the entries by the machine of `spec_history`, and
-//! what becomes of
-//! the pictures by the world of `spec_world`: each call is one of its events, so its laws over all lists of events hold of a core.
+//! tiles that are kept and the shelf on which it is saved. What stands now follows from the entries by the machine of
+//! `spec_history`, and what becomes of the pictures by the world of `spec_world`: each call is one of its events, so
+//! its laws over all lists of events hold of a core.
 #![tactic(auto)]
 
 mod answered;

@@ -4,8 +4,7 @@ ghost use Rattle.xl_core.specs.Tally.{counted};
 use xl_cache::Finished;
 
 /// How many of the pictures that were handed in were installed, and how many came too late. A count that has reached
-/// its greatest value
-/// stays there.
+/// its greatest value stays there.
 #[derive(Clone, Copy, Debug, PartialEq, Eq)]
 pub struct Tally {
     pub installed: u32,

@@ -182,8 +182,7 @@ fn add_restacked(
 }
 
 /// What an edit can change of which pictures, by the documents before and after it: a list of stacks and rectangles
-/// of theirs, cut to
-/// the canvas. `next_id` is the id that a new node got.
+/// of theirs, cut to the canvas. `next_id` is the id that a new node got.
 pub fn damage_between(
     alloc: Global,
     before: &Document,

@@ -78,8 +78,7 @@ fn part(bytes: &[u8], from: usize, n: usize) -> &[u8]
 }
 
 // New bytes go into the bytes of a rectangle of a plane, through the selection. There is room for the weights of the
-// pixels and of the
-// bytes of a row.
+// pixels and of the bytes of a row.
 fn mix_rows(
     doc: &Document,
     plane: &Plane,
@@ -126,8 +125,7 @@ pub(crate) fn old_bytes(alloc: Global, plane: &Plane, rect: Rect) -> Result<Vec<
 }
 
 /// The bytes of a rectangle of a plane, row by row, after new ones went into them through the selection. Each row of
-/// the new bytes begins
-/// `step` bytes behind the one above it: with 0 all rows are the first one.
+/// the new bytes begins `step` bytes behind the one above it: with 0 all rows are the first one.
 pub(crate) fn weighed(
     alloc: Global,
     doc: &Document,

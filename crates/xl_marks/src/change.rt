@@ -13,8 +13,7 @@ use xl_cache::Cache;
 use xl_doc::{Document, NodeId};
 
 /// What a group of edits does to the pictures that are kept. It can be gone along there and back, and keeps the slots
-/// for the stacks
-/// that are to come.
+/// for the stacks that are to come.
 #[derive(Drop)]
 pub struct Change {
     damage: Damage,

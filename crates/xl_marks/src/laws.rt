@@ -7,8 +7,7 @@ ghost use Rattle.xl_marks.specs.Change.{BeginsWithItsCache, LeadsBack, LeavesCac
 ghost use Rattle.xl_marks.specs.Group.{HasGroupDamage};
 
 /// To go along a change leaves just the slots that a version between its documents leaves, where the damage is that
-/// of the version's
-/// cause.
+/// of the version's cause.
 pub fn gone_along_is_between()
     ensures { (base old new : Document) → LeavesCacheBetween base old new }
 {}

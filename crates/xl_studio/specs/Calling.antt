@@ -47,8 +47,8 @@ pub record Known (K : Type 0) : Type 0 where
   pub made : List ℕ
 
 -- The call was answered after some history that begins with what the seat knew. It is the next entry, with its reply,
--- and the seat made
--- just that one; where the history was full there is no entry. The seat knows the history as the call left it.
+-- and the seat made just that one; where the history was full there is no entry. The seat knows the history as the
+-- call left it.
 pub record IsCalled {K : Type 0} (base : Document) (session : ℕ) (call : Call) (tables : List (List ℕ)) (reply : Reply)
     (old new : Known K) : Type 0 where
   pub entered : List (Moment K)

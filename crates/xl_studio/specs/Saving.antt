@@ -30,16 +30,13 @@ pub record FoundNoRoom {K : Type 0} (base : Document) (reply : Reply) (old new :
   pub few : most_entries < length (entries_in new.front) + 2
   pub none_out : out_of (history_of base new.front) ≡ None
 
--- The save started after some history that begins with what the seat knew, and the shelf was handed out, as it is right after that
--- history. Until its end there were calls alone. The end names the version of the start, and is the last entry that
--- the seat knows. The
--- seat made just these two.
+-- The save started after some history that begins with what the seat knew, and the shelf was handed out, as it is
+-- right after that history. Until its end there were calls alone. The end names the version of the start, and is the
+-- last entry that the seat knows. The seat made just these two.
 --
 -- The shelf came back as `Returns` says: at each moment since it was handed out a crash left one of the `files` of
--- the history that ends
--- with the start. Where the save is done, a crash leaves its version alone. It ended by a fault only where the count
--- of saving faults rose
--- since it was handed out.
+-- the history that ends with the start. Where the save is done, a crash leaves its version alone. It ended by a fault
+-- only where the count of saving faults rose since it was handed out.
 pub record IsWhole {K : Type 0} (see : K
     → shelves.Known) (opening : K) (base : Document) (session : ℕ) (reply : Reply) (old new : Known K) : Type 0 where
   pub entered : List (Moment K)

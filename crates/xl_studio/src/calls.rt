@@ -32,8 +32,7 @@ impl<D: Shelf> Studio<D> {
     /// Makes a call of a session in one hold of the turn. The calls below are this at one kind.
     ///
     /// The filters that a group names are in the desk's chest. After out of memory nothing was made, but that the
-    /// filters of the group's
-    /// first edits may have been asked.
+    /// filters of the group's first edits may have been asked.
     pub fn call<W: Wait, L: Ledger>(
         &self,
         rt: &W,
@@ -209,9 +208,8 @@ impl<D: Shelf> Studio<D> {
     }
 
     /// The tile of a stack at the latest version, which is in the desk after `Tile`. Where the tile was kept at the
-    /// latest version before
-    /// the call's own entry, it takes no step; after out of memory, where there is no entry, this holds of the
-    /// front's latest version.
+    /// latest version before the call's own entry, it takes no step; after out of memory, where there is no entry,
+    /// this holds of the front's latest version.
     pub fn tile<W: Wait, L: Ledger>(
         &self,
         rt: &W,

@@ -77,8 +77,7 @@ impl<D: Shelf> Studio<D> {
     }
 
     /// Joins two seats. The joined one knows the longer front, which both old ones begin, and made what both made. No
-    /// entry is of both.
-    /// Its tally stays its own.
+    /// entry is of both. Its tally stays its own.
     pub fn join(&self, seat: &mut Seat<D>, other: Seat<D>)
         requires seat { IsSeatOf self.now seat.old }
         requires other { IsSeatOf self.now other }

@@ -92,12 +92,11 @@ impl<D: Shelf> Studio<D> {
     }
 
     /// Saves the last version, in two holds of the turn: the first hands out a share of the document and the shelf,
-    /// the second puts the
-    /// shelf back. The file is made and written between them, outside the turn. It waits while another save is out.
+    /// the second puts the shelf back. The file is made and written between them, outside the turn. It waits while
+    /// another save is out.
     ///
     /// From its start to its end a crash leaves one of the files that the history at its start names. Once it is done
-    /// a crash leaves its
-    /// version alone. It ends by a fault only where the shelf's count of saving faults rose.
+    /// a crash leaves its version alone. It ends by a fault only where the shelf's count of saving faults rose.
     ///
     /// Where memory ran out for the file the save has ended too, with the reply `SaveMemory`. After out of memory
     /// there is no entry.
