@@ -20,7 +20,7 @@ fails : {A : Type 0} (test : Bool) (refused : ReadRefused) (rest : Unit {0} → 
     → (wants test refused >>= rest) ≡ Err refused
 fails test refused rest h = ap (λ b. wants b refused >>= rest) h
 
-not_lt : (a b : ℕ) → b ≤ a → nat_lt a b ≡ false
+pub not_lt : (a b : ℕ) → b ≤ a → nat_lt a b ≡ false
 not_lt a b h = grind (arith, nat_tests, h)
 
 not_le : (a b : ℕ) → b < a → nat_le a b ≡ false
@@ -109,7 +109,8 @@ short file at codes room h b fits some past =
     ∙ fails (nat_le (h.body + body_length h) (length file)) (fault Truncated at) _
     (not_le (h.body + body_length h) (length file) past)))
 
-one : (file : List ℕ) (at codes room : ℕ) (h : Head) → Begins file at h → h.count ≤ room → 0 < codes
+-- a code that fits
+pub one : (file : List ℕ) (at codes room : ℕ) (h : Head) → Begins file at h → h.count ≤ room → 0 < codes
     → h.body + body_length h ≤ length file
     → code_at file at codes room ≡ Ok (record { pixels = body_pixels file h; next = h.body + body_length h })
 one file at codes room h b fits some whole =
@@ -186,23 +187,33 @@ pub stops : {so_far file : List ℕ} {from at room filled left : ℕ} {e : ReadR
 stops {so_far = so_far} {file = file} {at = at} {room = room} {filled = filled} {left = left} {e = e} reading some h =
     reading.reads ∙ ap (prepend so_far) (ended left file at (room - filled) e (omega (arith, some)) h)
 
+pub goes_on_part : {so_far file : List ℕ} {from at room filled left : ℕ} → Reading so_far file from at room filled left
+    → (part : Part) → 0 < left → filled < room
+    → code_at file at left (room - filled) ≡ Ok part → filled + length part.pixels ≤ room
+    → (front : List ℕ) (next behind : ℕ) → front ≡ so_far ++ part.pixels → next ≡ part.next
+    → behind ≡ filled + length part.pixels
+    → Reading front file from next room behind (left - 1)
+goes_on_part {so_far = so_far} {file = file} {at = at} {room = room} {filled = filled} {left =
+    left} reading part some more is fits front next behind front_is next_is behind_is =
+    let split = went left file at (room - filled) part (omega (arith, more)) some is in
+    let joined = prepend-prepend so_far part.pixels (codes_at (left - 1) file part.next (room - filled - length part.pixels)) in
+    let rest : room - filled - length part.pixels ≡ room - behind = omega (arith, behind_is) in
+    record {
+      inside = omega (arith, fits, behind_is);
+      reads = reading.reads ∙ (ap (prepend so_far) split
+          ∙ (joined ∙ (λ i. prepend (sym front_is i) (codes_at (left - 1) file (sym next_is i) (rest i)))));
+    }
+
 pub goes_on : {so_far file : List ℕ} {from at room filled left : ℕ} → Reading so_far file from at room filled left → (h : Head)
     → Begins file at h → 0 < left → filled < room
     → h.count ≤ room - filled → h.body + body_length h ≤ length file → (front : List ℕ) (next : ℕ)
     → front ≡ so_far ++ body_pixels file h → length (body_pixels file h) ≡ h.count
     → next ≡ h.body + body_length h → Reading front file from next room (filled + h.count) (left - 1)
-goes_on {so_far = so_far} {file = file} {from = from} {at = at} {room = room} {filled = filled} {left =
+goes_on {so_far = so_far} {file = file} {at = at} {room = room} {filled = filled} {left =
     left} reading h b some more fits whole front next front_is count next_is =
     let part : Part = record { pixels = body_pixels file h; next = h.body + body_length h } in
-    let split = went left file at (room - filled) part (omega (arith, more)) some
-    (one file at left (room - filled) h b fits some whole) in
-    let joined = prepend-prepend so_far part.pixels (codes_at (left - 1) file part.next (room - filled - length part.pixels)) in
-    let rest : room - filled - length part.pixels ≡ room - (filled + h.count) = omega (arith, count) in
-    record {
-      inside = omega (arith, fits, more);
-      reads = reading.reads ∙ (ap (prepend so_far) split
-          ∙ (joined ∙ (λ i. prepend (sym front_is i) (codes_at (left - 1) file (sym next_is i) (rest i)))));
-    }
+    goes_on_part reading part some more (one file at left (room - filled) h b fits some whole)
+    (omega (arith, count, fits, more)) front next _ front_is next_is (omega (arith, count))
 
 pub goes_on_run : {so_far file : List ℕ} {from at room filled left : ℕ} → Reading so_far file from at room filled left → (h : Head)
     → Begins file at h → h.is_run ≡ true → 0 < left

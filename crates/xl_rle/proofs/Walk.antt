@@ -23,7 +23,8 @@ walk_stops {file = file} {from = from} {at = at} {room = room} {wanted = wanted}
     let fault : code_at file at left (room - (room - wanted)) ≡ Err e = ap (code_at file at left) rest ∙ h in
     sym (ap next_of (stops w.reading (omega (arith, w.inside, some)) fault))
 
-length_of_body : (file : List ℕ) (h : Head) → h.body + body_length h ≤ length file → length (body_pixels file h) ≡ h.count
+-- a code whose body is in the file gives as many bytes as its head says
+pub length_of_body : (file : List ℕ) (h : Head) → h.body + body_length h ≤ length file → length (body_pixels file h) ≡ h.count
 length_of_body file h fits = by h.is_run refl
   where
     by : (b : Bool) → h.is_run ≡ b → length (body_pixels file h) ≡ h.count

@@ -1,5 +1,6 @@
 -- The head of a code in code.
-use Rattle.std.specs.Prelude.{◌≡◌, ⊤, ℕ, ◌<◌, ◌≤◌, ◌+◌, List, length, slice_index, Option, Some, None}
+use Rattle.std.specs.Prelude.{◌≡◌, ℕ, ◌<◌, ◌≤◌, ◌+◌, ◌-◌, List, length, slice_index, Option, Some, None}
+use Rattle.std.specs.Prelude.{nat_lt, nat_le, if◌then◌else◌}
 use Rattle.spec_rle.specs.Reading as plane
 use Rattle.spec_rle.specs.Reading.{head_of}
 use Rattle.xl_rle.specs.declared.head.Head.{Head}
@@ -13,12 +14,10 @@ abbrev pub HeadAt : (file : List ℕ) (at : ℕ) → Option Head → Type 0
 HeadAt file at None = length file < (head_of file at (slice_index file at)).body
 HeadAt file at (Some h) = (as_read h ≡ head_of file at (slice_index file at)) × (at < h.body) × (h.body ≤ length file)
 
--- the head at the offset, where it is of one byte, and gives one byte at least and a block at most
-abbrev pub SmallAt : (file : List ℕ) (at : ℕ) → Option Head → Type 0
-SmallAt file at None = ⊤
-SmallAt file at (Some h) = HeadAt file at (Some h) × (h.count ≤ BLOCK) × (0 < h.count) × (h.body ≡ at + 1)
+-- how many bytes a run gives that begins with this byte, where it is of one byte and gives a block at most
+abbrev pub run_by : (first : ℕ) → Option ℕ
+run_by first = if nat_lt first BLOCK then Some (first + 1) else None
 
--- the head at the offset, where it is of a block at most, and a block behind it lies in the file
-abbrev pub ShortAt : (file : List ℕ) (at : ℕ) → Option Head → Type 0
-ShortAt file at None = ⊤
-ShortAt file at (Some h) = HeadAt file at (Some h) × (h.count ≤ BLOCK) × (h.body + BLOCK ≤ length file)
+-- the same of literal bytes
+abbrev pub literal_by : (first : ℕ) → Option ℕ
+literal_by first = if nat_le (256 - BLOCK) first then Some (256 - first) else None

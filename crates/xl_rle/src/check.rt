@@ -1,29 +1,10 @@
-ghost use Rattle.std.specs.Prelude.{◌≡◌, ◌≤◌, ◌+◌, ◌*◌, true, length};
-ghost use Rattle.spec_rle.specs.Reading as plane;
+ghost use Rattle.std.specs.Prelude.{◌≡◌, ◌≤◌, length};
 ghost use Rattle.spec_rle.specs.Reading.{plane_at};
-ghost use Rattle.xl_rle.specs.HeadAt.{as_read};
 ghost use Rattle.xl_rle.specs.NextOf.{next_of};
 
 use crate::decode::MAX_CODES;
-use crate::head::{BLOCK, Head, head_at, small_at};
+use crate::head::{BLOCK, body_length, head_at, is_ample, short_literal, short_run};
 use xl_fields::{Kind, ReadRefused, refused};
-
-// How many bytes a code has after its head.
-fn body_length(head: Head) -> usize
-    ensures { result ≡ plane.body_length (as_read head) }
-{
-    if head.is_run { 1 } else { head.count }
-}
-
-// Whether short codes can give so many bytes, whichever they are, with no test of the file's end or of the count of
-// codes: a code that gives n bytes takes 2 n at most.
-fn is_ample(bytes: &[u8], at: usize, wanted: usize, left: usize) -> bool
-    requires some { 1 ≤ wanted }
-    requires few { wanted ≤ 4096 }
-    ensures { result ≡ true → (wanted ≤ left) × (at + 2 * wanted ≤ length bytes.now) }
-{
-    wanted <= left && 2 * wanted <= bytes.len().saturating_sub(at)
-}
 
 /// Walks the codes of a plane of so many bytes that begin at an offset, and writes none of it. Gives the offset after the
 /// last code, or the refusal that `decode_plane` gives.
@@ -41,15 +22,17 @@ pub fn check_plane(bytes: &[u8], at: usize, count: usize) -> Result<usize, ReadR
         // short codes, where one test at first stands for the tests of each
         let ample = is_ample(bytes, at, wanted, left);
         while ample && wanted > BLOCK {
-            let Some(small) = small_at(bytes, at) else {
-                break;
-            };
-            if small.is_run {
-                at = small.body + 1;
+            let first = bytes[at];
+            // two branches, so that the next code's place need not wait for this one's byte
+            if let Some(count) = short_run(first) {
+                at += 2;
+                wanted -= count;
+            } else if let Some(count) = short_literal(first) {
+                at += 1 + count;
+                wanted -= count;
             } else {
-                at = small.body + small.count;
+                break;
             }
-            wanted -= small.count;
             left -= 1;
         }
         let Some(head) = head_at(bytes, at) else {

@@ -1,8 +1,9 @@
-ghost use Rattle.std.specs.Prelude.{◌≡◌, ◌≤◌, ◌+◌, ◌++◌, length, take, drop, replicate};
-ghost use Rattle.spec_rle.specs.Reading.{plane_at};
+ghost use Rattle.std.specs.Prelude.{◌≡◌, ◌<◌, ◌≤◌, ◌+◌, ◌-◌, ◌++◌, length, take, drop, replicate};
+ghost use Rattle.spec_rle.specs.Reading.{code_at, plane_at};
+ghost use Rattle.xl_rle.specs.Placed.{IsPlaced};
 ghost use Rattle.xl_rle.specs.PlaneOf.{PlaneOf};
 
-use crate::head::{BLOCK, head_at, short_at};
+use crate::head::{BLOCK, body_length, head_at, is_ample, short_literal, short_run};
 use xl_fields::{Kind, ReadRefused, refused};
 
 // A plane has at most so many codes.
@@ -46,6 +47,46 @@ fn put_short_literal(out: &mut [u8], at: usize, bytes: &[u8], from: usize, len: 
     out[at..at + BLOCK].copy_from_slice(&bytes[from..from + BLOCK]);
 }
 
+// What a code left: how many bytes of the plane are filled, and where the next code begins.
+#[derive(Clone, Copy)]
+struct Placed {
+    filled: usize,
+    at: usize,
+}
+
+// Puts the bytes of the code at an offset behind those that are filled, where so many codes are still allowed.
+#[inline(never)]
+fn put_code(
+    bytes: &[u8],
+    at: usize,
+    out: &mut [u8],
+    filled: usize,
+    left: usize,
+) -> Result<Placed, ReadRefused>
+    requires { filled < length out.old }
+    ensures { IsPlaced result filled left out.old out.new (code_at bytes.now at left (length out.old - filled)) }
+{
+    let Some(head) = head_at(bytes, at) else {
+        return Err(refused(Kind::Truncated, at));
+    };
+    if out.len() - filled < head.count || left == 0 {
+        return Err(refused(Kind::BadRun, at));
+    }
+    let body = body_length(head);
+    if bytes.len() - head.body < body {
+        return Err(refused(Kind::Truncated, at));
+    }
+    if head.is_run {
+        put_run(out, filled, head.count, bytes[head.body]);
+    } else {
+        put_literal(out, filled, bytes, head.body, head.count);
+    }
+    Ok(Placed {
+        filled: filled + head.count,
+        at: head.body + body,
+    })
+}
+
 /// Fills a plane from the codes that begin at an offset. Gives the offset after the last code.
 ///
 /// Truncated, or BadRun, at the code that does not fit the file, or the plane. The bytes of the plane are then unspecified.
@@ -58,44 +99,29 @@ pub fn decode_plane(bytes: &[u8], at: usize, out: &mut [u8]) -> Result<usize, Re
 {
     let mut at = at;
     let mut filled = 0;
-    let mut left = MAX_CODES;
+    let mut left = MAX_CODES as usize;
     let last = out.len().saturating_sub(BLOCK);
     while filled < out.len() {
-        // short codes, where one write for each stays in the plane
-        while filled < last && left > 0 {
-            let Some(short) = short_at(bytes, at) else {
-                break;
-            };
-            if short.is_run {
-                put_short_run(out, filled, short.count, bytes[short.body]);
-                at = short.body + 1;
+        // short codes, where one test at first stands for the tests of each, and one write for each stays in the plane
+        let ample = is_ample(bytes, at, out.len() - filled, left);
+        while ample && filled < last {
+            let first = bytes[at];
+            if let Some(count) = short_run(first) {
+                put_short_run(out, filled, count, bytes[at + 1]);
+                at += 2;
+                filled += count;
+            } else if let Some(count) = short_literal(first) {
+                put_short_literal(out, filled, bytes, at + 1, count);
+                at += 1 + count;
+                filled += count;
             } else {
-                put_short_literal(out, filled, bytes, short.body, short.count);
-                at = short.body + short.count;
+                break;
             }
-            filled += short.count;
             left -= 1;
         }
-        let Some(head) = head_at(bytes, at) else {
-            return Err(refused(Kind::Truncated, at));
-        };
-        if out.len() - filled < head.count || left == 0 {
-            return Err(refused(Kind::BadRun, at));
-        }
-        if head.is_run {
-            if head.body == bytes.len() {
-                return Err(refused(Kind::Truncated, at));
-            }
-            put_run(out, filled, head.count, bytes[head.body]);
-            at = head.body + 1;
-        } else {
-            if bytes.len() - head.body < head.count {
-                return Err(refused(Kind::Truncated, at));
-            }
-            put_literal(out, filled, bytes, head.body, head.count);
-            at = head.body + head.count;
-        }
-        filled += head.count;
+        let placed = put_code(bytes, at, out, filled, left)?;
+        filled = placed.filled;
+        at = placed.at;
         left -= 1;
     }
     Ok(at)

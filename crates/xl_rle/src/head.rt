@@ -1,5 +1,6 @@
-ghost use Rattle.std.specs.Prelude.{◌≡◌, ◌<◌, ◌+◌, ◌*◌, length, slice_index};
-ghost use Rattle.xl_rle.specs.HeadAt.{HeadAt, SmallAt, ShortAt};
+ghost use Rattle.std.specs.Prelude.{◌≡◌, ◌<◌, ◌≤◌, ◌+◌, ◌*◌, ◌&&◌, length, nat_le, slice_index};
+ghost use Rattle.spec_rle.specs.Reading as plane;
+ghost use Rattle.xl_rle.specs.HeadAt.{HeadAt, as_read, literal_by, run_by};
 
 /// The head of a code: how many bytes of the plane it gives, and where its value or its bytes begin.
 #[derive(Clone, Copy)]
@@ -56,37 +57,41 @@ pub fn head_at(bytes: &[u8], at: usize) -> Option<Head>
     })
 }
 
-/// The head of the code at an offset of the file, where it is a short one of a block at most.
-#[inline(always)]
-pub fn small_at(bytes: &[u8], at: usize) -> Option<Head>
-    requires { at < length bytes.now }
-    ensures { SmallAt bytes.now at result }
+/// How many bytes a code has after its head.
+pub fn body_length(head: Head) -> usize
+    ensures { result ≡ plane.body_length (as_read head) }
 {
-    let first = bytes[at] as usize;
-    if first < BLOCK {
-        return Some(Head {
-            is_run: true,
-            count: first + 1,
-            body: at + 1,
-        });
-    }
-    if first >= 256 - BLOCK {
-        return Some(Head {
-            is_run: false,
-            count: 256 - first,
-            body: at + 1,
-        });
-    }
-    None
+    if head.is_run { 1 } else { head.count }
 }
 
-/// The head of the code at an offset, where it is a short one of a block at most, and a block stands behind the head.
+/// How many bytes of the plane a run gives that begins with this byte, where it is a short one of a block at most. Its
+/// value is the byte behind it.
 #[inline(always)]
-pub fn short_at(bytes: &[u8], at: usize) -> Option<Head>
-    ensures { ShortAt bytes.now at result }
+pub fn short_run(first: u8) -> Option<usize>
+    ensures { result ≡ run_by first }
 {
-    if bytes.len().saturating_sub(BLOCK) <= at {
+    if first as usize >= BLOCK {
         return None;
     }
-    small_at(bytes, at)
+    Some(first as usize + 1)
+}
+
+/// How many bytes of the plane stand behind this byte, where it begins short literals of a block at most.
+#[inline(always)]
+pub fn short_literal(first: u8) -> Option<usize>
+    ensures { result ≡ literal_by first }
+{
+    if (first as usize) < 256 - BLOCK {
+        return None;
+    }
+    Some(256 - first as usize)
+}
+
+/// Whether short codes can give so many bytes, whichever they are, with no test of the file's end or of the count of
+/// codes: a code that gives n bytes takes 2 n at most. A block behind the head of each is in the file too.
+pub fn is_ample(bytes: &[u8], at: usize, wanted: usize, left: usize) -> bool
+    requires few { wanted ≤ 4096 }
+    ensures { result ≡ (nat_le wanted left && nat_le (at + 2 * wanted + BLOCK) (length bytes.now)) }
+{
+    wanted <= left && 2 * wanted + BLOCK <= bytes.len().saturating_sub(at)
 }

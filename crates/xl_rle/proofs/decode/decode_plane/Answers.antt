@@ -1,92 +1,64 @@
-use Rattle.std.proofs.Common.{◌≡◌, ℕ, List, take, take_all, sym, ◌∙◌, ap, arith, Ok, Err}
-use Rattle.xl_rle.specs.HeadAt.{as_read}
-use Rattle.xl_rle.proofs.Steps.{
-  cut,
-  head_begins,
-  too_long,
-  too_many,
-  short,
-  stops,
-  length_of_run,
-  length_of_literal,
-  goes_on_run,
-  goes_on_literal,
-  ends,
-}
+use Rattle.std.proofs.Common.{◌≡◌, ◌+◌, ◌<◌, ℕ, List, length, take, take_all, ◌∙◌, ◌-◌, ap, arith, refl, subst, Ok, Err}
+use Rattle.std.proofs.lemmas.Result.{err_from_is_err_and}
+use Rattle.spec_rle.specs.Reading.{code_at}
+use Rattle.xl_rle.proofs.Steps.{stops, goes_on_part, goes_on_run, goes_on_literal, ends}
+use Rattle.xl_rle.proofs.Short.{run_is, literal_is, run_head, literal_head, run_begins, literal_begins}
 use Rattle.xl_rle.proofs.decode.decode_plane.Goals as goal
-use Rattle.xl_rle.proofs.decode.decode_plane.Goals.{
-  then-short,
-  else-short,
-  then-out-filled-via-then-out-filled,
-  then-out-filled-via-else-out-filled+then-left-eq0,
-  then-head+else-head-bytes,
-  else-head+else-bytes-head,
-}
+use Rattle.xl_rle.proofs.decode.decode_plane.Goals.{in-Some, in_default+in-Some-short_literal}
 
-pub returns-in_default-head_at : goal.returns-in_default-head_at
-returns-in_default-head_at c =
-    stops c.loop-filled-2.invariant.0 (omega arith) (cut _ _ _ _ (rw c.in_default-head_at.is at c.head_at.ensures))
-    ∙ ap Err (sym c.refused.ensures)
+pub loop-first-preserved : goal.loop-first-preserved
+loop-first-preserved c =
+    let reading = c.loop-first.invariant.0 in
+    let file = c.args.bytes.now in
+    let at = c.loop-first.at in
+    let ample = c.loop-first.invariant.3 c.loop-first-test.true in
+    let within = ample.0 in
+    let room = ample.1 in
+    let inside : at < length file = omega (arith, room) in
+    elim c.match-short_run.branch [
+      | in-Some w ↦
+          let count = w.in-Some.count in
+          let found = run_is _ _ w.in-Some.ensures in
+          let few = found.0 in
+          let is = found.1 in (
+            rw w.filled-is (goes_on_run reading (run_head at count) (run_begins file at count inside w.in-Some.ensures) refl
+              (omega (arith, within)) (omega arith) (omega (arith, few, is)) (omega (arith, room)) _
+              (rw w.out-is w.put_short_run.ensures) _ (omega (arith, w.at-is))),
+            omega (arith, w.filled-is, few, is),
+            omega (arith, c.loop-first.invariant.2),
+            λ _. (omega (arith, within, w.filled-is, is), omega (arith, room, w.filled-is, w.at-is, is, few)),
+          )
+      | in_default+in-Some-short_literal w ↦
+          let count = w.in-Some-short_literal.count in
+          let found = literal_is _ _ w.in-Some-short_literal.ensures in
+          let few = found.0 in
+          let is = found.1 in (
+            rw w.filled-is (goes_on_literal reading (literal_head at count)
+              (literal_begins file at count inside w.in-Some-short_literal.ensures) refl
+              (omega (arith, within)) (omega arith) (omega (arith, few, is)) (omega (arith, room, few, is)) _
+              (rw w.out-is w.put_short_literal.ensures) _ (omega (arith, w.at-is))),
+            omega (arith, w.filled-is, few, is),
+            omega (arith, c.loop-first.invariant.2),
+            λ _. (omega (arith, within, w.filled-is, is), omega (arith, room, w.filled-is, w.at-is, is, few)),
+          )
+    ]
 
-pub returns-then-out-filled : goal.returns-then-out-filled
-returns-then-out-filled c =
-    let h = as_read c.in-Some-head_at.head in
-    let begins = head_begins c.args.bytes.now c.loop-filled-2.at c.in-Some-head_at.head c.in-Some-head_at.ensures in
-    stops c.loop-filled-2.invariant.0 (omega arith) (elim c.then-out-filled.branch [
-      | then-out-filled-via-then-out-filled w ↦ too_long _ _ _ _ h begins (omega arith)
-      | then-out-filled-via-else-out-filled+then-left-eq0 w ↦ rw w.if-left-eq0.true (too_many _ _ _ h begins)
-    ]) ∙ ap Err (sym c.refused-then-out-filled.ensures)
-
-pub returns-then-head-bytes : goal.returns-then-head-bytes
-returns-then-head-bytes c =
-    let h = as_read c.in-Some-head_at.head in
-    let begins = head_begins c.args.bytes.now c.loop-filled-2.at c.in-Some-head_at.head c.in-Some-head_at.ensures in
-    let past = length_of_run h c.if-head.true in
-    stops c.loop-filled-2.invariant.0 (omega arith) (short _ _ _ _ h begins (omega arith) (omega arith) (omega (arith, past)))
-    ∙ ap Err (sym c.refused-then-head-bytes.ensures)
-
-pub returns-then-bytes-head : goal.returns-then-bytes-head
-returns-then-bytes-head c =
-    let h = as_read c.in-Some-head_at.head in
-    let begins = head_begins c.args.bytes.now c.loop-filled-2.at c.in-Some-head_at.head c.in-Some-head_at.ensures in
-    let past = length_of_literal h c.if-head.false in
-    stops c.loop-filled-2.invariant.0 (omega arith) (short _ _ _ _ h begins (omega arith) (omega arith) (omega (arith, past)))
-    ∙ ap Err (sym c.refused-then-bytes-head.ensures)
+pub returns-in_err-placed : goal.returns-in_err-placed
+returns-in_err-placed c =
+    let p = err_from_is_err_and c.from_residual.result c.from_residual.ensures.1 in
+    let fault = c.in_err-placed.ensures in
+    rw (p.1, p.2) (stops c.loop-first.invariant.0 (omega arith) (subst (λ (n : ℕ).
+      code_at c.args.bytes.now c.loop-first.at c.loop-first.left (n - c.loop-first.filled) ≡ Err c.in_err-placed.field-0.0)
+      (omega arith) fault))
 
 pub loop-filled-preserved : goal.loop-filled-preserved
 loop-filled-preserved c =
-    let reading = c.loop-filled-2.invariant.0 in
-    let h = as_read c.in-Some-head_at.head in
-    let head = c.in-Some-head_at.ensures in
-    let begins = head_begins c.args.bytes.now c.loop-filled-2.at c.in-Some-head_at.head head in
-    elim c.if-head.branch [
-      | then-head+else-head-bytes w ↦
-          goes_on_run reading h begins w.if-head.true (omega arith) (omega arith) (omega arith) (omega (arith, head.2)) _
-          (rw w.out-is w.put_run.ensures) _ w.at-is
-      | else-head+else-bytes-head w ↦
-          goes_on_literal reading h begins w.if-head.false (omega arith) (omega arith) (omega arith) (omega (arith, head.2)) _
-          (rw w.out-is w.put_literal.ensures) _ w.at-is
-    ]
-
-pub loop-filled-2-preserved : goal.loop-filled-2-preserved
-loop-filled-2-preserved c =
-    let reading = c.loop-filled-2.invariant.0 in
-    let h = as_read c.in-Some.short in
-    let short = c.in-Some.ensures in
-    let few = short.1 in
-    let block = short.2 in
-    let begins = head_begins c.args.bytes.now c.loop-filled-2.at c.in-Some.short short.0 in (
-      elim c.if-short.branch [
-        | then-short w ↦
-            goes_on_run reading h begins w.if-short.true (omega arith) (omega arith) (omega (arith, few)) (omega (arith, block)) _
-            (rw w.out-is w.put_short_run.ensures) _ w.at-is
-        | else-short w ↦
-            goes_on_literal reading h begins w.if-short.false (omega arith) (omega arith) (omega (arith, few))
-            (omega (arith, few, block)) _ (rw w.out-is w.put_short_literal.ensures) _ w.at-is
-      ],
-      omega (arith, few),
-      omega arith,
-    )
+    let placed = c.in_ok-placed.ensures in
+    let size : length c.loop-first.out ≡ length c.args.out.now = omega arith in
+    goes_on_part c.loop-first.invariant.0 placed.part placed.allowed (omega arith)
+    (subst (λ (n : ℕ).
+      code_at c.args.bytes.now c.loop-first.at c.loop-first.left (n - c.loop-first.filled) ≡ Ok placed.part) size placed.is)
+    (omega (arith, placed.longer, placed.inside, size)) _ _ _ placed.front placed.next placed.longer
 
 pub returns : goal.returns
 returns c =

@@ -1,4 +1,4 @@
-use Rattle.std.proofs.Common.{◌<◌, ◌≤◌, length, take}
+use Rattle.std.proofs.Common.{◌≡◌, ◌+◌, ◌-◌, ◌*◌, ◌<◌, ◌≤◌, true, length, take}
 use Rattle.xl_rle.proofs.Steps.{Reading}
 use Rattle.xl_rle.proofs.decode.decode_plane.Given as goal
 
@@ -10,11 +10,12 @@ abbrev pub decreases-loop-filled : goal.decreases-loop-filled
 decreases-loop-filled l = l.left
 
 -- short codes leave something to be filled
-abbrev pub invariant-loop-filled-2 : goal.invariant-loop-filled-2
-invariant-loop-filled-2 l =
+abbrev pub invariant-loop-first : goal.invariant-loop-first
+invariant-loop-first l =
     Reading (take l.filled l.out) l.bytes l.fn.at l.at (length l.fn.out) l.filled l.left
     × (l.filled < length l.fn.out)
     × (l.left ≤ l.initial.left)
+    × (l.ample ≡ true → (length l.fn.out - l.filled ≤ l.left) × (l.at + 2 * (length l.fn.out - l.filled) + 32 ≤ length l.bytes))
 
-abbrev pub decreases-loop-filled-2 : goal.decreases-loop-filled-2
-decreases-loop-filled-2 l = l.left
+abbrev pub decreases-loop-first : goal.decreases-loop-first
+decreases-loop-first l = l.left
