@@ -4,11 +4,11 @@ use Rattle.std.proofs.Common.{length-take-le, take, drop, map, slice_index, inl,
 use Rattle.std.specs.Prelude.{Ok, Err, slice_index_or, MatchResult}
 use Rattle.std.proofs.lemmas.Bool.{cases_lt}
 use Rattle.std.proofs.lemmas.Bool.Decides.{nat_tests}
-use Rattle.std.proofs.lemmas.List.{get_or-take, get_or-drop, get_or_append_left, get_or-append_right}
+use Rattle.std.proofs.lemmas.List.{ext_get_or, get_or-take, get_or-drop, get_or_append_left, get_or-append_right}
 use Rattle.std.proofs.lemmas.Nat.{div-add-mod'}
 use Rattle.std.proofs.Math.Nat.{mod-lt, div-lt_iff_lt-mul}
 use borrow.Rule.Slice.PartMut.{put_mid, post_of}
-use Rattle.spec_document.proofs.PlaneLemmas.{index-pieces}
+use Rattle.spec_document.proofs.PlaneLemmas.{index-pieces, length-pieces}
 use Rattle.spec_fields.specs.Reading.{Read, ◌>>=◌}
 use Rattle.spec_hierarchy.specs.Tiles.{interleaved}
 use Rattle.spec_hierarchy.specs.Reading.{spelled_at, tile_at}
@@ -57,6 +57,20 @@ byte_of_row b n first w bytes pixels fits joined j within =
     ∙ (joined (j / b) (j % b) k c
     ∙ (sym (byte_of_pixel b n bytes (first + j / b) (j % b) (omega (arith, k, fits)) c)
     ∙ ap (slice_index (interleaved n (pieces b n bytes))) place))
+
+-- all pixels
+pub all_pixels : (b n : ℕ) (bytes pixels : List ℕ) → length pixels ≡ n * b
+    → ((k c : ℕ) → k < n → c < b → slice_index pixels (k * b + c) ≡ slice_index bytes (c * n + (0 + k)))
+    → pixels ≡ interleaved n (pieces b n bytes)
+all_pixels b n bytes pixels size joined =
+    let planes = pieces b n bytes in
+    let pixel : ℕ → List ℕ = λ v. map (λ plane. slice_index plane v) planes in
+    let each : (v : ℕ) → length (pixel v) ≡ b = λ v. length_mapped (λ plane. slice_index plane v) planes
+    ∙ length_of_pieces b n bytes in
+    ext_get_or 0 pixels (interleaved n planes) (size ∙ sym (length-pieces pixel b each 0 n)) (λ j within.
+    let start : 0 * b + j ≡ j = omega arith in
+    byte_of_row b n 0 n bytes pixels (omega arith) joined j (omega (arith, within, size))
+    ∙ ap (slice_index (interleaved n planes)) start)
 
 -- a part of bytes is written
 put_part : (xs ys : List ℕ) (a n m : ℕ) (new : ℕ → ℕ) → m ≡ n → length ys ≡ n → a + n ≤ length xs

@@ -6,37 +6,7 @@ ghost use Rattle.xl_tiles.specs.Joined.{pieces};
 ghost use Rattle.spec_grid.specs.declared.TheConstants.{MAX_SIDE};
 
 use crate::block::{Block, Spot, row_start};
-use crate::join::{join_four, join_three, join_two};
-use crate::rows::piece;
-
-// Joins w pixels of planes of n bytes, one after another, from a pixel on.
-fn join_some(planes: &[u8], n: usize, bpp: usize, first: usize, w: usize, pixels: &mut [u8])
-    requires some { 1 ≤ bpp }
-    requires few { bpp ≤ 4 }
-    requires planes { length planes.now ≡ bpp * n }
-    requires within { first + w ≤ n }
-    requires pixels { length pixels.old ≡ w * bpp }
-    ensures { (k c : ℕ) → k < w → c < bpp → slice_index pixels.new (k * bpp + c) ≡ slice_index planes.now (c * n + (first + k)) }
-{
-    let front = piece(planes, first, w);
-    match bpp {
-        1 => pixels.copy_from_slice(front),
-        2 => join_two(front, piece(planes, n + first, w), pixels),
-        3 => join_three(
-            front,
-            piece(planes, n + first, w),
-            piece(planes, 2 * n + first, w),
-            pixels,
-        ),
-        _ => join_four(
-            front,
-            piece(planes, n + first, w),
-            piece(planes, 2 * n + first, w),
-            piece(planes, 3 * n + first, w),
-            pixels,
-        ),
-    }
-}
+use crate::join::join_pixels;
 
 // Writes w pixels of planes of n bytes, from a pixel on, to a place.
 fn put_joined(
@@ -58,21 +28,7 @@ fn put_joined(
         ≡ byte_after at (w * bpp) (slice_index out.old k)
         (slice_index (interleaved n (pieces bpp n planes.now)) (first * bpp + (k - at))) k }
 {
-    join_some(planes, n, bpp, first, w, &mut out[at..at + w * bpp]);
-}
-
-// The pixel with which a row of a block begins.
-fn pixel_start(spot: Spot, row: usize, block: Block, n: usize) -> usize
-    requires across { spot.x + block.w ≤ spot.stride }
-    requires row { row < block.h }
-    requires down { spot.stride * (spot.y + block.h) * block.bpp ≤ n * block.bpp }
-    requires small { n ≤ 4096 }
-    requires some { 1 ≤ block.bpp }
-    requires tall { spot.y + block.h ≤ MAX_SIDE }
-    ensures value { result ≡ (spot.y + row) * spot.stride + spot.x }
-    ensures fits { result + block.w ≤ n }
-{
-    (spot.y + row) * spot.stride + spot.x
+    join_pixels(planes, n, bpp, first, w, &mut out[at..at + w * bpp]);
 }
 
 /// Joins a block of the pixels of planes of n bytes, one after another, to a place. All other bytes stay.
@@ -82,7 +38,7 @@ pub fn join_block(out: &mut [u8], to: Spot, planes: &[u8], n: usize, from: Spot,
     requires to_tall { to.y + block.h ≤ MAX_SIDE }
     requires out_small { length out.old ≤ 2 ^ 28 }
     requires from_across { from.x + block.w ≤ from.stride }
-    requires from_down { from.stride * (from.y + block.h) * block.bpp ≤ n * block.bpp }
+    requires from_down { from.stride * (from.y + block.h) ≤ n }
     requires from_tall { from.y + block.h ≤ MAX_SIDE }
     requires planes { length planes.now ≡ block.bpp * n }
     requires small { n ≤ 4096 }
@@ -94,9 +50,10 @@ pub fn join_block(out: &mut [u8], to: Spot, planes: &[u8], n: usize, from: Spot,
         ≡ pixel_byte to from block.w block.h block.bpp (interleaved n (pieces block.bpp n planes.now))
         (slice_index out.old ((y * to.stride + x) * block.bpp + c)) x y c }
 {
+    let pixels = Block { bpp: 1, ..block };
     for r in 0..block.h {
         let at = row_start(to, r, block, out.len());
-        let first = pixel_start(from, r, block, n);
+        let first = row_start(from, r, pixels, n);
         put_joined(out, at, planes, n, block.bpp, first, block.w);
     }
 }

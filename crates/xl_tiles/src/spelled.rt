@@ -3,7 +3,6 @@ ghost use Rattle.spec_rle.specs.Reading.{plane_at};
 ghost use Rattle.spec_hierarchy.specs.Reading as hierarchy;
 ghost use Rattle.xl_tiles.specs.Joined.{pieces};
 
-use crate::join::join;
 use xl_fields::ReadRefused;
 use xl_rle::decode_plane;
 
@@ -44,28 +43,5 @@ pub fn planes_at(
     for c in 0..bpp {
         at = plane_into(bytes, at, planes, c * n, n)?;
     }
-    Ok(())
-}
-
-/// Reads a tile of n pixels in runs.
-pub fn spelled_tile(
-    bytes: &[u8],
-    at: usize,
-    n: usize,
-    bpp: usize,
-    planes: &mut [u8],
-    tile: &mut [u8],
-) -> Result<(), ReadRefused>
-    requires some { 1 ≤ n }
-    requires few { n ≤ 4096 }
-    requires some_bytes { 1 ≤ bpp }
-    requires few_bytes { bpp ≤ 4 }
-    requires planes { length planes.old ≡ bpp * n }
-    requires tile { length tile.old ≡ n * bpp }
-    ensures { MatchResult result (λ _. hierarchy.tile_at bytes.now at n bpp 1 ≡ Ok tile.new)
-        (λ e. hierarchy.tile_at bytes.now at n bpp 1 ≡ Err e) }
-{
-    planes_at(bytes, at, n, bpp, planes)?;
-    join(planes, n, bpp, tile);
     Ok(())
 }
