@@ -10,11 +10,11 @@ use Rattle.spec_edit.specs.declared.EditRefused.TheVariants.{ModeRefused, TooMan
 use Rattle.spec_edit.specs.declared.EditRefused.TheVariants.{GroupInIndexed, TooDeep}
 use Rattle.spec_edit.specs.Edit.{Edit, add_channel}
 use Rattle.spec_forest.specs.declared.TheConstants.{MAX_NODES}
-use Rattle.spec_document.specs.declared.TheConstants.{MAX_DEPTH, MAX_AREA}
+use Rattle.spec_document.specs.declared.TheConstants.{MAX_CHANNELS, MAX_DEPTH, MAX_AREA}
 
 -- how many there would be, of channels or of nodes, and that these are too many
 abbrev pub IsTooMany : Edit → Document → (count : ℕ) → Type 0
-IsTooMany (add_channel name) new count = (length new.channels ≡ count) × (64 < count)
+IsTooMany (add_channel name) new count = (length new.channels ≡ count) × (MAX_CHANNELS < count)
 IsTooMany edit new count = (size new.nodes ≡ count) × (MAX_NODES < count)
 
 -- The number that a refusal for a limit carries is what the document would come to, and is past the limit. With an offset or a name

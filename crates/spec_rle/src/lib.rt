@@ -7,6 +7,9 @@ ghost use Rattle.spec_rle.specs.Codes.{Spells};
 ghost use Rattle.spec_rle.specs.Reading.{Part, plane_at};
 ghost use Rattle.spec_rle.specs.Standing.{IsSpelledAt};
 
+/// How many codes a plane has at most.
+pub const MAX_CODES: u32 = 8192;
+
 /// A spelling spells one plane of a length.
 pub fn spells_one_plane()
     ensures { (bytes a b : List ℕ) → Spells bytes a → Spells bytes b → a ≡ b }

@@ -3,13 +3,11 @@ ghost use Rattle.std.specs.Borrow.{Lends, sem};
 ghost use Rattle.xl_doc.specs.contracts.channel.Channel.{the_row as channel_row};
 ghost use Rattle.xl_doc.specs.contracts.channel.Channels.{the_row};
 
+use spec_document::MAX_CHANNELS;
 use std::alloc::{AllocError, Global};
 use std::marker::Model;
 use xl_props::{Bytes, PropList};
 use xl_tiles::Plane;
-
-/// How many channels a document has at most, beside the selection.
-pub const MAX_CHANNELS: u32 = 64;
 
 /// A plane of one byte per pixel, with a name. A channel and the selection have the sides of the canvas.
 #[derive(Drop)]

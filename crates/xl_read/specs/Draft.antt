@@ -1,8 +1,8 @@
 -- The document as far as it was read.
-use Rattle.std.specs.Prelude.{◌≡◌, ℕ, ◌+◌, ◌^◌, ◌≤◌, Some, List}
+use Rattle.std.specs.Prelude.{◌≡◌, ℕ, ◌+◌, ◌≤◌, Some, List}
 use Rattle.spec_document.specs.Document.{Document, Nodes, plane_area, mask_area, area, kept_bytes, channel_kept, all_kept}
 use Rattle.spec_document.specs.Limits.{IsSide}
-use Rattle.spec_document.specs.declared.TheConstants.{MAX_AREA}
+use Rattle.spec_document.specs.declared.TheConstants.{MAX_AREA, MAX_KEPT_BYTES}
 use Rattle.spec_forest.specs.Forest.{size}
 use Rattle.spec_forest.specs.Changes.{put_last}
 use Rattle.xl_tree.specs.Places.{alone}
@@ -16,7 +16,7 @@ pub record IsDraft (d : Document) (pixels kept : ℕ) : Type 0 where
   pub pixels_are : pixels ≡ area d
   pub kept_is : kept ≡ all_kept d
   pub area : area d ≤ MAX_AREA
-  pub kept_bytes : all_kept d ≤ 2 ^ 28
+  pub kept_bytes : all_kept d ≤ MAX_KEPT_BYTES
   pub width : IsSide d.width
   pub height : IsSide d.height
   pub compression : d.compression ≤ 1

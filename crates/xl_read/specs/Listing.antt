@@ -10,6 +10,7 @@ use Rattle.spec_props.specs.Reading.{Properties, properties_at}
 use Rattle.xl_props.specs.declared.answer.Props.{Props}
 use Rattle.xl_props.specs.Known.{IsKnown}
 use Rattle.xl_props.specs.Props.{props_of}
+use Rattle.spec_document.specs.declared.TheConstants.{MAX_KEPT_BYTES}
 
 -- what was read, or an empty list where nothing was
 abbrev pub list_or_none : Read Properties → Properties
@@ -36,4 +37,5 @@ abbrev pub over : (before : ℕ) → List Kept → (places : List ℕ) → Optio
 over before [] places = None
 over before (k ∷ ks) [] = None
 over before (k ∷ ks) (place ∷ places) =
-    if nat_le (before + length k.payload) (2 ^ 28) then over (before + length k.payload) ks places else Some (fault TooLarge place)
+    if nat_le (before + length k.payload) MAX_KEPT_BYTES then over (before + length k.payload) ks places
+    else Some (fault TooLarge place)

@@ -1,5 +1,5 @@
 -- The limits that a layer keeps before it is put in.
-use Rattle.std.specs.Prelude.{◌≡◌, ℕ, ◌+◌, ◌*◌, ◌^◌, ◌<◌, ◌≤◌, length, Option, Some, None, IsSome}
+use Rattle.std.specs.Prelude.{◌≡◌, ℕ, ◌+◌, ◌*◌, ◌<◌, ◌≤◌, length, Option, Some, None, IsSome}
 use Rattle.spec_forest.specs.Forest.{none, size}
 use Rattle.spec_forest.specs.Changes.{put_last}
 use Rattle.spec_document.specs.Document.{Document, Channel, mask_area, channel_kept, area, all_kept}
@@ -7,7 +7,7 @@ use Rattle.spec_file.specs.Layers.{Head}
 use Rattle.spec_file.specs.Placing.{path_to}
 use Rattle.xl_read.specs.Head.{head_kept}
 use Rattle.spec_forest.specs.declared.TheConstants.{MAX_NODES}
-use Rattle.spec_document.specs.declared.TheConstants.{MAX_DEPTH, MAX_AREA}
+use Rattle.spec_document.specs.declared.TheConstants.{MAX_DEPTH, MAX_AREA, MAX_KEPT_BYTES}
 
 -- a mask has these sides
 abbrev pub HasSides : (width height : ℕ) → Option Channel → Type 0
@@ -18,11 +18,11 @@ HasSides width height (Some mask) = (mask.plane.width ≡ width) × (mask.plane.
 pub record FitsMask (d : Document) (h : Head) (mask : Option Channel) : Type 0 where
   pub sides : HasSides h.width h.height mask
   pub area : area d + (h.width * h.height + mask_area mask) ≤ MAX_AREA
-  pub kept : all_kept d + (head_kept h + channel_kept mask) ≤ 2 ^ 28
+  pub kept : all_kept d + (head_kept h + channel_kept mask) ≤ MAX_KEPT_BYTES
 
 -- the node may be put where its path leads
 pub record MayPlace (d : Document) (h : Head) : Type 0 where
   pub leads : IsSome (put_last (path_to h.props.list) none d.nodes)
   pub short : length (path_to h.props.list) < MAX_DEPTH
   pub few : size d.nodes < MAX_NODES
-  pub kept : all_kept d + head_kept h ≤ 2 ^ 28
+  pub kept : all_kept d + head_kept h ≤ MAX_KEPT_BYTES

@@ -3,6 +3,7 @@ ghost use Rattle.std.specs.Arc.{arc_value};
 ghost use Rattle.spec_document.specs.Document.{area, all_kept, kept_bytes};
 ghost use Rattle.spec_file.specs.Channels.{with_channel, channel_at};
 ghost use Rattle.xl_read.specs.Yields.{Yields};
+ghost use Rattle.spec_document.specs.declared.TheConstants.{MAX_KEPT_BYTES};
 
 use crate::draft::Draft;
 use crate::listing::Listing;
@@ -33,7 +34,7 @@ fn put(draft: &mut Draft, selection: bool, channel: Channel)
     requires first { IsTrue (not selection || is_none draft.old.selection) }
     requires few { IsTrue (selection || nat_lt (length draft.old.channels) 64) }
     requires area { area draft.old + draft.old.width * draft.old.height ≤ MAX_AREA }
-    requires kept { all_kept draft.old + kept_bytes channel.kept ≤ 2 ^ 28 }
+    requires kept { all_kept draft.old + kept_bytes channel.kept ≤ MAX_KEPT_BYTES }
     ensures { draft.new ≡ with_channel draft.old selection channel }
 {
     if selection {

@@ -6,7 +6,7 @@ ghost use Rattle.spec_forest.specs.Forest.{none, size};
 ghost use Rattle.spec_forest.specs.Changes.{put_last};
 ghost use Rattle.xl_read.specs.Draft.{body_area, node_kept, Places};
 ghost use Rattle.spec_forest.specs.declared.TheConstants.{MAX_NODES};
-ghost use Rattle.spec_document.specs.declared.TheConstants.{MAX_DEPTH, MAX_AREA};
+ghost use Rattle.spec_document.specs.declared.TheConstants.{MAX_DEPTH, MAX_AREA, MAX_KEPT_BYTES};
 
 use crate::header::Header;
 use crate::kept::payload_bytes;
@@ -52,7 +52,7 @@ impl Draft {
         requires width { IsSide header.width }
         requires height { IsSide header.height }
         requires compression { compression ≤ 1 }
-        requires kept { kept_bytes kept ≤ 2 ^ 28 }
+        requires kept { kept_bytes kept ≤ MAX_KEPT_BYTES }
         ensures { IfOk result (λ d. d ≡ record {
           width = header.width;
           height = header.height;
@@ -130,7 +130,7 @@ impl Draft {
     /// The bytes of payload that are kept.
     pub fn kept_bytes(&self) -> u64
         ensures value { result ≡ all_kept self.now }
-        ensures limit { result ≤ 2 ^ 28 }
+        ensures limit { result ≤ MAX_KEPT_BYTES }
     {
         self.kept_bytes
     }
@@ -149,7 +149,7 @@ impl Draft {
         requires short { length path.now < MAX_DEPTH }
         requires few { size self.old.nodes < MAX_NODES }
         requires area { area self.old + body_area (self.old.width * self.old.height) node.body ≤ MAX_AREA }
-        requires kept { all_kept self.old + node_kept node ≤ 2 ^ 28 }
+        requires kept { all_kept self.old + node_kept node ≤ MAX_KEPT_BYTES }
         ensures placed { Places path.now node self.old self.new }
         ensures size { size self.new.nodes ≡ 1 + size self.old.nodes }
     {
@@ -171,7 +171,7 @@ impl Draft {
     pub fn push_channel(&mut self, channel: Channel)
         requires few { length self.old.channels < 64 }
         requires area { area self.old + self.old.width * self.old.height ≤ MAX_AREA }
-        requires kept { all_kept self.old + kept_bytes channel.kept ≤ 2 ^ 28 }
+        requires kept { all_kept self.old + kept_bytes channel.kept ≤ MAX_KEPT_BYTES }
         ensures { self.new ≡ record self.old { channels = self.old.channels ++ channel ∷ [] } }
     {
         let area = self.area + self.canvas();
@@ -191,7 +191,7 @@ impl Draft {
     pub fn set_selection(&mut self, channel: Channel)
         requires first { self.old.selection ≡ None }
         requires area { area self.old + self.old.width * self.old.height ≤ MAX_AREA }
-        requires kept { all_kept self.old + kept_bytes channel.kept ≤ 2 ^ 28 }
+        requires kept { all_kept self.old + kept_bytes channel.kept ≤ MAX_KEPT_BYTES }
         ensures { self.new ≡ record self.old { selection = Some channel } }
     {
         let area = self.area + self.canvas();

@@ -10,6 +10,7 @@ ghost use Rattle.spec_props.specs.Meaning.{kept_of};
 ghost use Rattle.xl_doc.specs.Numbered.{AreNumbered};
 ghost use Rattle.xl_fields.specs.Gives.{Gives};
 ghost use Rattle.xl_read.specs.Yields.{OnRefused};
+ghost use Rattle.spec_document.specs.declared.TheConstants.{MAX_KEPT_BYTES};
 
 use crate::draft::Draft;
 use crate::header::{Header, header_at, is_indexed};
@@ -28,7 +29,7 @@ const PROPERTIES: usize = 26;
 fn blank(alloc: Global, header: Header, props: Listing<OfImage>) -> Result<Draft, AllocError>
     requires width { IsSide header.width }
     requires height { IsSide header.height }
-    requires kept { kept_bytes (kept_of owners.Image props.list) ≤ 2 ^ 28 }
+    requires kept { kept_bytes (kept_of owners.Image props.list) ≤ MAX_KEPT_BYTES }
     ensures { IfOk result (λ draft. draft ≡ blank header props.entry) }
 {
     let compression = props.compression();

@@ -6,6 +6,7 @@ ghost use Rattle.spec_file.specs.Placing.{path_to};
 ghost use Rattle.xl_fields.specs.Gives.{Gives};
 ghost use Rattle.xl_read.specs.Head.{head_kept, node_of};
 ghost use Rattle.xl_read.specs.Listing.{parent_of};
+ghost use Rattle.spec_document.specs.declared.TheConstants.{MAX_KEPT_BYTES};
 
 use crate::draft::Draft;
 use crate::header::is_indexed;
@@ -81,7 +82,7 @@ pub fn head_at<'a>(
     requires place { at < 2 ^ 32 }
     ensures read { Gives result (head_at file.now at draft.now) }
     ensures kind { IfOk result (λ h. h.kind ≤ 5) }
-    ensures room { IfOk result (λ h. all_kept draft.now + head_kept h ≤ 2 ^ 28) }
+    ensures room { IfOk result (λ h. all_kept draft.now + head_kept h ≤ MAX_KEPT_BYTES) }
 {
     let width = u32_at(file, at)?;
     let height = u32_at(file, at + 4)?;

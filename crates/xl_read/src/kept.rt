@@ -1,17 +1,16 @@
-ghost use Rattle.std.specs.Prelude.{◌≡◌, ◌≤◌, ◌+◌, ◌^◌, length, IfOk};
+ghost use Rattle.std.specs.Prelude.{◌≡◌, ◌≤◌, ◌+◌, length, IfOk};
 ghost use Rattle.spec_document.specs.Document.{kept_bytes};
 ghost use Rattle.spec_fields.specs.Reading.{unless};
 ghost use Rattle.xl_read.specs.Listing.{over};
+ghost use Rattle.spec_document.specs.declared.TheConstants.{MAX_KEPT_BYTES};
 
+use spec_document::MAX_KEPT_BYTES;
 use xl_fields::{Kind, ReadRefused, refused};
 use xl_props::{Offsets, PropList};
 
-/// How many bytes of payload a document keeps at most.
-pub const MAX_KEPT_BYTES: u64 = 1 << 28;
-
 /// How many bytes of payload a list keeps.
 pub fn payload_bytes(kept: &PropList) -> u64
-    requires { kept_bytes kept.now ≤ 2 ^ 28 }
+    requires { kept_bytes kept.now ≤ MAX_KEPT_BYTES }
     ensures { result ≡ kept_bytes kept.now }
 {
     kept.as_slice().iter().map(|k| k.payload.len() as u64).sum()
@@ -20,10 +19,10 @@ pub fn payload_bytes(kept: &PropList) -> u64
 /// Refuses the first of the payloads, which stand at these places, that takes what is kept past the limit.
 #[tactic(auto, using(crate::proofs::Payloads::passed_not))]
 pub fn within(kept: &PropList, places: &Offsets, before: u64) -> Result<(), ReadRefused>
-    requires before { before ≤ 2 ^ 28 }
+    requires before { before ≤ MAX_KEPT_BYTES }
     requires places { length places.now ≡ length kept.now }
     ensures rule { result ≡ unless (over before kept.now places.now) }
-    ensures room { IfOk result (λ _. before + kept_bytes kept.now ≤ 2 ^ 28) }
+    ensures room { IfOk result (λ _. before + kept_bytes kept.now ≤ MAX_KEPT_BYTES) }
 {
     let places = places.as_slice();
     let mut total = before;

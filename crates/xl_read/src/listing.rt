@@ -6,6 +6,7 @@ ghost use Rattle.spec_props.specs.Meaning.{kept_of};
 ghost use Rattle.spec_props.specs.Reading.{properties_at};
 ghost use Rattle.xl_fields.specs.Gives.{Gives};
 ghost use Rattle.xl_read.specs.Listing.{Keeps};
+ghost use Rattle.spec_document.specs.declared.TheConstants.{MAX_KEPT_BYTES};
 
 use crate::kept::{payload_bytes, within};
 use spec_document::Owner;
@@ -77,16 +78,16 @@ impl<'a, O: Owned> Listing<'a, O> {
     /// Refuses the first property whose payload takes what is kept past its limit, where so many bytes are kept before.
     #[tactic(auto, using(crate::proofs::Payloads::kept_rule, crate::proofs::Payloads::kept_count))]
     pub fn check_kept(&self, before: u64) -> Result<(), ReadRefused>
-        requires { before ≤ 2 ^ 28 }
+        requires { before ≤ MAX_KEPT_BYTES }
         ensures rule { result ≡ unless (passes O.owner before self.now.list) }
-        ensures room { IfOk result (λ _. before + kept_bytes (kept_of O.owner self.now.list) ≤ 2 ^ 28) }
+        ensures room { IfOk result (λ _. before + kept_bytes (kept_of O.owner self.now.list) ≤ MAX_KEPT_BYTES) }
     {
         within(&self.props.kept, &self.props.places.kept, before)
     }
 
     /// How many bytes of payload are kept.
     pub fn kept_bytes(&self) -> u64
-        requires { kept_bytes (kept_of O.owner self.now.list) ≤ 2 ^ 28 }
+        requires { kept_bytes (kept_of O.owner self.now.list) ≤ MAX_KEPT_BYTES }
         ensures { result ≡ kept_bytes (kept_of O.owner self.now.list) }
     {
         payload_bytes(&self.props.kept)

@@ -1,5 +1,6 @@
-ghost use Rattle.std.specs.Prelude.{◌≡◌, ◌≤◌, ◌^◌};
+ghost use Rattle.std.specs.Prelude.{◌≡◌, ◌≤◌};
 ghost use Rattle.xl_read.specs.Draft.{body_area, body_kept, node_kept};
+ghost use Rattle.spec_document.specs.declared.TheConstants.{MAX_KEPT_BYTES};
 
 use crate::kept::payload_bytes;
 use xl_doc::{Body, Node};
@@ -16,7 +17,7 @@ pub fn body_area(body: &Body, canvas: u64) -> u64
 
 /// The bytes of payload that the mask of a layer keeps.
 fn body_kept(body: &Body) -> u64
-    requires { body_kept body.now ≤ 2 ^ 28 }
+    requires { body_kept body.now ≤ MAX_KEPT_BYTES }
     ensures { result ≡ body_kept body.now }
 {
     match body {
@@ -30,7 +31,7 @@ fn body_kept(body: &Body) -> u64
 
 /// The bytes of payload that a node and its mask keep.
 pub fn node_kept(node: &Node) -> u64
-    requires { node_kept node.now ≤ 2 ^ 28 }
+    requires { node_kept node.now ≤ MAX_KEPT_BYTES }
     ensures { result ≡ node_kept node.now }
 {
     payload_bytes(&node.kept) + body_kept(&node.body)

@@ -2,8 +2,8 @@ ghost use Rattle.std.specs.Prelude.{◌≡◌, ◌≤◌, length};
 ghost use Rattle.spec_rle.specs.Reading.{plane_at};
 ghost use Rattle.xl_rle.specs.NextOf.{next_of};
 
-use crate::decode::MAX_CODES;
 use crate::head::{BLOCK, body_length, head_at, is_ample, short_literal, short_run};
+use spec_rle::MAX_CODES;
 use xl_fields::{Kind, ReadRefused, refused};
 
 /// Walks the codes of a plane of so many bytes that begin at an offset, and writes none of it. Gives the offset after the

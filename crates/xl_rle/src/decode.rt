@@ -4,10 +4,8 @@ ghost use Rattle.xl_rle.specs.Placed.{IsPlaced};
 ghost use Rattle.xl_rle.specs.PlaneOf.{PlaneOf};
 
 use crate::head::{BLOCK, body_length, head_at, is_ample, short_literal, short_run};
+use spec_rle::MAX_CODES;
 use xl_fields::{Kind, ReadRefused, refused};
-
-// A plane has at most so many codes.
-pub const MAX_CODES: u32 = 8192;
 
 // Out of line, since most runs are short.
 #[inline(never)]

@@ -22,8 +22,8 @@ loop-first-preserved c =
           let few = found.0 in
           let is = found.1 in (
             rw w.filled-is (goes_on_run reading (run_head at count) (run_begins file at count inside w.in-Some.ensures) refl
-              (omega (arith, within)) (omega arith) (omega (arith, few, is)) (omega (arith, room)) _
-              (rw w.out-is w.put_short_run.ensures) _ (omega (arith, w.at-is))),
+                (omega (arith, within)) (omega arith) (omega (arith, few, is)) (omega (arith, room)) _
+                (rw w.out-is w.put_short_run.ensures) _ (omega (arith, w.at-is))),
             omega (arith, w.filled-is, few, is),
             omega (arith, c.loop-first.invariant.2),
             λ _. (omega (arith, within, w.filled-is, is), omega (arith, room, w.filled-is, w.at-is, is, few)),
@@ -34,9 +34,9 @@ loop-first-preserved c =
           let few = found.0 in
           let is = found.1 in (
             rw w.filled-is (goes_on_literal reading (literal_head at count)
-              (literal_begins file at count inside w.in-Some-short_literal.ensures) refl
-              (omega (arith, within)) (omega arith) (omega (arith, few, is)) (omega (arith, room, few, is)) _
-              (rw w.out-is w.put_short_literal.ensures) _ (omega (arith, w.at-is))),
+                (literal_begins file at count inside w.in-Some-short_literal.ensures) refl
+                (omega (arith, within)) (omega arith) (omega (arith, few, is)) (omega (arith, room, few, is)) _
+                (rw w.out-is w.put_short_literal.ensures) _ (omega (arith, w.at-is))),
             omega (arith, w.filled-is, few, is),
             omega (arith, c.loop-first.invariant.2),
             λ _. (omega (arith, within, w.filled-is, is), omega (arith, room, w.filled-is, w.at-is, is, few)),
@@ -48,8 +48,8 @@ returns-in_err-placed c =
     let p = err_from_is_err_and c.from_residual.result c.from_residual.ensures.1 in
     let fault = c.in_err-placed.ensures in
     rw (p.1, p.2) (stops c.loop-first.invariant.0 (omega arith) (subst (λ (n : ℕ).
-      code_at c.args.bytes.now c.loop-first.at c.loop-first.left (n - c.loop-first.filled) ≡ Err c.in_err-placed.field-0.0)
-      (omega arith) fault))
+    code_at c.args.bytes.now c.loop-first.at c.loop-first.left (n - c.loop-first.filled) ≡ Err c.in_err-placed.field-0.0)
+    (omega arith) fault))
 
 pub loop-filled-preserved : goal.loop-filled-preserved
 loop-filled-preserved c =
@@ -57,7 +57,7 @@ loop-filled-preserved c =
     let size : length c.loop-first.out ≡ length c.args.out.now = omega arith in
     goes_on_part c.loop-first.invariant.0 placed.part placed.allowed (omega arith)
     (subst (λ (n : ℕ).
-      code_at c.args.bytes.now c.loop-first.at c.loop-first.left (n - c.loop-first.filled) ≡ Ok placed.part) size placed.is)
+    code_at c.args.bytes.now c.loop-first.at c.loop-first.left (n - c.loop-first.filled) ≡ Ok placed.part) size placed.is)
     (omega (arith, placed.longer, placed.inside, size)) _ _ _ placed.front placed.next placed.longer
 
 pub returns : goal.returns

@@ -32,6 +32,7 @@ returns c =
     let file = c.args.bytes.now in
     let begins = head_begins file c.args.at c.in-Some.head head in
     let size = c.body_length-body.ensures in
+    let behind : List ℕ → List ℕ = λ zs. take c.args.filled c.args.out.now ++ zs in
     let count = length_of_body file h (omega (arith, head.2, size)) in
     record {
       part = _;
@@ -39,8 +40,8 @@ returns c =
           (omega (arith, head.2, size));
       allowed = omega arith;
       front = elim c.if-head.branch [
-          | then-head w ↦ rw w.out-is w.put_run.ensures ∙ ap (λ (zs : List ℕ). take c.args.filled c.args.out.now ++ zs) (sym (pixels_of_run file h w.if-head.true))
-          | else-head w ↦ rw w.out-is w.put_literal.ensures ∙ ap (λ (zs : List ℕ). take c.args.filled c.args.out.now ++ zs) (sym (pixels_of_literal file h w.if-head.false))
+        | then-head w ↦ rw w.out-is w.put_run.ensures ∙ ap behind (sym (pixels_of_run file h w.if-head.true))
+        | else-head w ↦ rw w.out-is w.put_literal.ensures ∙ ap behind (sym (pixels_of_literal file h w.if-head.false))
       ];
       longer = omega (arith, count);
       inside = omega arith;
