@@ -7,10 +7,11 @@ use Rattle.spec_props.specs.Meaning.{Property}
 use Rattle.spec_props.specs.Rules.{rule_of}
 use Rattle.spec_props.specs.Reading.{is_colour_map}
 use Rattle.spec_props.specs.Holds.{IsColourMap}
+use Rattle.spec_document.specs.declared.TheConstants.{MAX_COLOURS}
 
 -- a colour map at an offset of a file has this length
 abbrev pub IsMapLength : (file : List ℕ) → (at n : ℕ) → Type 0
-IsMapLength file at n = (word_value file at ≤ 256) × (n ≡ 4 + 3 * word_value file at)
+IsMapLength file at n = (word_value file at ≤ MAX_COLOURS) × (n ≡ 4 + 3 * word_value file at)
 
 pub record IsChecked (owner : Owner) (p : Property) : Type 0 where
   pub kind : p.kind < 2 ^ 32

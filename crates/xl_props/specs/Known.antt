@@ -5,6 +5,7 @@ use Rattle.spec_document.specs.declared.Owner.{Owner}
 use Rattle.spec_document.specs.declared.Owner.TheVariants.{Image, Layer, Channel, Mask}
 use Rattle.spec_document.specs.Limits.{IsColour, IsOffset}
 use Rattle.xl_props.specs.declared.answer.Known.{Known}
+use Rattle.spec_document.specs.declared.TheConstants.{MAX_COLOURS}
 
 -- nothing is known
 abbrev pub unknown : Known
@@ -36,9 +37,9 @@ part_of Layer k = record unknown {
 part_of Channel k = record unknown { selection = k.selection }
 part_of Mask k = unknown
 
--- up to 256 colours
+-- as many colours as a colour map may have
 abbrev pub AreFewColours : List (List ℕ) → Type 0
-AreFewColours colours = (length colours ≤ 256) × AllByRecursion IsColour colours
+AreFewColours colours = (length colours ≤ MAX_COLOURS) × AllByRecursion IsColour colours
 
 -- x and y
 abbrev pub AreOffsets : ℤ × ℤ → Type 0

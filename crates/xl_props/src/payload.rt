@@ -5,8 +5,8 @@ ghost use Rattle.spec_props.specs.Reading.{is_colour_map, payload_length_at};
 ghost use Rattle.xl_props.specs.Checked.{IsMapLength};
 
 use crate::unit::unit_len;
-use spec_document::Owner;
 use spec_document::numbers::{COLOUR_MAP, USER_UNIT};
+use spec_document::{MAX_COLOURS, Owner};
 use xl_fields::{Kind, ReadRefused, refused, u32_at};
 
 fn is_map(owner: Owner, kind: u32) -> bool
@@ -53,7 +53,7 @@ pub fn payload_len(bytes: &[u8], owner: Owner, kind: u32, at: usize) -> Result<u
     let n = u32_at(bytes, at + 4)?;
     if is_map(owner, kind) {
         let count = u32_at(bytes, at + 8)?;
-        if count > 256 {
+        if count > MAX_COLOURS {
             return Err(refused(Kind::BadProperty, at + 8));
         }
         if bytes.len() < at + 12 + 3 * count as usize {

@@ -8,16 +8,10 @@ ghost use Rattle.xl_props.specs.Props.{props_read};
 use crate::answer::Props;
 use crate::property::next_property;
 use crate::so_far::{add, nothing};
-use spec_document::Owner;
 use spec_document::numbers::END;
+use spec_document::{MAX_KEPT, MAX_PROPERTIES, Owner};
 use std::alloc::Global;
 use xl_fields::{Kind, ReadRefused, ReadRefusedOrMemory, refused, u32_at};
-
-/// How many properties a list has at most.
-const MAX_PROPERTIES: usize = 1024;
-
-/// How many properties of a list are kept at most.
-const MAX_KEPT: usize = 256;
 
 /// The end of a list, which alone may stand behind as many properties as a list has at most.
 #[tactic(auto, unfolding(spec_props::specs::Reading::list_at, spec_props::specs::Reading::end_at))]

@@ -1,6 +1,7 @@
 ghost use Rattle.std.specs.Prelude.{◌≡◌, ◌+◌, ◌*◌, ◌^◌, ◌≤◌, length, take, drop, IfOk};
 ghost use Rattle.spec_props.specs.Meaning.{is_set, payload_word, colour_number, colours_in, path_words};
 ghost use Rattle.xl_props.specs.Props.{property, opacity_in, mode_in, offsets_in};
+ghost use Rattle.spec_document.specs.declared.TheConstants.{MAX_COLOURS};
 
 use crate::colour_list::ColourMap;
 use crate::path_list::Path;
@@ -40,7 +41,7 @@ pub fn offsets_of(payload: &[u8]) -> (i32, i32)
 }
 
 fn colour(payload: &[u8], i: usize) -> [u8; 3]
-    requires number { i ≤ 256 }
+    requires number { i ≤ MAX_COLOURS }
     requires inside { 4 + 3 * i + 3 ≤ length payload.now }
     ensures { result ≡ colour_number (property 0 0 payload.now) i }
 {
@@ -52,7 +53,7 @@ fn colour(payload: &[u8], i: usize) -> [u8; 3]
 #[tactic(auto, using(crate::proofs::Counted::counted_more))]
 pub fn colours_of(alloc: Global, payload: &[u8]) -> Result<ColourMap, AllocError>
     requires count { 4 ≤ length payload.now }
-    requires few { payload_word (property 0 0 payload.now) 0 ≤ 256 }
+    requires few { payload_word (property 0 0 payload.now) 0 ≤ MAX_COLOURS }
     requires all { length payload.now ≡ 4 + 3 * payload_word (property 0 0 payload.now) 0 }
     ensures { IfOk result (λ colours. colours ≡ colours_in (property 0 0 payload.now)) }
 {
