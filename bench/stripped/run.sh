@@ -39,6 +39,7 @@ impl<L: Ledger> Steps<L> {
 }
 TEXT
 sed -i 's/use std::sync::ledger::Ledger;/use crate::count::Ledger;/' "$out"/xl_blend/*.rs
+sed -i '1i #![feature(portable_simd)]' "$out/xl_blend/lib.rs"
 sed -i '/^mod tests;/d; /cfg(test)/d; s/pub use count::Steps;/pub use count::{Ledger, Plain, Steps};/' "$out/xl_blend/lib.rs"
 sed -i 's/use std::sync::ledger::Ledger;/use xl_blend::Ledger;/' "$out"/xl_compose/*.rs
 mkdir -p "$out/xl_fields" "$out/xl_grid"
@@ -56,6 +57,7 @@ modules=$(cd "$out/xl_rle" && ls | sed 's/\.rs$//')
 echo 'pub mod join; pub mod block; pub mod planes; pub mod area; pub mod spelled; pub mod rows;' > "$out/xl_tiles/lib.rs"
 echo 'pub mod own; pub mod lay; pub mod bytes;' > "$out/xl_compose/lib.rs"
 
+export RUSTC_BOOTSTRAP=1 # for vectors
 flags="-L $out --edition 2021 -A warnings -C opt-level=3 -C target-cpu=x86-64-v2 -C debuginfo=1"
 libraries=
 for crate in spec_blend xl_fields xl_grid xl_blend xl_rle xl_tiles xl_compose; do

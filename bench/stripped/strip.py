@@ -12,6 +12,8 @@ CLAUSE = re.compile(r"^\s*(requires|ensures)\b.*\{")
 GHOST = re.compile(r"^\s*(pub )?ghost\b")
 NAME = re.compile(r"[A-Za-z_]\w*(?:\.\w+)*$")
 ASSIGNED = re.compile(r"\s*[-+|^&]?=[^=]")
+SWIZZLED = re.compile(r"([\w.]+(?:\([^()]*\))?)\.swizzle\((\[[^\]]*\])\)")
+SHIFTED = re.compile(r">> (\d+)")
 FILLED = re.compile(r"\.(fill|copy_from_slice)\(")
 
 
@@ -31,6 +33,15 @@ def without_clauses(text):
         elif "#![tactic" not in line and "#[tactic" not in line and not line.lstrip().startswith("prove!"):
             out.append(line)
     return "\n".join(out)
+
+
+def with_vectors(text):
+    """The few functions on vectors that have other forms in Rust."""
+    if "std::simd" not in text:
+        return text
+    text = SWIZZLED.sub(r"std::simd::simd_swizzle!(\1, \2)", text)
+    text = SHIFTED.sub(r">> u16x16::splat(\1)", text)
+    return text.replace("use std::simd::prelude::*;", "use std::simd::{Select, prelude::*};")
 
 
 def closing(text, at):
@@ -73,7 +84,7 @@ def main():
     os.makedirs(os.path.join(out, crate), exist_ok=True)
     for module in sys.argv[4:]:
         with open(os.path.join(repository, "crates", crate, "src", module + ".rt")) as file:
-            text = unchecked(without_clauses(file.read()))
+            text = with_vectors(unchecked(without_clauses(file.read())))
         with open(os.path.join(out, crate, module + ".rs"), "w") as file:
             file.write(text)
 

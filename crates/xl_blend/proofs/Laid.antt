@@ -5,28 +5,14 @@ use Rattle.std.proofs.Math.Nat.{mul-add}
 use Rattle.std.proofs.lemmas.Bool.{eqb-true, eqb-false}
 use Rattle.std.proofs.lemmas.Nat.{div-mul-add}
 use Rattle.spec_blend.specs.declared.Mode.{Mode}
+use Rattle.spec_blend.specs.declared.Mode.TheVariants.{Normal}
 use Rattle.spec_blend.specs.declared.Pixel.{Pixel}
 use Rattle.spec_blend.specs.Blend.{mul, blend}
 use Rattle.spec_blend.specs.Over.{over_normal, over_blended, clear, mean, IsPixel}
-use Rattle.spec_blend.proofs.OverLemmas.{mean-is_byte, mul-le_left}
+use Rattle.spec_blend.proofs.OverLemmas.{mul-le_left}
 use Rattle.xl_blend.specs.Shown.{shown}
-use Rattle.xl_blend.specs.Words.{pair, mixed_pair, alpha_over, weight}
-
-pub mixed_pair-pairs : (part x y u v : ℕ) → x < 65536 → u < 65536
-    → mixed_pair part (pair x y) (pair u v) ≡ pair (mean 255 part x u) (mean 255 part y v)
-mixed_pair-pairs part x y u v x_small u_small =
-    let a : pair x y % 65536 ≡ x = omega arith in
-    let b : pair x y / 65536 ≡ y = omega arith in
-    let c : pair u v % 65536 ≡ u = omega arith in
-    let d : pair u v / 65536 ≡ v = omega arith in
-    rw (a, b, c, d) refl
-
--- the mean of a number and itself
-mean-same : (part x : ℕ) → part ≤ 255 → mean 255 part x x ≡ x
-mean-same part x small =
-    let whole : part + (255 - part) ≡ 255 = omega arith in
-    let sum : x * part + x * (255 - part) ≡ x * 255 = sym (mul-add x part (255 - part)) ∙ ap (λ n. x * n) whole in
-    omega (arith, sum)
+use Rattle.xl_blend.specs.Rows.{over_opaque}
+use Rattle.xl_blend.specs.Words.{alpha_over, weight}
 
 -- an opaque pixel below stays opaque
 opaque_stays : (part : ℕ) → part ≤ 255 → part + mul 255 (255 - part) ≡ 255
@@ -35,7 +21,7 @@ opaque_stays part small = omega arith
 abbrev pixel_by : (r g b a : ℕ) → Pixel
 pixel_by r g b a = record { r = r; g = g; b = b; a = a }
 
-pub over_opaque_is : (below above : Pixel) → above.a ≤ 255 → below.a ≡ 255
+over_opaque_is : (below above : Pixel) → above.a ≤ 255 → below.a ≡ 255
     → over_normal below above ≡ record {
       r = mean 255 above.a above.r below.r;
       g = mean 255 above.a above.g below.g;
@@ -45,34 +31,15 @@ pub over_opaque_is : (below above : Pixel) → above.a ≤ 255 → below.a ≡ 2
     }
 over_opaque_is below above small opaque = rw (opaque, opaque_stays above.a small) refl
 
-of_halves : (outer inner r g b : ℕ) → r ≤ 255 → g ≤ 255 → outer ≡ pair r b → inner ≡ pair g 255
-    → pixel_by (outer % 65536) (inner % 65536) (outer / 65536) (inner / 65536) ≡ pixel_by r g b 255
-of_halves outer inner r g b r_small g_small outer_is inner_is =
-    let red : outer % 65536 ≡ r = omega arith in
-    let green : inner % 65536 ≡ g = omega arith in
-    let blue : outer / 65536 ≡ b = omega arith in
-    let whole : inner / 65536 ≡ 255 = omega arith in
-    rw (red, green, blue, whole) refl
+-- the same as the rule of any mode
+byte_by_itself : (n : ℕ) → n ≤ 255 → min 255 n ≡ n
+byte_by_itself n small = omega arith
 
--- the same by two pairs of bytes
-pub over_opaque_by_pairs : (below above result : Pixel) (outer inner : ℕ) → IsPixel below → IsPixel above → below.a ≡ 255
-    → outer ≡ mixed_pair above.a (pair above.r above.b) (pair below.r below.b)
-    → inner ≡ mixed_pair above.a (pair above.g 255) (pair below.g below.a)
-    → result ≡ record { r = outer % 65536; g = inner % 65536; b = outer / 65536; a = inner / 65536 }
-    → result ≡ over_normal below above
-over_opaque_by_pairs below above result outer inner pb pa opaque outer_is inner_is result_is =
-    let some : 0 < 255 = omega arith in
-    let red : mean 255 above.a above.r below.r ≤ 255 = mean-is_byte 255 above.a above.r below.r some pa.a pa.r pb.r in
-    let green : mean 255 above.a above.g below.g ≤ 255 = mean-is_byte 255 above.a above.g below.g some pa.a pa.g pb.g in
-    let outer_pairs : outer ≡ pair (mean 255 above.a above.r below.r) (mean 255 above.a above.b below.b) =
-    outer_is ∙ mixed_pair-pairs above.a above.r above.b below.r below.b (omega arith) (omega arith) in
-    let whole : mean 255 above.a 255 below.a ≡ 255 = rw opaque (mean-same above.a 255 pa.a) in
-    let inner_pairs : inner ≡ pair (mean 255 above.a above.g below.g) (mean 255 above.a 255 below.a) =
-    inner_is ∙ mixed_pair-pairs above.a above.g 255 below.g below.a (omega arith) (omega arith) in
-    result_is ∙ of_halves outer inner (mean 255 above.a above.r below.r) (mean 255 above.a above.g below.g)
-    (mean 255 above.a above.b below.b) red green outer_pairs (inner_pairs
-    ∙ ap (λ n. pair (mean 255 above.a above.g below.g) n) whole)
-    ∙ sym (over_opaque_is below above pa.a opaque)
+pub normal_over_opaque : (below above : Pixel) → IsPixel above → below.a ≡ 255
+    → over_opaque Normal below above ≡ over_normal below above
+normal_over_opaque below above bytes opaque =
+    rw (byte_by_itself above.r bytes.r, byte_by_itself above.g bytes.g, byte_by_itself above.b bytes.b)
+    (sym (over_opaque_is below above bytes.a opaque))
 
 chosen_second : (test : Bool) (p q : Pixel) → (test ≡ true → q ≡ p) → cond test p q ≡ q
 chosen_second true p q same = sym (same refl)
@@ -218,34 +185,6 @@ blended_over_opaque mode below above small opaque =
     first ∙ second ∙ third ∙ ap (λ n.
     pixel_by (mean 255 above.a (blend mode below.r above.r) below.r) (mean 255 above.a (blend mode below.g above.g) below.g)
     (mean 255 above.a (blend mode below.b above.b) below.b) n) opaque
-
--- the same as the blended colours in the normal mode
-pub blended_by_normal : (mode : Mode) (below above blended result : Pixel) → above.a ≤ 255 → below.a ≡ 255
-    → blended ≡ record {
-      r = blend mode below.r above.r;
-      g = blend mode below.g above.g;
-      b = blend mode below.b above.b;
-      a =
-          above.a;
-    }
-    → result ≡ over_normal below blended
-    → result ≡ over_blended mode below above
-blended_by_normal mode below above blended result small opaque blended_is result_is =
-    let colours = pixel_by (blend mode below.r above.r) (blend mode below.g above.g) (blend mode below.b above.b) above.a in
-    result_is ∙ ap (over_normal below) blended_is ∙ over_opaque_is below colours small opaque
-    ∙ sym (blended_over_opaque mode below above small opaque)
-
--- the same by three means
-pub blended_by_bytes : (mode : Mode) (below above result : Pixel) (r g b : ℕ) → above.a ≤ 255 → below.a ≡ 255
-    → r ≡ mean 255 above.a (blend mode below.r above.r) below.r → g ≡ mean 255 above.a (blend mode below.g above.g) below.g
-    → b ≡ mean 255 above.a (blend mode below.b above.b) below.b
-    → result ≡ record { r = r; g = g; b = b; a = 255 }
-    → result ≡ over_blended mode below above
-blended_by_bytes mode below above result r g b small opaque r_is g_is b_is result_is =
-    let made = pixel_by (mean 255 above.a (blend mode below.r above.r) below.r)
-    (mean 255 above.a (blend mode below.g above.g) below.g) (mean 255 above.a (blend mode below.b above.b) below.b) 255 in
-    let parts : pixel_by r g b 255 ≡ made = rw (r_is, g_is, b_is) refl in
-    result_is ∙ parts ∙ sym (blended_over_opaque mode below above small opaque)
 
 chosen_either : (test : Bool) (p q r : Pixel) → (test ≡ true → r ≡ p) → (test ≡ false → q ≡ r) → cond test p q ≡ r
 chosen_either true p q r first second = sym (first refl)

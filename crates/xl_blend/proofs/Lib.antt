@@ -1,4 +1,6 @@
 pub mod Laid
+pub mod LaneArithmetic
+pub mod LaneWise
 pub mod Pairs
 pub mod Products
 pub mod Quotients

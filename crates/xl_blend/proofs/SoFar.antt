@@ -1,7 +1,9 @@
 -- A row that is being replaced from its front, by a function of its elements and those of a second row.
 use Rattle.std.proofs.Common.{◌≡◌, ℕ, ◌+◌, ◌<◌, ◌≤◌, suc, List, [], ◌∷◌, ◌++◌, map, length, get_or, take, drop, refl}
 use Rattle.std.proofs.Common.{arith, append_assoc, add-one, ◌≢◌, zero, ap, sym, ◌∙◌, subst, get_or-set_other}
+use Rattle.std.proofs.Common.{inl, inr}
 use Rattle.std.proofs.Math.ListN.{set}
+use Rattle.std.proofs.lemmas.Bool.{cases_lt, cases_eq}
 use Rattle.std.proofs.Math.Seq.{drop-cons}
 use Rattle.std.proofs.lemmas.List.{take_all, drop_all, take_more_set, drop-set-lt, append-nil, length-set, drop-drop}
 use Rattle.std.proofs.lemmas.List.{length-map, length-drop, length-take-le}
@@ -9,10 +11,7 @@ use Rattle.std.proofs.lemmas.Slice.{take-put_mid, drop-put_mid}
 use Rattle.std.proofs.lemmas.Slice.Zip.{length-zip}
 use borrow.Rule.Slice.PartMut.{put_mid}
 use Rattle.std.specs.List.{zip}
-
--- the row whose first i elements are done, when the others will be
-unfoldable pub so_far : {A B : Type 0} → (A × B → A) → (i : ℕ) → (row : List A) → (other : List B) → List A
-so_far g i row other = take i row ++ map g (zip (drop i row) (drop i other))
+pub use Rattle.xl_blend.specs.Rows.{so_far}
 
 pub so_far-none : {A B : Type 0} (g : A × B → A) (row : List A) (other : List B) → so_far g 0 row other ≡ map g (zip row other)
 unfolding so_far
@@ -34,10 +33,80 @@ so_far-more g i row other x y value in_row in_other is =
     )
     (append_assoc (take i row) (value ∷ []) (map g (zip (drop (suc i) row) (drop (suc i) other))))
 
+so_far-next : {A B : Type 0} (g : A × B → A) (i n : ℕ) (row : List A) (other : List B) (x : A) (y : B) (value : A) → n ≡ i + 1
+    → i < length row → i < length other → value ≡ g (get_or row i x, get_or other i y)
+    → so_far g n (set row i value) other ≡ so_far g i row other
+so_far-next g i n row other x y value n_is in_row in_other is =
+    ap (λ k. so_far g k (set row i value) other) n_is ∙ so_far-more g i row other x y value in_row in_other is
+
 pub so_far-all : {A B : Type 0} (g : A × B → A) (i : ℕ) (row : List A) (other : List B) → length row ≤ i
     → so_far g i row other ≡ row
 unfolding so_far
 so_far-all g i row other all = rw (take_all i row all, drop_all i row all) (append-nil row)
+
+-- four elements more
+pub so_far-four : {A B : Type 0} (g : A × B → A) (i : ℕ) (row : List A) (other : List B) (x : A) (y : B) (p q r s : A)
+    → i + 4 ≤ length row → length row ≡ length other
+    → p ≡ g (get_or row i x, get_or other i y) → q ≡ g (get_or row (i + 1) x, get_or other (i + 1) y)
+    → r ≡ g (get_or row (i + 2) x, get_or other (i + 2) y) → s ≡ g (get_or row (i + 3) x, get_or other (i + 3) y)
+    → so_far g (i + 4) (set (set (set (set row i p) (i + 1) q) (i + 2) r) (i + 3) s) other ≡ so_far g i row other
+so_far-four {A} {B} g i row other x y p q r s within same p_is q_is r_is s_is =
+    let one = set row i p in
+    let two = set one (i + 1) q in
+    let three = set two (i + 2) r in
+    let one_long : length one ≡ length row = length-set row i p in
+    let two_long : length two ≡ length row = length-set one (i + 1) q ∙ one_long in
+    let three_long : length three ≡ length row = length-set two (i + 2) r ∙ two_long in
+    let q_at : get_or one (i + 1) x ≡ get_or row (i + 1) x = get_or-set_other row i (i + 1) p x (omega arith) in
+    let r_at : get_or two (i + 2) x ≡ get_or row (i + 2) x =
+    get_or-set_other one (i + 1) (i + 2) q x (omega arith) ∙ get_or-set_other row i (i + 2) p x (omega arith) in
+    let s_at : get_or three (i + 3) x ≡ get_or row (i + 3) x = get_or-set_other two (i + 2) (i + 3) r x (omega arith)
+    ∙ get_or-set_other one (i + 1) (i + 3) q x (omega arith) ∙ get_or-set_other row i (i + 3) p x (omega arith) in
+    let first : so_far g (i + 1) one other ≡ so_far g i row other =
+    so_far-more g i row other x y p (omega arith) (omega arith) p_is in
+    let second : so_far g (i + 2) two other ≡ so_far g (i + 1) one other = so_far-next g (i + 1) (i + 2) one other x y q (omega arith)
+    (omega arith) (omega arith) (q_is ∙ ap (λ a. g (a, get_or other (i + 1) y)) (sym q_at)) in
+    let third : so_far g (i + 3) three other ≡ so_far g (i + 2) two other = so_far-next g (i + 2) (i + 3) two other x y r (omega arith)
+    (omega arith) (omega arith) (r_is ∙ ap (λ a. g (a, get_or other (i + 2) y)) (sym r_at)) in
+    let fourth : so_far g (i + 4) (set three (i + 3) s) other ≡ so_far g (i + 3) three other =
+    so_far-next g (i + 3) (i + 4) three other x y s (omega arith) (omega arith) (omega arith)
+    (s_is ∙ ap (λ a. g (a, get_or other (i + 3) y)) (sym s_at)) in
+    fourth ∙ third ∙ second ∙ first
+
+-- what holds of four more
+pub four_more : (P : ℕ → Type 0) (n : ℕ) → ((k : ℕ) → k < n → P k) → P n → P (n + 1) → P (n + 2) → P (n + 3)
+    → (k : ℕ) → k < n + 4 → P k
+four_more P n known p q r s k within =
+    elim (cases_lt k n) [
+      | inl before ↦ known k before
+      | inr past ↦
+        elim (cases_eq k n) [
+          | inl is ↦ subst P (sym is) p
+          | inr not_p ↦
+            elim (cases_eq k (n + 1)) [
+              | inl is ↦ subst P (sym is) q
+              | inr not_q ↦
+                elim (cases_eq k (n + 2)) [
+                  | inl is ↦ subst P (sym is) r
+                  | inr not_r ↦
+                    let is : k ≡ n + 3 = omega (arith, not_p, not_q, not_r) in
+                    subst P (sym is) s
+                ]
+            ]
+        ]
+    ]
+
+-- two functions that agree at each place
+pub map-zip_same : {A B : Type 0} (g h : A × B → A) (xs : List A) (ys : List B) (x : A) (y : B) → length xs ≡ length ys
+    → ((k : ℕ) → k < length xs → g (get_or xs k x, get_or ys k y) ≡ h (get_or xs k x, get_or ys k y))
+    → map g (zip xs ys) ≡ map h (zip xs ys)
+map-zip_same g h [] ys x y same each = refl
+map-zip_same g h (a ∷ xs) [] x y same each = absurd (omega arith)
+map-zip_same g h (a ∷ xs) (b ∷ ys) x y same each =
+    let head : g (a, b) ≡ h (a, b) = each 0 (omega arith) in
+    let tail : map g (zip xs ys) ≡ map h (zip xs ys) = map-zip_same g h xs ys x y (omega arith)
+    (λ k lt. each (suc k) (omega arith)) in
+    cc
 
 -- the same for a row by itself
 unfoldable pub mapped_so_far : {A : Type 0} → (A → A) → (i : ℕ) → (row : List A) → List A

@@ -6,20 +6,9 @@ ghost use Rattle.xl_blend.specs.Words.{reciprocal_of, weight};
 
 use crate::alphas::{is_clear, is_opaque, reciprocals_of, weights_of};
 use crate::normal_rows::PIECE;
-use crate::pixels::{blend_by, blend_opaque};
+use crate::opaque_rows::lay_over_opaque;
+use crate::pixels::blend_by;
 use spec_blend::{Mode, Pixel};
-
-/// Pixels over opaque ones.
-#[inline(always)]
-fn lay_over_opaque(mode: Mode, below: &mut [Pixel], above: &[Pixel])
-    requires lengths { length below.old ≡ length above.now }
-    requires opaque { (k : ℕ) → k < length below.old → (slice_index_or below.old k clear).a ≡ 255 }
-    ensures { below.new ≡ blended_rows mode below.old above.now }
-{
-    for i in 0..below.len() {
-        below[i] = blend_opaque(mode, below[i], above[i]);
-    }
-}
 
 /// Pixels over others, by what weighs their colours and the reciprocals of that.
 #[inline(always)]

@@ -6,23 +6,8 @@ ghost use Rattle.xl_blend.specs.Shown.{shown};
 
 use crate::bytes::mean_by;
 use crate::reciprocals::reciprocal;
-use crate::words::{
-    alpha, inner_pair, mix_pair, mul_bytes, of_bytes, of_pairs, of_word, opaque_inner_pair,
-    outer_pair, wide_of, word,
-};
+use crate::words::{alpha, mul_bytes, of_bytes, of_word, wide_of, word};
 use spec_blend::Pixel;
-
-/// A pixel over an opaque one.
-#[inline(always)]
-pub fn over_opaque(below: Pixel, above: Pixel) -> Pixel
-    requires { below.a ≡ 255 }
-    ensures { result ≡ laid_normal below above }
-{
-    let part = alpha(above);
-    let outer = mix_pair(part, outer_pair(above), outer_pair(below));
-    let inner = mix_pair(part, opaque_inner_pair(above), inner_pair(below));
-    of_pairs(outer, inner)
-}
 
 /// The pixel, with no colour where it has no alpha.
 #[inline(always)]

@@ -6,22 +6,12 @@ ghost use Rattle.xl_blend.specs.Shown.{shown};
 ghost use Rattle.xl_blend.specs.Words.{alpha_over, reciprocal_of};
 
 use crate::alphas::{is_clear, is_opaque, reciprocals_of, wholes_of};
-use crate::normal::{over_by, over_opaque, shown_of};
+use crate::normal::{over_by, shown_of};
+use crate::opaque_rows::lay_over_opaque;
 use spec_blend::{Mode, Pixel};
 
 /// The most pixels of a piece.
 pub const PIECE: usize = 128;
-
-/// Pixels over opaque ones.
-fn lay_over_opaque(below: &mut [Pixel], above: &[Pixel])
-    requires lengths { length below.old ≡ length above.now }
-    requires opaque { (k : ℕ) → k < length below.old → (slice_index_or below.old k clear).a ≡ 255 }
-    ensures { below.new ≡ over_rows Mode.Normal below.old above.now }
-{
-    for i in 0..below.len() {
-        below[i] = over_opaque(below[i], above[i]);
-    }
-}
 
 /// Each pixel, with no colour where it has no alpha.
 fn show(row: &mut [Pixel])
@@ -75,7 +65,7 @@ pub fn lay_normal(below: &mut [Pixel], above: &[Pixel])
     } else if is_clear(above) {
         show(below);
     } else if is_opaque(below) {
-        lay_over_opaque(below, above);
+        lay_over_opaque(Mode::Normal, below, above);
     } else if is_clear(below) {
         below.copy_from_slice(above);
         show(below);

@@ -1,12 +1,13 @@
 //! One pixel laid over another.
 ghost use Rattle.std.specs.Prelude.{◌≡◌, ◌+◌, ◌≤◌};
-ghost use Rattle.spec_blend.specs.Over.{over as laid_over, over_blended as laid_blended};
+ghost use Rattle.spec_blend.specs.Over.{over as laid_over, over_blended as laid_blended, IsPixel};
+ghost use Rattle.xl_blend.specs.Rows.{over_opaque as laid_opaque};
 ghost use Rattle.xl_blend.specs.Words.{reciprocal_of, weight};
 
 use crate::bytes::{mean, mean_by};
 use crate::colours::blend;
 use crate::count::Steps;
-use crate::normal::{over_normal, over_opaque};
+use crate::normal::over_normal;
 use crate::words::{alpha, mix_byte, mul_bytes, of_bytes, wide_of};
 use spec_blend::{Mode, Pixel};
 use std::sync::ledger::Ledger;
@@ -60,25 +61,11 @@ pub fn blend_by(mode: Mode, below: Pixel, above: Pixel, whole: u32, reciprocal: 
     of_bytes(r, g, b, lower.a)
 }
 
-/// The same over an opaque pixel, by pairs of bytes.
+/// The same over a pixel that is opaque, whatever its alpha.
 #[inline(always)]
-fn blend_by_pairs(mode: Mode, below: Pixel, above: Pixel) -> Pixel
-    requires { below.a ≡ 255 }
-    ensures { result ≡ laid_blended mode below above }
-{
-    let lower = wide_of(below);
-    let upper = wide_of(above);
-    let r = u32::from(blend(mode, lower.r as u8, upper.r as u8));
-    let g = u32::from(blend(mode, lower.g as u8, upper.g as u8));
-    let b = u32::from(blend(mode, lower.b as u8, upper.b as u8));
-    over_opaque(below, of_bytes(r, g, b, upper.a))
-}
-
-/// The same over an opaque pixel, by single bytes.
-#[inline(always)]
-fn blend_by_bytes(mode: Mode, below: Pixel, above: Pixel) -> Pixel
-    requires { below.a ≡ 255 }
-    ensures { result ≡ laid_blended mode below above }
+pub fn over_opaque(mode: Mode, below: Pixel, above: Pixel) -> Pixel
+    ensures value { result ≡ laid_opaque mode below above }
+    ensures pixel { IsPixel above }
 {
     let lower = wide_of(below);
     let upper = wide_of(above);
@@ -89,19 +76,6 @@ fn blend_by_bytes(mode: Mode, below: Pixel, above: Pixel) -> Pixel
     let g = mix_byte(upper.a, green, lower.g);
     let b = mix_byte(upper.a, blue, lower.b);
     of_bytes(r, g, b, 255)
-}
-
-/// The same over an opaque pixel. Pairs take less time, but where a quotient is looked up the loop is compiled to vectors only by
-/// single bytes.
-#[inline(always)]
-pub fn blend_opaque(mode: Mode, below: Pixel, above: Pixel) -> Pixel
-    requires { below.a ≡ 255 }
-    ensures { result ≡ laid_blended mode below above }
-{
-    match mode {
-        Mode::Divide | Mode::Dodge => blend_by_bytes(mode, below, above),
-        _ => blend_by_pairs(mode, below, above),
-    }
 }
 
 /// A pixel laid over another in a mode.

@@ -1,15 +1,10 @@
-//! Pixels as words, of which two bytes are mixed in one multiplication.
-//!
-//! Loops over words, in place of fields, are compiled to vector instructions.
-ghost use Rattle.std.specs.Prelude.{◌≡◌, ◌≤◌, ◌%◌, ◌/◌};
+//! Pixels as words. Loops over words, in place of fields, are compiled to vector instructions.
+ghost use Rattle.std.specs.Prelude.{◌≡◌, ◌≤◌};
 ghost use Rattle.spec_blend.specs.Blend.{mul as product};
 ghost use Rattle.spec_blend.specs.Over.{IsPixel, mean as laid_mean};
-ghost use Rattle.xl_blend.specs.Words.{word_of, pixel_of, pair, mixed_pair};
+ghost use Rattle.xl_blend.specs.Words.{word_of, pixel_of};
 
 use spec_blend::Pixel;
-
-/// The lowest bytes of both halves of a word.
-const PAIR: u32 = 0x00ff_00ff;
 
 /// The bytes of a pixel, red lowest.
 #[inline(always)]
@@ -36,42 +31,6 @@ pub fn alpha(of: Pixel) -> u32
     ensures byte { result ≤ 255 }
 {
     word(of) >> 24
-}
-
-/// The red and the blue of a pixel.
-#[inline(always)]
-pub fn outer_pair(of: Pixel) -> u32
-    ensures { result ≡ pair of.r of.b }
-{
-    word(of) & PAIR
-}
-
-/// The green and the alpha of a pixel.
-#[inline(always)]
-pub fn inner_pair(of: Pixel) -> u32
-    ensures { result ≡ pair of.g of.a }
-{
-    word(of) >> 8 & PAIR
-}
-
-/// The green of a pixel, and the whole alpha.
-#[inline(always)]
-pub fn opaque_inner_pair(of: Pixel) -> u32
-    ensures { result ≡ pair of.g 255 }
-{
-    (word(of) >> 8 & 0xff) + 0x00ff_0000
-}
-
-/// The pixel whose red and blue, and whose green and alpha, are a pair each.
-#[inline(always)]
-pub fn of_pairs(outer: u32, inner: u32) -> Pixel
-    requires red { outer % 65536 ≤ 255 }
-    requires blue { outer / 65536 ≤ 255 }
-    requires green { inner % 65536 ≤ 255 }
-    requires alpha { inner / 65536 ≤ 255 }
-    ensures { result ≡ record { r = outer % 65536; g = inner % 65536; b = outer / 65536; a = inner / 65536 } }
-{
-    of_word(outer + (inner << 8))
 }
 
 /// The pixel of four bytes.
@@ -133,21 +92,4 @@ pub fn mix_byte(part: u32, above: u32, below: u32) -> u32
 {
     let sum = above * part + below * (255 - part) + 128;
     sum + (sum >> 8) >> 8
-}
-
-/// The means of two pairs of bytes, where those above have the weight `part` of 255.
-#[inline(always)]
-pub fn mix_pair(part: u32, above: u32, below: u32) -> u32
-    requires part { part ≤ 255 }
-    requires above_low { above % 65536 ≤ 255 }
-    requires above_high { above / 65536 ≤ 255 }
-    requires below_low { below % 65536 ≤ 255 }
-    requires below_high { below / 65536 ≤ 255 }
-    ensures value { result ≡ mixed_pair part above below }
-    ensures low { result % 65536 ≤ 255 }
-    ensures high { result / 65536 ≤ 255 }
-{
-    let sum = above * part + below * (255 - part) + 0x0080_0080;
-    let sum = sum + (sum >> 8 & PAIR);
-    sum >> 8 & PAIR
 }

@@ -1,0 +1,10 @@
+use Rattle.std.proofs.Common.{◌∙◌, sym}
+use Rattle.xl_blend.proofs.LaneWise.{agreed, chosen, first, second, lesser}
+use Rattle.xl_blend.proofs.lanes.least.Goals as goal
+
+pub returns : goal.returns
+returns c =
+    let same = c.fits-a.0 ∙ sym c.fits-b.0 in
+    let a = first c.args.a c.args.b same in
+    let b = second c.args.a c.args.b same in
+    chosen _ _ _ _ c.args.a c.args.b a b a b ∙ agreed _ _ _ c.args.a c.args.b c.fits-a.1 c.fits-b.1 (λ x y _ _. lesser x y)
