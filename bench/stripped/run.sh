@@ -21,6 +21,7 @@ stripped() {
 }
 
 stripped spec_blend 'none'
+stripped spec_rle 'none'
 stripped xl_blend 'tests|count'
 stripped xl_rle 'lib|coder|greedy|tests'
 python3 "$here/strip.py" "$top" "$out" xl_tiles join block planes area spelled rows
@@ -60,7 +61,7 @@ echo 'pub mod own; pub mod lay; pub mod bytes;' > "$out/xl_compose/lib.rs"
 export RUSTC_BOOTSTRAP=1 # for vectors
 flags="-L $out --edition 2021 -A warnings -C opt-level=3 -C target-cpu=x86-64-v2 -C debuginfo=1"
 libraries=
-for crate in spec_blend xl_fields xl_grid xl_blend xl_rle xl_tiles xl_compose; do
+for crate in spec_blend spec_rle xl_fields xl_grid xl_blend xl_rle xl_tiles xl_compose; do
     rustc $flags $libraries --crate-type rlib --crate-name "$crate" "$out/$crate/lib.rs" -o "$out/lib$crate.rlib"
     libraries="$libraries --extern $crate=$out/lib$crate.rlib"
 done
