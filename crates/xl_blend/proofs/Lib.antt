@@ -1,3 +1,4 @@
+pub mod FourWords
 pub mod Laid
 pub mod LaneArithmetic
 pub mod LaneWise

@@ -5,6 +5,7 @@ ghost use Rattle.xl_blend.specs.Lanes.{AreBytes, has_lanes};
 ghost use Rattle.xl_blend.specs.Rows.{over_opaque};
 
 use crate::lanes::{blends, mixes};
+use crate::words::word;
 use spec_blend::{Mode, Pixel};
 use std::simd::prelude::*;
 
@@ -44,18 +45,32 @@ pub fn put_four(row: &mut [Pixel], at: usize, four: Four)
     row[at + 3] = four.s;
 }
 
-/// The bytes of four pixels.
+/// The bytes of four pixels. By way of words they are read in one block.
+#[inline(always)]
+fn bytes_of(of: Four) -> u8x16
+    ensures { result ≡ of.p.r ∷ of.p.g ∷ of.p.b ∷ of.p.a ∷ of.q.r ∷ of.q.g ∷ of.q.b ∷ of.q.a
+        ∷ of.r.r ∷ of.r.g ∷ of.r.b ∷ of.r.a ∷ of.s.r ∷ of.s.g ∷ of.s.b ∷ of.s.a ∷ [] }
+{
+    u32x4::from_array([word(of.p), word(of.q), word(of.r), word(of.s)]).to_le_bytes()
+}
+
+/// Bytes in lanes of 16 bits.
+#[inline(always)]
+fn widened(bytes: u8x16) -> u16x16
+    ensures value { result ≡ bytes }
+    ensures bytes { AreBytes result }
+{
+    bytes.cast::<u16>()
+}
+
+/// The bytes of four pixels in lanes of 16 bits.
 #[inline(always)]
 fn lanes_of(of: Four) -> u16x16
     ensures value { result ≡ of.p.r ∷ of.p.g ∷ of.p.b ∷ of.p.a ∷ of.q.r ∷ of.q.g ∷ of.q.b ∷ of.q.a
         ∷ of.r.r ∷ of.r.g ∷ of.r.b ∷ of.r.a ∷ of.s.r ∷ of.s.g ∷ of.s.b ∷ of.s.a ∷ [] }
     ensures bytes { AreBytes result }
 {
-    let Four { p, q, r, s } = of;
-    u8x16::from_array([
-        p.r, p.g, p.b, p.a, q.r, q.g, q.b, q.a, r.r, r.g, r.b, r.a, s.r, s.g, s.b, s.a,
-    ])
-    .cast::<u16>()
+    widened(bytes_of(of))
 }
 
 /// The alpha of each pixel in its four lanes.
