@@ -1,5 +1,5 @@
 -- The bytes of the words of four pixels.
-use Rattle.std.proofs.Common.{◌≡◌, ℕ, ◌+◌, ◌*◌, ◌/◌, ◌%◌, ◌≤◌, List, [], ◌∷◌, suc, refl, ap, ◌∙◌, arith}
+use Rattle.std.proofs.Common.{◌≡◌, ℕ, ◌+◌, ◌*◌, ◌/◌, ◌%◌, ◌≤◌, [], ◌∷◌, suc, refl, ap, ◌∙◌, arith}
 use lib.Lanes.{digits_l, number_l}
 use Rattle.spec_blend.specs.declared.Pixel.{Pixel}
 use Rattle.spec_blend.specs.Over.{IsPixel}

@@ -28,7 +28,13 @@ fn lay_by(mode: Mode, below: &mut [Pixel], above: &[Pixel], weights: &[u32], rec
 }
 
 /// The same in each mode: each arm names its mode, so that its loop is compiled for that mode alone.
-fn lay_by_each(mode: Mode, below: &mut [Pixel], above: &[Pixel], weights: &[u32], reciprocals: &[u32])
+fn lay_by_each(
+    mode: Mode,
+    below: &mut [Pixel],
+    above: &[Pixel],
+    weights: &[u32],
+    reciprocals: &[u32],
+)
     requires above { length below.old ≡ length above.now }
     requires weights { length below.old ≡ length weights.now }
     requires reciprocals { length below.old ≡ length reciprocals.now }

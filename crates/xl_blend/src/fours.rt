@@ -23,13 +23,18 @@ pub struct Four {
 pub fn four_at(row: &[Pixel], at: usize) -> Four
     requires { at + 4 ≤ length row.now }
     ensures { result ≡ record {
-        p = slice_index_or row.now at clear;
-        q = slice_index_or row.now (at + 1) clear;
-        r = slice_index_or row.now (at + 2) clear;
-        s = slice_index_or row.now (at + 3) clear;
+      p = slice_index_or row.now at clear;
+      q = slice_index_or row.now (at + 1) clear;
+      r = slice_index_or row.now (at + 2) clear;
+      s = slice_index_or row.now (at + 3) clear;
     } }
 {
-    Four { p: row[at], q: row[at + 1], r: row[at + 2], s: row[at + 3] }
+    Four {
+        p: row[at],
+        q: row[at + 1],
+        r: row[at + 2],
+        s: row[at + 3],
+    }
 }
 
 /// Four pixels put at a place of a row.
@@ -88,18 +93,38 @@ fn alphas_of(of: Four) -> u16x16
 fn opaque_of(lanes: u16x16) -> Four
     requires { AreBytes lanes }
     ensures { result ≡ record {
-        p = record { r = slice_index lanes 0; g = slice_index lanes 1; b = slice_index lanes 2; a = 255 };
-        q = record { r = slice_index lanes 4; g = slice_index lanes 5; b = slice_index lanes 6; a = 255 };
-        r = record { r = slice_index lanes 8; g = slice_index lanes 9; b = slice_index lanes 10; a = 255 };
-        s = record { r = slice_index lanes 12; g = slice_index lanes 13; b = slice_index lanes 14; a = 255 };
+      p = record { r = slice_index lanes 0; g = slice_index lanes 1; b = slice_index lanes 2; a = 255 };
+      q = record { r = slice_index lanes 4; g = slice_index lanes 5; b = slice_index lanes 6; a = 255 };
+      r = record { r = slice_index lanes 8; g = slice_index lanes 9; b = slice_index lanes 10; a = 255 };
+      s = record { r = slice_index lanes 12; g = slice_index lanes 13; b = slice_index lanes 14; a = 255 };
     } }
 {
     let bytes = lanes.cast::<u8>().to_array();
     Four {
-        p: Pixel { r: bytes[0], g: bytes[1], b: bytes[2], a: 255 },
-        q: Pixel { r: bytes[4], g: bytes[5], b: bytes[6], a: 255 },
-        r: Pixel { r: bytes[8], g: bytes[9], b: bytes[10], a: 255 },
-        s: Pixel { r: bytes[12], g: bytes[13], b: bytes[14], a: 255 },
+        p: Pixel {
+            r: bytes[0],
+            g: bytes[1],
+            b: bytes[2],
+            a: 255,
+        },
+        q: Pixel {
+            r: bytes[4],
+            g: bytes[5],
+            b: bytes[6],
+            a: 255,
+        },
+        r: Pixel {
+            r: bytes[8],
+            g: bytes[9],
+            b: bytes[10],
+            a: 255,
+        },
+        s: Pixel {
+            r: bytes[12],
+            g: bytes[13],
+            b: bytes[14],
+            a: 255,
+        },
     }
 }
 
@@ -109,10 +134,10 @@ pub fn over_four(mode: Mode, below: Four, above: Four) -> Four
     requires { has_lanes mode ≡ true }
     ensures pixels { IsPixel above.p × IsPixel above.q × IsPixel above.r × IsPixel above.s }
     ensures value { result ≡ record {
-        p = over_opaque mode below.p above.p;
-        q = over_opaque mode below.q above.q;
-        r = over_opaque mode below.r above.r;
-        s = over_opaque mode below.s above.s;
+      p = over_opaque mode below.p above.p;
+      q = over_opaque mode below.q above.q;
+      r = over_opaque mode below.r above.r;
+      s = over_opaque mode below.s above.s;
     } }
 {
     let lower = lanes_of(below);

@@ -78,7 +78,8 @@ fn hard_lights(i: u16x16, m: u16x16) -> u16x16
 {
     let dark = (i * m) >> 7;
     let light = ((u16x16::splat(255) - i) * (u16x16::splat(511) - m - m)) >> 8;
-    m.simd_gt(u16x16::splat(128)).select(u16x16::splat(255) - light, dark)
+    m.simd_gt(u16x16::splat(128))
+        .select(u16x16::splat(255) - light, dark)
 }
 
 /// The values of `SoftLight`.
