@@ -72,8 +72,8 @@ fn lay_in_lanes(mode: Mode, below: &mut [Pixel], above: &[Pixel])
     lay_rest(mode, below, above, done);
 }
 
-/// Pixels over opaque ones. Each arm names its mode, so that its loop is compiled for that mode alone. The clause `pixels` is there
-/// for the callers, which read no pixel.
+/// Pixels over opaque ones. Each arm names its mode, so that its loop is compiled for that mode
+/// alone. The clause `pixels` is there for the callers, which read no pixel.
 pub fn lay_over_opaque(mode: Mode, below: &mut [Pixel], above: &[Pixel])
     requires { length below.old ≡ length above.now }
     ensures pixels { (k : ℕ) → k < length above.now → IsPixel (slice_index_or above.now k clear) }
