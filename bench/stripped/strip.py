@@ -41,7 +41,7 @@ def with_vectors(text):
         return text
     text = SWIZZLED.sub(r"std::simd::simd_swizzle!(\1, \2)", text)
     text = SHIFTED.sub(r">> u16x16::splat(\1)", text)
-    return text.replace("use std::simd::prelude::*;", "use std::simd::{Select, prelude::*};")
+    return text.replace("use std::simd::prelude::*;", "use std::simd::{Select, ToBytes, prelude::*};")
 
 
 def closing(text, at):

@@ -1,5 +1,5 @@
 -- Sums and products of bytes in 16 bits.
-use Rattle.std.proofs.Common.{◌≡◌, ℕ, ◌+◌, ◌-◌, ◌*◌, ◌/◌, ◌%◌, ◌^◌, ◌≤◌, ◌<◌, Bool, true, false, cond, min, max, Fits, refl, arith, ap, ◌∙◌}
+use Rattle.std.proofs.Common.{◌≡◌, ℕ, ◌+◌, ◌-◌, ◌*◌, ◌/◌, ◌%◌, ◌^◌, ◌≤◌, ◌<◌, Bool, true, false, cond, min, max, Fits, refl, arith, ◌∙◌}
 use Rattle.std.proofs.Math.Nat.{mul-le-mul_right, mul-le-mul_left}
 use Rattle.std.proofs.lemmas.Bool.{cond_both, ltb-true, ltb-false}
 use lib.Dec.{ltb}
@@ -9,8 +9,7 @@ use Rattle.spec_blend.specs.declared.Mode.TheVariants.{GrainExtract, GrainMerge,
 use Rattle.spec_blend.specs.declared.Mode.TheVariants.{Subtract, DarkenOnly, LightenOnly}
 use Rattle.spec_blend.specs.Blend.{mul, screen, blend}
 use Rattle.spec_blend.proofs.OverLemmas.{mul-le_left, mul-le_right}
-use Rattle.spec_blend.specs.Over.{mean}
-use Rattle.xl_blend.proofs.Pairs.{weighed}
+use Rattle.xl_blend.proofs.Weighed.{weighed}
 use Rattle.xl_blend.proofs.Products.{screen_by_product, rest_of_product, overlay_fits, double_part}
 
 abbrev pub add16 : (a b : ℕ) → ℕ

@@ -1,5 +1,5 @@
 -- What operations leave in the lanes of vectors, as functions of the lanes of two vectors i and m.
-use Rattle.std.proofs.Common.{◌≡◌, ℕ, ◌+◌, ◌-◌, ◌≤◌, ◌<◌, Bool, cond, List, [], ◌∷◌, length, map, zero, suc, min, max, refl, ap, sym, ◌∙◌, arith, Fits}
+use Rattle.std.proofs.Common.{◌≡◌, ℕ, ◌≤◌, Bool, cond, List, [], ◌∷◌, length, map, zero, suc, min, max, refl, ap, sym, ◌∙◌, arith}
 use Rattle.std.proofs.lemmas.Bool.{cond_both, ltb-true, ltb-false}
 use Rattle.std.proofs.lemmas.Simd.{tops_compared, length-zip2}
 use Rattle.std.specs.Simd.Lanes.{zip2, Each1}
@@ -98,11 +98,10 @@ pub small_three : (R P Q : ℕ → ℕ → ℕ) (xs ys ts : List ℕ) → Each1 
 small_three R P Q [] ys ts x_small y_small t_small byte = tt
 small_three R P Q (x ∷ xs) ys [] x_small y_small t_small byte = tt
 small_three R P Q (x ∷ xs) [] (t ∷ ts) x_small y_small t_small byte = tt
-small_three R P Q (x ∷ xs) (y ∷ ys) (t ∷ ts) x_small y_small t_small byte =
-    (
-      byte x y t x_small.0 y_small.0 t_small.0,
-      small_three R P Q xs ys ts x_small.1 y_small.1 t_small.1 byte,
-    )
+small_three R P Q (x ∷ xs) (y ∷ ys) (t ∷ ts) x_small y_small t_small byte = (
+  byte x y t x_small.0 y_small.0 t_small.0,
+  small_three R P Q xs ys ts x_small.1 y_small.1 t_small.1 byte,
+)
 
 -- ---- the lesser, the greater and the difference of two numbers of 16 bits
 pub lesser : (x y : ℕ) → cond (ltb x y) x y ≡ min x y

@@ -1,8 +1,9 @@
+pub mod FourWords
 pub mod Laid
 pub mod LaneArithmetic
 pub mod LaneWise
-pub mod Pairs
 pub mod Products
 pub mod Quotients
 pub mod RowLemmas
 pub mod SoFar
+pub mod Weighed

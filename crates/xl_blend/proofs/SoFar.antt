@@ -80,20 +80,20 @@ four_more P n known p q r s k within =
     elim (cases_lt k n) [
       | inl before ↦ known k before
       | inr past ↦
-        elim (cases_eq k n) [
-          | inl is ↦ subst P (sym is) p
-          | inr not_p ↦
-            elim (cases_eq k (n + 1)) [
-              | inl is ↦ subst P (sym is) q
-              | inr not_q ↦
-                elim (cases_eq k (n + 2)) [
-                  | inl is ↦ subst P (sym is) r
-                  | inr not_r ↦
-                    let is : k ≡ n + 3 = omega (arith, not_p, not_q, not_r) in
-                    subst P (sym is) s
+          elim (cases_eq k n) [
+            | inl is ↦ subst P (sym is) p
+            | inr not_p ↦
+                elim (cases_eq k (n + 1)) [
+                  | inl is ↦ subst P (sym is) q
+                  | inr not_q ↦
+                      elim (cases_eq k (n + 2)) [
+                        | inl is ↦ subst P (sym is) r
+                        | inr not_r ↦
+                            let is : k ≡ n + 3 = omega (arith, not_p, not_q, not_r) in
+                            subst P (sym is) s
+                      ]
                 ]
-            ]
-        ]
+          ]
     ]
 
 -- two functions that agree at each place

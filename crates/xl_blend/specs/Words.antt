@@ -1,8 +1,7 @@
--- Pixels and pairs of bytes as words of 32 bits, and reciprocals.
+-- Pixels as words of 32 bits, and reciprocals.
 use Rattle.std.specs.Prelude.{ℕ, ◌+◌, ◌-◌, ◌*◌, ◌/◌, ◌%◌, min, max}
 use Rattle.spec_blend.specs.declared.Pixel.{Pixel}
 use Rattle.spec_blend.specs.Blend.{mul}
-use Rattle.spec_blend.specs.Over.{mean}
 
 -- the four bytes of a pixel, red lowest
 abbrev pub word_of : Pixel → ℕ
@@ -11,15 +10,6 @@ word_of p = p.r + 256 * p.g + 65536 * p.b + 16777216 * p.a
 -- the pixel of such a word
 abbrev pub pixel_of : ℕ → Pixel
 pixel_of w = record { r = w % 256; g = w / 256 % 256; b = w / 65536 % 256; a = w / 16777216 % 256 }
-
--- two bytes, the second 16 bits above the first
-abbrev pub pair : (low high : ℕ) → ℕ
-pair low high = low + 65536 * high
-
--- the rounded means of two pairs of bytes, where those above have the weight `part` of 255
-abbrev pub mixed_pair : (part above below : ℕ) → ℕ
-mixed_pair part above below =
-    pair (mean 255 part (above % 65536) (below % 65536)) (mean 255 part (above / 65536) (below / 65536))
 
 -- the quotient of 2 ^ 24 by n, rounded up, and 0 by 0
 abbrev pub reciprocal_of : ℕ → ℕ

@@ -27,8 +27,44 @@ fn lay_by(mode: Mode, below: &mut [Pixel], above: &[Pixel], weights: &[u32], rec
     }
 }
 
+/// The same in each mode: each arm names its mode, so that its loop is compiled for that mode alone.
+fn lay_by_each(
+    mode: Mode,
+    below: &mut [Pixel],
+    above: &[Pixel],
+    weights: &[u32],
+    reciprocals: &[u32],
+)
+    requires above { length below.old ≡ length above.now }
+    requires weights { length below.old ≡ length weights.now }
+    requires reciprocals { length below.old ≡ length reciprocals.now }
+    requires each { (k : ℕ) → k < length below.old
+        → slice_index weights.now k ≡ weight (slice_index_or below.old k clear) (slice_index_or above.now k clear) }
+    requires reciprocal { (k : ℕ) → k < length below.old
+        → slice_index reciprocals.now k ≡ reciprocal_of (slice_index weights.now k) }
+    ensures { below.new ≡ blended_rows mode below.old above.now }
+{
+    match mode {
+        Mode::Normal => lay_by(Mode::Normal, below, above, weights, reciprocals),
+        Mode::Multiply => lay_by(Mode::Multiply, below, above, weights, reciprocals),
+        Mode::Screen => lay_by(Mode::Screen, below, above, weights, reciprocals),
+        Mode::Overlay => lay_by(Mode::Overlay, below, above, weights, reciprocals),
+        Mode::Difference => lay_by(Mode::Difference, below, above, weights, reciprocals),
+        Mode::Addition => lay_by(Mode::Addition, below, above, weights, reciprocals),
+        Mode::Subtract => lay_by(Mode::Subtract, below, above, weights, reciprocals),
+        Mode::DarkenOnly => lay_by(Mode::DarkenOnly, below, above, weights, reciprocals),
+        Mode::LightenOnly => lay_by(Mode::LightenOnly, below, above, weights, reciprocals),
+        Mode::Divide => lay_by(Mode::Divide, below, above, weights, reciprocals),
+        Mode::Dodge => lay_by(Mode::Dodge, below, above, weights, reciprocals),
+        Mode::Burn => lay_by(Mode::Burn, below, above, weights, reciprocals),
+        Mode::HardLight => lay_by(Mode::HardLight, below, above, weights, reciprocals),
+        Mode::SoftLight => lay_by(Mode::SoftLight, below, above, weights, reciprocals),
+        Mode::GrainExtract => lay_by(Mode::GrainExtract, below, above, weights, reciprocals),
+        Mode::GrainMerge => lay_by(Mode::GrainMerge, below, above, weights, reciprocals),
+    }
+}
+
 /// Pixels over any others.
-#[inline(always)]
 fn lay_over_any(mode: Mode, below: &mut [Pixel], above: &[Pixel])
     requires lengths { length below.old ≡ length above.now }
     requires piece { length below.old ≤ PIECE }
@@ -41,11 +77,10 @@ fn lay_over_any(mode: Mode, below: &mut [Pixel], above: &[Pixel])
     let reciprocals = &mut reciprocals[..count];
     weights_of(below, above, weights);
     reciprocals_of(weights, reciprocals);
-    lay_by(mode, below, above, weights, reciprocals);
+    lay_by_each(mode, below, above, weights, reciprocals);
 }
 
 /// A piece of a row over another in a mode that is not the normal one.
-#[inline(always)]
 pub fn lay_blended(mode: Mode, below: &mut [Pixel], above: &[Pixel])
     requires lengths { length below.old ≡ length above.now }
     requires piece { length below.old ≤ PIECE }

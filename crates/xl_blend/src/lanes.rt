@@ -4,7 +4,7 @@
 ghost use Rattle.std.specs.Prelude.{◌≡◌, ◌-◌, min, max, true};
 ghost use Rattle.std.specs.Simd.Lanes.{zip2};
 ghost use Rattle.spec_blend.specs.Blend.{blend as blended, mul as product, screen as screened};
-ghost use Rattle.xl_blend.specs.Lanes.{AreBytes, means, has_lanes as is_laned};
+ghost use Rattle.xl_blend.specs.Lanes.{AreBytes, has_lanes, means};
 
 use spec_blend::Mode;
 use std::simd::prelude::*;
@@ -78,7 +78,8 @@ fn hard_lights(i: u16x16, m: u16x16) -> u16x16
 {
     let dark = (i * m) >> 7;
     let light = ((u16x16::splat(255) - i) * (u16x16::splat(511) - m - m)) >> 8;
-    m.simd_gt(u16x16::splat(128)).select(u16x16::splat(255) - light, dark)
+    m.simd_gt(u16x16::splat(128))
+        .select(u16x16::splat(255) - light, dark)
 }
 
 /// The values of `SoftLight`.
@@ -92,21 +93,10 @@ fn soft_lights(i: u16x16, m: u16x16) -> u16x16
     part - products(i, part) + products(i, screens(i, m))
 }
 
-/// Whether a mode is one of those below: the others look quotients up.
-#[inline(always)]
-pub fn has_lanes(mode: Mode) -> bool
-    ensures { result ≡ is_laned mode }
-{
-    match mode {
-        Mode::Divide | Mode::Dodge | Mode::Burn => false,
-        _ => true,
-    }
-}
-
 /// The colour bytes that a mode gives for `i` below and `m` above.
 #[inline(always)]
 pub fn blends(mode: Mode, i: u16x16, m: u16x16) -> u16x16
-    requires mode { is_laned mode ≡ true }
+    requires mode { has_lanes mode ≡ true }
     requires below { AreBytes i }
     requires above { AreBytes m }
     ensures value { result ≡ zip2 (blended mode) i m }

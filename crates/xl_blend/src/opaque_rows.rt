@@ -1,11 +1,10 @@
 //! Pieces of rows over opaque ones, in any mode.
 ghost use Rattle.std.specs.Prelude.{◌≡◌, ℕ, ◌≤◌, ◌<◌, true, length, slice_index_or};
 ghost use Rattle.spec_blend.specs.Over.{clear, IsPixel};
-ghost use Rattle.xl_blend.specs.Lanes.{has_lanes as is_laned};
+ghost use Rattle.xl_blend.specs.Lanes.{has_lanes};
 ghost use Rattle.xl_blend.specs.Rows.{opaque_rows, opaque_so_far};
 
 use crate::fours::{four_at, over_four, put_four};
-use crate::lanes::has_lanes;
 use crate::pixels::over_opaque;
 use spec_blend::{Mode, Pixel};
 
@@ -13,7 +12,7 @@ use spec_blend::{Mode, Pixel};
 #[inline(always)]
 fn lay_fours(mode: Mode, below: &mut [Pixel], above: &[Pixel]) -> usize
     requires lengths { length below.old ≡ length above.now }
-    requires mode { is_laned mode ≡ true }
+    requires mode { has_lanes mode ≡ true }
     ensures within { result ≤ length below.new }
     ensures pixels { (k : ℕ) → k < result → IsPixel (slice_index_or above.now k clear) }
     ensures done { opaque_so_far mode result below.new above.now ≡ opaque_rows mode below.old above.now }
@@ -40,17 +39,62 @@ fn lay_ones(mode: Mode, below: &mut [Pixel], above: &[Pixel], from: usize)
     }
 }
 
-/// Pixels over opaque ones. The clause `pixels` is there for the callers, which read no pixel.
+/// The few pixels that are left.
+#[inline(never)]
+fn lay_rest(mode: Mode, below: &mut [Pixel], above: &[Pixel], from: usize)
+    requires lengths { length below.old ≡ length above.now }
+    requires within { from ≤ length below.old }
+    ensures pixels { (k : ℕ) → from ≤ k → k < length above.now → IsPixel (slice_index_or above.now k clear) }
+    ensures done { below.new ≡ opaque_so_far mode from below.old above.now }
+{
+    lay_ones(mode, below, above, from);
+}
+
+/// All pixels one at a time.
 #[inline(always)]
+fn lay_singly(mode: Mode, below: &mut [Pixel], above: &[Pixel])
+    requires { length below.old ≡ length above.now }
+    ensures pixels { (k : ℕ) → k < length above.now → IsPixel (slice_index_or above.now k clear) }
+    ensures done { below.new ≡ opaque_rows mode below.old above.now }
+{
+    lay_ones(mode, below, above, 0);
+}
+
+/// All pixels, as many as can be four at a time.
+#[inline(always)]
+fn lay_in_lanes(mode: Mode, below: &mut [Pixel], above: &[Pixel])
+    requires lengths { length below.old ≡ length above.now }
+    requires mode { has_lanes mode ≡ true }
+    ensures pixels { (k : ℕ) → k < length above.now → IsPixel (slice_index_or above.now k clear) }
+    ensures done { below.new ≡ opaque_rows mode below.old above.now }
+{
+    let done = lay_fours(mode, below, above);
+    lay_rest(mode, below, above, done);
+}
+
+/// Pixels over opaque ones. Each arm names its mode, so that its loop is compiled for that mode
+/// alone. The clause `pixels` is there for the callers, which read no pixel.
 pub fn lay_over_opaque(mode: Mode, below: &mut [Pixel], above: &[Pixel])
     requires { length below.old ≡ length above.now }
     ensures pixels { (k : ℕ) → k < length above.now → IsPixel (slice_index_or above.now k clear) }
     ensures done { below.new ≡ opaque_rows mode below.old above.now }
 {
-    if has_lanes(mode) {
-        let done = lay_fours(mode, below, above);
-        lay_ones(mode, below, above, done);
-    } else {
-        lay_ones(mode, below, above, 0);
+    match mode {
+        Mode::Normal => lay_in_lanes(Mode::Normal, below, above),
+        Mode::Multiply => lay_in_lanes(Mode::Multiply, below, above),
+        Mode::Screen => lay_in_lanes(Mode::Screen, below, above),
+        Mode::Overlay => lay_in_lanes(Mode::Overlay, below, above),
+        Mode::Difference => lay_in_lanes(Mode::Difference, below, above),
+        Mode::Addition => lay_in_lanes(Mode::Addition, below, above),
+        Mode::Subtract => lay_in_lanes(Mode::Subtract, below, above),
+        Mode::DarkenOnly => lay_in_lanes(Mode::DarkenOnly, below, above),
+        Mode::LightenOnly => lay_in_lanes(Mode::LightenOnly, below, above),
+        Mode::Divide => lay_singly(Mode::Divide, below, above),
+        Mode::Dodge => lay_singly(Mode::Dodge, below, above),
+        Mode::Burn => lay_singly(Mode::Burn, below, above),
+        Mode::HardLight => lay_in_lanes(Mode::HardLight, below, above),
+        Mode::SoftLight => lay_in_lanes(Mode::SoftLight, below, above),
+        Mode::GrainExtract => lay_in_lanes(Mode::GrainExtract, below, above),
+        Mode::GrainMerge => lay_in_lanes(Mode::GrainMerge, below, above),
     }
 }

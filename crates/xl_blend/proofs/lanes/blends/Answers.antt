@@ -26,35 +26,35 @@ returns-clause-value c =
     elim c.match-mode.branch [
       | in-Normal w ↦ rw w.in-Normal.is (w.result-is ∙ above ∙ agreed _ _ _ i m i_small m_small normal16)
       | in-Multiply w ↦
-        rw w.in-Multiply.is (w.result-is ∙ w.products.ensures.value ∙ agreed _ _ _ i m i_small m_small multiply16)
+          rw w.in-Multiply.is (w.result-is ∙ w.products.ensures.value ∙ agreed _ _ _ i m i_small m_small multiply16)
       | in-Screen w ↦ rw w.in-Screen.is (w.result-is ∙ w.screens.ensures.value ∙ agreed _ _ _ i m i_small m_small screen_cut)
       | in-Overlay w ↦ rw w.in-Overlay.is (w.result-is ∙ w.overlays.ensures)
       | in-Difference w ↦
-        rw w.in-Difference.is (w.result-is
-        ∙ both add16 _ _ i m w.less.ensures (w.less-in-Difference.ensures ∙ both less _ _ i m above below)
-        ∙ agreed _ _ _ i m i_small m_small difference16)
+          rw w.in-Difference.is (w.result-is
+          ∙ both add16 _ _ i m w.less.ensures (w.less-in-Difference.ensures ∙ both less _ _ i m above below)
+          ∙ agreed _ _ _ i m i_small m_small difference16)
       | in-Addition w ↦
-        rw w.in-Addition.is (w.result-is ∙ w.least.ensures
-        ∙ both min _ _ i m (both add16 _ _ i m below above) (number 255)
-        ∙ agreed _ _ _ i m i_small m_small addition16)
+          rw w.in-Addition.is (w.result-is ∙ w.least.ensures
+          ∙ both min _ _ i m (both add16 _ _ i m below above) (number 255)
+          ∙ agreed _ _ _ i m i_small m_small addition16)
       | in-Subtract w ↦
-        rw w.in-Subtract.is (w.result-is ∙ w.less-in-Subtract.ensures ∙ agreed _ _ _ i m i_small m_small subtract16)
+          rw w.in-Subtract.is (w.result-is ∙ w.less-in-Subtract.ensures ∙ agreed _ _ _ i m i_small m_small subtract16)
       | in-DarkenOnly w ↦
-        rw w.in-DarkenOnly.is (w.result-is ∙ w.least-in-DarkenOnly.ensures ∙ agreed _ _ _ i m i_small m_small darken16)
+          rw w.in-DarkenOnly.is (w.result-is ∙ w.least-in-DarkenOnly.ensures ∙ agreed _ _ _ i m i_small m_small darken16)
       | in-LightenOnly w ↦
-        rw w.in-LightenOnly.is (w.result-is ∙ w.greatest.ensures ∙ agreed _ _ _ i m i_small m_small lighten16)
+          rw w.in-LightenOnly.is (w.result-is ∙ w.greatest.ensures ∙ agreed _ _ _ i m i_small m_small lighten16)
       | in-HardLight w ↦ rw w.in-HardLight.is (w.result-is ∙ w.hard_lights.ensures)
       | in-SoftLight w ↦ rw w.in-SoftLight.is (w.result-is ∙ w.soft_lights.ensures)
       | in-GrainExtract w ↦
-        rw w.in-GrainExtract.is (w.result-is ∙ w.least-in-GrainExtract.ensures
-        ∙ both min _ _ i m
-        (w.less-in-GrainExtract.ensures ∙ both less _ _ i m (both add16 _ _ i m below (number 128)) above) (number 255)
-        ∙ agreed _ _ _ i m i_small m_small extract16)
+          rw w.in-GrainExtract.is (w.result-is ∙ w.least-in-GrainExtract.ensures
+          ∙ both min _ _ i m
+          (w.less-in-GrainExtract.ensures ∙ both less _ _ i m (both add16 _ _ i m below (number 128)) above) (number 255)
+          ∙ agreed _ _ _ i m i_small m_small extract16)
       | in-GrainMerge w ↦
-        rw w.in-GrainMerge.is (w.result-is ∙ w.least-in-GrainMerge.ensures
-        ∙ both min _ _ i m
-        (w.less-in-GrainMerge.ensures ∙ both less _ _ i m (both add16 _ _ i m below above) (number 128)) (number 255)
-        ∙ agreed _ _ _ i m i_small m_small merge16)
+          rw w.in-GrainMerge.is (w.result-is ∙ w.least-in-GrainMerge.ensures
+          ∙ both min _ _ i m
+          (w.less-in-GrainMerge.ensures ∙ both less _ _ i m (both add16 _ _ i m below above) (number 128)) (number 255)
+          ∙ agreed _ _ _ i m i_small m_small merge16)
     ]
 
 pub returns-clause-bytes : goal.returns-clause-bytes

@@ -1,6 +1,6 @@
 use Rattle.std.proofs.Common.{arith, ◌*◌, ◌+◌, ◌-◌}
 use Rattle.spec_blend.proofs.OverLemmas.{mean-is_byte}
-use Rattle.xl_blend.proofs.Pairs.{rounded, weighed}
+use Rattle.xl_blend.proofs.Weighed.{rounded, weighed}
 use Rattle.xl_blend.proofs.words.mix_byte.Goals as goal
 
 pub returns-clause-value : goal.returns-clause-value
