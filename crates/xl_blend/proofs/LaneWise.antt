@@ -17,7 +17,8 @@ both_at f g h (i ∷ is) [] = refl
 both_at f g h (i ∷ is) (m ∷ ms) = ap (λ zs. f (g i m) (h i m) ∷ zs) (both_at f g h is ms)
 
 -- an operation on two vectors
-pub both : (f g h : ℕ → ℕ → ℕ) (is ms : List ℕ) {xs ys : List ℕ} → xs ≡ zip2 g is ms → ys ≡ zip2 h is ms → zip2 f xs ys ≡ zip2 (λ i m. f (g i m) (h i m)) is ms
+pub both : (f g h : ℕ → ℕ → ℕ) (is ms : List ℕ) {xs ys : List ℕ} → xs ≡ zip2 g is ms → ys ≡ zip2 h is ms
+    → zip2 f xs ys ≡ zip2 (λ i m. f (g i m) (h i m)) is ms
 both f g h is ms x y = rw (x, y) (both_at f g h is ms)
 
 -- a function of one vector

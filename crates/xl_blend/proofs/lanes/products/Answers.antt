@@ -10,10 +10,12 @@ returns-clause-value c =
     let a = c.args.a in
     let b = c.args.b in
     let same = c.requires.a.0 ∙ sym c.requires.b.0 in
-    let sum = both _ _ _ a b (both _ _ _ a b (first a b same) (second a b same)) (splat 16 128 a b c.requires.a.0 c.requires.b.0) in
+    let product = both _ _ _ a b (first a b same) (second a b same) in
+    let sum = both _ _ _ a b product (splat 16 128 a b c.requires.a.0 c.requires.b.0) in
     mapped part16 _ a b c.parts.ensures sum ∙ agreed _ _ _ a b c.requires.a.1 c.requires.b.1 product16
 
 pub returns-clause-bytes : goal.returns-clause-bytes
 returns-clause-bytes c =
     let value = returns-clause-value c in
-    rw value (small mul c.args.a c.args.b c.requires.a c.requires.b (λ x y x_small y_small. omega (arith, mul-le_right x y x_small)))
+    rw value (small mul c.args.a c.args.b c.requires.a c.requires.b
+    (λ x y x_small y_small. omega (arith, mul-le_right x y x_small)))
