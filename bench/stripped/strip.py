@@ -13,6 +13,7 @@ GHOST = re.compile(r"^\s*(pub )?ghost\b")
 NAME = re.compile(r"[A-Za-z_]\w*(?:\.\w+)*$")
 ASSIGNED = re.compile(r"\s*[-+|^&]?=[^=]")
 SWIZZLED = re.compile(r"([\w.]+(?:\([^()]*\))?)\.swizzle\((\[[^\]]*\])\)")
+WIDE = re.compile(r"(u32x16::splat\(\d+\)\)) >> (\d+)")
 SHIFTED = re.compile(r">> (\d+)")
 FILLED = re.compile(r"\.(fill|copy_from_slice)\(")
 
@@ -40,6 +41,7 @@ def with_vectors(text):
     if "std::simd" not in text:
         return text
     text = SWIZZLED.sub(r"std::simd::simd_swizzle!(\1, \2)", text)
+    text = WIDE.sub(r"\1 >> u32x16::splat(\2)", text)
     text = SHIFTED.sub(r">> u16x16::splat(\1)", text)
     return text.replace("use std::simd::prelude::*;", "use std::simd::{Select, ToBytes, prelude::*};")
 

@@ -1,5 +1,6 @@
 -- Sums and products of bytes in 16 bits.
-use Rattle.std.proofs.Common.{◌≡◌, ℕ, ◌+◌, ◌-◌, ◌*◌, ◌/◌, ◌%◌, ◌^◌, ◌≤◌, ◌<◌, Bool, true, false, cond, min, max, Fits, refl, arith, ◌∙◌}
+use Rattle.std.proofs.Common.{◌≡◌, ℕ, ◌+◌, ◌-◌, ◌*◌, ◌/◌, ◌%◌, ◌^◌, ◌≤◌, ◌<◌, ◌∙◌, Bool, true, false, cond, min, max}
+use Rattle.std.proofs.Common.{Fits, refl, arith}
 use Rattle.std.proofs.Math.Nat.{mul-le-mul_right, mul-le-mul_left}
 use Rattle.std.proofs.lemmas.Bool.{cond_both, ltb-true, ltb-false}
 use lib.Dec.{ltb}
@@ -24,8 +25,16 @@ mul16 a b = a * b % 65536
 abbrev pub shifted16 : (a n : ℕ) → ℕ
 shifted16 a n = a / 2 ^ n
 
+abbrev pub part16 : ℕ → ℕ
+part16 n = (n + n / 256) / 256
+
+pub part16_is : (n : ℕ) → Fits w16 n → n * 257 % 4294967296 / 65536 ≡ part16 n
+part16_is n fits =
+    let small : n < 65536 = fits.fits in
+    omega (arith, small)
+
 abbrev pub rounded16 : ℕ → ℕ
-rounded16 n = add16 (add16 n 128) (add16 n 128 / 256) / 256
+rounded16 n = part16 (add16 n 128)
 
 rounded16_is : (n : ℕ) → n ≤ 65025 → rounded16 (n % 65536) ≡ (2 * n + 255) / 510
 rounded16_is n small = omega arith

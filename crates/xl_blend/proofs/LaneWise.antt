@@ -3,6 +3,7 @@ use Rattle.std.proofs.Common.{◌≡◌, ℕ, ◌≤◌, Bool, cond, List, [], �
 use Rattle.std.proofs.lemmas.Bool.{cond_both, ltb-true, ltb-false}
 use Rattle.std.proofs.lemmas.Simd.{tops_compared, length-zip2}
 use Rattle.std.specs.Simd.Lanes.{zip2, Each1}
+use mir.Val.{Fits}
 use lib.Lanes.{sel_l, top}
 use lib.Dec.{ltb}
 use lib.ListN.{replicate}
@@ -16,8 +17,27 @@ both_at f g h (i ∷ is) [] = refl
 both_at f g h (i ∷ is) (m ∷ ms) = ap (λ zs. f (g i m) (h i m) ∷ zs) (both_at f g h is ms)
 
 -- an operation on two vectors
-pub both : (f g h : ℕ → ℕ → ℕ) (is ms : List ℕ) {xs ys : List ℕ} → xs ≡ zip2 g is ms → ys ≡ zip2 h is ms → zip2 f xs ys ≡ zip2 (λ i m. f (g i m) (h i m)) is ms
+pub both : (f g h : ℕ → ℕ → ℕ) (is ms : List ℕ) {xs ys : List ℕ} → xs ≡ zip2 g is ms → ys ≡ zip2 h is ms
+    → zip2 f xs ys ≡ zip2 (λ i m. f (g i m) (h i m)) is ms
 both f g h is ms x y = rw (x, y) (both_at f g h is ms)
+
+-- a function of one vector
+mapped_at : (f : ℕ → ℕ) (g : ℕ → ℕ → ℕ) (is ms : List ℕ) → map f (zip2 g is ms) ≡ zip2 (λ i m. f (g i m)) is ms
+mapped_at f g [] ms = refl
+mapped_at f g (i ∷ is) [] = refl
+mapped_at f g (i ∷ is) (m ∷ ms) = ap (λ zs. f (g i m) ∷ zs) (mapped_at f g is ms)
+
+pub mapped : (f : ℕ → ℕ) (g : ℕ → ℕ → ℕ) (is ms : List ℕ) {xs ys : List ℕ} → ys ≡ map f xs → xs ≡ zip2 g is ms
+    → ys ≡ zip2 (λ i m. f (g i m)) is ms
+mapped f g is ms y x = rw (y, x) (mapped_at f g is ms)
+
+-- two functions of one number of 16 bits that agree
+pub agreed_one : (F G : ℕ → ℕ) (xs : List ℕ) → Each1 (Fits w16) xs → ((x : ℕ) → Fits w16 x → F x ≡ G x) → map F xs ≡ map G xs
+agreed_one F G [] fits same = refl
+agreed_one F G (x ∷ xs) fits same =
+    let head : F x ≡ G x = same x fits.0 in
+    let tail : map F xs ≡ map G xs = agreed_one F G xs fits.1 same in
+    cc
 
 -- the vectors themselves
 pub first : (is ms : List ℕ) → length is ≡ length ms → is ≡ zip2 (λ i m. i) is ms

@@ -64,9 +64,11 @@ so_far-four {A} {B} g i row other x y p q r s within same p_is q_is r_is s_is =
     ∙ get_or-set_other one (i + 1) (i + 3) q x (omega arith) ∙ get_or-set_other row i (i + 3) p x (omega arith) in
     let first : so_far g (i + 1) one other ≡ so_far g i row other =
     so_far-more g i row other x y p (omega arith) (omega arith) p_is in
-    let second : so_far g (i + 2) two other ≡ so_far g (i + 1) one other = so_far-next g (i + 1) (i + 2) one other x y q (omega arith)
+    let second : so_far g (i + 2) two other ≡ so_far g (i + 1) one other =
+    so_far-next g (i + 1) (i + 2) one other x y q (omega arith)
     (omega arith) (omega arith) (q_is ∙ ap (λ a. g (a, get_or other (i + 1) y)) (sym q_at)) in
-    let third : so_far g (i + 3) three other ≡ so_far g (i + 2) two other = so_far-next g (i + 2) (i + 3) two other x y r (omega arith)
+    let third : so_far g (i + 3) three other ≡ so_far g (i + 2) two other =
+    so_far-next g (i + 2) (i + 3) two other x y r (omega arith)
     (omega arith) (omega arith) (r_is ∙ ap (λ a. g (a, get_or other (i + 2) y)) (sym r_at)) in
     let fourth : so_far g (i + 4) (set three (i + 3) s) other ≡ so_far g (i + 3) three other =
     so_far-next g (i + 3) (i + 4) three other x y s (omega arith) (omega arith) (omega arith)

@@ -1,7 +1,7 @@
 //! The blend modes on lanes of 16 bits, each with the colour byte of a pixel. Four pixels are sixteen lanes.
 //!
 //! The sums and products fit 16 bits, and where twice a product does not, its half is rounded.
-ghost use Rattle.std.specs.Prelude.{◌≡◌, ◌-◌, min, max, true};
+ghost use Rattle.std.specs.Prelude.{◌≡◌, ◌+◌, ◌-◌, ◌/◌, min, max, true, map};
 ghost use Rattle.std.specs.Simd.Lanes.{zip2};
 ghost use Rattle.spec_blend.specs.Blend.{blend as blended, mul as product, screen as screened};
 ghost use Rattle.xl_blend.specs.Lanes.{AreBytes, has_lanes, means};
@@ -33,6 +33,14 @@ fn less(a: u16x16, b: u16x16) -> u16x16
     a.saturating_sub(b)
 }
 
+/// The numbers n + n / 256 in parts of 256: with the high halves of products these take one instruction.
+#[inline(always)]
+fn parts(of: u16x16) -> u16x16
+    ensures { result ≡ map (λ n. (n + n / 256) / 256) of }
+{
+    ((of.cast::<u32>() * u32x16::splat(257)) >> 16).cast::<u16>()
+}
+
 /// The products in parts of 255.
 #[inline(always)]
 fn products(a: u16x16, b: u16x16) -> u16x16
@@ -41,8 +49,7 @@ fn products(a: u16x16, b: u16x16) -> u16x16
     ensures value { result ≡ zip2 product a b }
     ensures bytes { AreBytes result }
 {
-    let sum = a * b + u16x16::splat(128);
-    (sum + (sum >> 8)) >> 8
+    parts(a * b + u16x16::splat(128))
 }
 
 /// The values of `Screen`.
@@ -65,8 +72,7 @@ fn overlays(i: u16x16, m: u16x16) -> u16x16
 {
     let half = m * (u16x16::splat(255) - i) + u16x16::splat(64);
     let double = (half + (((half >> 7) + (half >> 15)) >> 1)) >> 7;
-    let sum = i * (i + double) + u16x16::splat(128);
-    (sum + (sum >> 8)) >> 8
+    parts(i * (i + double) + u16x16::splat(128))
 }
 
 /// The values of `HardLight`.
@@ -120,15 +126,14 @@ pub fn blends(mode: Mode, i: u16x16, m: u16x16) -> u16x16
     }
 }
 
-/// The means of lanes, where those above have the weights `parts` of 255.
+/// The means of lanes, where those above have some weights of 255.
 #[inline(always)]
-pub fn mixes(parts: u16x16, above: u16x16, below: u16x16) -> u16x16
-    requires parts { AreBytes parts }
+pub fn mixes(weights: u16x16, above: u16x16, below: u16x16) -> u16x16
+    requires weights { AreBytes weights }
     requires above { AreBytes above }
     requires below { AreBytes below }
-    ensures value { result ≡ means parts above below }
+    ensures value { result ≡ means weights above below }
     ensures bytes { AreBytes result }
 {
-    let sum = above * parts + below * (u16x16::splat(255) - parts) + u16x16::splat(128);
-    (sum + (sum >> 8)) >> 8
+    parts(above * weights + below * (u16x16::splat(255) - weights) + u16x16::splat(128))
 }

@@ -2,8 +2,8 @@ use Rattle.std.proofs.Common.{◌≡◌, ℕ, ◌+◌, ◌-◌, ◌*◌, ◌/◌
 use Rattle.std.specs.Simd.Lanes.{zip2}
 use Rattle.std.proofs.lemmas.Simd.{length-zip2}
 use lib.ListN.{replicate}
-use Rattle.xl_blend.proofs.LaneWise.{both, first, second, splat, agreed_three, small_three}
-use Rattle.xl_blend.proofs.LaneArithmetic.{add16, sub16, mul16, shifted16, rest16, mixed16, mean16, mean-byte}
+use Rattle.xl_blend.proofs.LaneWise.{mapped, both, first, second, splat, agreed_three, small_three}
+use Rattle.xl_blend.proofs.LaneArithmetic.{add16, sub16, mul16, part16, rest16, mixed16, mean16, mean-byte}
 use Rattle.xl_blend.proofs.lanes.mixes.Goals as goal
 
 abbrev total : (x y : ℕ) → ℕ
@@ -17,34 +17,33 @@ whole a t = a * t
 
 pub returns-clause-value : goal.returns-clause-value
 returns-clause-value c =
-    let t = c.args.parts in
+    let t = c.args.weights in
     let a = c.args.above in
     let b = c.args.below in
     let xs = zip2 mul16 a t in
     let ys = zip2 rest16 b t in
-    let x_long : length xs ≡ 16 = length-zip2 mul16 a t (c.fits-above.0 ∙ sym c.fits-parts.0) ∙ c.fits-above.0 in
-    let y_long : length ys ≡ 16 = length-zip2 rest16 b t (c.fits-below.0 ∙ sym c.fits-parts.0) ∙ c.fits-below.0 in
-    let same = c.fits-below.0 ∙ sym c.fits-parts.0 in
-    let opposite = both sub16 _ _ b t (splat 16 255 b t c.fits-below.0 c.fits-parts.0) (second b t same) in
+    let x_long : length xs ≡ 16 = length-zip2 mul16 a t (c.fits-above.0 ∙ sym c.fits-weights.0) ∙ c.fits-above.0 in
+    let y_long : length ys ≡ 16 = length-zip2 rest16 b t (c.fits-below.0 ∙ sym c.fits-weights.0) ∙ c.fits-below.0 in
+    let same = c.fits-below.0 ∙ sym c.fits-weights.0 in
+    let opposite = both sub16 _ _ b t (splat 16 255 b t c.fits-below.0 c.fits-weights.0) (second b t same) in
     let lower = both mul16 _ _ b t (first b t same) opposite in
     let number : (n : ℕ) → replicate 16 n ≡ zip2 (λ x y. n) xs ys = λ n. splat 16 n xs ys x_long y_long in
     let x = first xs ys (x_long ∙ sym y_long) in
     let y = lower ∙ second xs ys (x_long ∙ sym y_long) in
     let sum = both add16 _ _ xs ys (both add16 _ _ xs ys x y) (number 128) in
-    let more = both add16 _ _ xs ys sum (both shifted16 _ _ xs ys sum (number 8)) in
-    both shifted16 _ _ xs ys more (number 8)
-    ∙ agreed_three mixed16 mul16 rest16 total whole rest a b t c.requires.above.1 c.requires.below.1 c.requires.parts.1 mean16
+    mapped part16 _ xs ys c.parts.ensures sum
+    ∙ agreed_three mixed16 mul16 rest16 total whole rest a b t c.requires.above.1 c.requires.below.1 c.requires.weights.1 mean16
 
 pub returns-clause-bytes : goal.returns-clause-bytes
 returns-clause-bytes c =
-    let t = c.args.parts in
+    let t = c.args.weights in
     let a = c.args.above in
     let b = c.args.below in
-    let x_long = length-zip2 whole a t (c.fits-above.0 ∙ sym c.fits-parts.0) ∙ c.fits-above.0 in
-    let y_long = length-zip2 rest b t (c.fits-below.0 ∙ sym c.fits-parts.0) ∙ c.fits-below.0 in
+    let x_long = length-zip2 whole a t (c.fits-above.0 ∙ sym c.fits-weights.0) ∙ c.fits-above.0 in
+    let y_long = length-zip2 rest b t (c.fits-below.0 ∙ sym c.fits-weights.0) ∙ c.fits-below.0 in
     let long = length-zip2 total (zip2 whole a t) (zip2 rest b t) (x_long ∙ sym y_long) ∙ x_long in
     let value = returns-clause-value c in
     rw value (
       long,
-      small_three total whole rest a b t c.requires.above.1 c.requires.below.1 c.requires.parts.1 mean-byte,
+      small_three total whole rest a b t c.requires.above.1 c.requires.below.1 c.requires.weights.1 mean-byte,
     )

@@ -1,8 +1,8 @@
 use Rattle.std.proofs.Common.{◌≡◌, ℕ, ◌∙◌, sym}
 use Rattle.std.specs.Simd.Lanes.{zip2}
 use lib.ListN.{replicate}
-use Rattle.xl_blend.proofs.LaneWise.{both, first, second, splat, agreed}
-use Rattle.xl_blend.proofs.LaneArithmetic.{add16, sub16, mul16, shifted16, overlay16}
+use Rattle.xl_blend.proofs.LaneWise.{mapped, both, first, second, splat, agreed}
+use Rattle.xl_blend.proofs.LaneArithmetic.{add16, sub16, mul16, shifted16, part16, overlay16}
 use Rattle.xl_blend.proofs.lanes.overlays.Goals as goal
 
 pub returns : goal.returns
@@ -20,5 +20,4 @@ returns c =
     let double = both shifted16 _ _ i m (both add16 _ _ i m half carry) (number 7) in
     let product = both mul16 _ _ i m below (both add16 _ _ i m below double) in
     let sum = both add16 _ _ i m product (number 128) in
-    let whole = both add16 _ _ i m sum (both shifted16 _ _ i m sum (number 8)) in
-    both shifted16 _ _ i m whole (number 8) ∙ agreed _ _ _ i m c.requires.below.1 c.requires.above.1 overlay16
+    mapped part16 _ i m c.parts.ensures sum ∙ agreed _ _ _ i m c.requires.below.1 c.requires.above.1 overlay16
