@@ -1,25 +1,27 @@
 -- Short codes, told by their first byte.
 use Rattle.std.proofs.Common.{◌≡◌, ℕ, ◌+◌, ◌-◌, ◌*◌, ◌<◌, ◌≤◌, Bool, true, false, cond, List, length, slice_index}
 use Rattle.std.proofs.Common.{nat_lt, refl, sym, ap, ◌∙◌, arith}
-use Rattle.std.specs.Prelude.{Some, None, Option, nat_le, ◌==◌, ◌&&◌}
+use Rattle.std.specs.Prelude.{Some, None, nat_le, ◌==◌, ◌&&◌}
 use Rattle.std.proofs.lemmas.Bool.{lt-ltb, ltb-true, leb-true}
 use Rattle.std.proofs.lemmas.Bool.Decides.{nat_tests}
-use Rattle.spec_rle.specs.Reading.{Head, head_of}
+use Rattle.spec_rle.specs.Reading.{Head}
 use Rattle.xl_rle.specs.HeadAt.{run_by, literal_by}
 use Rattle.xl_rle.proofs.Steps.{Begins, not_lt}
+use Rattle.xl_rle.specs.declared.head.TheConstants.{BLOCK}
 
-pub run_is : (first count : ℕ) → Some count ≡ run_by first → (first < 32) × (count ≡ first + 1)
-run_is first count is = by (nat_lt first 32) refl is
+pub run_is : (first count : ℕ) → Some count ≡ run_by first → (first < BLOCK) × (count ≡ first + 1)
+run_is first count is = by (nat_lt first BLOCK) refl is
   where
-    by : (t : Bool) → nat_lt first 32 ≡ t → Some count ≡ cond t (Some (first + 1)) None → (first < 32) × (count ≡ first + 1)
-    by true e h = (ltb-true first 32 e, grind (arith, h))
+    by : (t : Bool) → nat_lt first BLOCK ≡ t → Some count ≡ cond t (Some (first + 1)) None → (first < BLOCK) × (count ≡ first + 1)
+    by true e h = (ltb-true first BLOCK e, grind (arith, h))
     by false e h = absurd (grind (arith, h))
 
-pub literal_is : (first count : ℕ) → Some count ≡ literal_by first → (224 ≤ first) × (count ≡ 256 - first)
-literal_is first count is = by (nat_le 224 first) refl is
+pub literal_is : (first count : ℕ) → Some count ≡ literal_by first → (256 - BLOCK ≤ first) × (count ≡ 256 - first)
+literal_is first count is = by (nat_le (256 - BLOCK) first) refl is
   where
-    by : (t : Bool) → nat_le 224 first ≡ t → Some count ≡ cond t (Some (256 - first)) None → (224 ≤ first) × (count ≡ 256 - first)
-    by true e h = (leb-true 224 first e, grind (arith, h))
+    by : (t : Bool) → nat_le (256 - BLOCK) first ≡ t → Some count ≡ cond t (Some (256 - first)) None
+        → (256 - BLOCK ≤ first) × (count ≡ 256 - first)
+    by true e h = (leb-true (256 - BLOCK) first e, grind (arith, h))
     by false e h = absurd (grind (arith, h))
 
 abbrev pub run_head : (at count : ℕ) → Head

@@ -16,7 +16,7 @@ const LONG_RUN: u8 = 127;
 const LONG_LITERAL: u8 = 128;
 
 /// Most codes give at most so many bytes. They are put by one write of so many: the codes behind put the rest.
-pub const BLOCK: usize = 32;
+pub const BLOCK: usize = 16;
 
 fn long_count(bytes: &[u8], at: usize) -> usize
     requires { at + 2 < length bytes.now }

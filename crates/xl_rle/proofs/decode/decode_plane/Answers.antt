@@ -1,4 +1,4 @@
-use Rattle.std.proofs.Common.{◌≡◌, ◌+◌, ◌<◌, ℕ, List, length, take, take_all, ◌∙◌, ◌-◌, ap, arith, refl, subst, Ok, Err}
+use Rattle.std.proofs.Common.{◌≡◌, ◌<◌, ℕ, List, length, take, take_all, ◌∙◌, ◌-◌, ap, arith, refl, subst, Ok, Err}
 use Rattle.std.proofs.lemmas.Result.{err_from_is_err_and}
 use Rattle.spec_rle.specs.Reading.{code_at}
 use Rattle.xl_rle.proofs.Steps.{stops, goes_on_part, goes_on_run, goes_on_literal, ends}

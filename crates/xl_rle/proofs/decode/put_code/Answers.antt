@@ -1,4 +1,4 @@
-use Rattle.std.proofs.Common.{◌≡◌, ◌+◌, ◌-◌, ◌++◌, ◌∙◌, ap, arith, sym, length, List, ℕ, take, Err}
+use Rattle.std.proofs.Common.{◌-◌, ◌++◌, ◌∙◌, ap, arith, sym, length, List, ℕ, take, Err}
 use Rattle.xl_rle.specs.HeadAt.{as_read}
 use Rattle.xl_rle.proofs.Steps.{cut, head_begins, too_long, too_many, short, one, pixels_of_run, pixels_of_literal}
 use Rattle.xl_rle.proofs.Walk.{length_of_body}
