@@ -17,9 +17,9 @@ use Rattle.spec_hierarchy.specs.Tiles.{tile_bytes, tile_plane, tile_width, tile_
 use Rattle.spec_hierarchy.specs.Holds.{HasSpelled, IsSpelledTile, HasTile, HaveTiles, HasPlane}
 use Rattle.spec_hierarchy.proofs.TilesOfPlane.{plane_of_tiles-tile_bytes}
 use Rattle.xl_tiles.specs.Joined.{IsJoined}
+use Rattle.xl_tiles.proofs.JoinedTiles.{joined_is}
 use Rattle.spec_hierarchy.specs.Layout.{words, places_from, AreSpelled, IsTile, AreTiles, IsWrittenPlane}
 use Rattle.xl_hier.proofs.Filling.{length_of_words, length_of_places}
-use Rattle.xl_hier.proofs.Joined.{joined_is}
 use Rattle.xl_hier.proofs.Over.{length-bytes_over}
 
 word_back : (n : ℕ) → n < 2 ^ 32 → word_value (to_be_bytes w32 n) 0 ≡ n

@@ -1,9 +1,8 @@
 -- What one code does to the plane that is read.
 use Rattle.std.proofs.Common.{◌≡◌, ℕ, zero, suc, ◌+◌, ◌-◌, ◌<◌, ◌≤◌, Bool, true, false, cond, List, [], ◌++◌, length}
-use Rattle.std.proofs.Common.{replicate, drop, slice_index, nat_lt, refl, ap, ◌∙◌, append_assoc, append-nil, sym}
-use Rattle.std.proofs.Common.{arith, inl, inr, length-drop, length-take-le}
+use Rattle.std.proofs.Common.{replicate, slice_index, nat_lt, refl, ap, ◌∙◌, append_assoc, append-nil, sym}
+use Rattle.std.proofs.Common.{arith, inl, inr}
 use Rattle.std.specs.Prelude.{Some, Ok, Err, nat_le}
-use Rattle.std.proofs.lemmas.List.{length-replicate}
 use Rattle.std.proofs.lemmas.Bool.{lt-ltb, le-leb, cases_lt}
 use Rattle.std.proofs.lemmas.Bool.Decides.{nat_tests}
 use Rattle.spec_fields.specs.declared.Kind.TheVariants.{Truncated, BadRun}
@@ -214,29 +213,6 @@ goes_on {so_far = so_far} {file = file} {at = at} {room = room} {filled = filled
     let part : Part = record { pixels = body_pixels file h; next = h.body + body_length h } in
     goes_on_part reading part some more (one file at left (room - filled) h b fits some whole)
     (omega (arith, count, fits, more)) front next _ front_is next_is (omega (arith, count))
-
-pub goes_on_run : {so_far file : List ℕ} {from at room filled left : ℕ} → Reading so_far file from at room filled left → (h : Head)
-    → Begins file at h → h.is_run ≡ true → 0 < left
-    → filled < room → h.count ≤ room - filled → h.body < length file → (front : List ℕ)
-    → front ≡ so_far ++ replicate h.count (slice_index file h.body)
-    → (next : ℕ) → next ≡ h.body + 1 → Reading front file from next room (filled + h.count) (left - 1)
-goes_on_run {so_far = so_far} {file = file} reading h b run some more fits whole front front_is next next_is =
-    let pixels = pixels_of_run file h run in
-    goes_on reading h b some more fits (omega (arith, length_of_run h run, whole)) front next
-    (front_is ∙ ap (λ zs. so_far ++ zs) (sym pixels)) (ap length pixels
-    ∙ length-replicate h.count (slice_index file h.body)) (omega (arith, length_of_run h run, next_is))
-
-pub goes_on_literal : {so_far file : List ℕ} {from at room filled left : ℕ} → Reading so_far file from at room filled left
-    → (h : Head) → Begins file at h → h.is_run ≡ false → 0 < left
-    → filled < room → h.count ≤ room - filled → h.body + h.count ≤ length file → (front : List ℕ)
-    → front ≡ so_far ++ bytes_at file h.body h.count
-    → (next : ℕ) → next ≡ h.body + h.count → Reading front file from next room (filled + h.count) (left - 1)
-goes_on_literal {so_far = so_far} {file = file} reading h b literal some more fits whole front front_is next next_is =
-    let pixels = pixels_of_literal file h literal in
-    let long : h.count ≤ length (drop h.body file) = omega (arith, length-drop h.body file, whole) in
-    goes_on reading h b some more fits (omega (arith, length_of_literal h literal, whole)) front next
-    (front_is ∙ ap (λ zs. so_far ++ zs) (sym pixels)) (ap length pixels
-    ∙ length-take-le h.count (drop h.body file) long) (omega (arith, length_of_literal h literal, next_is))
 
 pub ends : {so_far file : List ℕ} {from at room filled left : ℕ} → Reading so_far file from at room filled left → room ≤ filled
     → plane_at file from room ≡ Ok (record { pixels = so_far; next = at })

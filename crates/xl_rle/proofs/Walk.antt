@@ -7,7 +7,7 @@ use Rattle.spec_fields.specs.declared.ReadRefused.{ReadRefused}
 use Rattle.spec_fields.specs.Field.{bytes_at}
 use Rattle.spec_rle.specs.Reading.{Head, body_length, body_pixels, code_at, plane_at}
 use Rattle.xl_rle.specs.NextOf.{next_of}
-use Rattle.xl_rle.proofs.Steps.{Begins, Reading, stops, goes_on, ends, length_of_run, length_of_literal}
+use Rattle.xl_rle.proofs.Steps.{Begins, Reading, stops, goes_on, ends}
 
 -- so many bytes are still wanted
 pub record Walking (file : List ℕ) (from at room wanted left : ℕ) : Type 0 where
@@ -54,11 +54,3 @@ walk_goes_on {file = file} {from = from} {at = at} {room = room} {wanted = wante
 pub walk_ends : {file : List ℕ} {from at room wanted left : ℕ} → Walking file from at room wanted left → wanted ≤ 0
     → Ok at ≡ next_of (plane_at file from room)
 walk_ends w none = sym (ap next_of (ends w.reading (omega (arith, none))))
-
--- a code of some bytes takes at most as many behind its head
-pub body_at_most : (h : Head) → 0 < h.count → body_length h ≤ h.count
-body_at_most h some = by h.is_run refl
-  where
-    by : (b : Bool) → h.is_run ≡ b → body_length h ≤ h.count
-    by true e = omega (arith, length_of_run h e, some)
-    by false e = omega (arith, length_of_literal h e)

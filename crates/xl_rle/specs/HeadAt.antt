@@ -15,9 +15,9 @@ HeadAt file at None = length file < (head_of file at (slice_index file at)).body
 HeadAt file at (Some h) = (as_read h ≡ head_of file at (slice_index file at)) × (at < h.body) × (h.body ≤ length file)
 
 -- how many bytes a run gives that begins with this byte, where it is of one byte and gives a block at most
-abbrev pub run_by : (first : ℕ) → Option ℕ
-run_by first = if nat_lt first BLOCK then Some (first + 1) else None
+abbrev pub short_run_length : (first : ℕ) → Option ℕ
+short_run_length first = if nat_lt first BLOCK then Some (first + 1) else None
 
 -- the same of literal bytes
-abbrev pub literal_by : (first : ℕ) → Option ℕ
-literal_by first = if nat_le (256 - BLOCK) first then Some (256 - first) else None
+abbrev pub short_literal_length : (first : ℕ) → Option ℕ
+short_literal_length first = if nat_le (256 - BLOCK) first then Some (256 - first) else None

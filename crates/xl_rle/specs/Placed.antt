@@ -6,7 +6,7 @@ use Rattle.spec_rle.specs.Reading.{Part}
 use Rattle.xl_rle.specs.declared.decode.Placed.{Placed}
 
 -- the part of the code stands behind what was filled, and a code was still allowed
-pub record IsBehind (placed : Placed) (filled codes : ℕ) (old new : List ℕ) (read : Read Part) : Type 0 where
+pub record IsPutBehind (placed : Placed) (filled codes : ℕ) (old new : List ℕ) (read : Read Part) : Type 0 where
   pub part : Part
   pub is : read ≡ Ok part
   pub allowed : 0 < codes
@@ -16,6 +16,6 @@ pub record IsBehind (placed : Placed) (filled codes : ℕ) (old new : List ℕ) 
   pub next : placed.at ≡ part.next
 
 -- the same, or the fault of the code
-abbrev pub IsPlaced : Result Placed ReadRefused → (filled codes : ℕ) → (old new : List ℕ) → Read Part → Type 0
-IsPlaced (Ok placed) filled codes old new read = IsBehind placed filled codes old new read
-IsPlaced (Err e) filled codes old new read = read ≡ Err e
+abbrev pub PutsCode : Result Placed ReadRefused → (filled codes : ℕ) → (old new : List ℕ) → Read Part → Type 0
+PutsCode (Ok placed) filled codes old new read = IsPutBehind placed filled codes old new read
+PutsCode (Err e) filled codes old new read = read ≡ Err e

@@ -1,6 +1,6 @@
 ghost use Rattle.std.specs.Prelude.{◌≡◌, ◌<◌, ◌≤◌, ◌+◌, ◌-◌, ◌++◌, length, take, drop, replicate};
 ghost use Rattle.spec_rle.specs.Reading.{code_at, plane_at};
-ghost use Rattle.xl_rle.specs.Placed.{IsPlaced};
+ghost use Rattle.xl_rle.specs.Placed.{PutsCode};
 ghost use Rattle.xl_rle.specs.PlaneOf.{PlaneOf};
 
 use crate::head::{BLOCK, body_length, head_at, is_ample, short_literal, short_run};
@@ -62,7 +62,7 @@ fn put_code(
     left: usize,
 ) -> Result<Placed, ReadRefused>
     requires { filled < length out.old }
-    ensures { IsPlaced result filled left out.old out.new (code_at bytes.now at left (length out.old - filled)) }
+    ensures { PutsCode result filled left out.old out.new (code_at bytes.now at left (length out.old - filled)) }
 {
     let Some(head) = head_at(bytes, at) else {
         return Err(refused(Kind::Truncated, at));

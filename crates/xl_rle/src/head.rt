@@ -1,6 +1,6 @@
 ghost use Rattle.std.specs.Prelude.{◌≡◌, ◌<◌, ◌≤◌, ◌+◌, ◌*◌, ◌&&◌, length, nat_le, slice_index};
 ghost use Rattle.spec_rle.specs.Reading as plane;
-ghost use Rattle.xl_rle.specs.HeadAt.{HeadAt, as_read, literal_by, run_by};
+ghost use Rattle.xl_rle.specs.HeadAt.{HeadAt, as_read, short_literal_length, short_run_length};
 
 /// The head of a code: how many bytes of the plane it gives, and where its value or its bytes begin.
 #[derive(Clone, Copy)]
@@ -68,7 +68,7 @@ pub fn body_length(head: Head) -> usize
 /// value is the byte behind it.
 #[inline(always)]
 pub fn short_run(first: u8) -> Option<usize>
-    ensures { result ≡ run_by first }
+    ensures { result ≡ short_run_length first }
 {
     if first as usize >= BLOCK {
         return None;
@@ -79,7 +79,7 @@ pub fn short_run(first: u8) -> Option<usize>
 /// How many bytes of the plane stand behind this byte, where it begins short literals of a block at most.
 #[inline(always)]
 pub fn short_literal(first: u8) -> Option<usize>
-    ensures { result ≡ literal_by first }
+    ensures { result ≡ short_literal_length first }
 {
     if (first as usize) < 256 - BLOCK {
         return None;

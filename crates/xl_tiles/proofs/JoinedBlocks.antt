@@ -1,21 +1,20 @@
 -- Blocks of pixels that are joined from planes.
 use Rattle.std.proofs.Common.{◌≡◌, ℕ, zero, suc, ◌+◌, ◌-◌, ◌*◌, ◌/◌, ◌%◌, ◌<◌, ◌≤◌, List, [], ◌++◌, length}
-use Rattle.std.proofs.Common.{length-take-le, take, drop, map, slice_index, inl, inr, sym, ap, ◌∙◌, arith}
+use Rattle.std.proofs.Common.{length-take-le, take, drop, slice_index, inl, inr, sym, ap, ◌∙◌, arith}
 use Rattle.std.specs.Prelude.{Ok, Err, slice_index_or, MatchResult}
 use Rattle.std.proofs.lemmas.Bool.{cases_lt}
 use Rattle.std.proofs.lemmas.Bool.Decides.{nat_tests}
-use Rattle.std.proofs.lemmas.List.{ext_get_or, get_or-take, get_or-drop, get_or_append_left, get_or-append_right}
+use Rattle.std.proofs.lemmas.List.{get_or-take, get_or-drop, get_or_append_left, get_or-append_right}
 use Rattle.std.proofs.lemmas.Nat.{div-add-mod'}
 use Rattle.std.proofs.Math.Nat.{mod-lt, div-lt_iff_lt-mul}
 use borrow.Rule.Slice.PartMut.{put_mid, post_of}
-use Rattle.spec_document.proofs.PlaneLemmas.{index-pieces, length-pieces}
 use Rattle.spec_fields.specs.Reading.{Read, ◌>>=◌}
 use Rattle.spec_hierarchy.specs.Tiles.{interleaved}
 use Rattle.spec_hierarchy.specs.Reading.{spelled_at, tile_at}
 use Rattle.xl_tiles.specs.Block.{byte_after}
 use Rattle.xl_tiles.specs.Joined.{pieces}
 use Rattle.xl_tiles.specs.Packed.{packed, IsPacked}
-use Rattle.xl_tiles.proofs.JoinedTiles.{length_mapped, index_mapped, length_of_pieces, positive_right, tile_stops}
+use Rattle.xl_tiles.proofs.JoinedTiles.{length_of_pieces, positive_right, byte_of_interleaved, joined_is, tile_stops}
 use Rattle.xl_tiles.proofs.PackedTiles.{unpacked}
 
 -- a byte of one of the planes
@@ -33,15 +32,7 @@ byte_of_piece (suc b) n bytes k (suc c) hk hc =
 pub byte_of_pixel : (b n : ℕ) (bytes : List ℕ) (k c : ℕ) → k < n → c < b
     → slice_index (interleaved n (pieces b n bytes)) (k * b + c) ≡ slice_index bytes (c * n + k)
 byte_of_pixel b n bytes k c hk hc =
-    let planes = pieces b n bytes in
-    let pixel : ℕ → List ℕ = λ v. map (λ plane. slice_index plane v) planes in
-    let each : (v : ℕ) → length (pixel v) ≡ b = λ v. length_mapped (λ plane. slice_index plane v) planes
-    ∙ length_of_pieces b n bytes in
-    let start : 0 + k ≡ k = omega arith in
-    index-pieces pixel b each 0 n k c hk hc
-    ∙ (ap (λ v. slice_index (pixel v) c) start
-    ∙ (index_mapped (λ plane. slice_index plane k) planes c (omega (arith, hc, length_of_pieces b n bytes))
-    ∙ byte_of_piece b n bytes k c hk hc))
+    byte_of_interleaved b n (pieces b n bytes) k c (length_of_pieces b n bytes) hk hc ∙ byte_of_piece b n bytes k c hk hc
 
 -- a byte of a row of pixels
 byte_of_row : (b n first w : ℕ) (bytes pixels : List ℕ) → first + w ≤ n
@@ -63,14 +54,9 @@ pub all_pixels : (b n : ℕ) (bytes pixels : List ℕ) → length pixels ≡ n *
     → ((k c : ℕ) → k < n → c < b → slice_index pixels (k * b + c) ≡ slice_index bytes (c * n + (0 + k)))
     → pixels ≡ interleaved n (pieces b n bytes)
 all_pixels b n bytes pixels size joined =
-    let planes = pieces b n bytes in
-    let pixel : ℕ → List ℕ = λ v. map (λ plane. slice_index plane v) planes in
-    let each : (v : ℕ) → length (pixel v) ≡ b = λ v. length_mapped (λ plane. slice_index plane v) planes
-    ∙ length_of_pieces b n bytes in
-    ext_get_or 0 pixels (interleaved n planes) (size ∙ sym (length-pieces pixel b each 0 n)) (λ j within.
-    let start : 0 * b + j ≡ j = omega arith in
-    byte_of_row b n 0 n bytes pixels (omega arith) joined j (omega (arith, within, size))
-    ∙ ap (slice_index (interleaved n planes)) start)
+    joined_is b n (pieces b n bytes) pixels (length_of_pieces b n bytes) size (λ k c hk hc.
+    let place : c * n + (0 + k) ≡ c * n + k = omega arith in
+    joined k c hk hc ∙ (ap (slice_index bytes) place ∙ sym (byte_of_piece b n bytes k c hk hc)))
 
 -- a part of bytes is written
 put_part : (xs ys : List ℕ) (a n m : ℕ) (new : ℕ → ℕ) → m ≡ n → length ys ≡ n → a + n ≤ length xs

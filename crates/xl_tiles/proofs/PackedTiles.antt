@@ -12,6 +12,7 @@ use Rattle.spec_fields.specs.Reading.{fault, wants}
 use Rattle.spec_fields.proofs.Back.{wants_back}
 use Rattle.spec_fields.proofs.Steps.{pass}
 use Rattle.std.proofs.lemmas.Bool.{le-leb, leb-true}
+use Rattle.std.proofs.lemmas.List.{length-map}
 use Rattle.std.proofs.lemmas.Bool.Decides.{nat_tests}
 use Rattle.std.proofs.Math.Dec.{eqb-suc-zero}
 use Rattle.spec_rle.specs.Reading.{Part, plane_at}
@@ -116,16 +117,12 @@ pub unpacked : (file : List ℕ) (at n bpp compression : ℕ) (tile : List ℕ) 
     → tile ≡ packed file at n bpp compression
 unpacked file at n bpp compression tile h e = ok_is [] (sym e ∙ h.reads)
 
-length_mapped : (g : List ℕ → ℕ) (xs : List (List ℕ)) → length (map g xs) ≡ length xs
-length_mapped g [] = refl
-length_mapped g (x ∷ xs) = omega (arith, length_mapped g xs)
-
 size_of : (file : List ℕ) (at n bpp : ℕ) (tile : List ℕ) (plain : Bool)
     → MatchBool plain (HasBytes file at tile × (length tile ≡ n * bpp)) (IsSpelledTile file at n bpp tile) → length tile ≡ n * bpp
 size_of file at n bpp tile true h = h.1
 size_of file at n bpp tile false h =
     ap length h.tile_is ∙ length-pieces (λ k. map (λ plane. slice_index plane k) h.planes) bpp
-    (λ v. length_mapped (λ plane. slice_index plane v) h.planes ∙ h.as_many) 0 n
+    (λ v. length-map h.planes (λ plane. slice_index plane v) ∙ h.as_many) 0 n
 
 read_is : (r : Read (List ℕ)) → Ok tt ≡ done r → r ≡ Ok (bytes_or_none r)
 read_is (Ok x) e = refl

@@ -1,46 +1,30 @@
-use Rattle.std.proofs.Common.{◌≡◌, ◌<◌, ℕ, List, length, take, take_all, ◌∙◌, ◌-◌, ap, arith, refl, subst, Ok, Err}
+use Rattle.std.proofs.Common.{◌≡◌, ◌<◌, ℕ, List, length, take, take_all, ◌∙◌, ◌-◌, ap, arith, subst, Ok, Err}
 use Rattle.std.proofs.lemmas.Result.{err_from_is_err_and}
 use Rattle.spec_rle.specs.Reading.{code_at}
-use Rattle.xl_rle.proofs.Steps.{stops, goes_on_part, goes_on_run, goes_on_literal, ends}
-use Rattle.xl_rle.proofs.Short.{run_is, literal_is, run_head, literal_head, run_begins, literal_begins}
+use Rattle.xl_rle.proofs.Steps.{stops, goes_on_part, ends}
+use Rattle.xl_rle.proofs.Short.{literal_is, run_is_short, literal_is_short, read_over_short}
+use Rattle.xl_rle.specs.declared.head.TheConstants.{BLOCK}
 use Rattle.xl_rle.proofs.decode.decode_plane.Goals as goal
 use Rattle.xl_rle.proofs.decode.decode_plane.Goals.{in-Some, in_default+in-Some-short_literal}
 
 pub loop-first-preserved : goal.loop-first-preserved
 loop-first-preserved c =
-    let reading = c.loop-first.invariant.0 in
     let file = c.args.bytes.now in
     let at = c.loop-first.at in
     let ample = c.loop-first.invariant.3 c.loop-first-test.true in
-    let within = ample.0 in
-    let room = ample.1 in
-    let inside : at < length file = omega (arith, room) in
+    let inside : at < length file = omega (arith, ample.1) in
+    let more : BLOCK < length c.args.out.now - c.loop-first.filled = omega arith in
     elim c.match-short_run.branch [
       | in-Some w ↦
-          let count = w.in-Some.count in
-          let found = run_is _ _ w.in-Some.ensures in
-          let few = found.0 in
-          let is = found.1 in (
-            rw w.filled-is (goes_on_run reading (run_head at count) (run_begins file at count inside w.in-Some.ensures) refl
-                (omega (arith, within)) (omega arith) (omega (arith, few, is)) (omega (arith, room)) _
-                (rw w.out-is w.put_short_run.ensures) _ (omega (arith, w.at-is))),
-            omega (arith, w.filled-is, few, is),
-            omega (arith, c.loop-first.invariant.2),
-            λ _. (omega (arith, within, w.filled-is, is), omega (arith, room, w.filled-is, w.at-is, is, few)),
-          )
+          let short = run_is_short file at w.in-Some.count c.match-short_run.at inside w.in-Some.ensures (omega (arith, w.at-is)) in
+          rw w.filled-is (read_over_short c.loop-first.invariant.0 short ample more c.loop-first.invariant.2 _
+          (rw w.out-is w.put_short_run.ensures))
       | in_default+in-Some-short_literal w ↦
-          let count = w.in-Some-short_literal.count in
           let found = literal_is _ _ w.in-Some-short_literal.ensures in
-          let few = found.0 in
-          let is = found.1 in (
-            rw w.filled-is (goes_on_literal reading (literal_head at count)
-                (literal_begins file at count inside w.in-Some-short_literal.ensures) refl
-                (omega (arith, within)) (omega arith) (omega (arith, few, is)) (omega (arith, room, few, is)) _
-                (rw w.out-is w.put_short_literal.ensures) _ (omega (arith, w.at-is))),
-            omega (arith, w.filled-is, few, is),
-            omega (arith, c.loop-first.invariant.2),
-            λ _. (omega (arith, within, w.filled-is, is), omega (arith, room, w.filled-is, w.at-is, is, few)),
-          )
+          let short = literal_is_short file at w.in-Some-short_literal.count c.match-short_run.at inside
+          w.in-Some-short_literal.ensures (omega (arith, found.1)) (omega (arith, w.at-is)) in
+          rw w.filled-is (read_over_short c.loop-first.invariant.0 short ample more c.loop-first.invariant.2 _
+          (rw w.out-is w.put_short_literal.ensures))
     ]
 
 pub returns-in_err-placed : goal.returns-in_err-placed

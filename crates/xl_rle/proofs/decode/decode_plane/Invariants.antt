@@ -1,7 +1,7 @@
-use Rattle.std.proofs.Common.{◌≡◌, ◌+◌, ◌-◌, ◌*◌, ◌<◌, ◌≤◌, true, length, take}
+use Rattle.std.proofs.Common.{◌≡◌, ◌-◌, ◌<◌, ◌≤◌, true, length, take}
+use Rattle.xl_rle.proofs.Short.{IsAmple}
 use Rattle.xl_rle.proofs.Steps.{Reading}
 use Rattle.xl_rle.proofs.decode.decode_plane.Given as goal
-use Rattle.xl_rle.specs.declared.head.TheConstants.{BLOCK}
 
 -- what is read so far stands at the front of the plane
 abbrev pub invariant-loop-filled : goal.invariant-loop-filled
@@ -16,7 +16,7 @@ invariant-loop-first l =
     Reading (take l.filled l.out) l.bytes l.fn.at l.at (length l.fn.out) l.filled l.left
     × (l.filled < length l.fn.out)
     × (l.left ≤ l.initial.left)
-    × (l.ample ≡ true → (length l.fn.out - l.filled ≤ l.left) × (l.at + 2 * (length l.fn.out - l.filled) + BLOCK ≤ length l.bytes))
+    × (l.ample ≡ true → IsAmple l.bytes l.at (length l.fn.out - l.filled) l.left)
 
 abbrev pub decreases-loop-first : goal.decreases-loop-first
 decreases-loop-first l = l.left
