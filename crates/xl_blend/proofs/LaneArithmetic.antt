@@ -9,6 +9,7 @@ use Rattle.spec_blend.specs.declared.Mode.TheVariants.{Overlay, HardLight, SoftL
 use Rattle.spec_blend.specs.declared.Mode.TheVariants.{GrainExtract, GrainMerge, Normal, Multiply, Screen}
 use Rattle.spec_blend.specs.declared.Mode.TheVariants.{Subtract, DarkenOnly, LightenOnly}
 use Rattle.spec_blend.specs.Blend.{mul, screen, blend}
+use Rattle.spec_blend.specs.Over.{mean}
 use Rattle.spec_blend.proofs.OverLemmas.{mul-le_left, mul-le_right}
 use Rattle.xl_blend.proofs.Weighed.{weighed}
 use Rattle.xl_blend.proofs.Products.{screen_by_product, rest_of_product, overlay_fits, double_part}
@@ -180,17 +181,10 @@ rest16 b t = mul16 b (sub16 255 t)
 sum_of : (x y : ℕ) → x + y ≤ 65025 → mixed16 (x % 65536) (y % 65536) ≡ (2 * (x + y) + 255) / 510
 sum_of x y small = omega arith
 
-pub mean16 : (a b t : ℕ) → a ≤ 255 → b ≤ 255 → t ≤ 255
-    → mixed16 (mul16 a t) (rest16 b t) ≡ (2 * (a * t + b * (255 - t)) + 255) / 510
-mean16 a b t a_small b_small t_small =
+pub mean16 : (t a b : ℕ) → t ≤ 255 → a ≤ 255 → b ≤ 255 → mixed16 (mul16 a t) (rest16 b t) ≡ mean 255 t a b
+mean16 t a b t_small a_small b_small =
     let rest : sub16 255 t ≡ 255 - t = omega arith in
     rw rest (sum_of (a * t) (b * (255 - t)) (weighed t a b t_small a_small b_small))
-
-mean_small : (x y : ℕ) → x + y ≤ 65025 → (2 * (x + y) + 255) / 510 ≤ 255
-mean_small x y small = omega arith
-
-pub mean-byte : (a b t : ℕ) → a ≤ 255 → b ≤ 255 → t ≤ 255 → (2 * (a * t + b * (255 - t)) + 255) / 510 ≤ 255
-mean-byte a b t a_small b_small t_small = mean_small (a * t) (b * (255 - t)) (weighed t a b t_small a_small b_small)
 
 -- ---- the modes of at most one product
 pub normal16 : (i m : ℕ) → i ≤ 255 → m ≤ 255 → m ≡ blend Normal i m

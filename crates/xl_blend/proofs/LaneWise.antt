@@ -97,31 +97,40 @@ pub small : (F : ℕ → ℕ → ℕ) (is ms : List ℕ) → AreBytes is → Are
 small F is ms i_bytes m_bytes byte =
     (length-zip2 F is ms (i_bytes.0 ∙ sym m_bytes.0) ∙ i_bytes.0, small_at F is ms i_bytes.1 m_bytes.1 byte)
 
--- ---- the same of two results, each of a vector and of one that they share
-pub agreed_three : (R P Q S T U : ℕ → ℕ → ℕ) (xs ys ts : List ℕ) → Each1 (λ x. x ≤ 255) xs → Each1 (λ x. x ≤ 255) ys
-    → Each1 (λ x. x ≤ 255) ts
-    → ((x y t : ℕ) → x ≤ 255 → y ≤ 255 → t ≤ 255 → R (P x t) (Q y t) ≡ S (T x t) (U y t))
-    → zip2 R (zip2 P xs ts) (zip2 Q ys ts) ≡ zip2 S (zip2 T xs ts) (zip2 U ys ts)
-agreed_three R P Q S T U [] ys ts x_small y_small t_small same = refl
-agreed_three R P Q S T U (x ∷ xs) ys [] x_small y_small t_small same = refl
-agreed_three R P Q S T U (x ∷ xs) [] (t ∷ ts) x_small y_small t_small same = refl
-agreed_three R P Q S T U (x ∷ xs) (y ∷ ys) (t ∷ ts) x_small y_small t_small same =
-    let head : R (P x t) (Q y t) ≡ S (T x t) (U y t) = same x y t x_small.0 y_small.0 t_small.0 in
-    let tail : zip2 R (zip2 P xs ts) (zip2 Q ys ts) ≡ zip2 S (zip2 T xs ts) (zip2 U ys ts) =
-    agreed_three R P Q S T U xs ys ts x_small.1 y_small.1 t_small.1 same in
+-- ---- a function of three vectors
+pub agreed_three : (R P Q : ℕ → ℕ → ℕ) (F : ℕ → ℕ → ℕ → ℕ) (ts xs ys : List ℕ) → Each1 (λ x. x ≤ 255) ts
+    → Each1 (λ x. x ≤ 255) xs → Each1 (λ x. x ≤ 255) ys
+    → ((t x y : ℕ) → t ≤ 255 → x ≤ 255 → y ≤ 255 → R (P x t) (Q y t) ≡ F t x y)
+    → zip2 R (zip2 P xs ts) (zip2 Q ys ts) ≡ zip2 (λ (f : ℕ → ℕ) (y : ℕ). f y) (zip2 F ts xs) ys
+agreed_three R P Q F [] [] ys t_small x_small y_small same = refl
+agreed_three R P Q F [] (x ∷ xs) ys t_small x_small y_small same = refl
+agreed_three R P Q F (t ∷ ts) [] ys t_small x_small y_small same = refl
+agreed_three R P Q F (t ∷ ts) (x ∷ xs) [] t_small x_small y_small same = refl
+agreed_three R P Q F (t ∷ ts) (x ∷ xs) (y ∷ ys) t_small x_small y_small same =
+    let head : R (P x t) (Q y t) ≡ F t x y = same t x y t_small.0 x_small.0 y_small.0 in
+    let tail : zip2 R (zip2 P xs ts) (zip2 Q ys ts) ≡ zip2 (λ (f : ℕ → ℕ) (y : ℕ). f y) (zip2 F ts xs) ys =
+    agreed_three R P Q F ts xs ys t_small.1 x_small.1 y_small.1 same in
     cc
 
-pub small_three : (R P Q : ℕ → ℕ → ℕ) (xs ys ts : List ℕ) → Each1 (λ x. x ≤ 255) xs → Each1 (λ x. x ≤ 255) ys
-    → Each1 (λ x. x ≤ 255) ts
-    → ((x y t : ℕ) → x ≤ 255 → y ≤ 255 → t ≤ 255 → R (P x t) (Q y t) ≤ 255)
-    → Each1 (λ x. x ≤ 255) (zip2 R (zip2 P xs ts) (zip2 Q ys ts))
-small_three R P Q [] ys ts x_small y_small t_small byte = tt
-small_three R P Q (x ∷ xs) ys [] x_small y_small t_small byte = tt
-small_three R P Q (x ∷ xs) [] (t ∷ ts) x_small y_small t_small byte = tt
-small_three R P Q (x ∷ xs) (y ∷ ys) (t ∷ ts) x_small y_small t_small byte = (
-  byte x y t x_small.0 y_small.0 t_small.0,
-  small_three R P Q xs ys ts x_small.1 y_small.1 t_small.1 byte,
+small_three_at : (F : ℕ → ℕ → ℕ → ℕ) (ts xs ys : List ℕ) → Each1 (λ x. x ≤ 255) ts → Each1 (λ x. x ≤ 255) xs
+    → Each1 (λ x. x ≤ 255) ys → ((t x y : ℕ) → t ≤ 255 → x ≤ 255 → y ≤ 255 → F t x y ≤ 255)
+    → Each1 (λ x. x ≤ 255) (zip2 (λ (f : ℕ → ℕ) (y : ℕ). f y) (zip2 F ts xs) ys)
+small_three_at F [] xs ys t_small x_small y_small byte = tt
+small_three_at F (t ∷ ts) [] ys t_small x_small y_small byte = tt
+small_three_at F (t ∷ ts) (x ∷ xs) [] t_small x_small y_small byte = tt
+small_three_at F (t ∷ ts) (x ∷ xs) (y ∷ ys) t_small x_small y_small byte = (
+  byte t x y t_small.0 x_small.0 y_small.0,
+  small_three_at F ts xs ys t_small.1 x_small.1 y_small.1 byte,
 )
+
+pub small_three : (F : ℕ → ℕ → ℕ → ℕ) (ts xs ys : List ℕ) → AreBytes ts → AreBytes xs → AreBytes ys
+    → ((t x y : ℕ) → t ≤ 255 → x ≤ 255 → y ≤ 255 → F t x y ≤ 255)
+    → AreBytes (zip2 (λ (f : ℕ → ℕ) (y : ℕ). f y) (zip2 F ts xs) ys)
+small_three F ts xs ys t_bytes x_bytes y_bytes byte =
+    let long : length (zip2 F ts xs) ≡ 16 = length-zip2 F ts xs (t_bytes.0 ∙ sym x_bytes.0) ∙ t_bytes.0 in (
+      length-zip2 (λ (f : ℕ → ℕ) (y : ℕ). f y) (zip2 F ts xs) ys (long ∙ sym y_bytes.0) ∙ long,
+      small_three_at F ts xs ys t_bytes.1 x_bytes.1 y_bytes.1 byte,
+    )
 
 -- ---- the lesser, the greater and the difference of two numbers of 16 bits
 pub lesser : (x y : ℕ) → cond (ltb x y) x y ≡ min x y

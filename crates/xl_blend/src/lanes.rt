@@ -33,9 +33,10 @@ fn less(a: u16x16, b: u16x16) -> u16x16
     a.saturating_sub(b)
 }
 
-/// The numbers n + n / 256 in parts of 256: with the high halves of products these take one instruction.
+/// The numbers (n + n / 256) / 256. Where n is a product and 128, this is the product divided by 255, rounded to
+/// the nearest. With the high halves of products it takes one instruction.
 #[inline(always)]
-fn parts(of: u16x16) -> u16x16
+fn divided_by_255(of: u16x16) -> u16x16
     ensures { result ≡ map (λ n. (n + n / 256) / 256) of }
 {
     ((of.cast::<u32>() * u32x16::splat(257)) >> 16).cast::<u16>()
@@ -49,7 +50,7 @@ fn products(a: u16x16, b: u16x16) -> u16x16
     ensures value { result ≡ zip2 product a b }
     ensures bytes { AreBytes result }
 {
-    parts(a * b + u16x16::splat(128))
+    divided_by_255(a * b + u16x16::splat(128))
 }
 
 /// The values of `Screen`.
@@ -72,7 +73,7 @@ fn overlays(i: u16x16, m: u16x16) -> u16x16
 {
     let half = m * (u16x16::splat(255) - i) + u16x16::splat(64);
     let double = (half + (((half >> 7) + (half >> 15)) >> 1)) >> 7;
-    parts(i * (i + double) + u16x16::splat(128))
+    divided_by_255(i * (i + double) + u16x16::splat(128))
 }
 
 /// The values of `HardLight`.
@@ -135,5 +136,5 @@ pub fn mixes(weights: u16x16, above: u16x16, below: u16x16) -> u16x16
     ensures value { result ≡ means weights above below }
     ensures bytes { AreBytes result }
 {
-    parts(above * weights + below * (u16x16::splat(255) - weights) + u16x16::splat(128))
+    divided_by_255(above * weights + below * (u16x16::splat(255) - weights) + u16x16::splat(128))
 }

@@ -1,5 +1,5 @@
 //! Pieces of rows over opaque ones, in any mode.
-ghost use Rattle.std.specs.Prelude.{◌≡◌, ℕ, ◌≤◌, ◌<◌, true, length, slice_index_or};
+ghost use Rattle.std.specs.Prelude.{◌≡◌, ℕ, ◌+◌, ◌≤◌, ◌<◌, true, length, slice_index_or};
 ghost use Rattle.spec_blend.specs.Over.{clear, IsPixel};
 ghost use Rattle.xl_blend.specs.Lanes.{has_lanes};
 ghost use Rattle.xl_blend.specs.Rows.{opaque_rows, opaque_so_far};
@@ -14,6 +14,7 @@ fn lay_fours(mode: Mode, below: &mut [Pixel], above: &[Pixel]) -> usize
     requires lengths { length below.old ≡ length above.now }
     requires mode { has_lanes mode ≡ true }
     ensures within { result ≤ length below.new }
+    ensures most { length below.new < result + 4 }
     ensures pixels { (k : ℕ) → k < result → IsPixel (slice_index_or above.now k clear) }
     ensures done { opaque_so_far mode result below.new above.now ≡ opaque_rows mode below.old above.now }
 {
@@ -39,27 +40,6 @@ fn lay_ones(mode: Mode, below: &mut [Pixel], above: &[Pixel], from: usize)
     }
 }
 
-/// The few pixels that are left.
-#[inline(never)]
-fn lay_rest(mode: Mode, below: &mut [Pixel], above: &[Pixel], from: usize)
-    requires lengths { length below.old ≡ length above.now }
-    requires within { from ≤ length below.old }
-    ensures pixels { (k : ℕ) → from ≤ k → k < length above.now → IsPixel (slice_index_or above.now k clear) }
-    ensures done { below.new ≡ opaque_so_far mode from below.old above.now }
-{
-    lay_ones(mode, below, above, from);
-}
-
-/// All pixels one at a time.
-#[inline(always)]
-fn lay_singly(mode: Mode, below: &mut [Pixel], above: &[Pixel])
-    requires { length below.old ≡ length above.now }
-    ensures pixels { (k : ℕ) → k < length above.now → IsPixel (slice_index_or above.now k clear) }
-    ensures done { below.new ≡ opaque_rows mode below.old above.now }
-{
-    lay_ones(mode, below, above, 0);
-}
-
 /// All pixels, as many as can be four at a time.
 #[inline(always)]
 fn lay_in_lanes(mode: Mode, below: &mut [Pixel], above: &[Pixel])
@@ -69,11 +49,12 @@ fn lay_in_lanes(mode: Mode, below: &mut [Pixel], above: &[Pixel])
     ensures done { below.new ≡ opaque_rows mode below.old above.now }
 {
     let done = lay_fours(mode, below, above);
-    lay_rest(mode, below, above, done);
+    lay_ones(mode, below, above, done);
 }
 
 /// Pixels over opaque ones. Each arm names its mode, so that its loop is compiled for that mode
 /// alone. The clause `pixels` is there for the callers, which read no pixel.
+#[tactic(auto, unfolding(crate::specs::Rows::so_far))]
 pub fn lay_over_opaque(mode: Mode, below: &mut [Pixel], above: &[Pixel])
     requires { length below.old ≡ length above.now }
     ensures pixels { (k : ℕ) → k < length above.now → IsPixel (slice_index_or above.now k clear) }
@@ -89,9 +70,9 @@ pub fn lay_over_opaque(mode: Mode, below: &mut [Pixel], above: &[Pixel])
         Mode::Subtract => lay_in_lanes(Mode::Subtract, below, above),
         Mode::DarkenOnly => lay_in_lanes(Mode::DarkenOnly, below, above),
         Mode::LightenOnly => lay_in_lanes(Mode::LightenOnly, below, above),
-        Mode::Divide => lay_singly(Mode::Divide, below, above),
-        Mode::Dodge => lay_singly(Mode::Dodge, below, above),
-        Mode::Burn => lay_singly(Mode::Burn, below, above),
+        Mode::Divide => lay_ones(Mode::Divide, below, above, 0),
+        Mode::Dodge => lay_ones(Mode::Dodge, below, above, 0),
+        Mode::Burn => lay_ones(Mode::Burn, below, above, 0),
         Mode::HardLight => lay_in_lanes(Mode::HardLight, below, above),
         Mode::SoftLight => lay_in_lanes(Mode::SoftLight, below, above),
         Mode::GrainExtract => lay_in_lanes(Mode::GrainExtract, below, above),

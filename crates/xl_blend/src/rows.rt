@@ -8,8 +8,7 @@ use crate::normal_rows::{PIECE, lay_normal};
 use spec_blend::{Mode, Pixel};
 use std::sync::ledger::Ledger;
 
-/// A piece of a row over another. Each arm names its mode, so that its loop is compiled for that
-/// mode alone.
+/// A piece of a row over another.
 fn lay(mode: Mode, below: &mut [Pixel], above: &[Pixel])
     requires lengths { length below.old ≡ length above.now }
     requires piece { length below.old ≤ PIECE }
@@ -17,21 +16,7 @@ fn lay(mode: Mode, below: &mut [Pixel], above: &[Pixel])
 {
     match mode {
         Mode::Normal => lay_normal(below, above),
-        Mode::Multiply => lay_blended(Mode::Multiply, below, above),
-        Mode::Screen => lay_blended(Mode::Screen, below, above),
-        Mode::Overlay => lay_blended(Mode::Overlay, below, above),
-        Mode::Difference => lay_blended(Mode::Difference, below, above),
-        Mode::Addition => lay_blended(Mode::Addition, below, above),
-        Mode::Subtract => lay_blended(Mode::Subtract, below, above),
-        Mode::DarkenOnly => lay_blended(Mode::DarkenOnly, below, above),
-        Mode::LightenOnly => lay_blended(Mode::LightenOnly, below, above),
-        Mode::Divide => lay_blended(Mode::Divide, below, above),
-        Mode::Dodge => lay_blended(Mode::Dodge, below, above),
-        Mode::Burn => lay_blended(Mode::Burn, below, above),
-        Mode::HardLight => lay_blended(Mode::HardLight, below, above),
-        Mode::SoftLight => lay_blended(Mode::SoftLight, below, above),
-        Mode::GrainExtract => lay_blended(Mode::GrainExtract, below, above),
-        Mode::GrainMerge => lay_blended(Mode::GrainMerge, below, above),
+        _ => lay_blended(mode, below, above),
     }
 }
 

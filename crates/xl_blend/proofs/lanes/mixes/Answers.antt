@@ -1,19 +1,12 @@
-use Rattle.std.proofs.Common.{◌≡◌, ℕ, ◌+◌, ◌-◌, ◌*◌, ◌/◌, length, ◌∙◌, sym}
+use Rattle.std.proofs.Common.{◌≡◌, ℕ, length, ◌∙◌, sym, arith}
 use Rattle.std.specs.Simd.Lanes.{zip2}
 use Rattle.std.proofs.lemmas.Simd.{length-zip2}
 use lib.ListN.{replicate}
+use Rattle.spec_blend.specs.Over.{mean}
+use Rattle.spec_blend.proofs.OverLemmas.{mean-is_byte}
 use Rattle.xl_blend.proofs.LaneWise.{mapped, both, first, second, splat, agreed_three, small_three}
-use Rattle.xl_blend.proofs.LaneArithmetic.{add16, sub16, mul16, part16, rest16, mixed16, mean16, mean-byte}
+use Rattle.xl_blend.proofs.LaneArithmetic.{add16, sub16, mul16, part16, rest16, mixed16, mean16}
 use Rattle.xl_blend.proofs.lanes.mixes.Goals as goal
-
-abbrev total : (x y : ℕ) → ℕ
-total x y = (2 * (x + y) + 255) / 510
-
-abbrev rest : (b t : ℕ) → ℕ
-rest b t = b * (255 - t)
-
-abbrev whole : (a t : ℕ) → ℕ
-whole a t = a * t
 
 pub returns-clause-value : goal.returns-clause-value
 returns-clause-value c =
@@ -31,19 +24,11 @@ returns-clause-value c =
     let x = first xs ys (x_long ∙ sym y_long) in
     let y = lower ∙ second xs ys (x_long ∙ sym y_long) in
     let sum = both add16 _ _ xs ys (both add16 _ _ xs ys x y) (number 128) in
-    mapped part16 _ xs ys c.parts.ensures sum
-    ∙ agreed_three mixed16 mul16 rest16 total whole rest a b t c.requires.above.1 c.requires.below.1 c.requires.weights.1 mean16
+    mapped part16 _ xs ys c.divided_by_255.ensures sum
+    ∙ agreed_three mixed16 mul16 rest16 (mean 255) t a b c.requires.weights.1 c.requires.above.1 c.requires.below.1 mean16
 
 pub returns-clause-bytes : goal.returns-clause-bytes
 returns-clause-bytes c =
-    let t = c.args.weights in
-    let a = c.args.above in
-    let b = c.args.below in
-    let x_long = length-zip2 whole a t (c.fits-above.0 ∙ sym c.fits-weights.0) ∙ c.fits-above.0 in
-    let y_long = length-zip2 rest b t (c.fits-below.0 ∙ sym c.fits-weights.0) ∙ c.fits-below.0 in
-    let long = length-zip2 total (zip2 whole a t) (zip2 rest b t) (x_long ∙ sym y_long) ∙ x_long in
     let value = returns-clause-value c in
-    rw value (
-      long,
-      small_three total whole rest a b t c.requires.above.1 c.requires.below.1 c.requires.weights.1 mean-byte,
-    )
+    rw value (small_three (mean 255) c.args.weights c.args.above c.args.below c.requires.weights c.requires.above
+    c.requires.below (λ t x y t_small x_small y_small. mean-is_byte 255 t x y (omega arith) t_small x_small y_small))

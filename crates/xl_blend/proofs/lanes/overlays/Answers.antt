@@ -20,4 +20,4 @@ returns c =
     let double = both shifted16 _ _ i m (both add16 _ _ i m half carry) (number 7) in
     let product = both mul16 _ _ i m below (both add16 _ _ i m below double) in
     let sum = both add16 _ _ i m product (number 128) in
-    mapped part16 _ i m c.parts.ensures sum ∙ agreed _ _ _ i m c.requires.below.1 c.requires.above.1 overlay16
+    mapped part16 _ i m c.divided_by_255.ensures sum ∙ agreed _ _ _ i m c.requires.below.1 c.requires.above.1 overlay16

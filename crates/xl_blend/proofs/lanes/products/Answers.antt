@@ -12,7 +12,7 @@ returns-clause-value c =
     let same = c.requires.a.0 ∙ sym c.requires.b.0 in
     let product = both _ _ _ a b (first a b same) (second a b same) in
     let sum = both _ _ _ a b product (splat 16 128 a b c.requires.a.0 c.requires.b.0) in
-    mapped part16 _ a b c.parts.ensures sum ∙ agreed _ _ _ a b c.requires.a.1 c.requires.b.1 product16
+    mapped part16 _ a b c.divided_by_255.ensures sum ∙ agreed _ _ _ a b c.requires.a.1 c.requires.b.1 product16
 
 pub returns-clause-bytes : goal.returns-clause-bytes
 returns-clause-bytes c =

@@ -6,5 +6,5 @@ pub returns-clause-pixels : goal.returns-clause-pixels
 returns-clause-pixels c = λ k h.
     elim (cases_lt k c.lay_fours-done.result) [
       | inl done ↦ c.lay_fours-done.ensures.pixels k done
-      | inr rest ↦ c.lay_rest.ensures.pixels k rest h
+      | inr rest ↦ c.lay_ones.ensures.pixels k rest h
     ]

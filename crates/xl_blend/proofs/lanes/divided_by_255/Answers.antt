@@ -5,7 +5,7 @@ use Rattle.std.proofs.lemmas.Simd.{zip2_of_maps, splat_is_map}
 use mir.Syntax.{w16}
 use Rattle.xl_blend.proofs.LaneWise.{agreed_one}
 use Rattle.xl_blend.proofs.LaneArithmetic.{part16, part16_is}
-use Rattle.xl_blend.proofs.lanes.parts.Goals as goal
+use Rattle.xl_blend.proofs.lanes.divided_by_255.Goals as goal
 
 abbrev product : (x y : ℕ) → ℕ
 product x y = x * y % 4294967296
