@@ -32,7 +32,7 @@ use Rattle.spec_fields.specs.Field.{name_at}
 use Rattle.spec_rle.specs.Reading.{codes_at, code_at}
 use Rattle.spec_props.specs.Unit.{names_end, named_end}
 use Rattle.spec_props.specs.Reading.{payload_length_at, property_at, end_at, list_at}
-use Rattle.spec_hierarchy.specs.Reading.{plain_at, spelled_at, tile_at, tiles_at, hierarchy_at}
+use Rattle.spec_hierarchy.specs.Reading.{plain_at, planes_at, tile_at, tiles_at, hierarchy_at}
 use Rattle.spec_file.specs.Header.{header_of, side_at}
 use Rattle.spec_file.specs.Layers.{head_at, placed, path_of, group_in, mask_at, layer_in, node_at, nodes_at}
 use Rattle.spec_file.specs.Channels.{channel_at, channels_at}
@@ -47,7 +47,7 @@ answer file = do
 """ % ", ".join(KINDS[1:])
 
 UNFOLDING = ("unfolding reading header_of side_at payload_length_at property_at end_at list_at head_at placed path_of "
-             "group_in mask_at layer_in node_at nodes_at channel_at channels_at name_at plain_at spelled_at tile_at "
+             "group_in mask_at layer_in node_at nodes_at channel_at channels_at name_at plain_at planes_at tile_at "
              "tiles_at hierarchy_at codes_at code_at names_end named_end")
 
 PIXELS_HEAD = """-- Pixels laid over one another, and blended bytes.

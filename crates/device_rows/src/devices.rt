@@ -56,7 +56,7 @@ fn selects(shelf: &mut MemoryShelf, name: &str) -> bool {
 }
 
 // The file of a name, as it is loaded.
-fn loaded(
+fn load(
     alloc: Global,
     shelf: &mut MemoryShelf,
     name: &str,
@@ -69,7 +69,7 @@ fn loaded(
 }
 
 // How many contents a crash may leave.
-fn left(shelf: &MemoryShelf, name: &str) -> usize {
+fn length_left(shelf: &MemoryShelf, name: &str) -> usize {
     shelf.leaves(name).len()
 }
 
@@ -82,15 +82,15 @@ fn a_file_is_loaded(rt: HostRuntime) -> Result<(), Fail> {
     let alloc = rt.alloc();
     let mut shelf = shelf_with(alloc, Vec::new(alloc), None)?;
     assert_eq!(rt;
-        loaded(alloc, &mut shelf, "a", 9)?.as_slice(),
+        load(alloc, &mut shelf, "a", 9)?.as_slice(),
         b"hello".as_slice()
     );
     assert_eq!(rt;
-        loaded(alloc, &mut shelf, "a", 2)?.as_slice(),
+        load(alloc, &mut shelf, "a", 2)?.as_slice(),
         b"he".as_slice()
     );
     assert_eq!(rt;
-        loaded(alloc, &mut shelf, "b", 9).err(),
+        load(alloc, &mut shelf, "b", 9).err(),
         Some(FailedOrMemory::Failed)
     );
     Ok(())
@@ -105,11 +105,11 @@ fn a_shelf_tells_what_it_keeps(rt: HostRuntime) -> Result<(), Fail> {
     assert!(rt; selects(&mut shelf, "a"));
     assert!(rt; !selects(&mut shelf, "b"));
     assert!(rt; is_there(&shelf, "a"));
-    assert_eq!(rt; left(&shelf, "a"), 1);
+    assert_eq!(rt; length_left(&shelf, "a"), 1);
     assert!(rt; !is_there(&shelf, "b"));
     // It was selected, so it is known that there is no file.
-    assert_eq!(rt; left(&shelf, "b"), 1);
-    assert_eq!(rt; left(&shelf, "c"), 0);
+    assert_eq!(rt; length_left(&shelf, "b"), 1);
+    assert_eq!(rt; length_left(&shelf, "c"), 0);
     assert_eq!(rt; shelf.calls(), 4);
     assert_eq!(rt; shelf.starved(), 0);
     Ok(())

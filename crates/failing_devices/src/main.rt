@@ -119,7 +119,11 @@ fn letter(content: &Option<Vec<u8>>, known: &Contents) -> char {
 }
 
 // What a crash may leave, and first what a read gives.
-fn left(alloc: Global, shelf: &MemoryShelf, known: &Contents) -> Result<String, AllocError> {
+fn name_of_content(
+    alloc: Global,
+    shelf: &MemoryShelf,
+    known: &Contents,
+) -> Result<String, AllocError> {
     let mut letters = String::new(alloc);
     for content in shelf.leaves(NAME) {
         letters.push(letter(content, known))?;
@@ -128,7 +132,7 @@ fn left(alloc: Global, shelf: &MemoryShelf, known: &Contents) -> Result<String, 
 }
 
 // Which calls fail, in words.
-fn told(alloc: Global, failing: Failing) -> Result<String, AllocError> {
+fn name_of_failing(alloc: Global, failing: Failing) -> Result<String, AllocError> {
     let mut text = String::new(alloc);
     let kinds = [
         ("read", failing.read),
@@ -189,8 +193,8 @@ impl<'a, R: Threads + Wait + Sync> Shown<'a, R> {
             failing,
             &mut sink,
         )?;
-        let letters = left(alloc, &ended.shelf, self.known)?;
-        let fails = told(alloc, failing)?;
+        let letters = name_of_content(alloc, &ended.shelf, self.known)?;
+        let fails = name_of_failing(alloc, failing)?;
         let [verb, name] = asked.words;
         let status = ended.status;
         let line = format!(in alloc; "== {verb} {name}{fails}: status {status} left {letters}")?;

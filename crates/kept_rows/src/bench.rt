@@ -200,7 +200,7 @@ impl Bench {
     }
 
     /// What the last step has shown, which is nothing where it was no tile and no peek.
-    pub fn shown(&self) -> &[u8] {
+    pub fn picture(&self) -> &[u8] {
         self.shown.bytes()
     }
 

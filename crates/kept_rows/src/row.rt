@@ -46,7 +46,7 @@ fn take_until(alloc: Global, bench: &mut Bench, tile: (u32, u32, u32)) -> Result
 }
 
 // Takes the marked tiles and hands them in, as long as there are any. Their stacks.
-fn refreshed(alloc: Global, bench: &mut Bench) -> Result<Vec<u32>, AllocError> {
+fn refresh(alloc: Global, bench: &mut Bench) -> Result<Vec<u32>, AllocError> {
     let mut stacks = Vec::new(alloc);
     for _ in 0..MOST_TILES {
         match bench.take(alloc)? {
@@ -112,7 +112,7 @@ fn answers(alloc: Global, bench: &mut Bench, step: Step, reply: Reply) -> Result
 
 // Whether this pixel was shown.
 fn shows(bench: &Bench, pixel: &[u8]) -> bool {
-    bench.shown() == pixel
+    bench.picture() == pixel
 }
 
 // Whether the job that was taken last ends so.
@@ -125,7 +125,7 @@ fn ends(bench: &mut Bench, finished: Finished) -> bool {
 
 // Whether the marked tiles are of these stacks.
 fn marks(alloc: Global, bench: &mut Bench, stacks: &[u32]) -> Result<bool, AllocError> {
-    let found = refreshed(alloc, bench)?;
+    let found = refresh(alloc, bench)?;
     Ok(found.as_slice() == stacks)
 }
 
@@ -135,7 +135,7 @@ fn reserves(bench: &mut Bench, calls: u32) -> Result<bool, AllocError> {
 }
 
 // A new version.
-fn changed(version: u32, group: u32, next: u32) -> Reply {
+fn change_reply(version: u32, group: u32, next: u32) -> Reply {
     Reply::Changed {
         version,
         group,
@@ -147,7 +147,7 @@ fn changed(version: u32, group: u32, next: u32) -> Reply {
 fn holds(alloc: Global, bench: &mut Bench, row: Row) -> Result<bool, AllocError> {
     match row {
         Row::Changes(step, version, group, next) => {
-            answers(alloc, bench, step, changed(version, group, next))
+            answers(alloc, bench, step, change_reply(version, group, next))
         }
         Row::Answers(step, reply) => answers(alloc, bench, step, reply),
         Row::Shows(pixel) => Ok(shows(bench, pixel.as_slice())),

@@ -4,7 +4,7 @@ ghost use Rattle.xl_tiles.specs.Written.{IsWithin};
 
 use std::alloc::{AllocError, Global};
 use std::test::Fail;
-use xl_tiles::{Plane, ROOM, Rect, TileAt, TileRef};
+use xl_tiles::{Plane, Rect, SCRATCH, TileAt, TileRef};
 
 /// A plane of 65 columns and one row, so of two tiles, all of whose bytes are 7.
 fn sevens(alloc: Global) -> Result<Plane, AllocError>
@@ -93,8 +93,8 @@ fn a_tile_is_exchanged(rt: HostRuntime) -> Result<(), Fail> {
     let mut plane = Plane::of_pixels(alloc, 2, 1, 2, &[1, 2, 3, 4])?;
     let other = Plane::of_pixels(alloc, 2, 1, 2, &[5, 6, 7, 8])?;
     let old = exchange(alloc, &mut plane, &other)?;
-    let mut room = [0; ROOM];
-    assert_eq!(rt; old.bytes(&mut room), [1, 2, 3, 4].as_slice());
+    let mut scratch = [0; SCRATCH];
+    assert_eq!(rt; old.bytes(&mut scratch), [1, 2, 3, 4].as_slice());
     let mut out = [0; 4];
     plane.read_rect(
         Rect {
@@ -104,7 +104,7 @@ fn a_tile_is_exchanged(rt: HostRuntime) -> Result<(), Fail> {
             h: 1,
         },
         &mut out,
-        &mut room,
+        &mut scratch,
     );
     assert_eq!(rt; out, [5, 6, 7, 8]);
     Ok(())
@@ -118,9 +118,9 @@ fn changed_by(alloc: Global, rect: Rect, value: u8) -> Result<u32, AllocError>
     let mut plane = old.share(alloc)?;
     let bytes = vec![in alloc; value; rect.w as usize * rect.h as usize]?;
     plane.write_rect(alloc, rect, &bytes)?;
-    let mut room = [0; ROOM];
-    let mut other_room = [0; ROOM];
-    Ok(plane.tiles_changed(&old, &mut room, &mut other_room))
+    let mut scratch = [0; SCRATCH];
+    let mut other_scratch = [0; SCRATCH];
+    Ok(plane.tiles_changed(&old, &mut scratch, &mut other_scratch))
 }
 
 #[test]

@@ -1,7 +1,7 @@
 //! Rows of the gate: who has begun what before whom.
 
 use crate::files::{ONE, TWO};
-use crate::played::played;
+use crate::played::play;
 use std::alloc::{AllocError, Global};
 use std::process::Abort;
 use std::sync::Wait;
@@ -37,7 +37,7 @@ fn a_worker_and_a_session_begin_before_the_other_ends(rt: HostRuntime) -> Result
     let call = (FIRST, Place::BeforeCall, 1);
     let job = (WORKER, Place::JobTaken, 0);
     let holds = vec![in alloc; hold(job, call), hold(call, job)]?;
-    let outcome = played(&rt, alloc, &ONE, b"0 top\n0 top\n", "1", holds)?;
+    let outcome = play(&rt, alloc, &ONE, b"0 top\n0 top\n", "1", holds)?;
     assert!(rt; !outcome.missed);
     assert_eq!(rt;
         outcome.text.as_slice(),
@@ -55,7 +55,7 @@ fn a_call_is_answered_while_a_job_is_out(rt: HostRuntime) -> Result<(), Fail> {
     );
     let taken = hold((FIRST, Place::BeforeCall, 1), (WORKER, Place::JobTaken, 0));
     let holds = vec![in alloc; answered, taken]?;
-    let outcome = played(&rt, alloc, &ONE, b"0 top\n0 top\n", "1", holds)?;
+    let outcome = play(&rt, alloc, &ONE, b"0 top\n0 top\n", "1", holds)?;
     assert!(rt; !outcome.missed);
     assert_eq!(rt;
         outcome.text.as_slice(),
@@ -89,7 +89,7 @@ fn two_sessions_begin_before_the_other_ends(rt: HostRuntime) -> Result<(), Fail>
     let first = (FIRST, Place::BeforeCall, 1);
     let second = (SECOND, Place::BeforeCall, 1);
     let holds = vec![in alloc; hold(first, second), hold(second, first)]?;
-    let outcome = played(
+    let outcome = play(
         &rt,
         alloc,
         &ONE,
@@ -106,7 +106,7 @@ fn two_sessions_begin_before_the_other_ends(rt: HostRuntime) -> Result<(), Fail>
 fn a_peek_shows_what_a_worker_composed(rt: HostRuntime) -> Result<(), Fail> {
     let alloc = rt.alloc();
     let holds = vec![in alloc; hold((FIRST, Place::BeforeCall, 1), (WORKER, Place::JobTaken, 15))]?;
-    let outcome = played(&rt, alloc, &TWO, b"0 top\n0 peek 0 0 0\n", "1", holds)?;
+    let outcome = play(&rt, alloc, &TWO, b"0 top\n0 peek 0 0 0\n", "1", holds)?;
     assert!(rt; !outcome.missed);
     assert_eq!(rt;
         outcome.text.as_slice(),

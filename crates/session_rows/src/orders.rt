@@ -1,7 +1,7 @@
 //! Rows whose text says what came in which order.
 
 use crate::files::{ONE, TWO};
-use crate::played::played;
+use crate::played::play;
 use std::alloc::{AllocError, Global};
 use std::process::Abort;
 use std::test::Fail;
@@ -80,7 +80,7 @@ fn is_in_order(alloc: Global, session: u32, order: &str) -> Result<bool, AllocEr
 fn fills_of_two_sessions_are_read_back_by_their_order(rt: HostRuntime) -> Result<(), Fail> {
     let alloc = rt.alloc();
     let script = fills_of_two(alloc)?;
-    let outcome = played(&rt, alloc, &TWO, script.as_slice(), "2", Vec::new(alloc))?;
+    let outcome = play(&rt, alloc, &TWO, script.as_slice(), "2", Vec::new(alloc))?;
     let text = String::from_utf8(outcome.text).unwrap_or(String::new(alloc));
     assert_eq!(rt; outcome.status, 0);
     assert_eq!(rt; last_line(text.as_str()).split(' ').count(), 201);
@@ -131,7 +131,7 @@ fn has_line(text: &str, line: &str) -> bool {
 fn saves_beside_fills_leave_the_version_saved_last(rt: HostRuntime) -> Result<(), Fail> {
     let alloc = rt.alloc();
     let script = saves_beside_fills(alloc)?;
-    let outcome = played(&rt, alloc, &ONE, script.as_slice(), "2", Vec::new(alloc))?;
+    let outcome = play(&rt, alloc, &ONE, script.as_slice(), "2", Vec::new(alloc))?;
     assert_eq!(rt; outcome.status, 0);
     assert_eq!(rt; outcome.file.len(), 193);
     let text = String::from_utf8(outcome.text).unwrap_or(String::new(alloc));
@@ -144,7 +144,7 @@ fn saves_beside_fills_leave_the_version_saved_last(rt: HostRuntime) -> Result<()
 fn a_composed_tile_is_kept_beside_workers(rt: HostRuntime) -> Result<(), Fail> {
     let alloc = rt.alloc();
     let script = b"0 opacity 1 0\n0 tile 0 0 0\n0 peek 0 0 0\n";
-    let outcome = played(&rt, alloc, &ONE, script, "2", Vec::new(alloc))?;
+    let outcome = play(&rt, alloc, &ONE, script, "2", Vec::new(alloc))?;
     let expected = format!(in alloc;
         "0.0 changed 1 1 2\n0.1 tile 1 {CLEAR}\n0.2 tile 1 {CLEAR}\norder 0.0 0.1 0.2\n"
     )?;

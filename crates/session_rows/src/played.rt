@@ -35,7 +35,7 @@ fn file_of(alloc: Global, shelf: &MemoryShelf) -> Result<Vec<u8>, AllocError> {
 }
 
 /// Plays a script on a file, with so many workers and these holds.
-pub fn played<R: Threads + Wait + Sync>(
+pub fn play<R: Threads + Wait + Sync>(
     rt: &R,
     alloc: Global,
     file: &[u8],

@@ -20,7 +20,7 @@ use Rattle.spec_fields.proofs.FieldsBack.{word_first, has_bytes, length-bytes_at
 use Rattle.spec_rle.specs.Reading.{plane_at}
 use Rattle.spec_rle.proofs.SpelledBack.{spelled_has, spelled_below}
 use Rattle.spec_hierarchy.specs.Tiles.{tile_width, tile_height, interleaved, plane_of_tiles}
-use Rattle.spec_hierarchy.specs.Reading.{same_word_at, pointer_at, plain_at, spelled_at, tile_at, tiles_at, hierarchy_at}
+use Rattle.spec_hierarchy.specs.Reading.{same_word_at, pointer_at, plain_at, planes_at, tile_at, tiles_at, hierarchy_at}
 use Rattle.spec_hierarchy.specs.Holds.{HasSpelled, IsSpelledTile, HasTile, HaveTiles, HasPlane}
 
 pub same_word_has : (file : List ℕ) (at n : ℕ) (kind : Kind) → same_word_at file at n kind ≡ Ok tt → HasWord file at n
@@ -61,16 +61,16 @@ plain_has file at n tile all e =
     subst P is (has_bytes file at n fits, length-bytes_at file at n fits, bytes_below file at n all)
 
 planes_have : (count : ℕ) (file : List ℕ) (at n : ℕ) (planes : List (List ℕ)) → AreBytes file → 0 < n
-    → spelled_at count file at n ≡ Ok planes
+    → planes_at count file at n ≡ Ok planes
     → HasSpelled file at n planes × (length planes ≡ count) × AllByRecursion AreBytes planes
-unfolding spelled_at
+unfolding planes_at
 planes_have zero file at n planes all some e =
     let is : [] ≡ planes = cc in
     let P : List (List ℕ) → Type 0 = λ ps. HasSpelled file at n ps × (length ps ≡ 0) × AllByRecursion AreBytes ps in
     subst P is (tt, refl, tt)
 planes_have (suc count) file at n planes all some e =
     let a = bind_back (plane_at file at n) _ planes e in
-    let b = bind_back (spelled_at count file a.0.next n) _ planes a.2 in
+    let b = bind_back (planes_at count file a.0.next n) _ planes a.2 in
     let h = spelled_has file at n a.0 all some a.1 in
     let more = planes_have count file a.0.next n b.0 all some b.1 in
     let is : a.0.pixels ∷ b.0 ≡ planes = cc in
@@ -92,7 +92,7 @@ unfolding tile_at
 tile_has file at n bpp compression tile all some e = by (compression == 0) refl e
   where
     by : (b : Bool) → (compression == 0) ≡ b
-        → cond b (plain_at file at (n * bpp)) (spelled_at bpp file at n >>= (λ planes. Ok (interleaved n planes))) ≡ Ok tile
+        → cond b (plain_at file at (n * bpp)) (planes_at bpp file at n >>= (λ planes. Ok (interleaved n planes))) ≡ Ok tile
         → HasSome file at n bpp compression tile
     by true t e =
         let a = plain_has file at (n * bpp) tile all e in
@@ -102,7 +102,7 @@ tile_has file at n bpp compression tile all some e = by (compression == 0) refl 
           bytes = a.2;
         }
     by false t e =
-        let a = bind_back (spelled_at bpp file at n) _ tile e in
+        let a = bind_back (planes_at bpp file at n) _ tile e in
         let h = planes_have bpp file at n a.0 all some a.1 in
         let is : interleaved n a.0 ≡ tile = cc in
         record {

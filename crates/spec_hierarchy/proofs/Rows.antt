@@ -6,7 +6,7 @@ use Rattle.spec_fields.specs.declared.Kind.TheVariants.{Truncated, BadHierarchy}
 use Rattle.spec_fields.specs.Reading.{fault}
 use Rattle.spec_rle.specs.Reading.{codes_at, code_at}
 use Rattle.spec_hierarchy.specs.Tiles.{tile_width}
-use Rattle.spec_hierarchy.specs.Reading.{plain_at, spelled_at, tile_at, tiles_at, hierarchy_at}
+use Rattle.spec_hierarchy.specs.Reading.{plain_at, planes_at, tile_at, tiles_at, hierarchy_at}
 
 abbrev first : TileAt
 first = record { col = 0; row = 0 }
@@ -33,14 +33,14 @@ pixels zero = []
 pixels (suc n) = 1 ∷ 2 ∷ 3 ∷ 4 ∷ pixels n
 
 spelled : hierarchy_at file 0 65 1 4 1 ≡ Ok (record { width = 65; height = 1; bpp = 4; bytes = pixels 64 ++ 5 ∷ 6 ∷ 7 ∷ 8 ∷ [] })
-unfolding hierarchy_at tiles_at tile_at spelled_at plain_at codes_at code_at
+unfolding hierarchy_at tiles_at tile_at planes_at plain_at codes_at code_at
 spelled = refl
 
 -- the last tile lacks its last byte
 cut : hierarchy_at (take 55 file) 0 65 1 4 1 ≡ Err (fault Truncated 54)
-unfolding hierarchy_at tiles_at tile_at spelled_at plain_at codes_at code_at
+unfolding hierarchy_at tiles_at tile_at planes_at plain_at codes_at code_at
 cut = refl
 
 other_width : hierarchy_at file 0 64 1 4 1 ≡ Err (fault BadHierarchy 0)
-unfolding hierarchy_at tiles_at tile_at spelled_at plain_at codes_at code_at
+unfolding hierarchy_at tiles_at tile_at planes_at plain_at codes_at code_at
 other_width = refl

@@ -13,7 +13,7 @@ use Rattle.spec_history.specs.KeptNext.{kept_next, kept_after}
 use Rattle.spec_history.proofs.Growing.{cond_both, Grows, grows_by, document_at-grows, replay-snoc}
 use Rattle.spec_history.proofs.Versions.{IsSound}
 use Rattle.spec_history.proofs.Stacks.{sound-replay, chained-replay}
-use Rattle.spec_history.proofs.Moves.{AsBefore, OneMore, Told, told-step}
+use Rattle.spec_history.proofs.Moves.{AsBefore, OneMore, MovesBy, moves_by-step}
 use Rattle.spec_history.proofs.Numbers.{all_more, find_more, all_same, find_same, found}
 use Rattle.spec_history.proofs.Bounds.{last_tile-snoc}
 use Rattle.spec_history.proofs.LastTile.{shown-step, shown-unchanged, last-run}
@@ -112,12 +112,12 @@ kept_from-same base s t stack at a same =
 
 -- an entry that is no tile call of this tile
 kept_in-step : (base : Document) (s t : State) (stack : ℕ) (at : TileAt) (change : Bool) (last : Option ℕ) → IsSound s
-    → length s.causes ≡ latest s → Told s t change
+    → length s.causes ≡ latest s → MovesBy s t change
     → ((a : ℕ) → last ≡ Some a → a ≤ latest s)
     → kept_in base t stack at last
     ≡ cond change (kept_next (latest t) (has_stack (document_at base t (latest t)) stack) (damaged_at base t stack at (latest t))
     (kept_in base s stack at last)) (kept_in base s stack at last)
-kept_in-step base s t stack at change None sound count told within =
+kept_in-step base s t stack at change None sound count moves_by within =
     cond_both (λ o. None ≡ o) change
     (kept_next (latest t) (has_stack (document_at base t (latest t)) stack) (damaged_at base t stack at (latest t)) None) None
     refl refl
@@ -147,8 +147,8 @@ after_shown : (base : Document) (es : List Entry) (e : Entry) (stack : ℕ) (at 
     → IsStep base (replay base es) es e → shown_version e.kind e.reply stack at ≡ Some v
     → kept_from base (after_entry base (replay base es) e) stack at v ≡ Some v
 after_shown base es e stack at v step is =
-    go (told-step base (replay base es) es e (sound-replay base es) (chained-replay base es) step) where
-      go : Told (replay base es) (after_entry base (replay base es) e) (is_changed e.reply)
+    go (moves_by-step base (replay base es) es e (sound-replay base es) (chained-replay base es) step) where
+      go : MovesBy (replay base es) (after_entry base (replay base es) e) (is_changed e.reply)
           → kept_from base (after_entry base (replay base es) e) stack at v ≡ Some v
       go (inl (same, as_was)) =
           let s = replay base es in
@@ -168,7 +168,8 @@ kept-after base es e stack at None run step is =
     let s = replay base es in
     kept_in-step base s (after_entry base s e) stack at (is_changed e.reply) (last_tile stack at es) (sound-replay base es)
     (chained-replay base es).causes
-    (told-step base s es e (sound-replay base es) (chained-replay base es) step) (λ a last. last-run base es stack at a run last)
+    (moves_by-step base s es e (sound-replay base es) (chained-replay base es) step)
+    (λ a last. last-run base es stack at a run last)
 
 pub kept-snoc : (base : Document) (es : List Entry) (e : Entry) (stack : ℕ) (at : TileAt) → Run base es
     → IsStep base (replay base es) es e

@@ -14,7 +14,7 @@ use Rattle.spec_history.specs.TilesStay.{StackStays, IsUndamaged}
 use Rattle.spec_history.specs.Marks.{came_at, marks, last_of, marked_at}
 use Rattle.spec_history.proofs.Growing.{replay-snoc}
 use Rattle.spec_history.proofs.Stacks.{sound-replay, chained-replay}
-use Rattle.spec_history.proofs.Moves.{AsBefore, OneMore, Told, told-step}
+use Rattle.spec_history.proofs.Moves.{AsBefore, OneMore, MovesBy, moves_by-step}
 use Rattle.spec_history.proofs.KeptMore.{StaysBefore, stays-before}
 use Rattle.spec_history.proofs.GroupsBehind.{caused-replay}
 use Rattle.spec_history.proofs.TilesStay.{tile_keeps}
@@ -108,12 +108,12 @@ IsCounted base s = (t : State) → OneMore s t → StaysBefore base s t
 pub counted-replay : (base : Document) (es : List Entry) → IsCounted base (replay base es)
 counted-replay base es t one = stays-before base (replay base es) t (sound-replay base es) (chained-replay base es).causes one
 
-pub told-replay : (base : Document) (es : List Entry) (e : Entry) → IsStep base (replay base es) es e
-    → Told (replay base es) (replay base (es ++ e ∷ [])) (is_changed e.reply)
-told-replay base es e step =
-    let P : State → Type 0 = λ t. Told (replay base es) t (is_changed e.reply) in
+pub moves_by-replay : (base : Document) (es : List Entry) (e : Entry) → IsStep base (replay base es) es e
+    → MovesBy (replay base es) (replay base (es ++ e ∷ [])) (is_changed e.reply)
+moves_by-replay base es e step =
+    let P : State → Type 0 = λ t. MovesBy (replay base es) t (is_changed e.reply) in
     subst P (sym (replay-snoc base es e))
-    (told-step base (replay base es) es e (sound-replay base es) (chained-replay base es) step)
+    (moves_by-step base (replay base es) es e (sound-replay base es) (chained-replay base es) step)
 
 marks-before : (base : Document) (s t : State) (stack : ℕ) (at : TileAt) (v : ℕ) → StaysBefore base s t → 1 ≤ v → v ≤ latest s
     → marks base t stack at v ≡ marks base s stack at v
@@ -136,12 +136,12 @@ pub marked-same : (base : Document) (s t : State) (stack : ℕ) (at : TileAt) �
 marked-same base s t stack at same =
     λ i. marked_at base (record s { documents = same.documents i; causes = same.causes i }) stack at
 
-marked-told : (base : Document) (s t : State) (stack : ℕ) (at : TileAt) (change : Bool) → IsCounted base s → Told s t change
+marked-moves_by : (base : Document) (s t : State) (stack : ℕ) (at : TileAt) (change : Bool) → IsCounted base s → MovesBy s t change
     → marked_at base t stack at ≡ cond (change && marks base t stack at (latest t)) (latest t) (marked_at base s stack at)
-marked-told base s t stack at change counted (inl (e, same)) =
+marked-moves_by base s t stack at change counted (inl (e, same)) =
     marked-same base s t stack at same
     ∙ ap (λ b. cond (b && marks base t stack at (latest t)) (latest t) (marked_at base s stack at)) (sym e)
-marked-told base s t stack at change counted (inr (e, one)) =
+marked-moves_by base s t stack at change counted (inr (e, one)) =
     marked-one base s t stack at (counted t one)
     ∙ ap (λ b. cond (b && marks base t stack at (latest t)) (latest t) (marked_at base s stack at)) (sym e)
 
@@ -150,5 +150,5 @@ pub marked-snoc : (base : Document) (es : List Entry) (e : Entry) (stack : ℕ) 
     ≡ cond (is_changed e.reply && marks base (replay base (es ++ e ∷ [])) stack at (latest (replay base (es ++ e ∷ []))))
     (latest (replay base (es ++ e ∷ []))) (marked_at base (replay base es) stack at)
 marked-snoc base es e stack at step =
-    marked-told base (replay base es) (replay base (es ++ e ∷ [])) stack at (is_changed e.reply) (counted-replay base es)
-    (told-replay base es e step)
+    marked-moves_by base (replay base es) (replay base (es ++ e ∷ [])) stack at (is_changed e.reply) (counted-replay base es)
+    (moves_by-replay base es e step)

@@ -12,11 +12,11 @@ use Rattle.spec_history.specs.Kept.{shown_version, or_earlier, last_tile, damage
 use Rattle.spec_history.specs.KeptNext.{kept_next, kept_after}
 use Rattle.spec_history.specs.Marks.{came_at, marks, marked_at}
 use Rattle.spec_history.specs.Slots.{version_kept, IsShown, IsPictured, IsSlotOf, IsSlot, slot_peek}
-use Rattle.spec_history.proofs.Moves.{AsBefore, OneMore, Told}
+use Rattle.spec_history.proofs.Moves.{AsBefore, OneMore, MovesBy}
 use Rattle.spec_history.proofs.LastTile.{shown-step, shown-unchanged, last-run}
 use Rattle.spec_history.proofs.KeptSame.{KeptTo, kept_to}
 use Rattle.spec_history.proofs.KeptMore.{StaysBefore, kept-snoc}
-use Rattle.spec_history.proofs.SinceMark.{same_since_mark, told-replay, counted-replay, marked-same, marked-one}
+use Rattle.spec_history.proofs.SinceMark.{same_since_mark, moves_by-replay, counted-replay, marked-same, marked-one}
 use Rattle.spec_history.proofs.SlotsHeld.{some_of, if_all, damaged_keeps, mark-within, keeps-by}
 
 -- ---- a version more, which damages the tile
@@ -77,11 +77,11 @@ slot-damaged base s t old new stack at picture good_to marked mark stays slot th
           (mark-within base s old stack at picture good_to marked mark slot) in omega (arith, low, version);
     }
 
-pub one-more : (s t : State) (change : Bool) → Told s t change → change ≡ true → OneMore s t
+pub one-more : (s t : State) (change : Bool) → MovesBy s t change → change ≡ true → OneMore s t
 one-more s t change (inr (e, one)) is = one
 one-more s t change (inl (e, same)) is = absurd (true≢false (sym is ∙ e))
 
-pub same-then : (s t : State) (change : Bool) → Told s t change → change ≡ false → AsBefore s t
+pub same-then : (s t : State) (change : Bool) → MovesBy s t change → change ≡ false → AsBefore s t
 same-then s t change (inl (e, same)) is = same
 same-then s t change (inr (e, one)) is = absurd (true≢false (sym e ∙ is))
 
@@ -102,7 +102,7 @@ pub slot-marked : (base : Document) (es : List Entry) (e : Entry) (stack : ℕ) 
 slot-marked base es e stack at picture good_to marked mark run step slot changed there damaged =
     let s = replay base es in
     let t = replay base (es ++ e ∷ []) in
-    let one = one-more s t (is_changed e.reply) (told-replay base es e step) changed in
+    let one = one-more s t (is_changed e.reply) (moves_by-replay base es e step) changed in
     slot-damaged base s t (kept base es stack at) (kept base (es ++ e ∷ []) stack at) stack at picture good_to marked mark
     (counted-replay base es t one) slot there damaged
     (keeps-by base es e stack at true run step (no_tile e stack at (shown_version e.kind e.reply stack at) refl changed) changed)
@@ -136,7 +136,7 @@ pub slot-new : (base : Document) (es : List Entry) (e : Entry) (stack : ℕ) (at
 slot-new base es e stack at good_to run step changed gone there =
     let s = replay base es in
     let t = replay base (es ++ e ∷ []) in
-    let one = one-more s t (is_changed e.reply) (told-replay base es e step) changed in
+    let one = one-more s t (is_changed e.reply) (moves_by-replay base es e step) changed in
     let stays = counted-replay base es t one in
     let version = stays.version in
     let before : latest t - 1 ≡ latest s = omega (arith, version) in
@@ -201,7 +201,7 @@ pub slot-shown : (base : Document) (es : List Entry) (e : Entry) (stack : ℕ) (
 slot-shown base es e stack at old good_to marked mark picture version run step slot is same =
     let s = replay base es in
     let t = replay base (es ++ e ∷ []) in
-    let as_was = same-then s t (is_changed e.reply) (told-replay base es e step)
+    let as_was = same-then s t (is_changed e.reply) (moves_by-replay base es e step)
     (shown-unchanged e.kind e.reply stack at version is) in
     let shown = shown-step base s es e stack at version step is in
     let version_is = shown.version_is in

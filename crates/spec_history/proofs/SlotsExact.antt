@@ -12,10 +12,10 @@ use Rattle.spec_history.specs.History.{Entry, replay, document_of, IsStep, Run, 
 use Rattle.spec_history.specs.Kept.{shown_version, or_earlier, damaged_at, kept}
 use Rattle.spec_history.specs.KeptNext.{kept_next, kept_after}
 use Rattle.spec_history.specs.Slots.{version_kept, IsPictured, IsSlot, slot_peek, IsExact, IsExactSlot, kept_peek}
-use Rattle.spec_history.proofs.Moves.{Told}
+use Rattle.spec_history.proofs.Moves.{MovesBy}
 use Rattle.spec_history.proofs.LastTile.{shown-step, shown-unchanged}
 use Rattle.spec_history.proofs.KeptMore.{kept-snoc}
-use Rattle.spec_history.proofs.SinceMark.{told-replay, counted-replay}
+use Rattle.spec_history.proofs.SinceMark.{moves_by-replay, counted-replay}
 use Rattle.spec_history.proofs.SlotsHeld.{some_of, mark-within, keeps-by, slot-first, slot-stays}
 use Rattle.spec_history.proofs.SlotsChanged.{same-then, no_tile, slot-marked, slot-new, slot-shown}
 
@@ -76,9 +76,10 @@ exact-stays base es e stack at picture good_to marked mark is run step was other
     record {
       slot = slot-stays base es e stack at picture good_to marked mark is run step was.slot other there whole;
       exact =
-          go (is_changed e.reply) refl (told-replay base es e step) whole;
+          go (is_changed e.reply) refl (moves_by-replay base es e step) whole;
     } where
-      go : (change : Bool) → is_changed e.reply ≡ change → Told (replay base es) (replay base (es ++ e ∷ [])) (is_changed e.reply)
+      go : (change : Bool) → is_changed e.reply ≡ change
+          → MovesBy (replay base es) (replay base (es ++ e ∷ [])) (is_changed e.reply)
           → change && damaged_at base (replay base (es ++ e ∷ [])) stack at (latest (replay base (es ++ e ∷ []))) ≡ false
           → IsExact (kept base (es ++ e ∷ []) stack at) picture (version_kept (latest (replay base (es ++ e ∷ []))) good_to marked)
       go false change (inl (no_change, same)) apart =
@@ -129,7 +130,7 @@ pub exact-shown : (base : Document) (es : List Entry) (e : Entry) (stack : ℕ) 
 exact-shown base es e stack at old good_to marked mark picture version run step was is same =
     let s = replay base es in
     let t = replay base (es ++ e ∷ []) in
-    let as_was = same-then s t (is_changed e.reply) (told-replay base es e step)
+    let as_was = same-then s t (is_changed e.reply) (moves_by-replay base es e step)
     (shown-unchanged e.kind e.reply stack at version is) in
     let count : latest t ≡ latest s = ap (λ ds. length ds - 1) as_was.documents in
     record {

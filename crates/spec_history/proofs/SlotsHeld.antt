@@ -12,11 +12,11 @@ use Rattle.spec_history.specs.Kept.{shown_version, or_earlier, damaged_at, kept}
 use Rattle.spec_history.specs.KeptNext.{kept_next, kept_after}
 use Rattle.spec_history.specs.Marks.{marks, marked_at}
 use Rattle.spec_history.specs.Slots.{version_kept, IsShown, IsPictured, IsSlotOf, IsSlot}
-use Rattle.spec_history.proofs.Moves.{AsBefore, Told}
+use Rattle.spec_history.proofs.Moves.{AsBefore, MovesBy}
 use Rattle.spec_history.proofs.GroupsBehind.{IsCaused, caused-replay}
 use Rattle.spec_history.proofs.TilesStay.{one_keeps}
 use Rattle.spec_history.proofs.KeptMore.{StaysBefore, kept-snoc}
-use Rattle.spec_history.proofs.SinceMark.{last_of-le, told-replay, counted-replay, marked-same, marked-one}
+use Rattle.spec_history.proofs.SinceMark.{last_of-le, moves_by-replay, counted-replay, marked-same, marked-one}
 
 -- ---- numbers that may be there
 
@@ -227,8 +227,9 @@ pub slot-stays : (base : Document) (es : List Entry) (e : Entry) (stack : ℕ) (
     → is_changed e.reply && damaged_at base (replay base (es ++ e ∷ [])) stack at (latest (replay base (es ++ e ∷ []))) ≡ false
     → IsSlot base (es ++ e ∷ []) stack at picture good_to marked mark
 slot-stays base es e stack at picture good_to marked mark is run step slot other there whole =
-    go (is_changed e.reply) refl (told-replay base es e step) whole where
-      go : (change : Bool) → is_changed e.reply ≡ change → Told (replay base es) (replay base (es ++ e ∷ [])) (is_changed e.reply)
+    go (is_changed e.reply) refl (moves_by-replay base es e step) whole where
+      go : (change : Bool) → is_changed e.reply ≡ change
+          → MovesBy (replay base es) (replay base (es ++ e ∷ [])) (is_changed e.reply)
           → change && damaged_at base (replay base (es ++ e ∷ [])) stack at (latest (replay base (es ++ e ∷ []))) ≡ false
           → IsSlotOf base (replay base (es ++ e ∷ [])) (kept base (es ++ e ∷ []) stack at) stack at picture good_to marked mark
       go false change (inl (no_change, same)) apart =

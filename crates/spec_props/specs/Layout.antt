@@ -37,12 +37,12 @@ if_so kind true = property kind [] ∷ []
 if_so kind false = []
 
 -- a property: its number, how many bytes it has, and these
-abbrev pub spelled : Kept → List ℕ
-spelled k = word k.kind ++ (word (length k.payload) ++ k.payload)
+abbrev pub property_bytes : Kept → List ℕ
+property_bytes k = word k.kind ++ (word (length k.payload) ++ k.payload)
 
-abbrev pub all_spelled : List Kept → List ℕ
-all_spelled ks = flat_map spelled ks
+abbrev pub list_bytes : List Kept → List ℕ
+list_bytes ks = flat_map property_bytes ks
 
 -- the values that the owner interprets, the properties that are kept, and the end
 abbrev pub property_list : (values kept : List Kept) → List ℕ
-property_list values kept = all_spelled (values ++ (kept ++ property 0 [] ∷ []))
+property_list values kept = list_bytes (values ++ (kept ++ property 0 [] ∷ []))

@@ -27,11 +27,12 @@ use Rattle.spec_seats.proofs.More.{picked_grown, picked_one, picked_two, before_
 
 -- ---- what is shown is there
 
-abbrev IsUpTo : (last : ℕ) → Reply → Type 0
+-- a tile that is shown is that of a version that is there
+abbrev pub IsUpTo : (last : ℕ) → Reply → Type 0
 IsUpTo last (tile_of version) = version ≤ last
 IsUpTo last reply = Unit {0}
 
-up_to_later : (now last : ℕ) (r : Reply) → now ≤ last → IsUpTo now r → IsUpTo last r
+pub up_to_later : (now last : ℕ) (r : Reply) → now ≤ last → IsUpTo now r → IsUpTo last r
 up_to_later now last (tile_of version) le is = omega (arith, le, is)
 up_to_later now last r le is = tt
 
@@ -49,8 +50,8 @@ up_to_redo n s [] = tt
 up_to_redo n s (d ∷ ds) = tt
 
 -- of the replies to a tile, whichever is given
-tile_either : (P : Reply → Type 0) (d : Document) (stack : ℕ) (at : TileAt) (reply : Reply) → P (no_stack stack) → P outside_tile
-    → P reply → P (tile_reply d stack at reply)
+pub tile_either : (P : Reply → Type 0) (d : Document) (stack : ℕ) (at : TileAt) (reply : Reply) → P (no_stack stack)
+    → P outside_tile → P reply → P (tile_reply d stack at reply)
 tile_either P d stack at reply none outside given =
     cond_both P (not (has_stack d stack)) (no_stack stack) (cond (not (is_on_grid d.width d.height at)) outside_tile reply) none
     (cond_both P (not (is_on_grid d.width d.height at)) outside_tile reply outside given)
@@ -88,7 +89,8 @@ up_to_ends : (now : ℕ) (out : Option Saving) (session index : ℕ) (r : Reply)
 up_to_ends now None session index r may = absurd may
 up_to_ends now (Some o) session index r may = up_to_end now o.version r may.2
 
-up_to_step : (base : Document) (s : State) (earlier : List Entry) (e : Entry) (k : Kind) → MayBe base s earlier e k
+-- what an entry that may come now shows is there
+pub up_to_step : (base : Document) (s : State) (earlier : List Entry) (e : Entry) (k : Kind) → MayBe base s earlier e k
     → IsUpTo (latest s) e.reply
 up_to_step base s earlier e (asked c tables) may = up_to_answers base s c tables e.reply may.1
 up_to_step base s earlier e starts may = subst (IsUpTo (latest s)) (sym may.2) tt
@@ -108,7 +110,7 @@ up_to_run base s earlier (e ∷ es) sound run =
 
 -- ---- a digest stays
 
-digest_stays : (base : Document) (all more : List Entry) (k : Kind) (r : Reply) → IsUpTo (latest (replay base all)) r
+pub digest_stays : (base : Document) (all more : List Entry) (k : Kind) (r : Reply) → IsUpTo (latest (replay base all)) r
     → shown_digest base (all ++ more) k r ≡ shown_digest base all k r
 digest_stays base all more (asked (tile stack at) tables) (tile_of version) up =
     ap (λ (d : Document). digest_of (project d stack at)) (document_of-append base all more version up)

@@ -6,13 +6,13 @@ use xl_report::{Made, make};
 use xl_script::{Call, Line};
 
 // Without a clause, so that a test need not carry one.
-fn made(alloc: Global, seed: u32) -> Result<Made, AllocError> {
+fn make_seed(alloc: Global, seed: u32) -> Result<Made, AllocError> {
     make(alloc, seed)
 }
 
 #[test]
 fn document_has_ten_nodes(rt: HostRuntime) -> Result<(), Fail> {
-    let made = made(rt.alloc(), 7)?;
+    let made = make_seed(rt.alloc(), 7)?;
     assert_eq!(rt; made.document.tree.len(), 10);
     assert_eq!(rt; made.document.area(), 8 * 512 * 384 + 2 * 1024 * 768);
     assert!(rt; made.document.tree.find(NodeId(10)).is_some());
@@ -42,7 +42,7 @@ fn saves(lines: &[Line]) -> usize {
 
 #[test]
 fn each_session_has_a_hundred_calls(rt: HostRuntime) -> Result<(), Fail> {
-    let made = made(rt.alloc(), 7)?;
+    let made = make_seed(rt.alloc(), 7)?;
     for session in 0..8 {
         let lines = made.script.lines(session);
         assert_eq!(rt; lines.len(), 100);
@@ -64,8 +64,8 @@ fn opacity(made: &Made, id: u32) -> u8 {
 #[test]
 fn a_seed_makes_the_same_again(rt: HostRuntime) -> Result<(), Fail> {
     let alloc = rt.alloc();
-    let one = made(alloc, 7)?;
-    let two = made(alloc, 7)?;
+    let one = make_seed(alloc, 7)?;
+    let two = make_seed(alloc, 7)?;
     assert_eq!(rt; opacity(&one, 2), 206);
     assert_eq!(rt; opacity(&two, 2), 206);
     assert_eq!(rt; opacity(&one, 10), opacity(&two, 10));

@@ -53,7 +53,7 @@ fn run_with_filters<R: Threads + Wait + Sync>(
     ))
 }
 
-fn started<R: Threads + Wait + Sync>(rt: &HostRuntime, threads: &R) -> Result<u8, AllocError> {
+fn start<R: Threads + Wait + Sync>(rt: &HostRuntime, threads: &R) -> Result<u8, AllocError> {
     let alloc = rt.alloc();
     let given = match words_given(rt) {
         Ok(words) => words,
@@ -77,5 +77,5 @@ fn started<R: Threads + Wait + Sync>(rt: &HostRuntime, threads: &R) -> Result<u8
 }
 
 fn main(rt: HostRuntime) -> ExitCode {
-    ExitCode::from(started(&rt, &rt).unwrap_or(MEMORY))
+    ExitCode::from(start(&rt, &rt).unwrap_or(MEMORY))
 }

@@ -61,7 +61,7 @@ fn bytes_of(of: Four) -> u8x16
 
 /// Bytes in lanes of 16 bits.
 #[inline(always)]
-fn widened(bytes: u8x16) -> u16x16
+fn widen(bytes: u8x16) -> u16x16
     ensures value { result ≡ bytes }
     ensures bytes { AreBytes result }
 {
@@ -75,7 +75,7 @@ fn lanes_of(of: Four) -> u16x16
         ∷ of.r.r ∷ of.r.g ∷ of.r.b ∷ of.r.a ∷ of.s.r ∷ of.s.g ∷ of.s.b ∷ of.s.a ∷ [] }
     ensures bytes { AreBytes result }
 {
-    widened(bytes_of(of))
+    widen(bytes_of(of))
 }
 
 /// The alpha of each pixel in its four lanes.

@@ -6,7 +6,7 @@ ghost use Rattle.xl_tiles.specs.Written.{IsWithin};
 use xl_doc::{Plane, Rect};
 
 // Tells contracts of the sides of a plane.
-fn told(plane: &Plane)
+fn know_sides(plane: &Plane)
     ensures { IsSized plane.now }
 {
     let _width = plane.width();
@@ -21,6 +21,6 @@ pub fn corner(plane: &Plane, rect: Rect) -> (u32, u32)
     ensures down { result.1 + rect.h ≤ plane.now.height }
     ensures sized { IsSized plane.now }
 {
-    told(plane);
+    know_sides(plane);
     (rect.x as u32, rect.y as u32)
 }

@@ -13,7 +13,7 @@ pub use checks::{
     layer_at, lies_inside, masked_at, unmasked_at,
 };
 pub use corners::corner;
-pub use pixel_checks::{Layers, copyable, filterable, mask_fillable, moved, writable};
+pub use pixel_checks::{Layers, copyable, filterable, mask_fillable, rect_from, writable};
 pub use rules::{
     canvas_area, check_area, check_channel, check_count, check_depth, check_kind, check_name,
     check_node, check_offset, check_on_canvas, check_parent, check_place, child_count, is_indexed,

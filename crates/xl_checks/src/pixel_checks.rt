@@ -122,11 +122,11 @@ fn lies_at(plane: &Plane, rect: Rect, u: u32, v: u32) -> bool
     if u > plane.width() || v > plane.height() {
         return false;
     }
-    lies_on(plane.width(), plane.height(), moved(rect, u, v))
+    lies_on(plane.width(), plane.height(), rect_from(rect, u, v))
 }
 
 /// A rectangle of the same sides at a column and row.
-pub fn moved(rect: Rect, u: u32, v: u32) -> Rect
+pub fn rect_from(rect: Rect, u: u32, v: u32) -> Rect
     requires column { u ≤ MAX_SIDE }
     requires row { v ≤ MAX_SIDE }
     ensures { result ≡ rect_from u v rect }

@@ -15,7 +15,7 @@ use Rattle.spec_document.specs.Document.{Document, Nodes, Layer, Group}
 use Rattle.spec_picture.specs.Picture.{picture, pixel_of, project}
 use Rattle.xl_compose.specs.Added.{AreRight, IsPicture}
 use Rattle.xl_compose.specs.Job.{AreClean}
-use Rattle.xl_compose.specs.JobRoom.{tile_band}
+use Rattle.xl_compose.specs.JobScratch.{tile_band}
 use Rattle.xl_compose.proofs.PictureBytes.{rect_length, rect_pixel}
 
 -- the bytes of a stack's picture are a picture of its nodes

@@ -1,4 +1,4 @@
--- The pieces of a job, in their room.
+-- The pieces of a job, in their scratch.
 use Rattle.std.proofs.Common.{◌≡◌, ℕ, ◌+◌, ◌*◌, ◌≤◌, List, [], ◌∷◌, length, take, replicate, length-take-le, inl, inr}
 use Rattle.std.proofs.Common.{sym, ◌∙◌, ap, subst, arith, mul_comm, mul-le-mul_right}
 use Rattle.std.specs.Prelude.{Some}
@@ -15,12 +15,12 @@ use Rattle.xl_compose.specs.declared.span.Band.{Band}
 use Rattle.xl_compose.specs.Added.{AreAdded}
 use Rattle.xl_compose.specs.Cost.{tile_points, visible_in, visible_of, visible_below}
 use Rattle.xl_compose.specs.Job.{Job, StandsFor, planned}
-use Rattle.xl_compose.specs.JobRoom.{AreFor, tile_band}
+use Rattle.xl_compose.specs.JobScratch.{AreFor, tile_band}
 use Rattle.xl_compose.specs.Laid.{pixel}
 use Rattle.xl_compose.specs.Levels.{AreIn, AreShown, points}
 use Rattle.xl_compose.specs.Pieces.{AllFit, composed, shown, weights}
 use Rattle.xl_compose.specs.Rows.{row_bytes}
-use Rattle.xl_compose.proofs.LevelRooms.{inside_band}
+use Rattle.xl_compose.proofs.LevelScratch.{inside_band}
 use Rattle.xl_compose.proofs.PictureBytes.{rect_same}
 use Rattle.xl_compose.proofs.PictureRows.{band_bytes}
 
@@ -36,26 +36,26 @@ fit_in deep size band (p ∷ pieces) is fit =
 pub first_in : (deep size n : ℕ) → size ≡ deep * n → 1 ≤ deep → n ≤ size
 first_in deep size n is some = let low : 1 * n ≤ deep * n = mul-le-mul_right n some in omega (arith, low, is)
 
--- the room has clear pixels alone
-pub all_clear : (n i : ℕ) (room : List Pixel) → room ≡ replicate n clear → pixel room i ≡ clear
-all_clear n i room is = ap (λ r. pixel r i) is ∙ elim (cases_lt i n) [
+-- the scratch has clear pixels alone
+pub all_clear : (n i : ℕ) (scratch : List Pixel) → scratch ≡ replicate n clear → pixel scratch i ≡ clear
+all_clear n i scratch is = ap (λ r. pixel r i) is ∙ elim (cases_lt i n) [
   | inl inside ↦ get_or-replicate n i clear clear inside
   | inr past ↦ get_or_past (replicate n clear) i clear (omega (arith, length-replicate n clear, past))
 ]
 
 -- the picture of level 0 is that of the pieces
-pub composed_is : (colours : List (List ℕ)) (band : Band) (pieces : List Piece) (room : List Pixel) (n : ℕ) → n ≡ points band
-    → points band ≤ length room
-    → AreShown colours band pieces room → row_bytes (take n room) ≡ composed colours band pieces
-composed_is colours band pieces room n same fits is =
-    band_bytes (λ k v. shown colours band v k pieces 0) 0 0 band.w band.h (take n room)
-    (length-take-le n room (omega (arith, same, fits)) ∙ same)
+pub composed_is : (colours : List (List ℕ)) (band : Band) (pieces : List Piece) (scratch : List Pixel) (n : ℕ) → n ≡ points band
+    → points band ≤ length scratch
+    → AreShown colours band pieces scratch → row_bytes (take n scratch) ≡ composed colours band pieces
+composed_is colours band pieces scratch n same fits is =
+    band_bytes (λ k v. shown colours band v k pieces 0) 0 0 band.w band.h (take n scratch)
+    (length-take-le n scratch (omega (arith, same, fits)) ∙ same)
     (λ v k hv hk.
     let place : v * band.w + k ≡ 0 * points band + (v * band.w + k) = omega arith in
     let row : v ≡ 0 + v = omega arith in
     let column : k ≡ 0 + k = omega arith in
-    get_or-take n room (v * band.w + k) clear (omega (arith, inside_band band v k hv hk, same))
-    ∙ (ap (pixel room) place ∙ (is v k 0 hv hk (omega (arith, fits)) ∙ (λ i. shown colours band (row i) (column i) pieces 0))))
+    get_or-take n scratch (v * band.w + k) clear (omega (arith, inside_band band v k hv hk, same))
+    ∙ (ap (pixel scratch) place ∙ (is v k 0 hv hk (omega (arith, fits)) ∙ (λ i. shown colours band (row i) (column i) pieces 0))))
 
 -- the pieces of a stack make its picture
 pub are_for : (deep : ℕ) (d : Document) (stack : ℕ) (at : TileAt) (s : Nodes) (old pieces : List Piece) → old ≡ []

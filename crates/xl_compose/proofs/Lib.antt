@@ -12,7 +12,7 @@ pub mod PictureRows
 pub mod Costs
 pub mod PieceRuns
 pub mod AddedPieces
-pub mod LevelRooms
+pub mod LevelScratch
 pub mod PictureBytes
 pub mod CleanGroups
 pub mod JobPieces

@@ -25,11 +25,11 @@ IsLaid colours band piece old new =
 
 -- the pictures of the levels are those that pieces make
 abbrev pub AreShown : (colours : List (List ℕ)) → Band → List Piece → List Pixel → Type 0
-AreShown colours band pieces room =
-    (v k l : ℕ) → v < band.h → k < band.w → (l + 1) * points band ≤ length room
-    → pixel room (l * points band + (v * band.w + k)) ≡ shown colours band v k pieces l
+AreShown colours band pieces scratch =
+    (v k l : ℕ) → v < band.h → k < band.w → (l + 1) * points band ≤ length scratch
+    → pixel scratch (l * points band + (v * band.w + k)) ≡ shown colours band v k pieces l
 
--- the pictures of a piece and of the next level are in the room
+-- the pictures of a piece and of the next level are in the scratch
 abbrev pub IsIn : (size : ℕ) → Band → Piece → Type 0
 IsIn size band piece = ((piece.level + 2) * points band ≤ size) × IsSized band piece.what
 

@@ -11,5 +11,5 @@ pub mod Pieces
 pub mod NodePieces
 pub mod Added
 pub mod Levels
-pub mod JobRoom
+pub mod JobScratch
 pub mod Sample

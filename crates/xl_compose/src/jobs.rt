@@ -4,7 +4,7 @@ ghost use Rattle.spec_forest.specs.Forest.{stack_at};
 ghost use Rattle.spec_grid.specs.Grid.{is_on_grid};
 ghost use Rattle.xl_compose.specs.Cost.{laid_below, tile_points};
 ghost use Rattle.xl_compose.specs.Job.{AreClean, StandsFor};
-ghost use Rattle.xl_compose.specs.JobRoom.{AreFor, IsTile, tile_band};
+ghost use Rattle.xl_compose.specs.JobScratch.{AreFor, IsTile, tile_band};
 ghost use Rattle.xl_compose.specs.Pieces.{weights};
 
 use crate::adding::add_stack;

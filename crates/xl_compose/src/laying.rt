@@ -7,6 +7,7 @@ ghost use Rattle.xl_compose.specs.Levels.{AreIn, AreShown, IsIn, IsLaid, points}
 ghost use Rattle.xl_compose.specs.Neat.{IsNeat};
 ghost use Rattle.xl_compose.specs.Pieces.{kept_pixel, weight, weights};
 ghost use Rattle.spec_grid.specs.declared.TheConstants.{MAX_SIDE};
+ghost use Rattle.xl_tiles.specs.declared.tile.TheConstants.{SCRATCH};
 
 use crate::lay::lay_part;
 use crate::own::own_row;
@@ -23,22 +24,22 @@ fn lay_next<L: Ledger>(
     opacity: u8,
     at: usize,
     n: usize,
-    room: &mut [Pixel],
+    scratch: &mut [Pixel],
     source: &mut [Pixel],
     steps: &mut Steps<L>,
 )
-    requires room { at + n + n ≤ length room.old }
+    requires scratch { at + n + n ≤ length scratch.old }
     requires source { n ≤ length source.old }
-    ensures length { length room.new ≡ length room.old }
-    ensures here { (i : ℕ) → i < n → pixel room.new (at + i)
-        ≡ over mode (pixel room.old (at + i)) (faded opacity (pixel room.old (at + n + i))) }
-    ensures beside { (i : ℕ) → (i < at) ⊎ (at + n ≤ i) → pixel room.new i ≡ pixel room.old i }
+    ensures length { length scratch.new ≡ length scratch.old }
+    ensures here { (i : ℕ) → i < n → pixel scratch.new (at + i)
+        ≡ over mode (pixel scratch.old (at + i)) (faded opacity (pixel scratch.old (at + n + i))) }
+    ensures beside { (i : ℕ) → (i < at) ⊎ (at + n ≤ i) → pixel scratch.new i ≡ pixel scratch.old i }
     ensures cost { steps.new ≡ steps.old + n }
 {
     let above = &mut source[..n];
-    above.copy_from_slice(&room[at + n..at + n + n]);
+    above.copy_from_slice(&scratch[at + n..at + n + n]);
     fade_row(above, opacity);
-    lay_part(mode, room, at, above, steps);
+    lay_part(mode, scratch, at, above, steps);
 }
 
 // The pixels of a picture that was kept.
@@ -50,12 +51,12 @@ fn kept_row(bytes: &[u8], row: &mut [Pixel])
     own_row(1, &[], bytes, row);
 }
 
-// Lays a piece. The room holds the pictures of all levels, one after another.
+// Lays a piece. The scratch holds the pictures of all levels, one after another.
 fn lay_piece<L: Ledger>(
     colours: &[[u8; 3]],
     piece: &Piece,
     band: Band,
-    room: &mut [Pixel],
+    scratch: &mut [Pixel],
     source: &mut [Pixel],
     bytes: &mut [u8],
     steps: &mut Steps<L>,
@@ -63,42 +64,42 @@ fn lay_piece<L: Ledger>(
     requires right { band.x + band.w ≤ MAX_SIDE }
     requires below { band.y + band.h ≤ MAX_SIDE }
     requires high { band.h ≤ 64 }
-    requires fits { IsIn (length room.old) band piece.now }
+    requires fits { IsIn (length scratch.old) band piece.now }
     requires row { band.w ≤ length source.old }
     requires source { points band ≤ length source.old }
-    requires bytes { 32768 + 320 * band.w ≤ length bytes.old }
+    requires bytes { SCRATCH + 320 * band.w ≤ length bytes.old }
     requires neat { (v k : ℕ) → v < band.h → k < band.w
-        → IsNeat (pixel room.old (piece.now.level * points band + (v * band.w + k))) }
-    ensures length { length room.new ≡ length room.old }
-    ensures laid { IsLaid colours.now band piece.now room.old room.new }
+        → IsNeat (pixel scratch.old (piece.now.level * points band + (v * band.w + k))) }
+    ensures length { length scratch.new ≡ length scratch.old }
+    ensures laid { IsLaid colours.now band piece.now scratch.old scratch.new }
     ensures cost { steps.new ≤ steps.old + weight piece.now.what * points band }
 {
     let n = band.h as usize * band.w as usize;
     let at = piece.level as usize * n;
     match &piece.what {
-        What::Blank => clear_row(&mut room[at..at + n]),
+        What::Blank => clear_row(&mut scratch[at..at + n]),
         What::Leaf {
             mode,
             opacity,
             layer,
         } => {
-            let picture = &mut room[at..at + n];
+            let picture = &mut scratch[at..at + n];
             lay_layer(
                 *mode, colours, *opacity, layer, band, picture, source, bytes, steps,
             );
         }
-        What::Clean { picture } => kept_row(picture.bytes(), &mut room[at..at + n]),
-        What::Stack { mode, opacity } => lay_next(*mode, *opacity, at, n, room, source, steps),
+        What::Clean { picture } => kept_row(picture.bytes(), &mut scratch[at..at + n]),
+        What::Stack { mode, opacity } => lay_next(*mode, *opacity, at, n, scratch, source, steps),
     }
 }
 
-/// Lays pieces upon pictures without anything. The room holds the pictures of all levels, one after another, and
+/// Lays pieces upon pictures without anything. The scratch holds the pictures of all levels, one after another, and
 /// `source` one picture.
 pub fn lay_pieces<L: Ledger>(
     colours: &[[u8; 3]],
     pieces: &[Piece],
     band: Band,
-    room: &mut [Pixel],
+    scratch: &mut [Pixel],
     source: &mut [Pixel],
     bytes: &mut [u8],
     steps: &mut Steps<L>,
@@ -106,16 +107,16 @@ pub fn lay_pieces<L: Ledger>(
     requires right { band.x + band.w ≤ MAX_SIDE }
     requires below { band.y + band.h ≤ MAX_SIDE }
     requires high { band.h ≤ 64 }
-    requires fit { AreIn (length room.old) band pieces.now }
+    requires fit { AreIn (length scratch.old) band pieces.now }
     requires row { band.w ≤ length source.old }
     requires source { points band ≤ length source.old }
-    requires bytes { 32768 + 320 * band.w ≤ length bytes.old }
-    requires blank { (i : ℕ) → pixel room.old i ≡ clear }
-    ensures length { length room.new ≡ length room.old }
-    ensures shown { AreShown colours.now band pieces.now room.new }
+    requires bytes { SCRATCH + 320 * band.w ≤ length bytes.old }
+    requires blank { (i : ℕ) → pixel scratch.old i ≡ clear }
+    ensures length { length scratch.new ≡ length scratch.old }
+    ensures shown { AreShown colours.now band pieces.now scratch.new }
     ensures cost { steps.new ≤ steps.old + weights pieces.now * points band }
 {
     for i in 0..pieces.len() {
-        lay_piece(colours, &pieces[i], band, room, source, bytes, steps);
+        lay_piece(colours, &pieces[i], band, scratch, source, bytes, steps);
     }
 }

@@ -13,7 +13,7 @@ use xl_blend::Steps;
 use xl_doc::{Document, NodeId, Pictures, Rect};
 
 // The picture of a stack, with a counter of its own.
-fn counted<L: Ledger>(
+fn stack_picture<L: Ledger>(
     alloc: Global,
     doc: &Document,
     stack: NodeId,
@@ -52,6 +52,6 @@ impl Pictures for Recompose {
         rect: Rect,
         out: &mut [u8],
     ) -> Result<(), AllocError> {
-        counted::<Brand>(alloc, doc, node, rect, out, Blank::new(1))
+        stack_picture::<Brand>(alloc, doc, node, rect, out, Blank::new(1))
     }
 }

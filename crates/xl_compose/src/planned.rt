@@ -2,7 +2,7 @@
 ghost use Rattle.std.specs.Prelude.{◌≡◌, ◌+◌, ◌*◌, ◌≤◌, length, replicate, IfOk};
 ghost use Rattle.spec_blend.specs.Over.{clear};
 ghost use Rattle.xl_compose.specs.Job.{IsDone, planned};
-ghost use Rattle.xl_compose.specs.JobRoom.{IsTile};
+ghost use Rattle.xl_compose.specs.JobScratch.{IsTile};
 ghost use Rattle.xl_compose.specs.Pieces.{AllFit};
 
 use crate::clean::Done;
@@ -16,10 +16,10 @@ use std::marker::Model;
 use std::sync::ledger::Ledger;
 use xl_blend::{Pixel, Steps};
 use xl_doc::{ColourMap, NodeId, TileAt};
-use xl_tiles::ROOM;
+use xl_tiles::SCRATCH;
 
 /// The picture of a tile of a stack at a version, to be composed. It holds shares of the pixels that are to be laid
-/// over one another and all the room that composing needs, so that an edit changes nothing of it.
+/// over one another and all the scratch that composing needs, so that an edit changes nothing of it.
 #[derive(Drop)]
 pub struct Job {
     node: NodeId,
@@ -28,7 +28,7 @@ pub struct Job {
     band: Band,
     colours: ColourMap,
     pieces: Vec<Piece>,
-    room: Vec<Pixel>,
+    scratch: Vec<Pixel>,
     source: Vec<Pixel>,
     bytes: Vec<u8>,
     out: Picture,
@@ -36,20 +36,20 @@ pub struct Job {
 
 impl Model for Job {
     ghost use Rattle.xl_compose.specs.Job as jobs;
-    ghost use Rattle.xl_compose.specs.JobRoom.{IsReady};
+    ghost use Rattle.xl_compose.specs.JobScratch.{IsReady};
 
     ghost Value = { jobs.Job };
 
     ghost view = { λ j. jobs.planned j.node.0 j.at j.version j.colours j.band j.pieces.items };
 
-    ghost invariant = { λ j. IsReady j.band j.pieces.items j.room.items j.source.items j.bytes.items };
+    ghost invariant = { λ j. IsReady j.band j.pieces.items j.scratch.items j.source.items j.bytes.items };
 }
 
 // Room for the pictures of so many levels.
-fn clear_room(alloc: Global, deep: u32, points: usize) -> Result<Vec<Pixel>, AllocError>
+fn clear_scratch(alloc: Global, deep: u32, points: usize) -> Result<Vec<Pixel>, AllocError>
     requires deep { deep ≤ 10 }
     requires points { points ≤ 4096 }
-    ensures { IfOk result (λ room. room.items ≡ replicate (deep * points) clear) }
+    ensures { IfOk result (λ scratch. scratch.items ≡ replicate (deep * points) clear) }
 {
     vec![in alloc; CLEAR; deep as usize * points]
 }
@@ -57,9 +57,9 @@ fn clear_room(alloc: Global, deep: u32, points: usize) -> Result<Vec<Pixel>, All
 // Room for the bytes of a layer and its mask at the points of a tile, and for a tile of theirs.
 fn byte_room(alloc: Global, width: u32) -> Result<Vec<u8>, AllocError>
     requires { width ≤ 64 }
-    ensures { IfOk result (λ bytes. length bytes.items ≡ 32768 + 320 * width) }
+    ensures { IfOk result (λ bytes. length bytes.items ≡ SCRATCH + 320 * width) }
 {
-    vec![in alloc; 0; ROOM + 320 * width as usize]
+    vec![in alloc; 0; SCRATCH + 320 * width as usize]
 }
 
 impl Job {
@@ -81,8 +81,8 @@ impl Job {
         ensures { IfOk result (λ job. job ≡ planned node.0 at version colours band pieces.items) }
     {
         let points = band.h as usize * band.w as usize;
-        let room = clear_room(alloc, deep, points)?;
-        let source = clear_room(alloc, 1, points)?;
+        let scratch = clear_scratch(alloc, deep, points)?;
+        let source = clear_scratch(alloc, 1, points)?;
         let bytes = byte_room(alloc, band.w)?;
         let out = Picture::blank(alloc)?;
         Ok(Job {
@@ -92,7 +92,7 @@ impl Job {
             band,
             colours,
             pieces,
-            room,
+            scratch,
             source,
             bytes,
             out,
@@ -133,12 +133,12 @@ pub fn compose<L: Ledger>(job: Job, steps: &mut Steps<L>) -> Done
         band,
         colours,
         pieces,
-        mut room,
+        mut scratch,
         mut source,
         mut bytes,
         mut out,
     } = job;
-    let levels = room.as_mut_slice();
+    let levels = scratch.as_mut_slice();
     lay_pieces(
         colours.as_slice(),
         pieces.as_slice(),

@@ -17,7 +17,7 @@ use std::marker::Model;
 use std::sync::ledger::Ledger;
 use xl_blend::{Pixel, Steps};
 use xl_doc::{Document, MAX_SIDE, Node, NodeId, Rect};
-use xl_tiles::ROOM;
+use xl_tiles::SCRATCH;
 use xl_tree::Stack;
 
 // A coordinate on the canvas.
@@ -34,7 +34,7 @@ fn compose_band<L: Ledger>(
     nodes: Stack<'_, Node>,
     band: Band,
     picture: &mut [Pixel],
-    room: &mut [Pixel],
+    scratch: &mut [Pixel],
     bytes: &mut [u8],
     out: &mut [u8],
     steps: &mut Steps<L>,
@@ -46,15 +46,15 @@ fn compose_band<L: Ledger>(
     requires some { 1 ≤ band.h }
     requires levels { levels nodes ≤ MAX_DEPTH }
     requires picture { 64 * band.w ≤ length picture.old }
-    requires room { 512 * band.w ≤ length room.old }
-    requires bytes { 32768 + 320 * band.w ≤ length bytes.old }
+    requires scratch { 512 * band.w ≤ length scratch.old }
+    requires bytes { SCRATCH + 320 * band.w ≤ length bytes.old }
     requires out { length out.old ≡ 4 * (band.h * band.w) }
     ensures length { length out.new ≡ 4 * (band.h * band.w) }
     ensures shows { ShowsBand colours.now (nodes_of nodes.entry) band out.new }
     ensures cost { steps.new ≤ steps.old + visible_in (nodes_of nodes.entry) * (band.h * band.w) }
 {
     let picture = &mut picture[..band.h as usize * band.w as usize];
-    lay_stack(colours, nodes, band, picture, room, bytes, steps);
+    lay_stack(colours, nodes, band, picture, scratch, bytes, steps);
     write_row(picture, out);
 }
 
@@ -64,7 +64,7 @@ fn compose_bands<L: Ledger>(
     stack: NodeId,
     rect: Rect,
     picture: &mut [Pixel],
-    room: &mut [Pixel],
+    scratch: &mut [Pixel],
     bytes: &mut [u8],
     out: &mut [u8],
     steps: &mut Steps<L>,
@@ -72,8 +72,8 @@ fn compose_bands<L: Ledger>(
     requires stack { IsSome (stack_at stack.0 doc.now.nodes) }
     requires inside { IsInside doc.now.width doc.now.height rect }
     requires picture { 64 * rect.w ≤ length picture.old }
-    requires room { 512 * rect.w ≤ length room.old }
-    requires bytes { 32768 + 320 * rect.w ≤ length bytes.old }
+    requires scratch { 512 * rect.w ≤ length scratch.old }
+    requires bytes { SCRATCH + 320 * rect.w ≤ length bytes.old }
     requires out { length out.old ≡ 4 * (rect.w * rect.h) }
     ensures picture { out.new ≡ picture_bytes doc.now stack.0 (part_above_0 rect.x) (part_above_0 rect.y) rect.w rect.h }
     ensures cost { steps.new ≤ steps.old + visible_below doc.now stack.0 * (rect.w * rect.h) }
@@ -99,7 +99,7 @@ fn compose_bands<L: Ledger>(
             nodes.again(),
             band,
             picture,
-            room,
+            scratch,
             bytes,
             part,
             steps,
@@ -113,18 +113,19 @@ fn compose_bands<L: Ledger>(
 pub struct Composer {
     width: u32,
     picture: Vec<Pixel>,
-    room: Vec<Pixel>,
+    scratch: Vec<Pixel>,
     bytes: Vec<u8>,
 }
 
 impl Model for Composer {
     ghost use Rattle.std.specs.Prelude.{◌≡◌, ◌+◌, ◌*◌, ℕ, vec_len};
+    ghost use Rattle.xl_tiles.specs.declared.tile.TheConstants.{SCRATCH};
 
     ghost Value = { ℕ };
 
     ghost view = { λ c. c.width };
 
-    ghost invariant = { λ c. (vec_len c.picture ≡ 64 * c.width) × (vec_len c.room ≡ 512 * c.width) × (vec_len c.bytes ≡ 32768 + 320 * c.width) };
+    ghost invariant = { λ c. (vec_len c.picture ≡ 64 * c.width) × (vec_len c.scratch ≡ 512 * c.width) × (vec_len c.bytes ≡ SCRATCH + 320 * c.width) };
 }
 
 impl Composer {
@@ -135,8 +136,8 @@ impl Composer {
         Ok(Composer {
             width,
             picture: vec![in alloc; CLEAR; 64 * width as usize]?,
-            room: vec![in alloc; CLEAR; 512 * width as usize]?,
-            bytes: vec![in alloc; 0; ROOM + 320 * width as usize]?,
+            scratch: vec![in alloc; CLEAR; 512 * width as usize]?,
+            bytes: vec![in alloc; 0; SCRATCH + 320 * width as usize]?,
         })
     }
 
@@ -159,9 +160,9 @@ impl Composer {
         ensures cost { steps.new ≤ steps.old + visible_below doc.now stack.0 * (rect.w * rect.h) }
     {
         let picture = self.picture.as_mut_slice();
-        let room = self.room.as_mut_slice();
+        let scratch = self.scratch.as_mut_slice();
         let bytes = self.bytes.as_mut_slice();
-        compose_bands(doc, stack, rect, picture, room, bytes, out, steps);
+        compose_bands(doc, stack, rect, picture, scratch, bytes, out, steps);
     }
 }
 

@@ -19,7 +19,7 @@ use spec_grid::MAX_SIDE;
 use std::sync::ledger::Ledger;
 use xl_blend::{Mode, Pixel, Steps, fade_row, fade_row_by};
 use xl_doc::{Layer, Rect};
-use xl_tiles::ROOM;
+use xl_tiles::SCRATCH;
 
 // Fades a row by the mask, where there is one and it is applied. The bytes are those of a part of the mask.
 fn mask_row(layer: &Layer, part: Rect, masks: &[u8], y: u32, row: &mut [Pixel])
@@ -71,7 +71,7 @@ fn source_row(
 fn read_mask(layer: &Layer, part: Rect, masks: &mut [u8], tile: &mut [u8])
     requires within { IsWithin layer.now.plane.width layer.now.plane.height part }
     requires masks { length masks.old ≡ part.w * part.h }
-    requires tile { length tile.old ≡ 32768 }
+    requires tile { length tile.old ≡ SCRATCH }
     ensures { AreMasks layer.now.mask layer.now.apply_mask part masks.new }
 {
     if !layer.apply_mask {
@@ -179,7 +179,7 @@ fn lay_rect<L: Ledger>(
     requires high { band.h ≤ 64 }
     requires picture { length picture.old ≡ band.h * band.w }
     requires source { band.w ≤ length source.old }
-    requires bytes { 32768 + 320 * band.w ≤ length bytes.old }
+    requires bytes { SCRATCH + 320 * band.w ≤ length bytes.old }
     requires neat { (v k : ℕ) → v < band.h → k < band.w → IsNeat (pixel picture.old (v * band.w + k)) }
     ensures length { length picture.new ≡ length picture.old }
     ensures each { (v k : ℕ) → v < band.h → k < band.w → pixel picture.new (v * band.w + k)
@@ -188,7 +188,7 @@ fn lay_rect<L: Ledger>(
         (sheet_pixel colours.now opacity layer.now)) }
     ensures cost { steps.new ≡ steps.old + part.h * part.w }
 {
-    let (tile, rest) = bytes.split_at_mut(ROOM);
+    let (tile, rest) = bytes.split_at_mut(SCRATCH);
     let (count, size) = size_of(layer, part, band);
     let (masks, rest) = rest.split_at_mut(count);
     let pixels = &mut rest[..size];
@@ -235,7 +235,7 @@ fn lay_columns<L: Ledger>(
     requires high { band.h ≤ 64 }
     requires picture { length picture.old ≡ band.h * band.w }
     requires source { band.w ≤ length source.old }
-    requires bytes { 32768 + 320 * band.w ≤ length bytes.old }
+    requires bytes { SCRATCH + 320 * band.w ≤ length bytes.old }
     requires neat { (v k : ℕ) → v < band.h → k < band.w → IsNeat (pixel picture.old (v * band.w + k)) }
     ensures length { length picture.new ≡ length picture.old }
     ensures each { (v k : ℕ) → v < band.h → k < band.w → pixel picture.new (v * band.w + k)
@@ -279,7 +279,7 @@ pub fn lay_layer<L: Ledger>(
     requires high { band.h ≤ 64 }
     requires picture { length picture.old ≡ band.h * band.w }
     requires source { band.w ≤ length source.old }
-    requires bytes { 32768 + 320 * band.w ≤ length bytes.old }
+    requires bytes { SCRATCH + 320 * band.w ≤ length bytes.old }
     requires neat { (v k : ℕ) → v < band.h → k < band.w → IsNeat (pixel picture.old (v * band.w + k)) }
     ensures length { length picture.new ≡ length picture.old }
     ensures each { (v k : ℕ) → v < band.h → k < band.w

@@ -9,6 +9,7 @@ ghost use Rattle.xl_compose.specs.Cost.{one_if, visible_in};
 ghost use Rattle.xl_compose.specs.Laid.{pixel};
 ghost use Rattle.xl_compose.specs.Neat.{IsNeat};
 ghost use Rattle.spec_grid.specs.declared.TheConstants.{MAX_SIDE};
+ghost use Rattle.xl_tiles.specs.declared.tile.TheConstants.{SCRATCH};
 
 use crate::lay::lay_part;
 use crate::source::lay_layer;
@@ -50,7 +51,7 @@ fn lay_leaf<L: Ledger>(
     some_under: bool,
     band: Band,
     picture: &mut [Pixel],
-    room: &mut [Pixel],
+    scratch: &mut [Pixel],
     bytes: &mut [u8],
     steps: &mut Steps<L>,
 )
@@ -59,8 +60,8 @@ fn lay_leaf<L: Ledger>(
     requires below { band.y + band.h ≤ MAX_SIDE }
     requires high { band.h ≤ 64 }
     requires picture { length picture.old ≡ band.h * band.w }
-    requires room { band.w ≤ length room.old }
-    requires bytes { 32768 + 320 * band.w ≤ length bytes.old }
+    requires scratch { band.w ≤ length scratch.old }
+    requires bytes { SCRATCH + 320 * band.w ≤ length bytes.old }
     requires neat { (v k : ℕ) → v < band.h → k < band.w → IsNeat (pixel picture.old (v * band.w + k)) }
     ensures length { length picture.new ≡ length picture.old }
     ensures each { (v k : ℕ) → v < band.h → k < band.w → pixel picture.new (v * band.w + k)
@@ -80,7 +81,7 @@ fn lay_leaf<L: Ledger>(
             layer,
             band,
             picture,
-            room,
+            scratch,
             bytes,
             steps,
         ),
@@ -106,14 +107,14 @@ fn lay_children<L: Ledger>(
     lay_part(mode, picture, 0, children, steps);
 }
 
-/// The picture of a stack over a band of the canvas, row by row. `room` has a picture for each level of the stack, and `bytes` room
-/// for a tile and for the bytes of a layer and its mask in the band. Answers whether some node is visible.
+/// The picture of a stack over a band of the canvas, row by row. `scratch` has a picture for each level of the stack, and
+/// `bytes` has room for a tile and for the bytes of a layer and its mask in the band. Answers whether some node is visible.
 pub fn lay_stack<L: Ledger>(
     colours: &[[u8; 3]],
     nodes: Stack<'_, Node>,
     band: Band,
     picture: &mut [Pixel],
-    room: &mut [Pixel],
+    scratch: &mut [Pixel],
     bytes: &mut [u8],
     steps: &mut Steps<L>,
 ) -> bool
@@ -123,8 +124,8 @@ pub fn lay_stack<L: Ledger>(
     requires high { band.h ≤ 64 }
     requires some { 1 ≤ band.h }
     requires picture { length picture.old ≡ band.h * band.w }
-    requires room { levels nodes * length picture.old ≤ length room.old }
-    requires bytes { 32768 + 320 * band.w ≤ length bytes.old }
+    requires scratch { levels nodes * length picture.old ≤ length scratch.old }
+    requires bytes { SCRATCH + 320 * band.w ≤ length bytes.old }
     ensures length { length picture.new ≡ length picture.old }
     ensures any { result ≡ any_visible (nodes_of nodes.entry) }
     ensures each { (v k : ℕ) → v < band.h → k < band.w
@@ -137,8 +138,10 @@ pub fn lay_stack<L: Ledger>(
             false
         }
         Split::Leaf { node, under, .. } => {
-            let some_under = lay_stack(colours, under, band, picture, room, bytes, steps);
-            lay_leaf(colours, node, some_under, band, picture, room, bytes, steps);
+            let some_under = lay_stack(colours, under, band, picture, scratch, bytes, steps);
+            lay_leaf(
+                colours, node, some_under, band, picture, scratch, bytes, steps,
+            );
             node.visible || some_under
         }
         Split::Group {
@@ -147,11 +150,11 @@ pub fn lay_stack<L: Ledger>(
             under,
             ..
         } => {
-            let some_under = lay_stack(colours, under, band, picture, room, bytes, steps);
+            let some_under = lay_stack(colours, under, band, picture, scratch, bytes, steps);
             if !node.visible {
                 return some_under;
             }
-            let (level, rest) = room.split_at_mut(picture.len());
+            let (level, rest) = scratch.split_at_mut(picture.len());
             lay_stack(colours, children, band, level, rest, bytes, steps);
             lay_children(
                 mode_above(some_under, node.mode),

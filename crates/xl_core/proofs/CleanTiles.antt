@@ -14,7 +14,7 @@ use Rattle.spec_cache.proofs.Found.{canvas-found, slot-there}
 use Rattle.spec_history.specs.Machine.{has_stack, no_stack, outside_tile, tile_of}
 use Rattle.spec_world.specs.Events.{show_slot}
 use Rattle.xl_compose.specs.Job.{AreClean}
-use Rattle.xl_core.specs.Now.{Now, Told, Tells, stays, shown, with_tile, with_cache, IsKept}
+use Rattle.xl_core.specs.Now.{Now, Response, Gives, stays, shown, with_tile, with_cache, IsKept}
 use Rattle.xl_core.proofs.OneSlot.{shown-clean, shown-marked}
 
 is_this : {A : Type 0} (x y : A) → Some x ≡ Some y → x ≡ y
@@ -158,12 +158,12 @@ are_clean_taken d old new version at is took =
     (are_clean d (after_take old) version at (kept-taken d old version is))
 
 -- what is told of a tile that is there
-pub told-tile : (now : Now) (cache : Cache) (stack : ℕ) (at : TileAt) → not (has_stack now.document stack) ≡ false
+pub response-tile : (now : Now) (cache : Cache) (stack : ℕ) (at : TileAt) → not (has_stack now.document stack) ≡ false
     → not (is_on_grid now.document.width now.document.height at) ≡ false
     → cache ≡ change_stack stack (change_slot at (show_slot (project now.document stack at))) now.cache
-    → Tells (shown now stack at) (tile_of now.version) (with_cache now cache)
-told-tile now cache stack at has on is =
-    let there : Told = record { reply = tile_of now.version; now = with_tile now stack at } in
+    → Gives (shown now stack at) (tile_of now.version) (with_cache now cache)
+response-tile now cache stack at has on is =
+    let there : Response = record { reply = tile_of now.version; now = with_tile now stack at } in
     let same : shown now stack at ≡ there =
     ap (λ b. cond b (stays now (no_stack stack))
     (cond (not (is_on_grid now.document.width now.document.height at)) (stays now outside_tile) there)) has

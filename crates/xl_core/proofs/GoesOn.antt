@@ -35,10 +35,10 @@ use Rattle.spec_world.proofs.Submitted.{kept-picture, standing-submit}
 use Rattle.xl_marks.specs.Change.{LeavesCacheBetween}
 use Rattle.xl_marks.specs.Group.{HasGroupDamage}
 use Rattle.xl_core.specs.History.{History, Shows}
-use Rattle.xl_core.specs.Now.{Now, Tells, stays, told, now_of, with_tile, shown, ShowsTile, ShowsKept, ShowsNow}
+use Rattle.xl_core.specs.Now.{Now, Gives, stays, response, now_of, with_tile, shown, ShowsTile, ShowsKept, ShowsNow}
 use Rattle.xl_core.specs.Now.{IsKeptNow, world_of, Stands}
 use Rattle.xl_core.proofs.Simulates.{IsReady, follows}
-use Rattle.xl_core.proofs.GroupNumbers.{groups-told}
+use Rattle.xl_core.proofs.GroupNumbers.{groups-response}
 use Rattle.xl_core.proofs.WithinTypes.{calls-snoc}
 
 -- one call more of a session, and none of the others
@@ -130,18 +130,18 @@ module _ (between : (base old new : Document)
       (tables : List (List ℕ)) (reply : Reply)
       → Stands base entries now made → length made ≡ 8 → session < 8 → seen ≤ latest (replay base entries)
       → length entries + entries_owed (replay base entries).out < most_entries → IsCall call
-      → AllByRecursion AreBytes tables → Tells (told now call seen tables) reply new
+      → AllByRecursion AreBytes tables → Gives (response now call seen tables) reply new
       → GoesOn base entries now made session call seen tables reply new
-  goes_on base entries now new made session call seen tables reply stands eight within seen_le few is_call bytes tells =
+  goes_on base entries now new made session call seen tables reply stands eight within seen_le few is_call bytes gives =
       let s = replay base entries in
       let w = world_of base entries now.cache in
       let t = (answer base s call tables).state in
       let e : Entry = record { session = session; index = slice_index made session; kind = asked call tables; reply = reply } in
       let goes = follows between along base w call seen tables (ready-stands base entries now made stands) in
-      let same : told now call seen tables ≡ told (now_of base s now.cache) call seen tables =
-      ap (λ n. told n call seen tables) stands.is_now in
-      let says : reply ≡ reply_to base w call seen tables = tells.0 ∙ (ap (λ t. t.reply) same ∙ goes.says) in
-      let after : new ≡ now_of base t (cache_of base s t call (reply_to base w call seen tables) now.cache) = tells.1
+      let same : response now call seen tables ≡ response (now_of base s now.cache) call seen tables =
+      ap (λ n. response n call seen tables) stands.is_now in
+      let says : reply ≡ reply_to base w call seen tables = gives.0 ∙ (ap (λ t. t.reply) same ∙ goes.says) in
+      let after : new ≡ now_of base t (cache_of base s t call (reply_to base w call seen tables) now.cache) = gives.1
       ∙ (ap (λ t. t.now) same ∙ goes.stands) in
       let cache : new.cache ≡ cache_of base s t call reply now.cache = ap (λ n. n.cache) after
       ∙ ap (λ r. cache_of base s t call r now.cache) (sym says) in
@@ -149,9 +149,9 @@ module _ (between : (base old new : Document)
       let more : length (entries ++ e ∷ []) ≡ length entries + 1 = length-append entries (e ∷ []) in
       let owed : entries_owed (replay base (entries ++ e ∷ [])).out ≡ entries_owed s.out =
       ap entries_owed (out-call base entries session (slice_index made session) call tables reply) in
-      let groups = groups-told now call seen tables in
+      let groups = groups-response now call seen tables in
       let old_groups = stands.groups in
-      let taken : new.next_group ≡ (told now call seen tables).now.next_group = ap (λ n. n.next_group) tells.1 in
+      let taken : new.next_group ≡ (response now call seen tables).now.next_group = ap (λ n. n.next_group) gives.1 in
       let world : world_of base (entries ++ e ∷ []) new.cache ≡ with_call base w session call tables reply =
       (λ i. record { entries = entries ++ e ∷ []; state = replay-snoc base entries e i; cache = cache i; jobs = [] })
       ∙ (λ i. record {
@@ -250,15 +250,15 @@ is_version false true stack version v old new e = cc
 is_version false false stack version v old new e = cc
 
 shows-tile : (base : Document) (entries : List Entry) (now new : Now) (stack : ℕ) (at : TileAt) (reply : Reply) (bytes : List ℕ)
-    → Tells (shown now stack at) reply new → new ≡ now_of base (replay base entries) new.cache
+    → Gives (shown now stack at) reply new → new ≡ now_of base (replay base entries) new.cache
     → ShowsTile new.document stack at reply bytes
     → Shows (record { base = base; entries = entries }) (machine.tile stack at) reply bytes
-shows-tile base entries now new stack at (machine.tile_of v) bytes tells is shows =
+shows-tile base entries now new stack at (machine.tile_of v) bytes gives is shows =
     let s = replay base entries in
     let d = now.document in
     let version : v ≡ now.version = is_version (not (has_stack d stack))
-    (not (is_on_grid d.width d.height at)) stack now.version v now (with_tile now stack at) tells.0 in
-    let same : new.version ≡ now.version = ap (λ n. n.version) tells.1
+    (not (is_on_grid d.width d.height at)) stack now.version v now (with_tile now stack at) gives.0 in
+    let same : new.version ≡ now.version = ap (λ n. n.version) gives.1
     ∙ tile-version (not (has_stack d stack)) (not (is_on_grid d.width d.height at)) in
     let last : v ≡ latest s = version ∙ (sym same ∙ ap (λ n. n.version) is) in
     let document : new.document ≡ document_of base entries v = ap (λ n. n.document) is
@@ -271,7 +271,7 @@ shows-tile base entries now new stack at (machine.tile_of v) bytes tells is show
     tile-version true c = refl
     tile-version false true = refl
     tile-version false false = refl
-shows-tile base entries now new stack at reply bytes tells is shows = tt
+shows-tile base entries now new stack at reply bytes gives is shows = tt
 
 shows-kept : (base : Document) (entries : List Entry) (new : Now) (stack : ℕ) (at : TileAt) (o : Option Shown) (reply : Reply)
     (bytes : List ℕ)
@@ -284,21 +284,21 @@ shows-kept base entries new stack at o reply bytes picture shows = tt
 
 pub shows : (base : Document) (entries : List Entry) (now new : Now) (made : List ℕ) (call : Call) (seen : ℕ)
     (tables : List (List ℕ)) (reply : Reply) (bytes : List ℕ)
-    → Tells (told now call seen tables) reply new → Stands base entries new made
+    → Gives (response now call seen tables) reply new → Stands base entries new made
     → ShowsNow new call reply bytes → Shows (record { base = base; entries = entries }) call reply bytes
-shows base entries now new made (machine.tile stack at) seen tables reply bytes tells stands here =
-    shows-tile base entries now new stack at reply bytes tells stands.is_now here
-shows base entries now new made (machine.edit guard edits) seen tables reply bytes tells stands here = tt
-shows base entries now new made (machine.undo named) seen tables reply bytes tells stands here = tt
-shows base entries now new made machine.redo seen tables reply bytes tells stands here = tt
-shows base entries now new made (machine.peek stack at) seen tables reply bytes tells stands here =
+shows base entries now new made (machine.tile stack at) seen tables reply bytes gives stands here =
+    shows-tile base entries now new stack at reply bytes gives stands.is_now here
+shows base entries now new made (machine.edit guard edits) seen tables reply bytes gives stands here = tt
+shows base entries now new made (machine.undo named) seen tables reply bytes gives stands here = tt
+shows base entries now new made machine.redo seen tables reply bytes gives stands here = tt
+shows base entries now new made (machine.peek stack at) seen tables reply bytes gives stands here =
     let w = world_of base entries new.cache in
     let picture = kept-picture base w stack at stands.pictures in
     let version : new.version ≡ latest (replay base entries) = ap (λ n. n.version) stands.is_now in
     shows-kept base entries new stack at (kept new.cache stack at new.version) reply bytes
     (subst (λ n. IfSome (kept new.cache stack at n) (λ k. IsPictureAt base (replay base entries) stack at k.version k.picture))
     (sym version) picture) here
-shows base entries now new made machine.top seen tables reply bytes tells stands here = tt
+shows base entries now new made machine.top seen tables reply bytes gives stands here = tt
 
 -- a full history shows nothing
 pub shows-full : (h : History) (call : Call) (bytes : List ℕ) → Shows h call machine.history_full bytes

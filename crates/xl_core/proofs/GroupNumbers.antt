@@ -11,9 +11,10 @@ use Rattle.spec_grid.specs.declared.TileAt.{TileAt}
 use Rattle.spec_grid.specs.Grid.{is_on_grid}
 use Rattle.spec_world.specs.Events.{peek_reply}
 use Rattle.xl_marks.specs.Group.{damage_along}
-use Rattle.xl_core.specs.Now.{Now, Told, told, stays, at_now, made_now, taken_back, undone_of, redone_of, where_tile, with_tile}
+use Rattle.xl_core.specs.Now.{Now, Response, response, stays, at_now, made_now, taken_back, undone_of, redone_of}
+use Rattle.xl_core.specs.Now.{where_tile, with_tile}
 
-few_either : (n : ℕ) (b : Bool) (t u : Told) → t.now.next_group ≤ n → u.now.next_group ≤ n → (cond b t u).now.next_group ≤ n
+few_either : (n : ℕ) (b : Bool) (t u : Response) → t.now.next_group ≤ n → u.now.next_group ≤ n → (cond b t u).now.next_group ≤ n
 few_either n true t u one other = one
 few_either n false t u one other = other
 
@@ -32,7 +33,7 @@ groups-redone old [] = omega arith
 groups-redone old (r ∷ rs) = omega arith
 
 -- an answer about a tile
-groups-tile : (old : Now) (stack : ℕ) (at : TileAt) (there : Told) → there.now.next_group ≤ old.next_group + 1
+groups-tile : (old : Now) (stack : ℕ) (at : TileAt) (there : Response) → there.now.next_group ≤ old.next_group + 1
     → (where_tile old stack at there).now.next_group ≤ old.next_group + 1
 groups-tile old stack at there few =
     let n = old.next_group + 1 in
@@ -42,17 +43,17 @@ groups-tile old stack at there few =
     (cond (not (is_on_grid old.document.width old.document.height at)) (stays old outside_tile) there)
     (omega arith) on
 
-pub groups-told : (old : Now) (call : Call) (seen : ℕ) (tables : List (List ℕ))
-    → (told old call seen tables).now.next_group ≤ old.next_group + 1
-groups-told old (machine.edit guard edits) seen tables =
+pub groups-response : (old : Now) (call : Call) (seen : ℕ) (tables : List (List ℕ))
+    → (response old call seen tables).now.next_group ≤ old.next_group + 1
+groups-response old (machine.edit guard edits) seen tables =
     let r = apply_group (at_now old) edits tables in
     let damage = damage_along (at_now old) edits tables in
     few_either (old.next_group + 1) (names guard old.version) (made_now old damage r) (stays old (moved old.version))
     (groups-made old damage r) (omega arith)
-groups-told old (machine.undo named) seen tables = groups-undone old named old.undo
-groups-told old machine.redo seen tables = groups-redone old old.redo
-groups-told old (machine.tile stack at) seen tables =
+groups-response old (machine.undo named) seen tables = groups-undone old named old.undo
+groups-response old machine.redo seen tables = groups-redone old old.redo
+groups-response old (machine.tile stack at) seen tables =
     groups-tile old stack at (record { reply = tile_of old.version; now = with_tile old stack at }) (omega arith)
-groups-told old (machine.peek stack at) seen tables =
+groups-response old (machine.peek stack at) seen tables =
     groups-tile old stack at (stays old (peek_reply (kept old.cache stack at old.version) seen)) (omega arith)
-groups-told old machine.top seen tables = omega arith
+groups-response old machine.top seen tables = omega arith

@@ -25,19 +25,19 @@ use Rattle.spec_world.specs.Events.{peek_reply, reply_to, cache_of}
 use Rattle.xl_marks.specs.Change.{change_between, gone_along, IsCacheOf, rects_in, AreOfCanvas, LeavesCacheBetween}
 use Rattle.xl_marks.specs.Group.{damage_along, HasGroupDamage}
 use Rattle.xl_core.specs.Steps.{Step}
-use Rattle.xl_core.specs.Now.{Now, Told, told, stays, kept_after, step_made, made_now, undone_of, redone_of}
+use Rattle.xl_core.specs.Now.{Now, Response, response, stays, kept_after, step_made, made_now, undone_of, redone_of}
 use Rattle.xl_core.specs.Now.{taken_back, with_tile, top_of, damage_behind, damage_at, undo_of, redo_of, now_of}
 
 -- one is told this, and what stands afterwards is what stands in this state with these pictures
-pub record Follows (base : Document) (t : Told) (reply : Reply) (state : State) (cache : Cache) : Type 0 where
+pub record Follows (base : Document) (t : Response) (reply : Reply) (state : State) (cache : Cache) : Type 0 where
   pub says : t.reply ≡ reply
   pub stands : t.now ≡ now_of base state cache
 
 -- by an answer of the machine to a call
-abbrev Goes : Document → (old : State) → Cache → Call → Told → Answer → Type 0
+abbrev Goes : Document → (old : State) → Cache → Call → Response → Answer → Type 0
 Goes base old cache call t a = Follows base t a.reply a.state (cache_of base old a.state call a.reply cache)
 
-goes_either : (base : Document) (old : State) (cache : Cache) (call : Call) (b : Bool) (t u : Told) (a c : Answer)
+goes_either : (base : Document) (old : State) (cache : Cache) (call : Call) (b : Bool) (t u : Response) (a c : Answer)
     → Goes base old cache call t a → Goes base old cache call u c
     → Goes base old cache call (cond b t u) (cond b a c)
 goes_either base old cache call true t u a c one other = one
@@ -174,7 +174,7 @@ module _ (between : (base old new : Document)
 
   goes-edited : (base : Document) (s : State) (cache : Cache) (guard : Option ℕ) (edits : List Edit) (seen : ℕ)
       (tables : List (List ℕ)) → IsReady base s cache
-      → Goes base s cache (machine.edit guard edits) (told (now_of base s cache) (machine.edit guard edits) seen tables)
+      → Goes base s cache (machine.edit guard edits) (response (now_of base s cache) (machine.edit guard edits) seen tables)
       (answer base s (machine.edit guard edits) tables)
   goes-edited base s cache guard edits seen tables ready =
       let now = now_of base s cache in
@@ -309,7 +309,7 @@ module _ (between : (base old new : Document)
   -- ---- tiles
 
   goes-shown : (base : Document) (s : State) (cache : Cache) (stack : ℕ) (at : TileAt) (seen : ℕ) (tables : List (List ℕ))
-      → Goes base s cache (machine.tile stack at) (told (now_of base s cache) (machine.tile stack at) seen tables)
+      → Goes base s cache (machine.tile stack at) (response (now_of base s cache) (machine.tile stack at) seen tables)
       (answer base s (machine.tile stack at) tables)
   goes-shown base s cache stack at seen tables = go (not (has_stack d stack)) (not (is_on_grid d.width d.height at))
     where
@@ -331,7 +331,7 @@ module _ (between : (base old new : Document)
       go false false = record { says = refl; stands = refl }
 
   goes-peeked : (base : Document) (w : World) (stack : ℕ) (at : TileAt) (seen : ℕ) (tables : List (List ℕ))
-      → Follows base (told (now_of base w.state w.cache) (machine.peek stack at) seen tables)
+      → Follows base (response (now_of base w.state w.cache) (machine.peek stack at) seen tables)
       (reply_to base w (machine.peek stack at) seen tables) w.state
       (cache_of base w.state w.state (machine.peek stack at) (reply_to base w (machine.peek stack at) seen tables) w.cache)
   goes-peeked base w stack at seen tables = go (not (has_stack d stack)) (not (is_on_grid d.width d.height at))
@@ -373,7 +373,7 @@ module _ (between : (base old new : Document)
 
   -- a call is told what the world answers, and the world's state and pictures stand afterwards
   pub follows : (base : Document) (w : World) (call : Call) (seen : ℕ) (tables : List (List ℕ)) → IsReady base w.state w.cache
-      → Follows base (told (now_of base w.state w.cache) call seen tables) (reply_to base w call seen tables)
+      → Follows base (response (now_of base w.state w.cache) call seen tables) (reply_to base w call seen tables)
       (answer base w.state call tables).state
       (cache_of base w.state (answer base w.state call tables).state call (reply_to base w call seen tables) w.cache)
   follows base w (machine.edit guard edits) seen tables ready = goes-edited base w.state w.cache guard edits seen tables ready

@@ -58,19 +58,19 @@ at_now now = record { document = now.document; next = now.next_id }
 -- ---- replies
 
 -- a reply, and what stands after it
-pub record Told : Type 0 where
+pub record Response : Type 0 where
   pub reply : Reply
   pub now : Now
 
-abbrev pub Tells : Told → Reply → (new : Now) → Type 0
-Tells told reply new = (reply ≡ told.reply) × (new ≡ told.now)
+abbrev pub Gives : Response → Reply → (new : Now) → Type 0
+Gives response reply new = (reply ≡ response.reply) × (new ≡ response.now)
 
 -- a reply that changes nothing
-abbrev pub stays : Now → Reply → Told
+abbrev pub stays : Now → Reply → Response
 stays now reply = record { reply = reply; now = now }
 
 -- what stands is the next version, which this group, or its undo or redo, has left
-abbrev pub next_version : Now → (group : ℕ) → Told
+abbrev pub next_version : Now → (group : ℕ) → Response
 next_version now group =
     record { reply = changed (now.version + 1) group now.next_id; now = record now { version = now.version + 1 } }
 
@@ -83,7 +83,7 @@ abbrev pub step_made : Now → At → (damage : List Pair) → Step
 step_made old at damage = record { group = old.next_group; from = old.document; to = at.document; damage = damage }
 
 -- a group that was made can be undone, and nothing can be redone any more
-abbrev pub accepted : Now → At → (damage : List Pair) → Told
+abbrev pub accepted : Now → At → (damage : List Pair) → Response
 accepted old at damage =
     let mid : Now = record {
       document = at.document;
@@ -96,44 +96,44 @@ accepted old at damage =
     } in
     next_version mid old.next_group
 
-abbrev pub made_now : Now → (damage : List Pair) → Result At Refused → Told
+abbrev pub made_now : Now → (damage : List Pair) → Result At Refused → Response
 made_now old damage (Err r) = stays old (refused r.index r.cause)
 made_now old damage (Ok at) = accepted old at damage
 
 -- a group of edits, whose guard may have moved, made with the tables of its filters, or refused
-abbrev pub edited : Now → (guard : Option ℕ) → List Edit → (tables : List (List ℕ)) → Told
+abbrev pub edited : Now → (guard : Option ℕ) → List Edit → (tables : List (List ℕ)) → Response
 edited old guard edits tables =
     let made = made_now old (damage_along (at_now old) edits tables) (apply_group (at_now old) edits tables) in
     if names guard old.version then made else stays old (moved old.version)
 
 -- the document before a group stands again, which can be redone
-abbrev pub taken_back : Now → Step → List Step → Told
+abbrev pub taken_back : Now → Step → List Step → Response
 taken_back old s ss =
     next_version (record old { document = s.to; undo = ss; redo = stepped s ∷ old.redo; cache = kept_after old s }) s.group
 
-abbrev pub undone_of : Now → (named : Option ℕ) → List Step → Told
+abbrev pub undone_of : Now → (named : Option ℕ) → List Step → Response
 undone_of old named [] = stays old nothing_to_undo
 undone_of old named (s ∷ ss) = if names named s.group then taken_back old s ss else stays old (not_top s.group)
 
 -- the undo of the last group, if it is the one that is named
-abbrev pub undone : Now → (named : Option ℕ) → Told
+abbrev pub undone : Now → (named : Option ℕ) → Response
 undone old named = undone_of old named old.undo
 
 -- the document after a group stands again, which can be undone
-abbrev pub made_again : Now → Step → List Step → Told
+abbrev pub made_again : Now → Step → List Step → Response
 made_again old s ss =
     next_version (record old { document = s.to; undo = stepped s ∷ old.undo; redo = ss; cache = kept_after old s }) s.group
 
-abbrev pub redone_of : Now → List Step → Told
+abbrev pub redone_of : Now → List Step → Response
 redone_of old [] = stays old nothing_to_redo
 redone_of old (s ∷ ss) = made_again old s ss
 
 -- the redo of the group that was undone last
-abbrev pub redone : Now → Told
+abbrev pub redone : Now → Response
 redone old = redone_of old old.redo
 
 -- an answer about a tile, where its stack and the tile are there
-abbrev pub where_tile : Now → (stack : ℕ) → TileAt → Told → Told
+abbrev pub where_tile : Now → (stack : ℕ) → TileAt → Response → Response
 where_tile old stack at there =
     if not (has_stack old.document stack) then stays old (no_stack stack) else
     if not (is_on_grid old.document.width old.document.height at) then stays old outside_tile else there
@@ -147,11 +147,11 @@ abbrev pub with_tile : Now → (stack : ℕ) → TileAt → Now
 with_tile old stack at =
     record old { cache = change_stack stack (change_slot at (show_slot (project old.document stack at))) old.cache }
 
-abbrev pub shown : Now → (stack : ℕ) → TileAt → Told
+abbrev pub shown : Now → (stack : ℕ) → TileAt → Response
 shown old stack at = where_tile old stack at (record { reply = tile_of old.version; now = with_tile old stack at })
 
 -- what is kept of a tile, where that is as late as what was seen
-abbrev pub peeked : Now → (stack : ℕ) → TileAt → (seen : ℕ) → Told
+abbrev pub peeked : Now → (stack : ℕ) → TileAt → (seen : ℕ) → Response
 peeked old stack at seen = where_tile old stack at (stays old (peek_reply (kept old.cache stack at old.version) seen))
 
 -- the group that an undo would undo
@@ -160,13 +160,13 @@ top_of [] = None
 top_of (s ∷ ss) = Some s.group
 
 -- what a call is told by a session that has seen a version, and whose filters answered these tables
-abbrev pub told : Now → Call → (seen : ℕ) → (tables : List (List ℕ)) → Told
-told old (machine.edit guard edits) seen tables = edited old guard edits tables
-told old (machine.undo named) seen tables = undone old named
-told old machine.redo seen tables = redone old
-told old (machine.tile stack at) seen tables = shown old stack at
-told old (machine.peek stack at) seen tables = peeked old stack at seen
-told old machine.top seen tables = stays old (top_is (top_of old.undo) old.version)
+abbrev pub response : Now → Call → (seen : ℕ) → (tables : List (List ℕ)) → Response
+response old (machine.edit guard edits) seen tables = edited old guard edits tables
+response old (machine.undo named) seen tables = undone old named
+response old machine.redo seen tables = redone old
+response old (machine.tile stack at) seen tables = shown old stack at
+response old (machine.peek stack at) seen tables = peeked old stack at seen
+response old machine.top seen tables = stays old (top_is (top_of old.undo) old.version)
 
 -- the bytes are those of the tile that was asked for, where it is shown
 abbrev pub ShowsTile : Document → (stack : ℕ) → TileAt → Reply → (bytes : List ℕ) → Type 0

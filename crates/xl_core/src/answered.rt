@@ -14,7 +14,7 @@ pub(crate) struct Answered {
 }
 
 /// A reply of a call that asked no filter.
-pub(crate) fn unasked(alloc: Global, reply: Reply) -> Answered
+pub(crate) fn without_filters(alloc: Global, reply: Reply) -> Answered
     ensures reply { result.reply ≡ reply }
     ensures tables { result.tables ≡ [] }
 {

@@ -306,10 +306,10 @@ fn ask_filters(alloc: Global, edits: &[Edit], chest: &mut Chest) -> Result<Table
 fn know_bytes(table: &Table)
     ensures { AreBytes table.now }
 {
-    told(table.as_slice());
+    know_slice(table.as_slice());
 }
 
-fn told(bytes: &[u8])
+fn know_slice(bytes: &[u8])
     ensures { AreBytes bytes.now }
 {
     let _len = bytes.len();

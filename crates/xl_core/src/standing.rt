@@ -14,7 +14,7 @@ ghost use Rattle.xl_compose.specs.Job.{StandsFor};
 ghost use Rattle.xl_core.specs.Editing.{TakesNoStep, place_of_job, place_done};
 ghost use Rattle.xl_core.specs.Group.{HasIds};
 ghost use Rattle.xl_core.specs.Now.{first_now, at_now, with_cache, accepted, edited, undone, taken_back, redone};
-ghost use Rattle.xl_core.specs.Now.{next_version, shown, peeked, top_of, told, Tells, ShowsTile, ShowsKept, ShowsNow};
+ghost use Rattle.xl_core.specs.Now.{next_version, shown, peeked, top_of, response, Gives, ShowsTile, ShowsKept, ShowsNow};
 ghost use Rattle.xl_core.specs.Now.{KeepsDesk, IsKeptNow, IsTileOf};
 ghost use Rattle.xl_core.specs.Room.{IsUndoOrRedo};
 ghost use Rattle.xl_core.specs.Steps.{IsChange};
@@ -25,7 +25,7 @@ ghost use Rattle.xl_edit.specs.Edits.{edits_of};
 ghost use Rattle.xl_edit.specs.Replies.{reply_of};
 ghost use Rattle.xl_filters.specs.Chests.{states_in};
 
-use crate::answered::{Answered, is_named, unasked};
+use crate::answered::{Answered, is_named, without_filters};
 use crate::desk::Desk;
 use crate::group::{GroupRefusedOrMemory, Made, make_group};
 use crate::step::{Step, limits};
@@ -150,8 +150,8 @@ impl Standing {
         requires versions { self.old.what.version < 2 ^ 31 }
         requires groups { self.old.what.next_group < 2 ^ 31 }
         requires ids { HasIds (at_now self.old.what) most_edits }
-        ensures told { IfOk result (λ a.
-            Tells (told self.old.what (call_of call.now) seen a.tables) (reply_of a.reply) self.new.what) }
+        ensures response { IfOk result (λ a.
+            Gives (response self.old.what (call_of call.now) seen a.tables) (reply_of a.reply) self.new.what) }
         ensures asked { IfOk result (λ a.
             AreAsked (states_in state desk.old.chest) (states_in state desk.new.chest)
             (edits_made (call_of call.now) (reply_of a.reply)) a.tables) }
@@ -172,16 +172,19 @@ impl Standing {
                 let edits = group.edits.as_slice();
                 self.edit(alloc, group.guard, edits, &mut desk.chest)
             }
-            Call::Undo(named) => Ok(unasked(alloc, self.undo(*named)?)),
-            Call::Redo => Ok(unasked(alloc, self.redo()?)),
+            Call::Undo(named) => Ok(without_filters(alloc, self.undo(*named)?)),
+            Call::Redo => Ok(without_filters(alloc, self.redo()?)),
             Call::Tile(node, at) => {
-                Ok(unasked(alloc, self.tile(alloc, *node, *at, &mut desk.out, steps)?))
+                Ok(without_filters(alloc, self.tile(alloc, *node, *at, &mut desk.out, steps)?))
             }
-            Call::Peek(node, at) => Ok(unasked(alloc, self.peek(*node, *at, seen, &mut desk.out))),
+            Call::Peek(node, at) => Ok(without_filters(
+                alloc,
+                self.peek(*node, *at, seen, &mut desk.out),
+            )),
             Call::Top => {
                 let version = self.version;
                 let group = self.top();
-                Ok(unasked(alloc, Reply::Top { group, version }))
+                Ok(without_filters(alloc, Reply::Top { group, version }))
             }
         }
     }
@@ -201,8 +204,8 @@ impl Standing {
         requires versions { self.old.what.version < 2 ^ 31 }
         requires groups { self.old.what.next_group < 2 ^ 31 }
         requires ids { HasIds (at_now self.old.what) most_edits }
-        ensures told { IfOk result (λ a.
-            Tells (edited self.old.what guard (edits_of edits.now) a.tables) (reply_of a.reply) self.new.what) }
+        ensures response { IfOk result (λ a.
+            Gives (edited self.old.what guard (edits_of edits.now) a.tables) (reply_of a.reply) self.new.what) }
         ensures asked { IfOk result (λ a.
             AreAsked (states_in state chest.old) (states_in state chest.new)
             (edits_made (machine.edit guard (edits_of edits.now)) (reply_of a.reply)) a.tables) }
@@ -213,13 +216,13 @@ impl Standing {
         ensures room_as_before { OnErr result (self.old.room ≤ self.new.room) }
     {
         if !is_named(guard, self.version) {
-            return Ok(unasked(alloc, Reply::Moved { now: self.version }));
+            return Ok(without_filters(alloc, Reply::Moved { now: self.version }));
         }
         self.reserve(1)?;
         let made = match make_group(alloc, &self.document, self.next_id, edits, chest) {
             Ok(made) => made,
             Err(GroupRefusedOrMemory::Refused { index, cause }) => {
-                return Ok(unasked(alloc, Reply::Refused { index, cause }));
+                return Ok(without_filters(alloc, Reply::Refused { index, cause }));
             }
             Err(GroupRefusedOrMemory::Memory) => return Err(AllocError),
         };
@@ -241,7 +244,7 @@ impl Standing {
         requires versions { self.old.what.version < 2 ^ 31 }
         requires groups { self.old.what.next_group < 2 ^ 31 }
         requires room { 1 ≤ self.old.room }
-        ensures told { Tells (accepted self.old.what (at document next_id) change.damage) (reply_of result) self.new.what }
+        ensures response { Gives (accepted self.old.what (at document next_id) change.damage) (reply_of result) self.new.what }
         ensures room { self.old.room ≤ self.new.room + 1 }
     {
         let group = self.next_group;
@@ -272,7 +275,7 @@ impl Standing {
     fn undo(&mut self, named: Option<u32>) -> Result<Reply, AllocError>
         requires kept { IsKeptNow self.old.what }
         requires versions { self.old.what.version < 2 ^ 31 }
-        ensures told { IfOk result (λ reply. Tells (undone self.old.what named) (reply_of reply) self.new.what) }
+        ensures response { IfOk result (λ reply. Gives (undone self.old.what named) (reply_of reply) self.new.what) }
         ensures as_before { OnErr result (self.new.what ≡ self.old.what) }
         ensures room { self.old.room ≤ self.new.room + 1 }
         ensures room_as_before { OnErr result (self.old.room ≤ self.new.room) }
@@ -298,7 +301,7 @@ impl Standing {
     fn redo(&mut self) -> Result<Reply, AllocError>
         requires kept { IsKeptNow self.old.what }
         requires versions { self.old.what.version < 2 ^ 31 }
-        ensures told { IfOk result (λ reply. Tells (redone self.old.what) (reply_of reply) self.new.what) }
+        ensures response { IfOk result (λ reply. Gives (redone self.old.what) (reply_of reply) self.new.what) }
         ensures as_before { OnErr result (self.new.what ≡ self.old.what) }
         ensures room { self.old.room ≤ self.new.room + 1 }
         ensures room_as_before { OnErr result (self.old.room ≤ self.new.room) }
@@ -317,7 +320,7 @@ impl Standing {
     // The document that a group, or its undo or redo, has left is the next version.
     fn next_version(&mut self, group: u32) -> Reply
         requires { self.old.what.version < 2 ^ 31 }
-        ensures told { Tells (next_version self.old.what group) (reply_of result) self.new.what }
+        ensures response { Gives (next_version self.old.what group) (reply_of result) self.new.what }
         ensures room { self.new.room ≡ self.old.room }
     {
         self.version += 1;
@@ -338,7 +341,7 @@ impl Standing {
         steps: &mut Steps<L>,
     ) -> Result<Reply, AllocError>
         requires kept { IsKeptNow self.old.what }
-        ensures told { IfOk result (λ reply. Tells (shown self.old.what node.0 at) (reply_of reply) self.new.what) }
+        ensures response { IfOk result (λ reply. Gives (shown self.old.what node.0 at) (reply_of reply) self.new.what) }
         ensures shown { IfOk result (λ reply. ShowsTile self.new.what.document node.0 at (reply_of reply) out.new) }
         ensures desk { IfOk result (λ reply. KeepsDesk (reply_of reply) out.old out.new) }
         ensures steps { is_clean self.old.what.cache node.0 at ≡ true → steps.new ≡ steps.old }
@@ -368,7 +371,7 @@ impl Standing {
 
     // Leaves what is kept of a tile in `out`, where it is as late as what was seen.
     fn peek(&self, node: NodeId, at: TileAt, seen: u32, out: &mut Picture) -> Reply
-        ensures told { Tells (peeked self.now.what node.0 at seen) (reply_of result) self.now.what }
+        ensures response { Gives (peeked self.now.what node.0 at seen) (reply_of result) self.now.what }
         ensures shown { ShowsKept (kept self.now.what.cache node.0 at self.now.what.version) (reply_of result) out.new }
         ensures desk { KeepsDesk (reply_of result) out.old out.new }
     {

@@ -36,7 +36,7 @@ fn canvas(doc: &Document) -> Rect
 }
 
 /// The part of a rectangle that is on the canvas.
-pub(crate) fn cut(doc: &Document, rect: Rect) -> Rect
+pub(crate) fn part_on_canvas(doc: &Document, rect: Rect) -> Rect
     requires { IsSmall rect }
     ensures { result ≡ meet rect (sheet doc.now.width doc.now.height) }
 {
@@ -62,10 +62,10 @@ pub(crate) fn extent(doc: &Document, id: NodeId) -> Rect
     ensures small { IsSmall result }
 {
     let Some(node) = doc.tree.find(id) else {
-        return cut(doc, no_rect());
+        return part_on_canvas(doc, no_rect());
     };
     match &node.body {
-        Body::Leaf(layer) => cut(doc, layer_rect(layer)),
+        Body::Leaf(layer) => part_on_canvas(doc, layer_rect(layer)),
         Body::Group => doc.group_extent(id),
     }
 }
@@ -80,7 +80,7 @@ fn past(start: i32, place: i32) -> i32
 }
 
 // A rectangle whose coordinates count from the corner of a layer's.
-fn shifted(whole: Rect, rect: Rect) -> Rect
+fn shift(whole: Rect, rect: Rect) -> Rect
     requires whole { IsSmall whole }
     requires rect { IsSmall rect }
     ensures { result ≡ record { x = whole.x +ℤ rect.x; y = whole.y +ℤ rect.y; w = rect.w; h = rect.h } }
@@ -94,16 +94,16 @@ fn shifted(whole: Rect, rect: Rect) -> Rect
 }
 
 /// A rectangle in a layer's own coordinates, as one of the canvas.
-fn placed(layer: &Layer, rect: Rect) -> Rect
+fn layer_part(layer: &Layer, rect: Rect) -> Rect
     requires { lies_on layer.now.plane.width layer.now.plane.height rect ≡ true }
     ensures value { result ≡ record { x = layer.now.x +ℤ rect.x; y = layer.now.y +ℤ rect.y; w = rect.w; h = rect.h } }
     ensures small { IsSmall result }
 {
-    shifted(layer_rect(layer), rect)
+    shift(layer_rect(layer), rect)
 }
 
 /// A rectangle of a layer, as one of the canvas; nothing where the node is no layer.
-pub(crate) fn moved(doc: &Document, id: NodeId, rect: Rect) -> Rect
+pub(crate) fn node_part(doc: &Document, id: NodeId, rect: Rect) -> Rect
     requires { outside_layer doc.now id.0 rect ≡ None }
     ensures value { result ≡ moved (node doc.now id.0) rect }
     ensures small { IsSmall result }
@@ -112,7 +112,7 @@ pub(crate) fn moved(doc: &Document, id: NodeId, rect: Rect) -> Rect
         return no_rect();
     };
     match &node.body {
-        Body::Leaf(layer) => placed(layer, rect),
+        Body::Leaf(layer) => layer_part(layer, rect),
         Body::Group => no_rect(),
     }
 }

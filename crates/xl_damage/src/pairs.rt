@@ -9,7 +9,7 @@ ghost use Rattle.xl_damage.specs.Marks.{pairs_of, spread, damage_between, Adds, 
 ghost use Rattle.xl_doc.specs.Nodes.{nodes_of};
 ghost use Rattle.xl_edit.specs.Edits.{edit_of};
 
-use crate::cutting::{extent, moved};
+use crate::cutting::{extent, node_part};
 use crate::stacks::{add, bottom_visible, same_id, stack_of};
 use std::alloc::{AllocError, Global};
 use xl_doc::{Document, Node, NodeId, Rect};
@@ -30,7 +30,14 @@ fn add_rect(
         (spread before.now after.now (damage.rect_pair before.now id.0 rect))) }
 {
     let stack = stack_of(before, id);
-    add(alloc, list, before, after, stack, moved(before, id, rect))
+    add(
+        alloc,
+        list,
+        before,
+        after,
+        stack,
+        node_part(before, id, rect),
+    )
 }
 
 /// Adds what a node covered before the edit.

@@ -5,7 +5,7 @@ ghost use Rattle.spec_damage.specs.Damage as damage;
 ghost use Rattle.xl_damage.specs.Marks.{numbers, copies, spread, Adds};
 ghost use Rattle.xl_grid.specs.Small.{IsSmall};
 
-use crate::cutting::cut;
+use crate::cutting::part_on_canvas;
 use std::alloc::{AllocError, Global};
 use xl_doc::{Document, NodeId, Rect};
 use xl_grid::is_empty;
@@ -112,7 +112,7 @@ pub(crate) fn add(
     ensures { OnOk result (Adds list.old.items list.new.items
         (spread before.now after.now (record { stack = stack.0; rect = rect } ∷ []))) }
 {
-    let part = cut(before, rect);
+    let part = part_on_canvas(before, rect);
     if is_empty(part) {
         return Ok(());
     }

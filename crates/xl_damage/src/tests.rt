@@ -82,7 +82,7 @@ fn document(alloc: Global, file: &[u8], at: usize) -> Option<Document> {
 }
 
 /// What may change where a node is hidden, or shown where it was hidden. The byte is its visibility.
-fn shown(
+fn all_damage(
     alloc: Global,
     file: &[u8],
     at: usize,
@@ -101,7 +101,7 @@ fn shown(
 }
 
 /// What may change with the opacity of a node.
-fn faded(alloc: Global, file: &[u8], id: u32) -> Option<Vec<(NodeId, Rect)>> {
+fn damage_of_fade(alloc: Global, file: &[u8], id: u32) -> Option<Vec<(NodeId, Rect)>> {
     let doc = document(alloc, file, usize::MAX)?;
     let mut list = Vec::new(alloc);
     add_extent_before(alloc, &mut list, &doc, &doc, NodeId(id)).ok()?;
@@ -109,7 +109,7 @@ fn faded(alloc: Global, file: &[u8], id: u32) -> Option<Vec<(NodeId, Rect)>> {
 }
 
 /// What may change with the colour map.
-fn coloured(alloc: Global, file: &[u8]) -> Option<Vec<(NodeId, Rect)>> {
+fn damage_of_colours(alloc: Global, file: &[u8]) -> Option<Vec<(NodeId, Rect)>> {
     let doc = document(alloc, file, usize::MAX)?;
     let mut list = Vec::new(alloc);
     add_layers(alloc, &mut list, &doc, &doc, doc.tree.top()).ok()?;
@@ -148,7 +148,7 @@ fn is_list(list: &Option<Vec<(NodeId, Rect)>>, entries: &[(NodeId, Rect)]) -> bo
 
 #[test]
 fn another_bottom_layer(rt: HostRuntime) -> Result<(), Fail> {
-    let list = shown(rt.alloc(), &TWO, LOWER_OF_TWO, 2, false);
+    let list = all_damage(rt.alloc(), &TWO, LOWER_OF_TWO, 2, false);
     let pixel = entry(0, 0, 0, 1, 1);
     assert!(rt; is_list(&list, &[pixel, pixel, entry(0, 0, 0, 200, 200)]));
     Ok(())
@@ -156,14 +156,14 @@ fn another_bottom_layer(rt: HostRuntime) -> Result<(), Fail> {
 
 #[test]
 fn a_hidden_layer_in_the_middle(rt: HostRuntime) -> Result<(), Fail> {
-    let list = shown(rt.alloc(), &FOUR, SECOND_OF_FOUR, 2, true);
+    let list = all_damage(rt.alloc(), &FOUR, SECOND_OF_FOUR, 2, true);
     assert!(rt; is_list(&list, &[entry(0, 5, 5, 20, 20)]));
     Ok(())
 }
 
 #[test]
 fn a_layer_in_a_group_in_a_group(rt: HostRuntime) -> Result<(), Fail> {
-    let list = faded(rt.alloc(), &DEEP, 3);
+    let list = damage_of_fade(rt.alloc(), &DEEP, 3);
     let stacks = [
         entry(2, 3, 4, 5, 6),
         entry(1, 3, 4, 5, 6),
@@ -175,13 +175,13 @@ fn a_layer_in_a_group_in_a_group(rt: HostRuntime) -> Result<(), Fail> {
 
 #[test]
 fn a_layer_outside_the_canvas(rt: HostRuntime) -> Result<(), Fail> {
-    assert!(rt; is_list(&faded(rt.alloc(), &FOUR, 4), &[]));
+    assert!(rt; is_list(&damage_of_fade(rt.alloc(), &FOUR, 4), &[]));
     Ok(())
 }
 
 #[test]
 fn other_colours(rt: HostRuntime) -> Result<(), Fail> {
-    let list = coloured(rt.alloc(), &FOUR);
+    let list = damage_of_colours(rt.alloc(), &FOUR);
     let layers = [
         entry(0, 0, 0, 10, 10),
         entry(0, 5, 5, 20, 20),

@@ -8,7 +8,7 @@ ghost use Rattle.xl_tiles.specs.Block.{byte_after};
 
 use crate::document::Document;
 use xl_grid::MAX_SIDE;
-use xl_tiles::{Plane, ROOM};
+use xl_tiles::{Plane, SCRATCH};
 
 // Whether a point lies on a sheet of these sides.
 fn is_on(width: u32, height: u32, x: i32, y: i32) -> bool
@@ -42,30 +42,30 @@ fn put(out: &mut [u8], at: usize, row: &[u8])
     out[at..at + row.len()].copy_from_slice(row);
 }
 
-/// The room that `selected_row` needs: a row, and a tile of the selection.
-pub const ROW_ROOM: usize = MAX_SIDE as usize + ROOM;
+/// The scratch that `selected_row` needs: a row, and a tile of the selection.
+pub const ROW_SCRATCH: usize = MAX_SIDE as usize + SCRATCH;
 
-// The bytes of n pixels of row y, from column x on, in the room.
-fn row_of<'a>(plane: &Plane, x: u32, y: u32, n: u32, room: &'a mut [u8]) -> &'a [u8]
+// The bytes of n pixels of row y, from column x on, in the scratch.
+fn row_of<'a>(plane: &Plane, x: u32, y: u32, n: u32, scratch: &'a mut [u8]) -> &'a [u8]
     requires bpp { plane.now.bpp ≡ 1 }
     requires columns { x + n ≤ plane.now.width }
     requires row { y < plane.now.height }
     requires few { n ≤ MAX_SIDE }
-    requires room { length room.old ≡ ROW_ROOM }
+    requires scratch { length scratch.old ≡ ROW_SCRATCH }
     ensures length { length result.now ≡ n * plane.now.bpp }
     ensures each { (k c : ℕ) → k < n → c < plane.now.bpp
         → slice_index result.now (k * plane.now.bpp + c) ≡ byte_at plane.now (x + k) y c }
 {
-    let (line, tile) = room.split_at_mut(MAX_SIDE as usize);
+    let (line, tile) = scratch.split_at_mut(MAX_SIDE as usize);
     let row = &mut line[..n as usize];
     plane.read_row(x, y, n, row, tile);
     row
 }
 
 // The bytes of a row of points, from a point on. Outside the plane they are 0.
-fn plane_row(plane: &Plane, x: i32, y: i32, out: &mut [u8], room: &mut [u8])
+fn plane_row(plane: &Plane, x: i32, y: i32, out: &mut [u8], scratch: &mut [u8])
     requires bpp { plane.now.bpp ≡ 1 }
-    requires room { length room.old ≡ ROW_ROOM }
+    requires scratch { length scratch.old ≡ ROW_SCRATCH }
     requires near { IsNear x }
     requires short { length out.old ≤ MAX_SIDE }
     ensures length { length out.new ≡ length out.old }
@@ -78,7 +78,7 @@ fn plane_row(plane: &Plane, x: i32, y: i32, out: &mut [u8], room: &mut [u8])
         return;
     }
     let count = (plane.width() - from).min((out.len() - skip) as u32);
-    put(out, skip, row_of(plane, from, y as u32, count, room));
+    put(out, skip, row_of(plane, from, y as u32, count, scratch));
 }
 
 impl Document {
@@ -98,8 +98,8 @@ impl Document {
     }
 
     /// The same for a row of points, from a point on.
-    pub fn selected_row(&self, x: i32, y: i32, out: &mut [u8], room: &mut [u8])
-        requires room { length room.old ≡ ROW_ROOM }
+    pub fn selected_row(&self, x: i32, y: i32, out: &mut [u8], scratch: &mut [u8])
+        requires scratch { length scratch.old ≡ ROW_SCRATCH }
         requires near { IsNear x }
         requires short { length out.old ≤ MAX_SIDE }
         ensures length { length out.new ≡ length out.old }
@@ -107,7 +107,7 @@ impl Document {
     {
         match &self.selection {
             None => out.fill(255),
-            Some(selection) => plane_row(&selection.plane, x, y, out, room),
+            Some(selection) => plane_row(&selection.plane, x, y, out, scratch),
         }
     }
 }

@@ -13,7 +13,7 @@ use crate::refused::EditRefusedOrMemory;
 use std::alloc::{AllocError, Global};
 use xl_checks::{check_channel, check_colours, check_new_channel, check_select};
 use xl_doc::{Bytes, Channel, ColourMap, Document, Rect};
-use xl_tiles::repeated;
+use xl_tiles::repeat;
 
 /// Errors: `OutsideLayer`, `TooLarge`.
 pub(crate) fn select(
@@ -63,7 +63,7 @@ fn flat_bytes(alloc: Global, doc: &Document, rect: Rect, value: u8) -> Result<Ve
     ensures { IfOk result (λ bytes. AreFlat (rect.w * rect.h) value bytes.items) }
 {
     let _sides = (doc.width, doc.height);
-    repeated(alloc, &[value], rect.w as usize * rect.h as usize)
+    repeat(alloc, &[value], rect.w as usize * rect.h as usize)
 }
 
 /// No errors.

@@ -8,7 +8,7 @@ ghost use Rattle.xl_tiles.specs.Written.{IsWithin, written};
 ghost use Rattle.xl_edit.specs.Applied.{IsCause, Makes};
 ghost use Rattle.xl_edit.specs.Channels.{IsChannelPiece, PaintsChannel};
 
-use crate::filling::filled_flat;
+use crate::filling::bytes_after_flat_fill;
 use crate::places::Site;
 use crate::refused::EditRefusedOrMemory;
 use spec_edit::EditRefused;
@@ -50,7 +50,7 @@ fn channel_bytes(
         y: 0,
         indexed: false,
     };
-    let bytes = filled_flat(alloc, doc, &channel.plane, canvas, rect, value)?;
+    let bytes = bytes_after_flat_fill(alloc, doc, &channel.plane, canvas, rect, value)?;
     Ok(bytes)
 }
 

@@ -12,7 +12,7 @@ ghost use Rattle.xl_tiles.specs.Area.{bytes_in};
 ghost use Rattle.xl_tiles.specs.Block.{byte_after};
 ghost use Rattle.xl_tiles.specs.Written.{IsWithin};
 
-use crate::filling::laid_or_given;
+use crate::filling::bytes_after_own_write;
 use crate::painting::put;
 use crate::pixels::site_of;
 use crate::places::Part;
@@ -55,7 +55,7 @@ fn filter_bytes(
     let layer = filterable(doc, id, rect)?;
     let site = site_of(doc, layer);
     let new = bytes_through(alloc, layer, rect, table)?;
-    let bytes = laid_or_given(alloc, doc, &layer.plane, site, rect, new)?;
+    let bytes = bytes_after_own_write(alloc, doc, &layer.plane, site, rect, new)?;
     Ok(bytes)
 }
 

@@ -123,14 +123,14 @@ fn put_node_in(tree: &mut Tree<Node>, parent: NodeId, place: u32, id: NodeId, no
     ensures done { nodes_of tree.new ≡ put_into parent.0 place (one_node id.0 node) (nodes_of tree.old) }
     ensures marks { MarksAgree tree.new }
 {
-    told(tree);
+    know_levels(tree);
     let Ok(()) = tree.insert(parent, place, id, node) else {
         unreachable!();
     };
 }
 
 // Tells contracts how many levels a tree has at most.
-fn told(tree: &Tree<Node>)
+fn know_levels(tree: &Tree<Node>)
     ensures { levels tree.now ≤ MAX_DEPTH }
 {
     let _top = tree.top();

@@ -11,14 +11,16 @@ ghost use Rattle.xl_tiles.specs.Written.{IsWithin};
 ghost use Rattle.xl_edit.specs.Paint.{Paints, PaintsMask, fills, writes, copies, fills_mask, site_of_sheet, site_of_mask};
 ghost use Rattle.xl_checks.specs.Rects.{rect_from};
 
-use crate::filling::{filled, filled_flat, laid, laid_or_given};
+use crate::filling::{
+    bytes_after_fill, bytes_after_flat_fill, bytes_after_own_write, bytes_after_write,
+};
 use crate::painting::put;
 use crate::places::{Part, Site};
 use crate::refused::EditRefusedOrMemory;
 use crate::weighing::{is_whole, old_bytes};
 use spec_edit::EditRefused;
 use std::alloc::{AllocError, Global};
-use xl_checks::{copyable, fillable, is_indexed, mask_fillable, moved, writable};
+use xl_checks::{copyable, fillable, is_indexed, mask_fillable, rect_from, writable};
 use xl_doc::{Document, Layer, NodeId, Rect};
 
 /// Where the pixels of a layer lie.
@@ -75,7 +77,7 @@ fn fill_bytes(
 {
     let layer = fillable(doc, id, rect, pixel)?;
     let site = site_of(doc, layer);
-    let bytes = filled(alloc, doc, &layer.plane, site, rect, pixel)?;
+    let bytes = bytes_after_fill(alloc, doc, &layer.plane, site, rect, pixel)?;
     Ok(bytes)
 }
 
@@ -126,7 +128,7 @@ fn write_bytes(
 {
     let layer = writable(doc, id, rect, bytes)?;
     let site = site_of(doc, layer);
-    let mixed = laid(alloc, doc, &layer.plane, site, rect, bytes)?;
+    let mixed = bytes_after_write(alloc, doc, &layer.plane, site, rect, bytes)?;
     Ok(mixed)
 }
 
@@ -168,7 +170,7 @@ fn copy_bytes(
     let to = two.to;
     let site = site_of(doc, to);
     let new = bytes_from(alloc, two.from, rect, u, v)?;
-    let bytes = laid_or_given(alloc, doc, &to.plane, site, rect, new)?;
+    let bytes = bytes_after_own_write(alloc, doc, &to.plane, site, rect, new)?;
     Ok(bytes)
 }
 
@@ -184,7 +186,7 @@ fn bytes_from(
     ensures { IfOk result (λ bytes. bytes.items ≡ bytes_in layer.now.plane (rect_from u v rect)) }
 {
     let _sides = (layer.plane.width(), layer.plane.height());
-    old_bytes(alloc, &layer.plane, moved(rect, u, v))
+    old_bytes(alloc, &layer.plane, rect_from(rect, u, v))
 }
 
 /// Fills a rectangle of a layer's mask with a byte, through the selection. Errors: `NoNode`, `IsGroup`, `NoMask`, `OutsideLayer`.
@@ -233,7 +235,7 @@ fn filled_mask(
 {
     let site = mask_site(layer);
     match &layer.mask {
-        Some(mask) => filled_flat(alloc, doc, &mask.plane, site, rect, value),
+        Some(mask) => bytes_after_flat_fill(alloc, doc, &mask.plane, site, rect, value),
         None => unreachable!(),
     }
 }

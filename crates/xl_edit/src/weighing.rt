@@ -12,8 +12,8 @@ use crate::mixing::{mix_at, spread, threshold};
 use crate::places::Site;
 use std::alloc::{AllocError, Global};
 use xl_checks::corner;
-use xl_doc::{Document, Plane, ROW_ROOM, Rect};
-use xl_tiles::ROOM;
+use xl_doc::{Document, Plane, ROW_SCRATCH, Rect};
+use xl_tiles::SCRATCH;
 
 // A column and row of a plane on the canvas.
 fn on_canvas(site: Site, x: u32, y: u32) -> (i32, i32)
@@ -28,9 +28,9 @@ fn on_canvas(site: Site, x: u32, y: u32) -> (i32, i32)
 }
 
 // The weights of the pixels of a row of a plane.
-fn weigh_pixels(doc: &Document, site: Site, x: u32, y: u32, weights: &mut [u8], room: &mut [u8])
+fn weigh_pixels(doc: &Document, site: Site, x: u32, y: u32, weights: &mut [u8], scratch: &mut [u8])
     requires site { IsNearby site }
-    requires room { length room.old ≡ ROW_ROOM }
+    requires scratch { length scratch.old ≡ ROW_SCRATCH }
     requires column { x ≤ MAX_SIDE }
     requires row { y ≤ MAX_SIDE }
     requires short { length weights.old ≤ MAX_SIDE }
@@ -38,7 +38,7 @@ fn weigh_pixels(doc: &Document, site: Site, x: u32, y: u32, weights: &mut [u8], 
     ensures each { (k : ℕ) → k < length weights.old → slice_index weights.new k ≡ weight_at doc.now site (x + k) y }
 {
     let (column, row) = on_canvas(site, x, y);
-    doc.selected_row(column, row, weights, room);
+    doc.selected_row(column, row, weights, scratch);
     if site.indexed {
         threshold(weights);
     }
@@ -53,10 +53,10 @@ fn weigh_row(
     bpp: usize,
     weights: &mut [u8],
     wide: &mut [u8],
-    room: &mut [u8],
+    scratch: &mut [u8],
 )
     requires site { IsNearby site }
-    requires room { length room.old ≡ ROW_ROOM }
+    requires scratch { length scratch.old ≡ ROW_SCRATCH }
     requires column { x ≤ MAX_SIDE }
     requires row { y ≤ MAX_SIDE }
     requires short { length weights.old ≤ MAX_SIDE }
@@ -64,7 +64,7 @@ fn weigh_row(
     ensures each { (k c : ℕ) → k < length weights.old → c < bpp
         → slice_index wide.new (k * bpp + c) ≡ weight_at doc.now site (x + k) y }
 {
-    weigh_pixels(doc, site, x, y, weights, room);
+    weigh_pixels(doc, site, x, y, weights, scratch);
     spread(weights, bpp, wide);
 }
 
@@ -88,7 +88,7 @@ fn mix_rows(
     step: usize,
     weights: &mut [u8],
     wide: &mut [u8],
-    room: &mut [u8],
+    scratch: &mut [u8],
     bytes: &mut [u8],
 )
     requires within { IsWithin plane.now.width plane.now.height rect }
@@ -96,7 +96,7 @@ fn mix_rows(
     requires new { HasRows rect.w rect.h plane.now.bpp step new.now }
     requires weights { length weights.old ≡ rect.w }
     requires wide { length wide.old ≡ rect.w * plane.now.bpp }
-    requires room { length room.old ≡ ROW_ROOM }
+    requires scratch { length scratch.old ≡ ROW_SCRATCH }
     requires bytes { bytes.old ≡ bytes_in plane.now rect }
     ensures { AreRows rect.w rect.h plane.now.bpp
         (byte_in doc.now site plane.now rect (in_rows step plane.now.bpp new.now)) bytes.new }
@@ -105,7 +105,7 @@ fn mix_rows(
     let bpp = plane.bpp() as usize;
     let len = wide.len();
     for row in 0..rect.h {
-        weigh_row(doc, site, x, y + row, bpp, weights, wide, room);
+        weigh_row(doc, site, x, y + row, bpp, weights, wide, scratch);
         let line = part(new, row as usize * step, len);
         mix_at(bytes, row as usize * len, wide, line);
     }
@@ -118,7 +118,7 @@ pub(crate) fn old_bytes(alloc: Global, plane: &Plane, rect: Rect) -> Result<Vec<
 {
     corner(plane, rect);
     let count = rect.w as usize * rect.h as usize;
-    let mut tile = vec![in alloc; 0; ROOM]?;
+    let mut tile = vec![in alloc; 0; SCRATCH]?;
     let mut bytes = vec![in alloc; 0; count * plane.bpp() as usize]?;
     plane.read_rect(rect, &mut bytes, &mut tile);
     Ok(bytes)
@@ -126,7 +126,7 @@ pub(crate) fn old_bytes(alloc: Global, plane: &Plane, rect: Rect) -> Result<Vec<
 
 /// The bytes of a rectangle of a plane, row by row, after new ones went into them through the selection. Each row of
 /// the new bytes begins `step` bytes behind the one above it: with 0 all rows are the first one.
-pub(crate) fn weighed(
+pub(crate) fn weigh_bytes(
     alloc: Global,
     doc: &Document,
     plane: &Plane,
@@ -145,7 +145,7 @@ pub(crate) fn weighed(
     let wide = rect.w as usize;
     let mut line = vec![in alloc; 0; wide * plane.bpp() as usize]?;
     let mut weights = vec![in alloc; 0; wide]?;
-    let mut room = vec![in alloc; 0; ROW_ROOM]?;
+    let mut scratch = vec![in alloc; 0; ROW_SCRATCH]?;
     let mut bytes = old_bytes(alloc, plane, rect)?;
     mix_rows(
         doc,
@@ -156,7 +156,7 @@ pub(crate) fn weighed(
         step,
         &mut weights,
         &mut line,
-        &mut room,
+        &mut scratch,
         &mut bytes,
     );
     Ok(bytes)

@@ -109,7 +109,7 @@ impl MemoryShelf {
     pub fn calls(&self) -> u32
         ensures { result ≡ min self.now.calls.made (2 ^ 32 - 1) }
     {
-        self.calls.made().min(u64::from(u32::MAX)) as u32
+        self.calls.count().min(u64::from(u32::MAX)) as u32
     }
 
     /// How many calls found no memory inside.

@@ -2,7 +2,7 @@ ghost use Rattle.std.specs.Prelude.{◌≡◌, ◌==◌, ◌<◌, ◌≤◌, ◌
 ghost use Rattle.spec_fields.specs.Field.{name_at, zero_place};
 ghost use Rattle.xl_fields.specs.Gives.{SpanOf};
 
-use crate::refusal::refused;
+use crate::refusal::refuse;
 use crate::word::u32_at;
 use spec_fields::{Kind, ReadRefused};
 use std::alloc::AllocError;
@@ -43,13 +43,13 @@ pub fn string_at(bytes: &[u8], at: usize) -> Result<Span, ReadRefused>
 {
     let n = u32_at(bytes, at)? as usize;
     if n > 4097 {
-        return Err(refused(Kind::BadString, at));
+        return Err(refuse(Kind::BadString, at));
     }
     if bytes.len() - at - 4 < n {
-        return Err(refused(Kind::Truncated, at + 4));
+        return Err(refuse(Kind::Truncated, at + 4));
     }
     if n > 0 && bytes[at + 3 + n] != 0 {
-        return Err(refused(Kind::BadString, at));
+        return Err(refuse(Kind::BadString, at));
     }
     let text = &bytes[at + 4..at + 4 + n];
     let len = until_zero_len(text);

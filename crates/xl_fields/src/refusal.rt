@@ -40,7 +40,7 @@ impl From<ReadRefused> for ReadRefusedOrMemory {
 }
 
 /// The refusal of the field at an offset, where the kind has no code of its own.
-pub fn refused(kind: Kind, at: usize) -> ReadRefused
+pub fn refuse(kind: Kind, at: usize) -> ReadRefused
     ensures { result ≡ fault kind at }
 {
     ReadRefused {

@@ -2,7 +2,7 @@ ghost use Rattle.std.specs.Prelude.{◌≡◌, ◌++◌, OnOk, OnErr};
 ghost use Rattle.std.specs.Int.{w32, to_be_bytes};
 ghost use Rattle.spec_fields.specs.Field.{word_at, int_at};
 
-use crate::refusal::refused;
+use crate::refusal::refuse;
 use spec_fields::{Kind, ReadRefused};
 use std::alloc::{AllocError, Global};
 
@@ -11,7 +11,7 @@ pub fn u32_at(bytes: &[u8], at: usize) -> Result<u32, ReadRefused>
     ensures { result ≡ word_at bytes.now at }
 {
     if at > bytes.len() || bytes.len() - at < 4 {
-        return Err(refused(Kind::Truncated, at));
+        return Err(refuse(Kind::Truncated, at));
     }
     let part = &bytes[at..at + 4];
     Ok(u32::from_be_bytes([part[0], part[1], part[2], part[3]]))

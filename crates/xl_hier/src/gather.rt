@@ -1,6 +1,7 @@
 ghost use Rattle.std.specs.Prelude.{◌≡◌, ℕ, ◌+◌, ◌-◌, ◌*◌, ◌<◌, ◌≤◌, ◌++◌, length, min, slice_index, OnOk, OnErr};
 ghost use Rattle.spec_grid.specs.Grid as grid;
 ghost use Rattle.spec_hierarchy.specs.Tiles as tiles;
+ghost use Rattle.xl_tiles.specs.declared.tile.TheConstants.{SCRATCH};
 
 use std::alloc::AllocError;
 use xl_grid::TileAt;
@@ -18,20 +19,20 @@ fn span(side: u32, at: u32) -> (u32, u32)
     (first, (side - first).min(64))
 }
 
-/// Appends the pixels of a tile, row by row. The room is for a tile.
+/// Appends the pixels of a tile, row by row. The scratch is for a tile.
 pub fn append_tile(
     plane: &Plane,
     spot: TileAt,
     out: &mut Vec<u8>,
-    room: &mut [u8],
+    scratch: &mut [u8],
 ) -> Result<(), AllocError>
     requires column { spot.col < grid.tiles_along plane.now.width }
     requires row { spot.row < grid.tiles_along plane.now.height }
-    requires room { length room.old ≡ 32768 }
+    requires scratch { length scratch.old ≡ SCRATCH }
     ensures ok { OnOk result (out.new.items ≡ out.old.items ++ tiles.tile_bytes plane.now spot) }
     ensures err { OnErr result (out.new.items ≡ out.old.items) }
 {
-    out.extend_from_slice(plane.tile_bytes(spot, room))
+    out.extend_from_slice(plane.tile_bytes(spot, scratch))
 }
 
 // Byte c of each pixel.

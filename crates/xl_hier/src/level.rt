@@ -4,7 +4,7 @@ ghost use Rattle.spec_hierarchy.specs.Reading as hierarchy;
 ghost use Rattle.xl_hier.specs.Level.{level_at};
 
 use crate::frame::Frame;
-use xl_fields::{Kind, ReadRefused, refused, u32_at};
+use xl_fields::{Kind, ReadRefused, refuse, u32_at};
 
 // A word that has to be this one.
 fn same_word_at(bytes: &[u8], at: usize, n: usize) -> Result<(), ReadRefused>
@@ -13,7 +13,7 @@ fn same_word_at(bytes: &[u8], at: usize, n: usize) -> Result<(), ReadRefused>
 {
     let word = u32_at(bytes, at)?;
     if word as usize != n {
-        return Err(refused(Kind::BadHierarchy, at));
+        return Err(refuse(Kind::BadHierarchy, at));
     }
     Ok(())
 }
@@ -26,7 +26,7 @@ pub fn pointer_at(bytes: &[u8], at: usize) -> Result<usize, ReadRefused>
 {
     let pointer = u32_at(bytes, at)?;
     if pointer == 0 {
-        return Err(refused(Kind::BadHierarchy, at));
+        return Err(refuse(Kind::BadHierarchy, at));
     }
     Ok(pointer as usize)
 }

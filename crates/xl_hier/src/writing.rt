@@ -13,7 +13,7 @@ use std::alloc::{AllocError, Global};
 use xl_fields::put_u32;
 use xl_grid::TileAt;
 use xl_rle::PlaneCoder;
-use xl_tiles::{Plane, ROOM};
+use xl_tiles::{Plane, SCRATCH};
 
 // A plane of a tile has at most 64 by 64 bytes.
 const MAX_PLANE: usize = 4096;
@@ -55,7 +55,7 @@ fn set_word(out: &mut [u8], at: usize, value: u32)
     out[at..at + 4].copy_from_slice(&value.to_be_bytes());
 }
 
-// Appends the tiles, and sets the pointers to them, whose words begin at the table. The rooms are for a plane of a
+// Appends the tiles, and sets the pointers to them, whose words begin at the table. The scratch is for a plane of a
 // tile, and for a tile.
 fn write_tiles<C: PlaneCoder>(
     alloc: Global,
@@ -63,7 +63,7 @@ fn write_tiles<C: PlaneCoder>(
     compression: u8,
     table: usize,
     out: &mut Vec<u8>,
-    room: &mut [u8],
+    scratch: &mut [u8],
     unpacked: &mut [u8],
     coder: &mut C,
 ) -> Result<(), AllocError>
@@ -72,8 +72,8 @@ fn write_tiles<C: PlaneCoder>(
     requires table { vec_len out.old ≡ table + 4 * (grid.tiles_along plane.now.height * grid.tiles_along plane.now.width) + 4 }
     requires zeros { drop table out.old.items
         ≡ replicate (4 * (grid.tiles_along plane.now.height * grid.tiles_along plane.now.width) + 4) 0 }
-    requires room { length room.old ≡ 4096 }
-    requires unpacked { length unpacked.old ≡ 32768 }
+    requires scratch { length scratch.old ≡ 4096 }
+    requires unpacked { length unpacked.old ≡ SCRATCH }
     ensures ok { OnOk result (TilesFilled C.fits compression plane.now table out.old.items out.new.items) }
     ensures front { take table out.new.items ≡ take table out.old.items }
 {
@@ -85,7 +85,16 @@ fn write_tiles<C: PlaneCoder>(
         };
         let pointer = out.len() as u32;
         set_word(out, table + 4 * k as usize, pointer);
-        write_tile(alloc, plane, spot, compression, out, room, unpacked, coder)?;
+        write_tile(
+            alloc,
+            plane,
+            spot,
+            compression,
+            out,
+            scratch,
+            unpacked,
+            coder,
+        )?;
     }
     Ok(())
 }
@@ -108,15 +117,15 @@ fn append_plane<C: PlaneCoder>(
     let table = out.len();
     let (columns, rows) = xl_grid::grid(plane.width(), plane.height());
     out.resize(table + 4 * (rows * columns) as usize + 4, 0)?;
-    let mut room = vec![in alloc; 0; MAX_PLANE]?;
-    let mut unpacked = vec![in alloc; 0; ROOM]?;
+    let mut scratch = vec![in alloc; 0; MAX_PLANE]?;
+    let mut unpacked = vec![in alloc; 0; SCRATCH]?;
     write_tiles(
         alloc,
         plane,
         compression,
         table,
         out,
-        &mut room,
+        &mut scratch,
         &mut unpacked,
         coder,
     )

@@ -2,6 +2,7 @@ ghost use Rattle.std.specs.Prelude.{◌≡◌, ◌<◌, ◌≤◌, length, OnOk}
 ghost use Rattle.spec_grid.specs.Grid as grid;
 ghost use Rattle.xl_fields.specs.Behind.{BeginsWith};
 ghost use Rattle.xl_hier.specs.Appended.{TileAppended};
+ghost use Rattle.xl_tiles.specs.declared.tile.TheConstants.{SCRATCH};
 
 use crate::gather::{append_tile, gather, tile_pixels};
 use std::alloc::{AllocError, Global};
@@ -10,32 +11,32 @@ use xl_rle::PlaneCoder;
 use xl_tiles::Plane;
 
 // Appends a spelling for each of the bytes of a pixel.
-fn append_spelled<C: PlaneCoder>(
+fn append_run_length<C: PlaneCoder>(
     alloc: Global,
     plane: &Plane,
     spot: TileAt,
     out: &mut Vec<u8>,
-    room: &mut [u8],
+    scratch: &mut [u8],
     unpacked: &mut [u8],
     coder: &mut C,
 ) -> Result<(), AllocError>
     requires column { spot.col < grid.tiles_along plane.now.width }
     requires row { spot.row < grid.tiles_along plane.now.height }
-    requires room { length room.old ≡ 4096 }
-    requires unpacked { length unpacked.old ≡ 32768 }
+    requires scratch { length scratch.old ≡ 4096 }
+    requires unpacked { length unpacked.old ≡ SCRATCH }
     ensures ok { OnOk result (TileAppended C.fits 1 plane.now spot out.old.items out.new.items) }
     ensures front { BeginsWith out.new.items out.old.items }
 {
     let n = tile_pixels(plane, spot);
     let tile = plane.tile_bytes(spot, unpacked);
     for c in 0..plane.bpp() {
-        gather(plane, spot, tile, c, &mut room[..n]);
-        coder.encode_plane(alloc, &room[..n], out)?;
+        gather(plane, spot, tile, c, &mut scratch[..n]);
+        coder.encode_plane(alloc, &scratch[..n], out)?;
     }
     Ok(())
 }
 
-/// Appends a tile: its pixels as they are, or spelled. The rooms are for a plane of it, and for all of it.
+/// Appends a tile: its pixels as they are, or spelled. The scratch is for a plane of it, and for all of it.
 ///
 /// Out of memory, a part of the tile may stand behind what was there.
 pub fn write_tile<C: PlaneCoder>(
@@ -44,21 +45,21 @@ pub fn write_tile<C: PlaneCoder>(
     spot: TileAt,
     compression: u8,
     out: &mut Vec<u8>,
-    room: &mut [u8],
+    scratch: &mut [u8],
     unpacked: &mut [u8],
     coder: &mut C,
 ) -> Result<(), AllocError>
     requires column { spot.col < grid.tiles_along plane.now.width }
     requires row { spot.row < grid.tiles_along plane.now.height }
     requires compression { compression ≤ 1 }
-    requires room { length room.old ≡ 4096 }
-    requires unpacked { length unpacked.old ≡ 32768 }
+    requires scratch { length scratch.old ≡ 4096 }
+    requires unpacked { length unpacked.old ≡ SCRATCH }
     ensures ok { OnOk result (TileAppended C.fits compression plane.now spot out.old.items out.new.items) }
     ensures front { BeginsWith out.new.items out.old.items }
 {
     if compression == 0 {
         append_tile(plane, spot, out, unpacked)
     } else {
-        append_spelled(alloc, plane, spot, out, room, unpacked, coder)
+        append_run_length(alloc, plane, spot, out, scratch, unpacked, coder)
     }
 }

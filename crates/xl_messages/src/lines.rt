@@ -14,7 +14,7 @@ fn front_of(word: &[u8], most: usize) -> (&[u8], &'static str) {
 }
 
 // A word in quotes, its bytes other than printable ASCII escaped. Of a long one the front is shown.
-fn quoted(alloc: Global, word: &[u8]) -> Result<String, AllocError> {
+fn quote(alloc: Global, word: &[u8]) -> Result<String, AllocError> {
     let (front, rest) = front_of(word, MAX_SHOWN);
     let shown = front.escape_ascii();
     format!(in alloc; "\"{shown}{rest}\"")
@@ -43,7 +43,7 @@ fn count_text(
     most: usize,
     found: usize,
 ) -> Result<String, AllocError> {
-    let keyword = quoted(alloc, keyword)?;
+    let keyword = quote(alloc, keyword)?;
     let up_to = if least < most { "at most " } else { "" };
     match most {
         0 => format!(in alloc; "{keyword} takes no words, not {found}"),
@@ -54,7 +54,7 @@ fn count_text(
 
 // A word that is not of its kind.
 fn word_text(alloc: Global, place: usize, word: &[u8], kind: Kind) -> Result<String, AllocError> {
-    let word = quoted(alloc, word)?;
+    let word = quote(alloc, word)?;
     let wanted = kind_text(kind);
     format!(in alloc; "word {place}, {word}, is not {wanted}")
 }
@@ -80,11 +80,11 @@ fn plain_text(cause: Cause<'_>) -> &'static str {
 pub fn cause_text(alloc: Global, cause: Cause<'_>) -> Result<String, AllocError> {
     match cause {
         Cause::NoSession(word) => {
-            let word = quoted(alloc, word)?;
+            let word = quote(alloc, word)?;
             format!(in alloc; "{word} is no session from 0 to 7")
         }
         Cause::UnknownWord(word) => {
-            let word = quoted(alloc, word)?;
+            let word = quote(alloc, word)?;
             format!(in alloc; "unknown word {word}")
         }
         Cause::WordCount {
@@ -94,20 +94,20 @@ pub fn cause_text(alloc: Global, cause: Cause<'_>) -> Result<String, AllocError>
             found,
         } => count_text(alloc, keyword, least, most, found),
         Cause::LeadingZero { place, word } => {
-            let word = quoted(alloc, word)?;
+            let word = quote(alloc, word)?;
             format!(in alloc; "word {place}, {word}, has a leading zero")
         }
         Cause::BadWord { place, word, kind } => word_text(alloc, place, word, kind),
         Cause::InsideGroup(keyword) => {
-            let keyword = quoted(alloc, keyword)?;
+            let keyword = quote(alloc, keyword)?;
             format!(in alloc; "{keyword} inside a group, where edits alone may stand")
         }
         Cause::DroppedFilter(slot) => {
-            let slot = quoted(alloc, slot)?;
+            let slot = quote(alloc, slot)?;
             format!(in alloc; "the session dropped filter {slot} before")
         }
         Cause::NoFilter(slot) => {
-            let slot = quoted(alloc, slot)?;
+            let slot = quote(alloc, slot)?;
             format!(in alloc; "the session has no filter {slot}")
         }
         _ => String::from_str(alloc, plain_text(cause)),

@@ -1,22 +1,19 @@
 -- What is answered to calls.
-use Rattle.std.proofs.Common.{◌≡◌, ℕ, ◌≤◌, Bool, true, false, cond, nat_lt, List, [], ◌∷◌, refl, sym, subst, arith}
-use Rattle.std.specs.Prelude.{not, Option, Some, None, Result, Ok, Err}
+use Rattle.std.proofs.Common.{◌≡◌, ℕ, ◌≤◌, Bool, true, false, cond, nat_lt, List, [], ◌∷◌, refl, arith}
+use Rattle.std.specs.Prelude.{Option, Some, None, Result, Ok, Err}
 use Rattle.std.proofs.lemmas.Bool.{ltb-false}
 use Rattle.spec_document.specs.Document.{Document}
 use Rattle.spec_edit.specs.Edit.{Edit}
 use Rattle.spec_edit.specs.Apply.{At, Refused, apply_group}
-use Rattle.spec_grid.specs.declared.TileAt.{TileAt}
-use Rattle.spec_grid.specs.Grid.{is_on_grid}
 use Rattle.spec_cache.specs.Slots.{Shown}
 use Rattle.spec_cache.specs.Cache.{kept}
-use Rattle.spec_history.specs.Machine.{Call, edit, undo, redo, tile, peek, top, Reply, moved, tile_of, stale, no_stack}
-use Rattle.spec_history.specs.Machine.{outside_tile, save_memory, history_full, State, Done, Answer, latest}
-use Rattle.spec_history.specs.Machine.{document_at, names, stays, made, answer, undo_answer, redo_answer, has_stack}
-use Rattle.spec_history.specs.Machine.{tile_reply}
-use Rattle.spec_history.specs.History.{Answers, MayPeek, PeekAnswers}
+use Rattle.spec_history.specs.Machine.{Call, edit, undo, redo, tile, peek, top, Reply, moved, tile_of, stale}
+use Rattle.spec_history.specs.Machine.{save_memory, history_full, State, Done, Answer, latest}
+use Rattle.spec_history.specs.Machine.{document_at, names, stays, made, answer, undo_answer, redo_answer}
 use Rattle.spec_history.specs.Kept.{IsFreshReply}
 use Rattle.spec_history.proofs.Growing.{cond_both}
 use Rattle.spec_text.specs.Text.{is_save_memory}
+use Rattle.spec_seats.proofs.Shown.{tile_either}
 use Rattle.spec_world.specs.World.{World}
 use Rattle.spec_world.specs.Events.{peek_reply, where_tile, reply_to}
 
@@ -42,13 +39,6 @@ undo_of n s named (d ∷ ds) = cond_both (λ (a : Answer). IsOf n a.reply) (name
 redo_of : (n : ℕ) (s : State) (ds : List Done) → IsOf n (redo_answer s ds).reply
 redo_of n s [] = tt
 redo_of n s (d ∷ ds) = tt
-
--- of the replies to a tile, whichever is given
-pub tile_either : (P : Reply → Type 0) (d : Document) (stack : ℕ) (at : TileAt) (reply : Reply) → P (no_stack stack)
-    → P outside_tile → P reply → P (tile_reply d stack at reply)
-tile_either P d stack at reply none outside given =
-    cond_both P (not (has_stack d stack)) (no_stack stack) (cond (not (is_on_grid d.width d.height at)) outside_tile reply) none
-    (cond_both P (not (is_on_grid d.width d.height at)) outside_tile reply outside given)
 
 answer_of : (base : Document) (s : State) (c : Call) (tables : List (List ℕ)) → IsOf (latest s) (answer base s c tables).reply
 answer_of base s (edit guard es) tables =
@@ -111,33 +101,3 @@ said_fresh seen r h = tt
 pub said_printable : (seen : ℕ) (r : Reply) → IsSaid seen r → is_save_memory r ≡ false
 said_printable seen (save_memory version) h = absurd h
 said_printable seen r h = refl
-
--- ---- what is shown is there
-
-abbrev pub IsUpTo : (last : ℕ) → Reply → Type 0
-IsUpTo last (tile_of version) = version ≤ last
-IsUpTo last reply = Unit {0}
-
-up_to_of : (now : ℕ) (r : Reply) → IsOf now r → IsUpTo now r
-up_to_of now (tile_of version) h = omega arith
-up_to_of now r h = tt
-
-up_to_peek : (base : Document) (s : State) (stack : ℕ) (r : Reply) → MayPeek base s stack r → IsUpTo (latest s) r
-up_to_peek base s stack (tile_of version) h = h.0
-up_to_peek base s stack r h = tt
-
-up_to_same : (now : ℕ) (r plain : Reply) → r ≡ plain → IsOf now plain → IsUpTo now r
-up_to_same now r plain same h = subst (IsUpTo now) (sym same) (up_to_of now plain h)
-
-pub answers_up_to : (base : Document) (s : State) (c : Call) (tables : List (List ℕ)) (r : Reply) → Answers base s c tables r
-    → IsUpTo (latest s) r
-answers_up_to base s (edit guard es) tables r answers = up_to_same (latest s) r _ answers (answer_of base s (edit guard es) tables)
-answers_up_to base s (undo named) tables r answers = up_to_same (latest s) r _ answers (answer_of base s (undo named) tables)
-answers_up_to base s redo tables r answers = up_to_same (latest s) r _ answers (answer_of base s redo tables)
-answers_up_to base s (tile stack at) tables r answers = up_to_same (latest s) r _ answers (answer_of base s (tile stack at) tables)
-answers_up_to base s (peek stack at) tables r answers =
-    tile_either (λ (plain : Reply). PeekAnswers base s stack plain r → IsUpTo (latest s) r) (document_at base s (latest s)) stack
-    at (tile_of (latest s))
-    (λ same. up_to_same (latest s) r (no_stack stack) same tt) (λ same. up_to_same (latest s) r outside_tile same tt)
-    (up_to_peek base s stack r) answers
-answers_up_to base s top tables r answers = up_to_same (latest s) r _ answers tt

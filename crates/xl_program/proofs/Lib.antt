@@ -1,6 +1,6 @@
 pub mod Limits
 pub mod Scripts
-pub mod Told
+pub mod StopLines
 mod Alone
 mod Answered
 mod Causes

@@ -2,7 +2,7 @@
 use Rattle.std.proofs.Common.{◌≡◌, inl, inr, ℕ, true, false, List, sym, ◌∙◌, subst}
 use Rattle.std.specs.Prelude.{Option, Result, Ok, Err}
 use Rattle.xl_ports.specs.Source.{IsEnded}
-use Rattle.xl_program.specs.Outcome.{Given, ComesAfterScript, ReadsToEnd, TellsStop}
+use Rattle.xl_program.specs.Outcome.{Given, ComesAfterScript, ReadsToEnd, WritesStop}
 use Rattle.xl_program.specs.Parts.{ReadsScript}
 use Rattle.xl_program.specs.declared.stopped.Stopped.{Stopped}
 use Rattle.xl_program.specs.declared.stopped.Stopped.TheVariants.{SourceFault, BadLine, ShelfFault, Refused, SaveFault}
@@ -30,18 +30,18 @@ unread given left SinkFault reads = absurd reads
 unread given left Memory reads = tt
 
 -- so it was at each status that comes behind it
-pub ended_told : {K : Type 0} (held : K → Option (List ℕ)) (faults : K → ℕ) (left : Option (List ℕ)) (stopped : Stopped)
+pub ended_written : {K : Type 0} (held : K → Option (List ℕ)) (faults : K → ℕ) (left : Option (List ℕ)) (stopped : Stopped)
     (status last : ℕ) (old new : K) → status ≡ last
-    → ComesAfterScript last → TellsStop held faults old new stopped status → ReadsToEnd left (Err stopped) → IsEnded left
-ended_told held faults left SourceFault status last old new same after told reads =
+    → ComesAfterScript last → WritesStop held faults old new stopped status → ReadsToEnd left (Err stopped) → IsEnded left
+ended_written held faults left SourceFault status last old new same after told reads =
     let bad : false ≡ true = subst ComesAfterScript (sym same ∙ told.0) after in cc
-ended_told held faults left (BadLine number) status last old new same after (inl told) reads =
+ended_written held faults left (BadLine number) status last old new same after (inl told) reads =
     let bad : false ≡ true = subst ComesAfterScript (sym same ∙ told.0) after in cc
-ended_told held faults left (BadLine number) status last old new same after (inr told) reads =
+ended_written held faults left (BadLine number) status last old new same after (inr told) reads =
     let bad : false ≡ true = subst ComesAfterScript (sym same ∙ told.0) after in cc
-ended_told held faults left ShelfFault status last old new same after told reads = reads
-ended_told held faults left (Refused why) status last old new same after told reads = reads
-ended_told held faults left SaveFault status last old new same after told reads = reads
-ended_told held faults left SinkFault status last old new same after told reads = reads
-ended_told held faults left Memory status last old new same after told reads =
+ended_written held faults left ShelfFault status last old new same after told reads = reads
+ended_written held faults left (Refused why) status last old new same after told reads = reads
+ended_written held faults left SaveFault status last old new same after told reads = reads
+ended_written held faults left SinkFault status last old new same after told reads = reads
+ended_written held faults left Memory status last old new same after told reads =
     let bad : false ≡ true = subst ComesAfterScript (sym same ∙ told.0) after in cc

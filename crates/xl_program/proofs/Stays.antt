@@ -1,46 +1,24 @@
 -- The lines of a legal history with no save out stay as they are, whatever comes behind it.
-use Rattle.std.proofs.Common.{◌≡◌, ℕ, ◌≤◌, true, cond, List, [], ◌∷◌, ◌++◌, Some, None, refl, ap, sym, ◌∙◌, arith}
+use Rattle.std.proofs.Common.{◌≡◌, ℕ, ◌≤◌, true, cond, List, [], ◌∷◌, ◌++◌, None, refl, ap, sym, ◌∙◌, arith}
 use Rattle.std.proofs.Common.{subst, append_assoc, flat_map}
-use Rattle.std.specs.Prelude.{Option}
 use Rattle.std.specs.List.{AllByRecursion}
 use Rattle.std.proofs.lemmas.List.Concat.{flat_map-cons}
 use Rattle.spec_document.specs.Document.{Document}
-use Rattle.spec_picture.specs.Picture.{project}
-use Rattle.spec_history.specs.Machine.{tile, peek, Reply, tile_of, State, Saving, initial, latest}
+use Rattle.spec_history.specs.Machine.{Reply, State, initial, latest}
 use Rattle.spec_history.specs.History.{Entry, Kind, asked, starts, ends, is_end_kind, after_entry, replay_from, replay}
-use Rattle.spec_history.specs.History.{EndsWith, MayEnd, MayBe, RunFrom}
+use Rattle.spec_history.specs.History.{RunFrom}
 use Rattle.spec_history.specs.Kept.{IsLegal}
-use Rattle.spec_history.proofs.Growing.{document_of-append}
 use Rattle.spec_history.proofs.Versions.{IsSound, sound-initial, goes-step, ends-run}
 use Rattle.spec_text.specs.Printed.{line_text}
-use Rattle.spec_text.specs.Text.{digest_of, entry_line, shown_digest, printed_reply}
+use Rattle.spec_text.specs.Text.{entry_line, shown_digest, printed_reply}
 use Rattle.xl_program.specs.Playing.{lines_in}
 use Rattle.xl_sessions.proofs.Ends.{HasEnd, has_end, has_end_behind, first_ends, end_stays}
-use Rattle.xl_program.proofs.Answered.{IsUpTo, answers_up_to}
+use Rattle.spec_seats.proofs.Shown.{IsUpTo, up_to_later, up_to_step, digest_stays}
 
 -- all that the line of an entry tells is there
 record IsTold (base : Document) (all : List Entry) (e : Entry) : Type 0 where
   pub shown : IsUpTo (latest (replay base all)) e.reply
   pub ended : HasEnd all e.session e.index e.kind
-
-up_to : (now last : ℕ) (r : Reply) → IsUpTo now r → now ≤ last → IsUpTo last r
-up_to now last (tile_of version) is le = omega arith
-up_to now last r is le = tt
-
-up_to_end : (now version : ℕ) (r : Reply) → EndsWith version r → IsUpTo now r
-up_to_end now version (tile_of shown) h = absurd h
-up_to_end now version r h = tt
-
-up_to_ends : (now : ℕ) (out : Option Saving) (session index : ℕ) (r : Reply) → MayEnd out session index r → IsUpTo now r
-up_to_ends now None session index r may = absurd may
-up_to_ends now (Some o) session index r may = up_to_end now o.version r may.2
-
--- what an entry that may come now shows is there
-step_up_to : (base : Document) (s : State) (earlier : List Entry) (e : Entry) (k : Kind) → MayBe base s earlier e k
-    → IsUpTo (latest s) e.reply
-step_up_to base s earlier e (asked c tables) may = answers_up_to base s c tables e.reply may.1
-step_up_to base s earlier e starts may = subst (IsUpTo (latest s)) (sym may.2) tt
-step_up_to base s earlier e ends may = up_to_ends (latest s) s.out e.session e.index e.reply may
 
 end_in_all : (earlier es : List Entry) (e : Entry) (k : Kind) → HasEnd es e.session e.index k
     → HasEnd (earlier ++ e ∷ es) e.session e.index k
@@ -62,22 +40,13 @@ all_told base s earlier (e ∷ es) here h run none =
     let low : latest s ≤ latest (replay base (earlier ++ e ∷ es)) = omega arith in
     let whole : (earlier ++ e ∷ []) ++ es ≡ earlier ++ e ∷ es = append_assoc earlier (e ∷ []) es in (
       record {
-        shown = up_to (latest s) (latest (replay base (earlier ++ e ∷ es))) e.reply (step_up_to base s earlier e e.kind run.0) low;
+        shown = up_to_later (latest s) (latest (replay base (earlier ++ e ∷ es))) e.reply low
+            (up_to_step base s earlier e e.kind run.0);
         ended = end_in_all earlier es e e.kind (first_ends base s earlier e es run none);
       },
       subst (λ (all : List Entry). AllByRecursion (IsTold base all) es) whole
           (all_told base new (earlier ++ e ∷ []) es (here ∙ ap (replay base) (sym whole)) goes.sound run.1 none),
     )
-
-digest_stays : (base : Document) (all more : List Entry) (k : Kind) (r : Reply) → IsUpTo (latest (replay base all)) r
-    → shown_digest base (all ++ more) k r ≡ shown_digest base all k r
-digest_stays base all more (asked (tile stack at) tables) (tile_of version) up =
-    ap (λ (d : Document). digest_of (project d stack at)) (document_of-append base all more version up)
-digest_stays base all more (asked (peek stack at) tables) (tile_of version) up =
-    ap (λ (d : Document). digest_of (project d stack at)) (document_of-append base all more version up)
-digest_stays base all more (asked c tables) r up = refl
-digest_stays base all more starts r up = refl
-digest_stays base all more ends r up = refl
 
 reply_stays : (all more : List Entry) (e : Entry) (k : Kind) → HasEnd all e.session e.index k
     → printed_reply (all ++ more) e k ≡ printed_reply all e k

@@ -28,7 +28,7 @@ use Rattle.xl_ports.specs.Sink.{WritesAll, WritesPart}
 use Rattle.xl_ports.specs.Source.{led_by, IsEnded}
 use Rattle.xl_sessions.specs.Outcomes.{states_of}
 use Rattle.xl_program.specs.LastSaved.{HasLastSaved}
-use Rattle.xl_program.specs.Lines.{Tells}
+use Rattle.xl_program.specs.Lines.{WritesLine}
 use Rattle.xl_program.specs.Playing.{AreOfFirst}
 use Rattle.xl_program.specs.Making.{FailsAtFirst, IsMadeHistory, IsSummary}
 use Rattle.xl_program.specs.declared.stopped.Stopped.{Stopped}
@@ -274,7 +274,7 @@ module _ {K : Type 0} (held : K → Option (List ℕ)) (faults : K → ℕ) wher
   ShelfFails given before after None old new = ⊥
   ShelfFails given before after (Some command) old new =
       (FaultsRose before.known after.known command × FailsAtShelf before after command
-      × Tells held faults old new (stop_line shelf_fault))
+      × WritesLine held faults old new (stop_line shelf_fault))
       ⊎ ((after.known.reading ≡ before.known.reading)
       × WritesSome held faults (IsOutput given before after command SomeFailed) old new)
 
@@ -285,19 +285,19 @@ module _ {K : Type 0} (held : K → Option (List ℕ)) (faults : K → ℕ) wher
       WritesFront held faults (IsOutput given before after command AnyFailed) old new
 
   -- the stop is told, with its status
-  abbrev pub TellsOf : (old new : K) → Stop → (status : ℕ) → Type 0
-  TellsOf old new stop status = (status ≡ stop_status stop) × Tells held faults old new (stop_line stop)
+  abbrev pub WritesStopOf : (old new : K) → Stop → (status : ℕ) → Type 0
+  WritesStopOf old new stop status = (status ≡ stop_status stop) × WritesLine held faults old new (stop_line stop)
 
   -- so it is, unless memory ran out for the line
-  abbrev pub TellsOr : (old new : K) → Stop → (status : ℕ) → Type 0
-  TellsOr old new stop status = TellsOf old new stop status ⊎ ((status ≡ 8) × Keeps held faults old new)
+  abbrev pub WritesLineOr : (old new : K) → Stop → (status : ℕ) → Type 0
+  WritesLineOr old new stop status = WritesStopOf old new stop status ⊎ ((status ≡ 8) × Keeps held faults old new)
 
   -- what is told of a stop, and the status
-  abbrev pub TellsStop : (old new : K) → Stopped → (status : ℕ) → Type 0
-  TellsStop old new SourceFault status = TellsOf old new source_fault status
-  TellsStop old new (BadLine number) status = TellsOr old new (bad_line number) status
-  TellsStop old new ShelfFault status = TellsOf old new shelf_fault status
-  TellsStop old new (Refused why) status = TellsOr old new (refused why) status
-  TellsStop old new SaveFault status = (status ≡ 6) × (new ≡ old)
-  TellsStop old new SinkFault status = (status ≡ 7) × (new ≡ old)
-  TellsStop old new Memory status = (status ≡ 8) × (new ≡ old)
+  abbrev pub WritesStop : (old new : K) → Stopped → (status : ℕ) → Type 0
+  WritesStop old new SourceFault status = WritesStopOf old new source_fault status
+  WritesStop old new (BadLine number) status = WritesLineOr old new (bad_line number) status
+  WritesStop old new ShelfFault status = WritesStopOf old new shelf_fault status
+  WritesStop old new (Refused why) status = WritesLineOr old new (refused why) status
+  WritesStop old new SaveFault status = (status ≡ 6) × (new ≡ old)
+  WritesStop old new SinkFault status = (status ≡ 7) × (new ≡ old)
+  WritesStop old new Memory status = (status ≡ 8) × (new ≡ old)

@@ -21,8 +21,8 @@ mod rendering;
 mod running;
 mod saving;
 mod script_runs;
+mod stop_lines;
 mod stopped;
-mod telling;
 
 pub use running::{Ended, run};
 pub use stopped::Stopped;

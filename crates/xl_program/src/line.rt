@@ -1,6 +1,6 @@
 ghost use Rattle.std.specs.Prelude.{◌≡◌, string_bytes, IfOk};
 ghost use Rattle.spec_command.specs.Ends.{stop_line, bad_line, refused};
-ghost use Rattle.xl_program.specs.Lines.{Tells};
+ghost use Rattle.xl_program.specs.Lines.{WritesLine};
 
 use spec_fields::ReadRefused;
 use std::alloc::{AllocError, Global};
@@ -9,7 +9,7 @@ use xl_ports::{Sink, write_all};
 
 /// Writes a line. Where the sink fails there is nothing else to tell it by.
 pub fn tell<K: Sink>(sink: &mut K, text: &[u8])
-    ensures { Tells K.held K.faults sink.old sink.new text.now }
+    ensures { WritesLine K.held K.faults sink.old sink.new text.now }
 {
     let _ = write_all(sink, text);
 }

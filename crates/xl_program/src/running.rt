@@ -9,15 +9,15 @@ ghost use Rattle.xl_ports.specs.Faults.{Rose};
 ghost use Rattle.xl_ports.specs.Shelf.{selected_content};
 ghost use Rattle.xl_ports.specs.Source.{IsEnded};
 ghost use Rattle.xl_program.specs.Command.{IsEdit, ReadsFile};
-ghost use Rattle.xl_program.specs.Lines.{Tells};
+ghost use Rattle.xl_program.specs.Lines.{WritesLine};
 ghost use Rattle.xl_program.specs.Outcome.{given_of, shelved, ComesWell, ShelfFails, WritesInPart, ComesAfterScript};
 ghost use Rattle.xl_program.specs.Outcome.{MaySave, IsUntouched, StopsBefore, IsBadLine, InGrammar, HasFault, Keeps};
 ghost use Rattle.xl_program.specs.Outcome.{Takes, IsStatus};
 
 use crate::line::tell;
 use crate::obeying::obey;
+use crate::stop_lines::{MEMORY, write_stop};
 use crate::stopped::Stopped;
-use crate::telling::{MEMORY, tell_stop};
 use std::alloc::Global;
 use std::sync::Wait;
 use std::thread::Threads;
@@ -88,22 +88,22 @@ pub fn run<R: Threads + Wait + Sync, S: Source, K: Sink, D: Shelf, G: Gate>(
 
     // Where it stops before.
     ensures usage { (result.status ≡ 2) ↔ ((asked_in (arguments_of words.now) ≡ None) × (result.status ≢ 8)) }
-    ensures usage_told { result.status ≡ 2 → Tells K.held K.faults sink.old sink.new (stop.stop_line stop.usage) }
+    ensures usage_written { result.status ≡ 2 → WritesLine K.held K.faults sink.old sink.new (stop.stop_line stop.usage) }
     ensures bad_line { result.status ≡ 3 → (number : ℕ)
         × IsEdit (asked_in (arguments_of words.now))
         × IsBadLine (given_of (S.left source.old) (λ b. state b) chest.items) number
-        × Tells K.held K.faults sink.old sink.new (stop.stop_line (stop.bad_line number)) }
+        × WritesLine K.held K.faults sink.old sink.new (stop.stop_line (stop.bad_line number)) }
     ensures refused { result.status ≡ 4 → (why : ReadRefused)
         × ReadsFile (asked_in (arguments_of words.now))
         × IfSome (selected_content (option_map name_of (asked_in (arguments_of words.now))) (D.content shelf))
         (λ c. HasFault c why)
-        × Tells K.held K.faults sink.old sink.new (stop.stop_line (stop.refused why)) }
+        × WritesLine K.held K.faults sink.old sink.new (stop.stop_line (stop.refused why)) }
     ensures script_first { (result.status ≡ 4) ⊎ (result.status ≡ 6)
         → InGrammar (given_of (S.left source.old) (λ b. state b) chest.items) (asked_in (arguments_of words.now)) }
     ensures source_fault { result.status ≡ 5 → Rose (S.faults source.old) (S.faults source.new) }
     ensures no_source_fault { result.status ≢ 5 → S.faults source.new ≡ S.faults source.old }
-    ensures source_fault_told { result.status ≡ 5 → IsEdit (asked_in (arguments_of words.now))
-        × Tells K.held K.faults sink.old sink.new (stop.stop_line stop.source_fault) }
+    ensures source_fault_written { result.status ≡ 5 → IsEdit (asked_in (arguments_of words.now))
+        × WritesLine K.held K.faults sink.old sink.new (stop.stop_line stop.source_fault) }
     ensures untouched { StopsBefore result.status → IsUntouched
         (shelved D.content D.selected D.disk D.reading_faults D.saving_faults shelf)
         (shelved D.content D.selected D.disk D.reading_faults D.saving_faults result.shelf) }
@@ -134,7 +134,7 @@ pub fn run<R: Threads + Wait + Sync, S: Source, K: Sink, D: Shelf, G: Gate>(
     let done = obey(rt, alloc, command, source, sink, shelf, chest, gate);
     let status = match done.result {
         Ok(()) => DONE,
-        Err(stopped) => tell_stop(alloc, sink, stopped),
+        Err(stopped) => write_stop(alloc, sink, stopped),
     };
     Ended {
         status,

@@ -7,7 +7,7 @@ use Rattle.std.proofs.lemmas.Grind.{flat_map-append}
 use Rattle.spec_document.specs.Document.{Kept}
 use Rattle.spec_document.specs.Limits.{IsColour}
 use Rattle.spec_fields.specs.Put.{word}
-use Rattle.spec_props.specs.Layout.{path_bytes as words, all_colours, colour_bytes, property as raw, spelled, all_spelled}
+use Rattle.spec_props.specs.Layout.{path_bytes as words, all_colours, colour_bytes, property as raw, property_bytes, list_bytes}
 
 pub length_word : (n : ℕ) → length (word n) ≡ 4
 length_word n = refl
@@ -27,7 +27,7 @@ length_colours colours h =
 
 -- a payload behind its head
 pub headed : (out before payload : List ℕ) (kind len : ℕ) → before ≡ out ++ (word kind ++ word len) → len ≡ length payload
-    → before ++ payload ≡ out ++ spelled (raw kind payload)
+    → before ++ payload ≡ out ++ property_bytes (raw kind payload)
 headed out before payload kind len e same =
     ap (λ xs. xs ++ payload) (e ∙ ap (λ n. out ++ (word kind ++ word n)) same)
     ∙ (append_assoc out (word kind ++ word (length payload)) payload
@@ -36,7 +36,7 @@ headed out before payload kind len e same =
 -- the same where the payload was written in two parts
 pub headed_parts : (out before more a b : List ℕ) (kind len : ℕ) → before ≡ out ++ (word kind ++ word len) → more ≡ before ++ a
     → len ≡ length (a ++ b)
-    → more ++ b ≡ out ++ spelled (raw kind (a ++ b))
+    → more ++ b ≡ out ++ property_bytes (raw kind (a ++ b))
 headed_parts out before more a b kind len e f same =
     ap (λ xs. xs ++ b) f ∙ (append_assoc before a b ∙ headed out before (a ++ b) kind len e same)
 
@@ -44,11 +44,11 @@ pub onto : {A E : Type 0} (r : Result A E) (new a b : List ℕ) → a ≡ b → 
 onto r new a b e h = subst (λ (xs : List ℕ). OnOk r (new ≡ xs)) e h
 
 -- properties behind others
-pub joined : (out mid new : List ℕ) (a b : List Kept) → mid ≡ out ++ all_spelled a → new ≡ mid ++ all_spelled b
-    → new ≡ out ++ all_spelled (a ++ b)
+pub joined : (out mid new : List ℕ) (a b : List Kept) → mid ≡ out ++ list_bytes a → new ≡ mid ++ list_bytes b
+    → new ≡ out ++ list_bytes (a ++ b)
 joined out mid new a b first second =
-    second ∙ (ap (λ xs. xs ++ all_spelled b) first
-    ∙ (append_assoc out (all_spelled a) (all_spelled b) ∙ ap (λ xs. out ++ xs) (sym (flat_map-append spelled a b))))
+    second ∙ (ap (λ xs. xs ++ list_bytes b) first
+    ∙ (append_assoc out (list_bytes a) (list_bytes b) ∙ ap (λ xs. out ++ xs) (sym (flat_map-append property_bytes a b))))
 
-pub ended : (mid new : List ℕ) (k : Kept) → new ≡ mid ++ spelled k → new ≡ mid ++ all_spelled (k ∷ [])
-ended mid new k is = is ∙ ap (λ xs. mid ++ xs) (sym (append-nil (spelled k)))
+pub ended : (mid new : List ℕ) (k : Kept) → new ≡ mid ++ property_bytes k → new ≡ mid ++ list_bytes (k ∷ [])
+ended mid new k is = is ∙ ap (λ xs. mid ++ xs) (sym (append-nil (property_bytes k)))

@@ -18,7 +18,7 @@ use Rattle.spec_props.specs.Holds.{IsColourMap, HasProperty, Follow}
 use Rattle.spec_props.proofs.Trusted.{trusted}
 use Rattle.xl_props.specs.Props.{property}
 use Rattle.spec_fields.specs.Put.{word}
-use Rattle.spec_props.specs.Layout.{property as raw, spelled, all_spelled}
+use Rattle.spec_props.specs.Layout.{property as raw, property_bytes, list_bytes}
 use Rattle.xl_props.proofs.Lengths.{length_word}
 
 -- what may be written in a list of this owner
@@ -50,7 +50,7 @@ record HasParts (file : List ℕ) (at : ℕ) (k : Kept) : Type 0 where
   long : HasWord file (at + 4) (length k.payload)
   payload : HasBytes file (at + 8) k.payload
 
-parts : (file : List ℕ) (at : ℕ) (k : Kept) → k.kind < 2 ^ 32 → length k.payload ≤ 2 ^ 24 → HasBytes file at (spelled k)
+parts : (file : List ℕ) (at : ℕ) (k : Kept) → k.kind < 2 ^ 32 → length k.payload ≤ 2 ^ 24 → HasBytes file at (property_bytes k)
     → HasParts file at k
 parts file at k kind short h =
     let n = length k.payload in
@@ -67,8 +67,8 @@ parts file at k kind short h =
       payload = subst Q third last;
     }
 
-pub length_spelled : (k : Kept) → length (spelled k) ≡ 8 + length k.payload
-length_spelled k =
+pub property_bytes_length : (k : Kept) → length (property_bytes k) ≡ 8 + length k.payload
+property_bytes_length k =
     omega (
       arith,
       length-append (word k.kind) (word (length k.payload) ++ k.payload),
@@ -78,23 +78,23 @@ length_spelled k =
     )
 
 -- what stands behind a property
-rest_of : (file : List ℕ) (at : ℕ) (k : Kept) (ks : List Kept) → HasBytes file at (all_spelled (k ∷ ks))
-    → HasBytes file (at + 8 + length k.payload) (all_spelled ks)
+rest_of : (file : List ℕ) (at : ℕ) (k : Kept) (ks : List Kept) → HasBytes file at (list_bytes (k ∷ ks))
+    → HasBytes file (at + 8 + length k.payload) (list_bytes ks)
 rest_of file at k ks h =
-    let P : ℕ → Type 0 = λ p. HasBytes file p (all_spelled ks) in
-    let e : at + length (spelled k) ≡ at + 8 + length k.payload = omega (arith, length_spelled k) in
-    subst P e (has_back file at (spelled k) (all_spelled ks) h)
+    let P : ℕ → Type 0 = λ p. HasBytes file p (list_bytes ks) in
+    let e : at + length (property_bytes k) ≡ at + 8 + length k.payload = omega (arith, property_bytes_length k) in
+    subst P e (has_back file at (property_bytes k) (list_bytes ks) h)
 
 abbrev end : Kept
 end = raw 0 []
 
 -- the length word of the next property, or of the end, is within the limit
 next_short : (owner : Owner) (file : List ℕ) (at : ℕ) (ks : List Kept) → AllByRecursion (IsWritable owner) ks
-    → HasBytes file at (all_spelled (ks ++ end ∷ [])) → word_value file (at + 4) ≤ 2 ^ 24
+    → HasBytes file at (list_bytes (ks ++ end ∷ [])) → word_value file (at + 4) ≤ 2 ^ 24
 next_short owner file at [] h b =
-    let p = parts file at end (omega arith) (omega arith) (has_front file at (spelled end) [] b) in omega (arith, p.long.is)
+    let p = parts file at end (omega arith) (omega arith) (has_front file at (property_bytes end) [] b) in omega (arith, p.long.is)
 next_short owner file at (k ∷ ks) h b =
-    let p = parts file at k h.0.kind h.0.short (has_front file at (spelled k) (all_spelled (ks ++ end ∷ [])) b) in
+    let p = parts file at k h.0.kind h.0.short (has_front file at (property_bytes k) (list_bytes (ks ++ end ∷ [])) b) in
     omega (arith, p.long.is, h.0.short)
 
 its_length : (file : List ℕ) (owner : Owner) (at : ℕ) (k : Kept) → IsWritable owner k
@@ -135,13 +135,13 @@ one_stands file owner at k h p small = record {
 }
 
 pub they_follow : (file : List ℕ) (owner : Owner) (at : ℕ) (ks : List Kept) → AllByRecursion (IsWritable owner) ks
-    → HasBytes file at (all_spelled (ks ++ end ∷ []))
+    → HasBytes file at (list_bytes (ks ++ end ∷ []))
     → Follow file owner at (placed at ks) (behind_all at ks)
 they_follow file owner at [] h b =
-    let p = parts file at end (omega arith) (omega arith) (has_front file at (spelled end) [] b) in
+    let p = parts file at end (omega arith) (omega arith) (has_front file at (property_bytes end) [] b) in
     (refl, p.kind, omega (arith, p.long.fits))
 they_follow file owner at (k ∷ ks) h b =
-    let p = parts file at k h.0.kind h.0.short (has_front file at (spelled k) (all_spelled (ks ++ end ∷ [])) b) in
+    let p = parts file at k h.0.kind h.0.short (has_front file at (property_bytes k) (list_bytes (ks ++ end ∷ [])) b) in
     let rest = rest_of file at k (ks ++ end ∷ []) b in (
       refl,
       one_stands file owner at k h.0 p (next_short owner file (at + 8 + length k.payload) ks h.1 rest),
@@ -149,10 +149,10 @@ they_follow file owner at (k ∷ ks) h b =
     )
 
 -- the end of the list
-pub next_of : (at : ℕ) (ks : List Kept) → behind_all at ks + 8 ≡ at + length (all_spelled (ks ++ end ∷ []))
-next_of at [] = omega (arith, length_spelled end, length-append (spelled end) [])
+pub next_of : (at : ℕ) (ks : List Kept) → behind_all at ks + 8 ≡ at + length (list_bytes (ks ++ end ∷ []))
+next_of at [] = omega (arith, property_bytes_length end, length-append (property_bytes end) [])
 next_of at (k ∷ ks) =
-    let one : at + length (spelled k ++ all_spelled (ks ++ end ∷ []))
-    ≡ at + 8 + length k.payload + length (all_spelled (ks ++ end ∷ [])) =
-    omega (arith, length-append (spelled k) (all_spelled (ks ++ end ∷ [])), length_spelled k) in
+    let one : at + length (property_bytes k ++ list_bytes (ks ++ end ∷ []))
+    ≡ at + 8 + length k.payload + length (list_bytes (ks ++ end ∷ [])) =
+    omega (arith, length-append (property_bytes k) (list_bytes (ks ++ end ∷ [])), property_bytes_length k) in
     next_of (at + 8 + length k.payload) ks ∙ sym one

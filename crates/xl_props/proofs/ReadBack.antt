@@ -19,7 +19,7 @@ use Rattle.xl_props.specs.Known.{unknown, part_of, IsKnown}
 use Rattle.xl_props.specs.Props.{property, known_of}
 use Rattle.xl_props.specs.After.{as_kept}
 use Rattle.spec_fields.specs.Put.{word}
-use Rattle.spec_props.specs.Layout.{path_bytes as words, colour_bytes, property as raw, if_so, all_spelled}
+use Rattle.spec_props.specs.Layout.{path_bytes as words, colour_bytes, property as raw, if_so, list_bytes}
 use Rattle.xl_props.specs.Written.{flag_word, mode_word, offset_words, one_byte, if_there, image_list, channel_list}
 use Rattle.xl_props.specs.Written.{layer_list, known_list, written, ReadsBack}
 use Rattle.xl_props.proofs.Placed.{IsWritable, placed, behind_all, next_of, they_follow}
@@ -119,9 +119,9 @@ read_back file owner at k kept owned h are b =
     let writable = all_append (IsWritable owner) (known_list k) kept
     (all_map (IsOwn owner) (IsWritable owner) (λ r o. o.writable) (known_list k) known_own)
     (all_map (IsKept owner) (IsWritable owner) (kept_writable owner) kept are.each) in
-    let whole : all_spelled (known_list k ++ (kept ++ raw 0 [] ∷ [])) ≡ all_spelled (rs ++ raw 0 [] ∷ []) =
-    ap all_spelled (sym (append_assoc (known_list k) kept (raw 0 [] ∷ []))) in
-    let stands : HasBytes file at (all_spelled (rs ++ raw 0 [] ∷ [])) = subst (HasBytes file at) whole b in
+    let whole : list_bytes (known_list k ++ (kept ++ raw 0 [] ∷ [])) ≡ list_bytes (rs ++ raw 0 [] ∷ []) =
+    ap list_bytes (sym (append_assoc (known_list k) kept (raw 0 [] ∷ []))) in
+    let stands : HasBytes file at (list_bytes (rs ++ raw 0 [] ∷ [])) = subst (HasBytes file at) whole b in
     let list : Properties = record { list = placed at rs; end = behind_all at rs } in
     let same_kept : kept_of owner list.list ≡ kept =
     kept_placed owner at rs ∙ (filter-append (λ r. not (interprets owner r.kind)) (known_list k) kept
@@ -136,7 +136,7 @@ read_back file owner at k kept owned h are b =
       few_kept = omega (arith, ap length same_kept, are.few);
       follow = they_follow file owner at rs writable stands;
     } in
-    let long : length (all_spelled (rs ++ raw 0 [] ∷ [])) ≡ length (written k kept) = ap length (sym whole) in
+    let long : length (list_bytes (rs ++ raw 0 [] ∷ [])) ≡ length (written k kept) = ap length (sym whole) in
     record {
       list = list;
       holds = holds;

@@ -7,7 +7,7 @@ ghost use Rattle.xl_props.specs.Checked.{IsMapLength};
 use crate::unit::unit_len;
 use spec_document::numbers::{COLOUR_MAP, USER_UNIT};
 use spec_document::{MAX_COLOURS, Owner};
-use xl_fields::{Kind, ReadRefused, refused, u32_at};
+use xl_fields::{Kind, ReadRefused, refuse, u32_at};
 
 fn is_map(owner: Owner, kind: u32) -> bool
     ensures { result ≡ is_colour_map owner kind }
@@ -54,19 +54,19 @@ pub fn payload_len(bytes: &[u8], owner: Owner, kind: u32, at: usize) -> Result<u
     if is_map(owner, kind) {
         let count = u32_at(bytes, at + 8)?;
         if count > MAX_COLOURS {
-            return Err(refused(Kind::BadProperty, at + 8));
+            return Err(refuse(Kind::BadProperty, at + 8));
         }
         if bytes.len() < at + 12 + 3 * count as usize {
-            return Err(refused(Kind::Truncated, at + 12));
+            return Err(refuse(Kind::Truncated, at + 12));
         }
         return Ok(4 + 3 * count as usize);
     }
     if n > 1 << 24 {
-        return Err(refused(Kind::BadProperty, at + 4));
+        return Err(refuse(Kind::BadProperty, at + 4));
     }
     let len = true_len(bytes, owner, kind, at + 8, n as usize);
     if bytes.len() < at + 8 + len {
-        return Err(refused(Kind::Truncated, at + 8));
+        return Err(refuse(Kind::Truncated, at + 8));
     }
     Ok(len)
 }

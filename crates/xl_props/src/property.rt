@@ -9,7 +9,7 @@ use crate::rules::check_rules;
 use crate::so_far::is_interpreted;
 use spec_document::Owner;
 use spec_document::numbers::END;
-use xl_fields::{Kind, ReadRefused, refused, u32_at};
+use xl_fields::{Kind, ReadRefused, refuse, u32_at};
 
 /// The payload of the property at an offset, or its first fault.
 #[tactic(auto, unfolding(spec_props::specs::Reading::property_at))]
@@ -53,7 +53,7 @@ pub fn next_property(
         return Ok(None);
     }
     if !may_stand(owner, kind, kept) {
-        return Err(refused(Kind::TooMany, at));
+        return Err(refuse(Kind::TooMany, at));
     }
     let payload = payload_at(bytes, owner, kind, at)?;
     Ok(Some((kind, payload)))

@@ -3,7 +3,7 @@
 ghost use Rattle.std.specs.Prelude.{◌≡◌, ◌+◌, ◌*◌, ◌^◌, ◌<◌, ◌≤◌, ◌++◌, length, OnOk, OnErr, IfSome};
 ghost use Rattle.spec_fields.specs.Put.{word};
 ghost use Rattle.spec_props.specs.Layout.{path_bytes as words, all_colours, colour_bytes, property as raw, if_so};
-ghost use Rattle.spec_props.specs.Layout.{spelled, all_spelled};
+ghost use Rattle.spec_props.specs.Layout.{property_bytes, list_bytes};
 ghost use Rattle.xl_props.specs.Written.{flag_word, mode_word, offset_words, one_byte, if_there};
 ghost use Rattle.xl_fields.specs.Behind.{BeginsWith};
 ghost use Rattle.xl_props.specs.Known.{AreFewColours};
@@ -35,7 +35,7 @@ fn put_head(alloc: Global, out: &mut Vec<u8>, kind: u32, len: usize) -> Result<(
 /// A property of these bytes.
 pub fn put(alloc: Global, out: &mut Vec<u8>, kind: u32, payload: &[u8]) -> Result<(), AllocError>
     requires { length payload.now < 2 ^ 32 }
-    ensures ok { OnOk result (out.new.items ≡ out.old.items ++ spelled (raw kind payload.now)) }
+    ensures ok { OnOk result (out.new.items ≡ out.old.items ++ property_bytes (raw kind payload.now)) }
     ensures front { BeginsWith out.new.items out.old.items }
 {
     put_head(alloc, out, kind, payload.len())?;
@@ -44,7 +44,7 @@ pub fn put(alloc: Global, out: &mut Vec<u8>, kind: u32, payload: &[u8]) -> Resul
 
 /// A property of one word.
 fn put_one_word(alloc: Global, out: &mut Vec<u8>, kind: u32, value: u32) -> Result<(), AllocError>
-    ensures ok { OnOk result (out.new.items ≡ out.old.items ++ spelled (raw kind (word value))) }
+    ensures ok { OnOk result (out.new.items ≡ out.old.items ++ property_bytes (raw kind (word value))) }
     ensures front { BeginsWith out.new.items out.old.items }
 {
     put_head(alloc, out, kind, 4)?;
@@ -63,7 +63,7 @@ fn put_words(alloc: Global, out: &mut Vec<u8>, values: &[u32]) -> Result<(), All
 
 fn put_places(alloc: Global, out: &mut Vec<u8>, places: &[u32]) -> Result<(), AllocError>
     requires { length places.now ≤ 2 ^ 22 }
-    ensures ok { OnOk result (out.new.items ≡ out.old.items ++ spelled (raw ITEM_PATH (words places.now))) }
+    ensures ok { OnOk result (out.new.items ≡ out.old.items ++ property_bytes (raw ITEM_PATH (words places.now))) }
     ensures front { BeginsWith out.new.items out.old.items }
 {
     put_head(alloc, out, ITEM_PATH, 4 * places.len())?;
@@ -72,7 +72,7 @@ fn put_places(alloc: Global, out: &mut Vec<u8>, places: &[u32]) -> Result<(), Al
 
 pub fn put_path(alloc: Global, out: &mut Vec<u8>, path: &Option<Path>) -> Result<(), AllocError>
     requires { IfSome path.now (λ places. length places ≤ 2 ^ 22) }
-    ensures ok { OnOk result (out.new.items ≡ out.old.items ++ all_spelled (if_there ITEM_PATH words path.now)) }
+    ensures ok { OnOk result (out.new.items ≡ out.old.items ++ list_bytes (if_there ITEM_PATH words path.now)) }
     ensures front { BeginsWith out.new.items out.old.items }
 {
     match path {
@@ -97,7 +97,7 @@ fn put_bytes_of_each(
 
 fn put_map(alloc: Global, out: &mut Vec<u8>, colours: &[[u8; 3]]) -> Result<(), AllocError>
     requires { AreFewColours colours.now }
-    ensures ok { OnOk result (out.new.items ≡ out.old.items ++ spelled (raw COLOUR_MAP (colour_bytes colours.now))) }
+    ensures ok { OnOk result (out.new.items ≡ out.old.items ++ property_bytes (raw COLOUR_MAP (colour_bytes colours.now))) }
     ensures front { BeginsWith out.new.items out.old.items }
 {
     put_head(alloc, out, COLOUR_MAP, 4 + 3 * colours.len())?;
@@ -111,7 +111,7 @@ pub fn put_colours(
     colours: &Option<ColourMap>,
 ) -> Result<(), AllocError>
     requires { IfSome colours.now AreFewColours }
-    ensures ok { OnOk result (out.new.items ≡ out.old.items ++ all_spelled (if_there COLOUR_MAP colour_bytes colours.now)) }
+    ensures ok { OnOk result (out.new.items ≡ out.old.items ++ list_bytes (if_there COLOUR_MAP colour_bytes colours.now)) }
     ensures front { BeginsWith out.new.items out.old.items }
 {
     match colours {
@@ -121,7 +121,7 @@ pub fn put_colours(
 }
 
 pub fn put_compression(alloc: Global, out: &mut Vec<u8>, code: Option<u8>) -> Result<(), AllocError>
-    ensures ok { OnOk result (out.new.items ≡ out.old.items ++ all_spelled (if_there COMPRESSION one_byte code)) }
+    ensures ok { OnOk result (out.new.items ≡ out.old.items ++ list_bytes (if_there COMPRESSION one_byte code)) }
     ensures front { BeginsWith out.new.items out.old.items }
 {
     match code {
@@ -131,7 +131,7 @@ pub fn put_compression(alloc: Global, out: &mut Vec<u8>, code: Option<u8>) -> Re
 }
 
 pub fn put_opacity(alloc: Global, out: &mut Vec<u8>, opacity: Option<u8>) -> Result<(), AllocError>
-    ensures ok { OnOk result (out.new.items ≡ out.old.items ++ all_spelled (if_there OPACITY word opacity)) }
+    ensures ok { OnOk result (out.new.items ≡ out.old.items ++ list_bytes (if_there OPACITY word opacity)) }
     ensures front { BeginsWith out.new.items out.old.items }
 {
     match opacity {
@@ -141,7 +141,7 @@ pub fn put_opacity(alloc: Global, out: &mut Vec<u8>, opacity: Option<u8>) -> Res
 }
 
 pub fn put_mode(alloc: Global, out: &mut Vec<u8>, mode: Option<Mode>) -> Result<(), AllocError>
-    ensures ok { OnOk result (out.new.items ≡ out.old.items ++ all_spelled (if_there MODE mode_word mode)) }
+    ensures ok { OnOk result (out.new.items ≡ out.old.items ++ list_bytes (if_there MODE mode_word mode)) }
     ensures front { BeginsWith out.new.items out.old.items }
 {
     match mode {
@@ -157,7 +157,7 @@ pub fn put_flag(
     kind: u32,
     flag: Option<bool>,
 ) -> Result<(), AllocError>
-    ensures ok { OnOk result (out.new.items ≡ out.old.items ++ all_spelled (if_there kind flag_word flag)) }
+    ensures ok { OnOk result (out.new.items ≡ out.old.items ++ list_bytes (if_there kind flag_word flag)) }
     ensures front { BeginsWith out.new.items out.old.items }
 {
     match flag {
@@ -167,7 +167,7 @@ pub fn put_flag(
 }
 
 fn put_point(alloc: Global, out: &mut Vec<u8>, x: i32, y: i32) -> Result<(), AllocError>
-    ensures ok { OnOk result (out.new.items ≡ out.old.items ++ spelled (raw OFFSETS (offset_words (x, y)))) }
+    ensures ok { OnOk result (out.new.items ≡ out.old.items ++ property_bytes (raw OFFSETS (offset_words (x, y)))) }
     ensures front { BeginsWith out.new.items out.old.items }
 {
     put_head(alloc, out, OFFSETS, 8)?;
@@ -180,7 +180,7 @@ pub fn put_offsets(
     out: &mut Vec<u8>,
     offsets: Option<(i32, i32)>,
 ) -> Result<(), AllocError>
-    ensures ok { OnOk result (out.new.items ≡ out.old.items ++ all_spelled (if_there OFFSETS offset_words offsets)) }
+    ensures ok { OnOk result (out.new.items ≡ out.old.items ++ list_bytes (if_there OFFSETS offset_words offsets)) }
     ensures front { BeginsWith out.new.items out.old.items }
 {
     match offsets {
@@ -191,7 +191,7 @@ pub fn put_offsets(
 
 /// A mark that has no bytes.
 pub fn put_mark(alloc: Global, out: &mut Vec<u8>, kind: u32, is_set: bool) -> Result<(), AllocError>
-    ensures ok { OnOk result (out.new.items ≡ out.old.items ++ all_spelled (if_so kind is_set)) }
+    ensures ok { OnOk result (out.new.items ≡ out.old.items ++ list_bytes (if_so kind is_set)) }
     ensures front { BeginsWith out.new.items out.old.items }
 {
     if is_set {

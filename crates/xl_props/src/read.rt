@@ -11,7 +11,7 @@ use crate::so_far::{add, nothing};
 use spec_document::numbers::END;
 use spec_document::{MAX_KEPT, MAX_PROPERTIES, Owner};
 use std::alloc::Global;
-use xl_fields::{Kind, ReadRefused, ReadRefusedOrMemory, refused, u32_at};
+use xl_fields::{Kind, ReadRefused, ReadRefusedOrMemory, refuse, u32_at};
 
 /// The end of a list, which alone may stand behind as many properties as a list has at most.
 #[tactic(auto, unfolding(spec_props::specs::Reading::list_at, spec_props::specs::Reading::end_at))]
@@ -20,7 +20,7 @@ fn end_of_full(bytes: &[u8], at: usize) -> Result<(), ReadRefused>
     ensures fits { IfOk result (λ _. at + 8 ≤ length bytes.now) }
 {
     if u32_at(bytes, at)? != END {
-        return Err(refused(Kind::TooMany, at));
+        return Err(refuse(Kind::TooMany, at));
     }
     u32_at(bytes, at + 4)?;
     Ok(())

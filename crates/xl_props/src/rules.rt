@@ -12,7 +12,7 @@ use spec_document::numbers::{
 };
 use spec_document::{MAX_OFFSET, Owner};
 use xl_blend::mode_of;
-use xl_fields::{Kind, ReadRefused, refused};
+use xl_fields::{Kind, ReadRefused, refuse};
 
 fn has_length(at: usize, kind: u32, payload: &[u8], n: usize) -> Result<(), ReadRefused>
     ensures exact { result ≡ unless (of_length n (property at kind payload.now) None) }
@@ -20,7 +20,7 @@ fn has_length(at: usize, kind: u32, payload: &[u8], n: usize) -> Result<(), Read
     ensures err { OnErr result (length payload.now ≢ n) }
 {
     if payload.len() != n {
-        return Err(refused(Kind::BadProperty, at));
+        return Err(refuse(Kind::BadProperty, at));
     }
     Ok(())
 }
@@ -56,10 +56,10 @@ fn check_offsets(at: usize, kind: u32, payload: &[u8]) -> Result<(), ReadRefused
     ensures anywhere { OnOk result (offsets_rule (property 0 kind payload.now) ≡ None) }
 {
     if !is_in_range(int(payload, 0)) {
-        return Err(refused(Kind::OffsetRange, at + 8));
+        return Err(refuse(Kind::OffsetRange, at + 8));
     }
     if !is_in_range(int(payload, 1)) {
-        return Err(refused(Kind::OffsetRange, at + 12));
+        return Err(refuse(Kind::OffsetRange, at + 12));
     }
     Ok(())
 }
@@ -69,7 +69,7 @@ fn check_path(at: usize, kind: u32, payload: &[u8]) -> Result<(), ReadRefused>
     ensures anywhere { OnOk result (path_rule (property 0 kind payload.now) ≡ None) }
 {
     if payload.is_empty() || payload.len() % 4 != 0 {
-        return Err(refused(Kind::BadProperty, at));
+        return Err(refuse(Kind::BadProperty, at));
     }
     Ok(())
 }
@@ -80,7 +80,7 @@ fn check_layer(at: usize, kind: u32, payload: &[u8]) -> Result<(), ReadRefused>
     ensures anywhere { OnOk result (layer_rule (property 0 kind payload.now) ≡ None) }
 {
     match kind {
-        FLOATING_SELECTION => Err(refused(Kind::FloatingSelection, at)),
+        FLOATING_SELECTION => Err(refuse(Kind::FloatingSelection, at)),
         OPACITY => has_length(at, kind, payload, 4),
         MODE => {
             has_length(at, kind, payload, 4)?;
@@ -126,7 +126,7 @@ fn check_image(at: usize, kind: u32, payload: &[u8]) -> Result<(), ReadRefused>
     }
     // A unit of 5 to 7 bytes could be taken for one whose length word is wrong.
     if kind == USER_UNIT && payload.len() > 4 && payload.len() < 8 {
-        return Err(refused(Kind::BadProperty, at));
+        return Err(refuse(Kind::BadProperty, at));
     }
     Ok(())
 }

@@ -1,7 +1,7 @@
 ghost use Rattle.std.specs.Prelude.{◌≡◌, ◌+◌, ◌*◌, ◌^◌, ◌≤◌, length, IfOk};
 ghost use Rattle.spec_props.specs.Unit.{names_end, named_end, unit_length};
 
-use xl_fields::{Kind, ReadRefused, refused, string_at};
+use xl_fields::{Kind, ReadRefused, refuse, string_at};
 
 /// The offset behind four names.
 #[tactic(auto, unfolding(spec_props::specs::Unit::names_end))]
@@ -26,7 +26,7 @@ fn end_by_names(bytes: &[u8], at: usize, n: usize) -> Result<usize, ReadRefused>
 {
     let first = string_at(bytes, at + 8)?;
     if n != first.len + 5 {
-        return Err(refused(Kind::BadProperty, at));
+        return Err(refuse(Kind::BadProperty, at));
     }
     four_names_end(bytes, first.next)
 }

@@ -3,7 +3,7 @@ ghost use Rattle.spec_document.specs.declared.Owner.{Owner};
 ghost use Rattle.spec_document.specs.Limits.{AreKept};
 ghost use Rattle.xl_fields.specs.Behind.{BeginsWith};
 ghost use Rattle.xl_props.specs.Known.{AreFewColours};
-ghost use Rattle.spec_props.specs.Layout.{all_spelled};
+ghost use Rattle.spec_props.specs.Layout.{list_bytes};
 ghost use Rattle.xl_props.specs.Written.{image_list, channel_list, layer_list, written, CanBeWritten};
 
 use crate::answer::Known;
@@ -17,7 +17,7 @@ use std::alloc::{AllocError, Global};
 
 fn put_image(alloc: Global, out: &mut Vec<u8>, known: &Known) -> Result<(), AllocError>
     requires { IfSome known.now.colours AreFewColours }
-    ensures ok { OnOk result (out.new.items ≡ out.old.items ++ all_spelled (image_list known.now)) }
+    ensures ok { OnOk result (out.new.items ≡ out.old.items ++ list_bytes (image_list known.now)) }
     ensures front { BeginsWith out.new.items out.old.items }
 {
     put_colours(alloc, out, &known.colours)?;
@@ -26,7 +26,7 @@ fn put_image(alloc: Global, out: &mut Vec<u8>, known: &Known) -> Result<(), Allo
 
 fn put_layer(alloc: Global, out: &mut Vec<u8>, known: &Known) -> Result<(), AllocError>
     requires { IfSome known.now.path (λ places. length places ≤ 2 ^ 22) }
-    ensures ok { OnOk result (out.new.items ≡ out.old.items ++ all_spelled (layer_list known.now)) }
+    ensures ok { OnOk result (out.new.items ≡ out.old.items ++ list_bytes (layer_list known.now)) }
     ensures front { BeginsWith out.new.items out.old.items }
 {
     put_mark(alloc, out, GROUP_ITEM, known.group)?;
@@ -40,7 +40,7 @@ fn put_layer(alloc: Global, out: &mut Vec<u8>, known: &Known) -> Result<(), Allo
 
 fn put_kept(alloc: Global, out: &mut Vec<u8>, kept: &[Kept]) -> Result<(), AllocError>
     requires { (owner : Owner) × AreKept owner kept.now }
-    ensures ok { OnOk result (out.new.items ≡ out.old.items ++ all_spelled kept.now) }
+    ensures ok { OnOk result (out.new.items ≡ out.old.items ++ list_bytes kept.now) }
     ensures front { BeginsWith out.new.items out.old.items }
 {
     for property in kept {

@@ -13,7 +13,7 @@ use spec_document::MAX_AREA;
 use std::alloc::Global;
 use std::sync::Arc;
 use xl_doc::{Bytes, Channel, MAX_CHANNELS};
-use xl_fields::{Kind, ReadRefusedOrMemory, refused, string_at};
+use xl_fields::{Kind, ReadRefusedOrMemory, refuse, string_at};
 
 /// Whether it is no second selection.
 fn is_first(draft: &Draft, selection: bool) -> bool
@@ -67,13 +67,13 @@ pub fn channel_at(
     let hierarchy = pointer_at(file, props.end() + 8, Kind::BadHierarchy)?;
     let selection = props.is_selection();
     if !is_first(draft, selection) {
-        return Err(refused(Kind::TwoSelections, props.selection_place()).into());
+        return Err(refuse(Kind::TwoSelections, props.selection_place()).into());
     }
     if !has_place(draft, selection) {
-        return Err(refused(Kind::TooMany, place).into());
+        return Err(refuse(Kind::TooMany, place).into());
     }
     if draft.area() + draft.canvas() > MAX_AREA {
-        return Err(refused(Kind::TooLarge, at).into());
+        return Err(refuse(Kind::TooLarge, at).into());
     }
     let plane = plane_at(alloc, file, shared, hierarchy, Shape::of_canvas(draft))?;
     let name = Bytes::from_slice(alloc, &file[name.start..name.start + name.len])?;

@@ -20,7 +20,7 @@ use crate::owners::OfImage;
 use std::alloc::{AllocError, Global};
 use std::sync::Arc;
 use xl_doc::{ColourMap, Document};
-use xl_fields::{Kind, ReadRefusedOrMemory, refused};
+use xl_fields::{Kind, ReadRefusedOrMemory, refuse};
 
 /// The offset of the properties of the image.
 const PROPERTIES: usize = 26;
@@ -53,7 +53,7 @@ fn read(alloc: Global, bytes: &[u8], shared: &Arc<Vec<u8>>) -> Result<Draft, Rea
     let props: Listing<OfImage> = Listing::read(alloc, bytes, PROPERTIES)?;
     props.check_kept(0)?;
     if is_indexed(header.base) && !props.has_colours() {
-        return Err(refused(Kind::NoColourMap, props.end()).into());
+        return Err(refuse(Kind::NoColourMap, props.end()).into());
     }
     let layers = props.end() + 8;
     let mut draft = blank(alloc, header, props)?;

@@ -15,7 +15,7 @@ use crate::owners::OfLayer;
 use std::alloc::{AllocError, Global};
 use std::marker::Model;
 use xl_doc::{Base, Body, Bytes, Node};
-use xl_fields::{Kind, ReadRefused, ReadRefusedOrMemory, Span, refused, string_at, u32_at};
+use xl_fields::{Kind, ReadRefused, ReadRefusedOrMemory, Span, refuse, string_at, u32_at};
 use xl_props::Path;
 
 /// The record of a layer or a group, up to its two pointers.
@@ -88,13 +88,13 @@ pub fn head_at<'a>(
     let height = u32_at(file, at + 4)?;
     let kind = u32_at(file, at + 8)?;
     if !is_kind_of(kind, draft.base()) {
-        return Err(refused(Kind::LayerType, at + 8).into());
+        return Err(refuse(Kind::LayerType, at + 8).into());
     }
     let name = string_at(file, at + 12)?;
     let props: Listing<OfLayer> = Listing::read(alloc, file, name.next)?;
     props.check_kept(draft.kept_bytes())?;
     if is_indexed(draft.base()) && props.is_group() {
-        return Err(refused(Kind::GroupInIndexed, props.group_place()).into());
+        return Err(refuse(Kind::GroupInIndexed, props.group_place()).into());
     }
     let hierarchy = u32_at(file, props.end() + 8)?;
     let mask = u32_at(file, props.end() + 12)?;

@@ -5,7 +5,7 @@ ghost use Rattle.spec_file.specs.Header.{begins, version_of, base_of, is_indexed
 use spec_document::Base;
 use std::marker::Model;
 use xl_doc::MAX_SIDE;
-use xl_fields::{Kind, ReadRefused, refused, u32_at};
+use xl_fields::{Kind, ReadRefused, refuse, u32_at};
 
 /// How many bytes the magic and the version take.
 const VERSION_END: usize = 14;
@@ -83,7 +83,7 @@ fn side_at(bytes: &[u8], at: usize) -> Result<u32, ReadRefused>
 {
     let n = u32_at(bytes, at)?;
     if !is_side(n) {
-        return Err(refused(Kind::BadSize, at));
+        return Err(refuse(Kind::BadSize, at));
     }
     Ok(n)
 }
@@ -98,21 +98,21 @@ pub fn header_at(bytes: &[u8]) -> Result<Header, ReadRefused>
     ensures short { IfOk result (λ h. length bytes.now < 2 ^ 31) }
 {
     if bytes.len() >= 1 << 31 {
-        return Err(refused(Kind::TooLarge, (1 << 31) - 1));
+        return Err(refuse(Kind::TooLarge, (1 << 31) - 1));
     }
     if !begins(bytes, 0, b"gimp xcf ") {
-        return Err(refused(Kind::NotXcf, 0));
+        return Err(refuse(Kind::NotXcf, 0));
     }
     if bytes.len() < VERSION_END {
-        return Err(refused(Kind::Truncated, 9));
+        return Err(refuse(Kind::Truncated, 9));
     }
-    let version = version_of(bytes).ok_or(refused(Kind::Version, 9))?;
+    let version = version_of(bytes).ok_or(refuse(Kind::Version, 9))?;
     let width = side_at(bytes, 14)?;
     let height = side_at(bytes, 18)?;
     let code = u32_at(bytes, 22)?;
-    let base = base_of(code).ok_or(refused(Kind::BaseType, 22))?;
+    let base = base_of(code).ok_or(refuse(Kind::BaseType, 22))?;
     if is_indexed(base) && version == 0 {
-        return Err(refused(Kind::OldColourMap, 22));
+        return Err(refuse(Kind::OldColourMap, 22));
     }
     Ok(Header {
         width,

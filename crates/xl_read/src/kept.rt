@@ -5,7 +5,7 @@ ghost use Rattle.xl_read.specs.Listing.{over};
 ghost use Rattle.spec_document.specs.declared.TheConstants.{MAX_KEPT_BYTES};
 
 use spec_document::MAX_KEPT_BYTES;
-use xl_fields::{Kind, ReadRefused, refused};
+use xl_fields::{Kind, ReadRefused, refuse};
 use xl_props::{Offsets, PropList};
 
 /// How many bytes of payload a list keeps.
@@ -29,7 +29,7 @@ pub fn within(kept: &PropList, places: &Offsets, before: u64) -> Result<(), Read
     for (i, property) in kept.as_slice().iter().enumerate() {
         let bytes = property.payload.len() as u64;
         if bytes > MAX_KEPT_BYTES - total {
-            return Err(refused(Kind::TooLarge, places[i]));
+            return Err(refuse(Kind::TooLarge, places[i]));
         }
         total += bytes;
     }

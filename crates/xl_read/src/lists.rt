@@ -11,7 +11,7 @@ use crate::layer::node_at;
 use std::alloc::Global;
 use std::sync::Arc;
 use xl_doc::MAX_NODES;
-use xl_fields::{Kind, ReadRefusedOrMemory, refused, u32_at};
+use xl_fields::{Kind, ReadRefusedOrMemory, refuse, u32_at};
 
 /// How many channel pointers are looked at: of 64 channels and the selection, and the zero behind them.
 const CHANNEL_POINTERS: usize = 66;
@@ -42,7 +42,7 @@ pub fn nodes_at(
     }
     let place = at + 4 * MAX_NODES as usize;
     if u32_at(file, place)? != 0 {
-        return Err(refused(Kind::TooMany, place).into());
+        return Err(refuse(Kind::TooMany, place).into());
     }
     Ok(place + 4)
 }
@@ -69,5 +69,5 @@ pub fn channels_at(
         }
         channel_at(alloc, file, shared, pointer as usize, place, draft)?;
     }
-    Err(refused(Kind::TooMany, at + 4 * CHANNEL_POINTERS).into())
+    Err(refuse(Kind::TooMany, at + 4 * CHANNEL_POINTERS).into())
 }

@@ -51,7 +51,7 @@ fn mode_at(place: u32) -> Mode
 
 impl Look {
     /// The look of one layer more.
-    pub fn drawn(draws: &mut Draws) -> Look
+    pub fn draw(draws: &mut Draws) -> Look
         ensures drawn { IsDrawn look draws.old result draws.new }
         ensures fits { IsLook result }
     {
@@ -78,7 +78,7 @@ pub fn looks(alloc: Global, draws: &mut Draws) -> Result<Vec<Look>, AllocError>
 {
     let mut looks = Vec::with_capacity(alloc, LAYERS)?;
     for _layer in 0..LAYERS {
-        looks.push(Look::drawn(draws))?;
+        looks.push(Look::draw(draws))?;
     }
     Ok(looks)
 }

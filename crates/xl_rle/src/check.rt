@@ -4,7 +4,7 @@ ghost use Rattle.xl_rle.specs.NextOf.{next_of};
 
 use crate::head::{BLOCK, body_length, head_at, is_ample, short_literal, short_run};
 use spec_rle::MAX_CODES;
-use xl_fields::{Kind, ReadRefused, refused};
+use xl_fields::{Kind, ReadRefused, refuse};
 
 /// Walks the codes of a plane of so many bytes that begin at an offset, and writes none of it. Gives the offset after the
 /// last code, or the refusal that `decode_plane` gives.
@@ -36,14 +36,14 @@ pub fn check_plane(bytes: &[u8], at: usize, count: usize) -> Result<usize, ReadR
             left -= 1;
         }
         let Some(head) = head_at(bytes, at) else {
-            return Err(refused(Kind::Truncated, at));
+            return Err(refuse(Kind::Truncated, at));
         };
         if wanted < head.count || left == 0 {
-            return Err(refused(Kind::BadRun, at));
+            return Err(refuse(Kind::BadRun, at));
         }
         let body = body_length(head);
         if bytes.len() - head.body < body {
-            return Err(refused(Kind::Truncated, at));
+            return Err(refuse(Kind::Truncated, at));
         }
         at = head.body + body;
         wanted -= head.count;

@@ -5,7 +5,7 @@ ghost use Rattle.xl_rle.specs.PlaneOf.{PlaneOf};
 
 use crate::head::{BLOCK, body_length, head_at, is_ample, short_literal, short_run};
 use spec_rle::MAX_CODES;
-use xl_fields::{Kind, ReadRefused, refused};
+use xl_fields::{Kind, ReadRefused, refuse};
 
 // Out of line, since most runs are short.
 #[inline(never)]
@@ -65,14 +65,14 @@ fn put_code(
     ensures { PutsCode result filled left out.old out.new (code_at bytes.now at left (length out.old - filled)) }
 {
     let Some(head) = head_at(bytes, at) else {
-        return Err(refused(Kind::Truncated, at));
+        return Err(refuse(Kind::Truncated, at));
     };
     if out.len() - filled < head.count || left == 0 {
-        return Err(refused(Kind::BadRun, at));
+        return Err(refuse(Kind::BadRun, at));
     }
     let body = body_length(head);
     if bytes.len() - head.body < body {
-        return Err(refused(Kind::Truncated, at));
+        return Err(refuse(Kind::Truncated, at));
     }
     if head.is_run {
         put_run(out, filled, head.count, bytes[head.body]);

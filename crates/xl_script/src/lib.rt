@@ -20,6 +20,7 @@ mod structure;
 mod words;
 
 pub use bad_line::{BadLine, BadLineOrMemory};
+pub use numbers::number_below;
 pub use parsing::parse;
 pub use printing::{print_order, print_reply};
 pub use script::{Line, Lines, SESSIONS, Script};

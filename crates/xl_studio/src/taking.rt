@@ -29,7 +29,7 @@ pub trait Taking {
 }
 
 // The job, as a desk answers it.
-fn given(job: Result<Option<Job>, AllocError>) -> Result<Taken, AllocError>
+fn answer_of(job: Result<Option<Job>, AllocError>) -> Result<Taken, AllocError>
     ensures { AnswersJob job result }
 {
     match job {
@@ -57,7 +57,7 @@ impl<D: Shelf> Taking for Shared<D> {
         if self.closing {
             return Ok(Taken::Closing);
         }
-        given(self.core.next_job(alloc))
+        answer_of(self.core.next_job(alloc))
     }
 
     fn finish(&mut self, done: Done) -> Finished

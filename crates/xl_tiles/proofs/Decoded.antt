@@ -6,7 +6,7 @@ use Rattle.std.proofs.lemmas.List.{drop-drop, drop-take, take-take}
 use Rattle.spec_fields.specs.declared.ReadRefused.{ReadRefused}
 use Rattle.spec_fields.specs.Reading.{Read, ◌>>=◌}
 use Rattle.spec_rle.specs.Reading.{plane_at}
-use Rattle.spec_hierarchy.specs.Reading.{spelled_at}
+use Rattle.spec_hierarchy.specs.Reading.{planes_at}
 use Rattle.xl_tiles.specs.Joined.{pieces}
 use Rattle.xl_tiles.specs.Behind.{behind}
 
@@ -20,7 +20,7 @@ one_behind x (Err e) = refl
 
 -- the first planes stand, and the others are still to be read
 pub record Decoding (file : List ℕ) (from n bpp c at : ℕ) (planes : List ℕ) : Type 0 where
-  pub reads : spelled_at bpp file from n ≡ behind (pieces c n planes) (spelled_at (bpp - c) file at n)
+  pub reads : planes_at bpp file from n ≡ behind (pieces c n planes) (planes_at (bpp - c) file at n)
 
 -- the pieces at the front do not depend on what stands behind
 front_only : (c n : ℕ) (a b : List ℕ) → take (c * n) a ≡ take (c * n) b → pieces c n a ≡ pieces c n b
@@ -45,30 +45,30 @@ more (suc c) n planes =
 
 pub stops : {file : List ℕ} {from n bpp c at : ℕ} {planes : List ℕ} {e : ReadRefused} → Decoding file from n bpp c at planes
     → c < bpp
-    → plane_at file at n ≡ Err e → spelled_at bpp file from n ≡ Err e
-unfolding spelled_at
+    → plane_at file at n ≡ Err e → planes_at bpp file from n ≡ Err e
+unfolding planes_at
 stops {file = file} {n = n} {bpp = bpp} {c = c} {at = at} {planes = planes} so_far some h =
     let left : bpp - c ≡ suc (bpp - (c + 1)) = omega (arith, some) in
     so_far.reads
-    ∙ (ap (λ k. behind (pieces c n planes) (spelled_at k file at n)) left
+    ∙ (ap (λ k. behind (pieces c n planes) (planes_at k file at n)) left
     ∙ ap (λ r. behind (pieces c n planes)
-    (r >>= (λ part. spelled_at (bpp - (c + 1)) file part.next n >>= (λ rest. Ok (part.pixels ∷ rest))))) h)
+    (r >>= (λ part. planes_at (bpp - (c + 1)) file part.next n >>= (λ rest. Ok (part.pixels ∷ rest))))) h)
 
 pub goes_on : {file : List ℕ} {from n bpp c at : ℕ} {planes : List ℕ} → Decoding file from n bpp c at planes → c < bpp
     → (next : ℕ) (new : List ℕ)
     → take (c * n) new ≡ take (c * n) planes → plane_at file at n ≡ Ok (record { pixels = take n (drop (c * n) new); next = next })
     → Decoding file from n bpp (c + 1) next new
-unfolding spelled_at
+unfolding planes_at
 goes_on {file = file} {from = from} {n = n} {bpp = bpp} {c = c} {at = at} {planes = planes} so_far some next new same h =
     let left : bpp - c ≡ suc (bpp - (c + 1)) = omega (arith, some) in
     let pixels = take n (drop (c * n) new) in
-    let rest = spelled_at (bpp - (c + 1)) file next n in
+    let rest = planes_at (bpp - (c + 1)) file next n in
     let step : suc c ≡ c + 1 = omega arith in
     record {
       reads = so_far.reads
-          ∙ (ap (λ k. behind (pieces c n planes) (spelled_at k file at n)) left
+          ∙ (ap (λ k. behind (pieces c n planes) (planes_at k file at n)) left
           ∙ (ap (λ r. behind (pieces c n planes)
-          (r >>= (λ part. spelled_at (bpp - (c + 1)) file part.next n >>= (λ rest. Ok (part.pixels ∷ rest))))) h
+          (r >>= (λ part. planes_at (bpp - (c + 1)) file part.next n >>= (λ rest. Ok (part.pixels ∷ rest))))) h
           ∙ (ap (behind (pieces c n planes)) (one_behind pixels rest)
           ∙ (behind-behind (pieces c n planes) (pixels ∷ []) rest
           ∙ (ap (λ ps. behind (ps ++ pixels ∷ []) rest) (front_only c n planes new (sym same))
@@ -76,11 +76,11 @@ goes_on {file = file} {from = from} {n = n} {bpp = bpp} {c = c} {at = at} {plane
     }
 
 pub ends : {file : List ℕ} {from n bpp c at : ℕ} {planes : List ℕ} → Decoding file from n bpp c at planes → bpp ≤ c → c ≤ bpp
-    → spelled_at bpp file from n ≡ Ok (pieces bpp n planes)
-unfolding spelled_at
+    → planes_at bpp file from n ≡ Ok (pieces bpp n planes)
+unfolding planes_at
 ends {file = file} {n = n} {bpp = bpp} {c = c} {at = at} {planes = planes} so_far whole within =
     let none : bpp - c ≡ zero = omega (arith, whole) in
     let same : c ≡ bpp = omega (arith, whole, within) in
     so_far.reads
-    ∙ (ap (λ k. behind (pieces c n planes) (spelled_at k file at n)) none
+    ∙ (ap (λ k. behind (pieces c n planes) (planes_at k file at n)) none
     ∙ (ap Ok (append-nil (pieces c n planes)) ∙ ap (λ k. Ok (pieces k n planes)) same))

@@ -10,7 +10,7 @@ use Rattle.std.proofs.Math.Nat.{mod-lt, div-lt_iff_lt-mul}
 use borrow.Rule.Slice.PartMut.{put_mid, post_of}
 use Rattle.spec_fields.specs.Reading.{Read, ◌>>=◌}
 use Rattle.spec_hierarchy.specs.Tiles.{interleaved}
-use Rattle.spec_hierarchy.specs.Reading.{spelled_at, tile_at}
+use Rattle.spec_hierarchy.specs.Reading.{planes_at, tile_at}
 use Rattle.xl_tiles.specs.Block.{byte_after}
 use Rattle.xl_tiles.specs.Joined.{pieces}
 use Rattle.xl_tiles.specs.Packed.{packed, IsPacked}
@@ -99,7 +99,7 @@ put_row b n first w at m bytes pixels out same many fits within joined =
 
 -- the planes of a tile in runs
 pub planes_are : (file : List ℕ) (at n bpp : ℕ) (planes : List ℕ) (r : Read (Unit {0})) → IsPacked file at n bpp 1
-    → MatchResult r (λ _. spelled_at bpp file at n ≡ Ok (pieces bpp n planes)) (λ e. spelled_at bpp file at n ≡ Err e)
+    → MatchResult r (λ _. planes_at bpp file at n ≡ Ok (pieces bpp n planes)) (λ e. planes_at bpp file at n ≡ Err e)
     → interleaved n (pieces bpp n planes) ≡ packed file at n bpp 1
 unfolding tile_at
 planes_are file at n bpp planes (Ok x) h e =

@@ -17,7 +17,7 @@ use Rattle.std.proofs.lemmas.Bool.Decides.{nat_tests}
 use Rattle.std.proofs.Math.Dec.{eqb-suc-zero}
 use Rattle.spec_rle.specs.Reading.{Part, plane_at}
 use Rattle.spec_hierarchy.specs.Tiles.{interleaved}
-use Rattle.spec_hierarchy.specs.Reading.{plain_at, spelled_at, tile_at}
+use Rattle.spec_hierarchy.specs.Reading.{plain_at, planes_at, tile_at}
 use Rattle.spec_hierarchy.specs.Holds.{IsSpelledTile}
 use Rattle.spec_hierarchy.proofs.PlanesBack.{tile_has}
 use Rattle.xl_rle.specs.NextOf.{next_of}
@@ -36,11 +36,11 @@ ok_is {A = A} d e = ap value e
 
 -- one plane is walked, and the others are still to be walked
 plane_more : (rest : Part → Read (List (List ℕ))) (file : List ℕ) (k n next : ℕ) (r : Read Part)
-    → Ok next ≡ next_of r → done (r >>= (λ part. spelled_at k file part.next n >>= (λ rest. Ok (part.pixels ∷ rest))))
-    ≡ done (spelled_at k file next n)
+    → Ok next ≡ next_of r → done (r >>= (λ part. planes_at k file part.next n >>= (λ rest. Ok (part.pixels ∷ rest))))
+    ≡ done (planes_at k file next n)
 plane_more rest file k n next (Ok part) e =
-    done_then (spelled_at k file part.next n) (λ rest. part.pixels ∷ rest)
-    ∙ ap (λ m. done (spelled_at k file m n)) (sym (ok_is 0 e))
+    done_then (planes_at k file part.next n) (λ rest. part.pixels ∷ rest)
+    ∙ ap (λ m. done (planes_at k file m n)) (sym (ok_is 0 e))
 plane_more rest file k n next (Err f) e = cc
 
 fault_of : (e : ReadRefused) (r : Read Part) → Err e ≡ next_of r → r ≡ Err e
@@ -49,33 +49,33 @@ fault_of e (Err f) h = cc
 
 -- the first c planes are walked
 pub record Checking (file : List ℕ) (from n bpp c at : ℕ) : Type 0 where
-  pub reads : done (spelled_at bpp file from n) ≡ done (spelled_at (bpp - c) file at n)
+  pub reads : done (planes_at bpp file from n) ≡ done (planes_at (bpp - c) file at n)
 
 pub check_stops : {file : List ℕ} {from n bpp c at : ℕ} {e : ReadRefused} → Checking file from n bpp c at → c < bpp
-    → Err e ≡ next_of (plane_at file at n) → Err e ≡ done (spelled_at bpp file from n)
-unfolding spelled_at
+    → Err e ≡ next_of (plane_at file at n) → Err e ≡ done (planes_at bpp file from n)
+unfolding planes_at
 check_stops {file = file} {n = n} {bpp = bpp} {c = c} {at = at} {e = e} so_far some h =
     let left : bpp - c ≡ suc (bpp - (c + 1)) = omega (arith, some) in
-    sym (so_far.reads ∙ (ap (λ k. done (spelled_at k file at n)) left
-    ∙ ap (λ r. done (r >>= (λ part. spelled_at (bpp - (c + 1)) file part.next n >>= (λ rest. Ok (part.pixels ∷ rest)))))
+    sym (so_far.reads ∙ (ap (λ k. done (planes_at k file at n)) left
+    ∙ ap (λ r. done (r >>= (λ part. planes_at (bpp - (c + 1)) file part.next n >>= (λ rest. Ok (part.pixels ∷ rest)))))
     (fault_of e (plane_at file at n) h)))
 
 pub check_goes_on : {file : List ℕ} {from n bpp c at : ℕ} → Checking file from n bpp c at → c < bpp → (next : ℕ)
     → Ok next ≡ next_of (plane_at file at n) → Checking file from n bpp (c + 1) next
-unfolding spelled_at
+unfolding planes_at
 check_goes_on {file = file} {n = n} {bpp = bpp} {c = c} {at = at} so_far some next h =
     let left : bpp - c ≡ suc (bpp - (c + 1)) = omega (arith, some) in
     record {
-      reads = so_far.reads ∙ (ap (λ k. done (spelled_at k file at n)) left
+      reads = so_far.reads ∙ (ap (λ k. done (planes_at k file at n)) left
           ∙ plane_more (λ part. Ok []) file (bpp - (c + 1)) n next (plane_at file at n) h);
     }
 
 pub check_ends : {file : List ℕ} {from n bpp c at : ℕ} → Checking file from n bpp c at → bpp ≤ c
-    → Ok tt ≡ done (spelled_at bpp file from n)
-unfolding spelled_at
+    → Ok tt ≡ done (planes_at bpp file from n)
+unfolding planes_at
 check_ends {file = file} {n = n} {bpp = bpp} {c = c} {at = at} so_far whole =
     let none : bpp - c ≡ zero = omega (arith, whole) in
-    sym (so_far.reads ∙ ap (λ k. done (spelled_at k file at n)) none)
+    sym (so_far.reads ∙ ap (λ k. done (planes_at k file at n)) none)
 
 pub plain_short : (file : List ℕ) (at n : ℕ) → length file < at + n → Err (fault Truncated at) ≡ done (plain_at file at n)
 unfolding plain_at
@@ -95,12 +95,12 @@ unfolding tile_at
 tile_plain file at n bpp compression result none h = h ∙ ap (λ k. done (tile_at file at n bpp k)) (sym none)
 
 pub tile_spelled : (file : List ℕ) (at n bpp compression : ℕ) (result : Read (Unit {0})) → 0 < compression
-    → result ≡ done (spelled_at bpp file at n) → result ≡ done (tile_at file at n bpp compression)
+    → result ≡ done (planes_at bpp file at n) → result ≡ done (tile_at file at n bpp compression)
 unfolding tile_at
 tile_spelled file at n bpp zero result some h = absurd (omega (arith, some))
 tile_spelled file at n bpp (suc compression) result some h =
-    let spelled : Read (List ℕ) = spelled_at bpp file at n >>= (λ planes. Ok (interleaved n planes)) in
-    h ∙ (sym (done_then (spelled_at bpp file at n) (interleaved n))
+    let spelled : Read (List ℕ) = planes_at bpp file at n >>= (λ planes. Ok (interleaved n planes)) in
+    h ∙ (sym (done_then (planes_at bpp file at n) (interleaved n))
     ∙ ap (λ b. done (cond b (plain_at file at (n * bpp)) spelled)) (sym (eqb-suc-zero compression)))
 
 -- a plain tile stands in the file

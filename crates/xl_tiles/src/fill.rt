@@ -4,7 +4,7 @@ ghost use Rattle.xl_tiles.specs.Alike.{AreAlike};
 use std::alloc::{AllocError, Global};
 
 /// A piece of bytes so many times, one after another.
-pub fn repeated(alloc: Global, piece: &[u8], n: usize) -> Result<Vec<u8>, AllocError>
+pub fn repeat(alloc: Global, piece: &[u8], n: usize) -> Result<Vec<u8>, AllocError>
     requires { n * length piece.now ≤ 2 ^ 28 }
     ensures { IfOk result (λ v. AreAlike piece.now n v.items) }
 {

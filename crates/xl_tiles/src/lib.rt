@@ -12,14 +12,14 @@ mod plane;
 mod planes;
 mod reading;
 mod rows;
+mod run_length;
 mod shares;
-mod spelled;
 mod table;
 mod tile;
 mod tile_row;
 mod writing;
 
-pub use fill::repeated;
+pub use fill::repeat;
 pub use plane::Plane;
-pub use tile::{ROOM, TileRef};
+pub use tile::{SCRATCH, TileRef};
 pub use xl_grid::{Rect, TileAt};

@@ -13,10 +13,10 @@ ghost use Rattle.xl_tiles.specs.Table.{AreTiled};
 
 use crate::alike::alike_tiles;
 use crate::area::{Area, Sheet, area_of};
-use crate::changes::changed;
+use crate::changes::count_changed;
 use crate::reading::{point_byte, read_area, row_of, tile_bytes};
 use crate::table::Table;
-use crate::tile::{ROOM, TileRef};
+use crate::tile::{SCRATCH, TileRef};
 use crate::writing::write_area;
 use std::alloc::{AllocError, AllocFailed, Global};
 use std::marker::Model;
@@ -146,7 +146,7 @@ impl Plane {
         requires byte { c < self.now.bpp }
         ensures { result ≡ byte_at self.now x y c }
     {
-        let mut room = [0; ROOM];
+        let mut scratch = [0; SCRATCH];
         let sheet = Sheet {
             width: self.width as usize,
             height: self.height as usize,
@@ -158,15 +158,15 @@ impl Plane {
             x as usize,
             y as usize,
             c as usize,
-            &mut room,
+            &mut scratch,
         )
     }
 
-    /// The bytes of the pixels of a rectangle, row by row. The room is for a tile.
-    pub fn read_rect(&self, rect: Rect, out: &mut [u8], room: &mut [u8])
+    /// The bytes of the pixels of a rectangle, row by row. The scratch is for a tile.
+    pub fn read_rect(&self, rect: Rect, out: &mut [u8], scratch: &mut [u8])
         requires within { IsWithin self.now.width self.now.height rect }
         requires out { length out.old ≡ rect.w * rect.h * self.now.bpp }
-        requires room { length room.old ≡ 32768 }
+        requires scratch { length scratch.old ≡ SCRATCH }
         ensures { out.new ≡ bytes_in self.now rect }
     {
         let area = area_of(rect);
@@ -175,15 +175,15 @@ impl Plane {
             height: self.height as usize,
             bpp: self.bpp as usize,
         };
-        read_area(sheet, &self.tiles, area, out, room);
+        read_area(sheet, &self.tiles, area, out, scratch);
     }
 
-    /// The bytes of n pixels of row y, from column x on. The room is for a tile: each call unpacks the tiles that it meets.
-    pub fn read_row(&self, x: u32, y: u32, n: u32, out: &mut [u8], room: &mut [u8])
+    /// The bytes of n pixels of row y, from column x on. The scratch is for a tile: each call unpacks the tiles that it meets.
+    pub fn read_row(&self, x: u32, y: u32, n: u32, out: &mut [u8], scratch: &mut [u8])
         requires columns { x + n ≤ self.now.width }
         requires row { y < self.now.height }
         requires out { length out.old ≡ n * self.now.bpp }
-        requires room { length room.old ≡ 32768 }
+        requires scratch { length scratch.old ≡ SCRATCH }
         ensures { (k c : ℕ) → k < n → c < self.now.bpp → slice_index out.new (k * self.now.bpp + c) ≡ byte_at self.now (x + k) y c }
     {
         let area = Area {
@@ -197,7 +197,7 @@ impl Plane {
             height: self.height as usize,
             bpp: self.bpp as usize,
         };
-        read_area(sheet, &self.tiles, area, out, room);
+        read_area(sheet, &self.tiles, area, out, scratch);
     }
 
     /// The bytes of a row of a rectangle whose bytes were read.
@@ -230,11 +230,11 @@ impl Plane {
         write_area(alloc, sheet, &mut self.tiles, area, bytes)
     }
 
-    /// The bytes of a tile, in the room where a file has them in runs.
-    pub fn tile_bytes<'a>(&'a self, at: TileAt, room: &'a mut [u8]) -> &'a [u8]
+    /// The bytes of a tile, in the scratch where a file has them in runs.
+    pub fn tile_bytes<'a>(&'a self, at: TileAt, scratch: &'a mut [u8]) -> &'a [u8]
         requires column { at.col < grid.tiles_along self.now.width }
         requires row { at.row < grid.tiles_along self.now.height }
-        requires room { length room.old ≡ 32768 }
+        requires scratch { length scratch.old ≡ SCRATCH }
         ensures { result.now ≡ sheet.tile_bytes self.now at }
     {
         let sheet = Sheet {
@@ -242,7 +242,13 @@ impl Plane {
             height: self.height as usize,
             bpp: self.bpp as usize,
         };
-        tile_bytes(sheet, &self.tiles, at.col as usize, at.row as usize, room)
+        tile_bytes(
+            sheet,
+            &self.tiles,
+            at.col as usize,
+            at.row as usize,
+            scratch,
+        )
     }
 
     /// How many tiles it has.
@@ -285,15 +291,15 @@ impl Plane {
         self.tiles.replace(alloc, place, tile)
     }
 
-    /// At most how many tiles have other bytes than those of a plane of the same size. Each room is for a tile.
+    /// At most how many tiles have other bytes than those of a plane of the same size. Each scratch is for a tile.
     ///
     /// Rows and tiles that both planes share are not looked at, so a plane is quickly compared with one that it was made of.
-    pub fn tiles_changed(&self, other: &Plane, room: &mut [u8], other_room: &mut [u8]) -> u32
+    pub fn tiles_changed(&self, other: &Plane, scratch: &mut [u8], other_scratch: &mut [u8]) -> u32
         requires width { other.now.width ≡ self.now.width }
         requires height { other.now.height ≡ self.now.height }
         requires bpp { other.now.bpp ≡ self.now.bpp }
-        requires room { length room.old ≡ 32768 }
-        requires other_room { length other_room.old ≡ 32768 }
+        requires scratch { length scratch.old ≡ SCRATCH }
+        requires other_scratch { length other_scratch.old ≡ SCRATCH }
         ensures { result ≤ changed_tiles self.now other.now }
     {
         let sheet = Sheet {
@@ -301,6 +307,6 @@ impl Plane {
             height: self.height as usize,
             bpp: self.bpp as usize,
         };
-        changed(sheet, &self.tiles, &other.tiles, room, other_room) as u32
+        count_changed(sheet, &self.tiles, &other.tiles, scratch, other_scratch) as u32
     }
 }

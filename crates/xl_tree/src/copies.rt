@@ -13,7 +13,7 @@ impl<N: Share + Drop> Tree<N> {
     pub fn share(&self, alloc: Global) -> Result<Tree<N>, AllocError>
         ensures { IfOk result (λ other. other ≡ self.now) }
     {
-        let entries = shared(alloc, self.entries.as_slice())?;
+        let entries = share_entries(alloc, self.entries.as_slice())?;
         let mut index = Index::new(alloc)?;
         index.renew(entries.as_slice());
         Ok(Tree { entries, index })
@@ -34,7 +34,10 @@ fn shared_entry<N: Share>(alloc: Global, entry: &Entry<N>) -> Result<Entry<N>, A
 }
 
 /// The same entries again, with the room of a tree.
-fn shared<N: Share + Drop>(alloc: Global, entries: &[Entry<N>]) -> Result<Vec<Entry<N>>, AllocError>
+fn share_entries<N: Share + Drop>(
+    alloc: Global,
+    entries: &[Entry<N>],
+) -> Result<Vec<Entry<N>>, AllocError>
     ensures items { IfOk result (λ other. other.items ≡ entries.now) }
     ensures room { IfOk result (λ other. MAX_NODES ≤ vec_capacity other) }
 {

@@ -142,7 +142,7 @@ impl<N: Drop> Tree<N> {
         if stack.0 == 0 {
             return Ok(());
         }
-        match self.found(stack) {
+        match self.find_entry(stack) {
             None => Err(TreeRefused::NoNode(stack.0)),
             Some((entry, _)) => {
                 if entry.group {

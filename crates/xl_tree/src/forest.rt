@@ -78,12 +78,12 @@ impl<N: Drop> Tree<N> {
         if id.0 == 0 {
             return Some(self.top());
         }
-        let (entry, children) = self.found(id)?;
+        let (entry, children) = self.find_entry(id)?;
         if entry.group { Some(children) } else { None }
     }
 
     /// The entry of a node, and its children.
-    pub(crate) fn found(&self, id: NodeId) -> Option<(&Entry<N>, Stack<'_, N>)>
+    pub(crate) fn find_entry(&self, id: NodeId) -> Option<(&Entry<N>, Stack<'_, N>)>
         ensures none { IfNone result (find id.0 self.now ≡ nothing) }
         ensures some { IfSome result (λ p. IsFound (find id.0 self.now) p.0.now p.1) }
         ensures few { IfSome result (λ p. size p.1 ≤ MAX_NODES) }

@@ -15,7 +15,7 @@ impl<N: Drop> Tree<N> {
     pub fn find(&self, id: NodeId) -> Option<&N>
         ensures { option_copied result ≡ node_of (find id.0 self.now) }
     {
-        let (entry, _) = self.found(id)?;
+        let (entry, _) = self.find_entry(id)?;
         Some(&entry.node)
     }
 
@@ -23,7 +23,7 @@ impl<N: Drop> Tree<N> {
     pub fn size(&self, id: NodeId) -> u32
         ensures { result ≡ size_of (find id.0 self.now) }
     {
-        match self.found(id) {
+        match self.find_entry(id) {
             None => 0,
             Some((_, children)) => 1 + children.len(),
         }
@@ -40,7 +40,7 @@ impl<N: Drop> Tree<N> {
     pub fn levels(&self, id: NodeId) -> u32
         ensures { result ≡ levels_of (find id.0 self.now) }
     {
-        match self.found(id) {
+        match self.find_entry(id) {
             None => 0,
             Some((_, children)) => 1 + children.levels(),
         }

@@ -9,28 +9,33 @@ ghost use Rattle.xl_doc.specs.Nodes.{MarksAgree, nodes_of};
 ghost use Rattle.xl_undo.specs.Seen.{IsLayerOf, IsSeen};
 
 use xl_doc::{Body, Channel, Document, Layer, Node, Plane, Tree};
-use xl_tiles::ROOM;
+use xl_tiles::SCRATCH;
 use xl_tree::{Split, Stack};
 
 /// At most the tiles that differ between two documents, with all tiles of planes that only one of them has.
 pub fn changed_tiles(before: &Document, after: &Document) -> u32
     ensures { result ≤ doc.changed_in before.now after.now }
 {
-    let mut room = [0; ROOM];
-    let mut other_room = [0; ROOM];
-    let layers = changed_layers(before.tree.top(), &after.tree, &mut room, &mut other_room);
+    let mut scratch = [0; SCRATCH];
+    let mut other_scratch = [0; SCRATCH];
+    let layers = changed_layers(
+        before.tree.top(),
+        &after.tree,
+        &mut scratch,
+        &mut other_scratch,
+    );
     let alone = layers_alone(after.tree.top(), &before.tree);
     let channels = changed_channels(
         before.channels.as_slice(),
         after.channels.as_slice(),
-        &mut room,
-        &mut other_room,
+        &mut scratch,
+        &mut other_scratch,
     );
     let selection = changed_if_any(
         &before.selection,
         &after.selection,
-        &mut room,
-        &mut other_room,
+        &mut scratch,
+        &mut other_scratch,
     );
     sum(sum(sum(layers, alone), channels), selection)
 }
@@ -53,13 +58,13 @@ fn are_alike(before: &Plane, after: &Plane) -> bool
 }
 
 #[tactic(auto, unfolding(spec_undo::specs::Planes::changed_tiles))]
-fn changed_plane(before: &Plane, after: &Plane, room: &mut [u8], other_room: &mut [u8]) -> u32
-    requires room { length room.old ≡ 32768 }
-    requires other_room { length other_room.old ≡ 32768 }
+fn changed_plane(before: &Plane, after: &Plane, scratch: &mut [u8], other_scratch: &mut [u8]) -> u32
+    requires scratch { length scratch.old ≡ SCRATCH }
+    requires other_scratch { length other_scratch.old ≡ SCRATCH }
     ensures { result ≤ changed_planes before.now after.now }
 {
     if are_alike(before, after) {
-        before.tiles_changed(after, room, other_room)
+        before.tiles_changed(after, scratch, other_scratch)
     } else {
         sum(before.tile_count(), after.tile_count())
     }
@@ -79,11 +84,11 @@ fn count_if_any(channel: &Option<Channel>) -> u32
 fn changed_if_any(
     before: &Option<Channel>,
     after: &Option<Channel>,
-    room: &mut [u8],
-    other_room: &mut [u8],
+    scratch: &mut [u8],
+    other_scratch: &mut [u8],
 ) -> u32
-    requires room { length room.old ≡ 32768 }
-    requires other_room { length other_room.old ≡ 32768 }
+    requires scratch { length scratch.old ≡ SCRATCH }
+    requires other_scratch { length other_scratch.old ≡ SCRATCH }
     ensures { result ≤ doc.changed_if_any before.now after.now }
 {
     let Some(before) = before else {
@@ -91,7 +96,7 @@ fn changed_if_any(
     };
     match after {
         None => before.plane.tile_count(),
-        Some(after) => changed_plane(&before.plane, &after.plane, room, other_room),
+        Some(after) => changed_plane(&before.plane, &after.plane, scratch, other_scratch),
     }
 }
 
@@ -107,11 +112,11 @@ fn channels_count(channels: &[Channel]) -> u32
 fn changed_channels(
     before: &[Channel],
     after: &[Channel],
-    room: &mut [u8],
-    other_room: &mut [u8],
+    scratch: &mut [u8],
+    other_scratch: &mut [u8],
 ) -> u32
-    requires room { length room.old ≡ 32768 }
-    requires other_room { length other_room.old ≡ 32768 }
+    requires scratch { length scratch.old ≡ SCRATCH }
+    requires other_scratch { length other_scratch.old ≡ SCRATCH }
     ensures { result ≤ doc.changed_channels before.now after.now }
 {
     let Some((one, before)) = before.split_first() else {
@@ -120,8 +125,8 @@ fn changed_channels(
     match after.split_first() {
         None => sum(one.plane.tile_count(), channels_count(before)),
         Some((other, after)) => sum(
-            changed_plane(&one.plane, &other.plane, room, other_room),
-            changed_channels(before, after, room, other_room),
+            changed_plane(&one.plane, &other.plane, scratch, other_scratch),
+            changed_channels(before, after, scratch, other_scratch),
         ),
     }
 }
@@ -134,22 +139,27 @@ fn layer_count(layer: &Layer) -> u32
     sum(layer.plane.tile_count(), count_if_any(&layer.mask))
 }
 
-fn changed_layer(before: &Layer, after: &Layer, room: &mut [u8], other_room: &mut [u8]) -> u32
-    requires room { length room.old ≡ 32768 }
-    requires other_room { length other_room.old ≡ 32768 }
+fn changed_layer(before: &Layer, after: &Layer, scratch: &mut [u8], other_scratch: &mut [u8]) -> u32
+    requires scratch { length scratch.old ≡ SCRATCH }
+    requires other_scratch { length other_scratch.old ≡ SCRATCH }
     ensures { result ≤ changed_planes before.now.plane after.now.plane + doc.changed_if_any before.now.mask after.now.mask }
 {
-    let plane = changed_plane(&before.plane, &after.plane, room, other_room);
+    let plane = changed_plane(&before.plane, &after.plane, scratch, other_scratch);
     sum(
         plane,
-        changed_if_any(&before.mask, &after.mask, room, other_room),
+        changed_if_any(&before.mask, &after.mask, scratch, other_scratch),
     )
 }
 
 // Between the layer of a node and what another document has at its id. A group has no tiles.
-fn changed_body(before: &Body, after: Option<&Node>, room: &mut [u8], other_room: &mut [u8]) -> u32
-    requires room { length room.old ≡ 32768 }
-    requires other_room { length other_room.old ≡ 32768 }
+fn changed_body(
+    before: &Body,
+    after: Option<&Node>,
+    scratch: &mut [u8],
+    other_scratch: &mut [u8],
+) -> u32
+    requires scratch { length scratch.old ≡ SCRATCH }
+    requires other_scratch { length other_scratch.old ≡ SCRATCH }
     ensures { (l : sheet.Layer) (found : Found sheet.Layer sheet.Group) → IsLayerOf l before.now
         → IsSeen found (option_copied after.entry) → result ≤ doc.changed_layer l found }
 {
@@ -160,7 +170,7 @@ fn changed_body(before: &Body, after: Option<&Node>, room: &mut [u8], other_room
         return layer_count(before);
     };
     match &after.body {
-        Body::Leaf(after) => changed_layer(before, after, room, other_room),
+        Body::Leaf(after) => changed_layer(before, after, scratch, other_scratch),
         Body::Group => layer_count(before),
     }
 }
@@ -185,11 +195,11 @@ fn body_alone(body: &Body, other: Option<&Node>) -> u32
 fn changed_layers(
     nodes: Stack<'_, Node>,
     other: &Tree<Node>,
-    room: &mut [u8],
-    other_room: &mut [u8],
+    scratch: &mut [u8],
+    other_scratch: &mut [u8],
 ) -> u32
-    requires room { length room.old ≡ 32768 }
-    requires other_room { length other_room.old ≡ 32768 }
+    requires scratch { length scratch.old ≡ SCRATCH }
+    requires other_scratch { length other_scratch.old ≡ SCRATCH }
     requires agree { MarksAgree other.now }
     requires leaves { MarksAgree nodes }
     ensures { result ≤ doc.over_layers doc.changed_layer (nodes_of other.now) (nodes_of nodes.entry) }
@@ -197,16 +207,16 @@ fn changed_layers(
     match nodes.split() {
         Split::Empty => 0,
         Split::Leaf { id, node, under } => sum(
-            changed_body(&node.body, other.find(id), room, other_room),
-            changed_layers(under, other, room, other_room),
+            changed_body(&node.body, other.find(id), scratch, other_scratch),
+            changed_layers(under, other, scratch, other_scratch),
         ),
         Split::Group {
             children,
             under,
             ..
         } => sum(
-            changed_layers(children, other, room, other_room),
-            changed_layers(under, other, room, other_room),
+            changed_layers(children, other, scratch, other_scratch),
+            changed_layers(under, other, scratch, other_scratch),
         ),
     }
 }

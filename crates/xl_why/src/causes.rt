@@ -83,7 +83,7 @@ fn is_dropped(task: Task, before: Before) -> bool {
 }
 
 // What is wrong with a line that would do at another place.
-fn misplaced<'a>(text: &[u8], number: u32, asked: Asked<'a>) -> Cause<'a>
+fn cause_by_place<'a>(text: &[u8], number: u32, asked: Asked<'a>) -> Cause<'a>
     ensures { Blames result }
 {
     let before = before_line(text, number, asked.session, asked.last);
@@ -107,7 +107,7 @@ pub fn cause_of<'a>(text: &'a [u8], number: u32) -> Cause<'a>
         return Cause::Unknown;
     };
     match asked_by(line) {
-        Ok(asked) => misplaced(text, number, asked),
+        Ok(asked) => cause_by_place(text, number, asked),
         Err(cause) => cause,
     }
 }

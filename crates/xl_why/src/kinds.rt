@@ -1,9 +1,11 @@
 ghost use Rattle.std.specs.Prelude.{◌≡◌, ◌<◌, ◌≤◌, ◌^◌, is_some};
 ghost use Rattle.spec_script.specs.Words as grammar;
-ghost use Rattle.xl_script.specs.Numbers.{below, below_zero};
+ghost use Rattle.xl_script.specs.Numbers.{below_zero};
 ghost use Rattle.xl_why.specs.Kinds as kinds;
 
+use spec_document::MAX_COLOURS;
 use spec_grid::MAX_SIDE;
+use xl_script::number_below;
 
 /// What a word behind a keyword has to be.
 #[derive(Clone, Copy, Debug)]
@@ -24,39 +26,6 @@ pub enum Kind {
     Hex,
     /// 1 to 256 colours in hexadecimal digits.
     Colours,
-}
-
-const MAX_COLOURS: usize = 256;
-
-// The number of these digits, if it is below the limit.
-fn digits_below(limit: u64, word: &[u8]) -> Option<u32>
-    requires some { 0 < limit }
-    requires fits { limit ≤ 2 ^ 32 }
-    ensures { result ≡ below limit (grammar.digits_from 0 word.now) }
-{
-    let mut value: u64 = 0;
-    for b in word {
-        if !b.is_ascii_digit() {
-            return None;
-        }
-        value = 10 * value + u64::from(*b - b'0');
-        if value >= limit {
-            return None;
-        }
-    }
-    Some(value as u32)
-}
-
-// A decimal number below the limit, without a leading zero.
-fn number_below(limit: u64, word: &[u8]) -> Option<u32>
-    requires some { 0 < limit }
-    requires fits { limit ≤ 2 ^ 32 }
-    ensures { result ≡ grammar.number_below limit word.now }
-{
-    if word.is_empty() || (word.len() > 1 && word[0] == b'0') {
-        return None;
-    }
-    digits_below(limit, word)
 }
 
 /// The number of a session.
@@ -138,7 +107,7 @@ fn is_hex(word: &[u8]) -> bool
 fn is_colours_length(len: usize) -> bool
     ensures { result ≡ kinds.is_colours_length len }
 {
-    len >= 3 && len <= 3 * MAX_COLOURS && len % 3 == 0
+    len >= 3 && len <= 3 * MAX_COLOURS as usize && len % 3 == 0
 }
 
 fn are_colours(word: &[u8]) -> bool

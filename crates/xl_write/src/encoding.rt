@@ -48,7 +48,7 @@ fn room(doc: &Document, pointers: usize) -> usize
 }
 
 // The header, the image's properties, and zero words for the pointers.
-fn begun(alloc: Global, doc: &Document, pointers: usize) -> Result<Vec<u8>, AllocError>
+fn begin_file(alloc: Global, doc: &Document, pointers: usize) -> Result<Vec<u8>, AllocError>
     requires document { IsDocument doc.now }
     requires few { pointers ≤ 579 }
     ensures { IfOk result (λ bytes. bytes.items ≡ (header doc.now ++ image_list doc.now) ++ replicate (4 * pointers) 0) }
@@ -111,7 +111,7 @@ pub fn encode<C: PlaneCoder, P: Pictures>(
     know_limits(doc);
     let pointers = pointer_count(doc);
     let mut pieces = Pieces {
-        bytes: begun(alloc, doc, pointers)?,
+        bytes: begin_file(alloc, doc, pointers)?,
         begins: Vec::with_capacity(alloc, pointers)?,
     };
     let table = pieces.bytes.len() - 4 * pointers;

@@ -12,7 +12,7 @@ use xl_hier::{Plane, PlaneCoder, write_hierarchy};
 use xl_props::{Bytes, Known, PropList, write_props};
 
 // The one value that a list of a channel may have.
-fn marked(is_selection: bool) -> Known
+fn known_of_channel(is_selection: bool) -> Known
     ensures { result ≡ record unknown { selection = is_selection } }
 {
     Known {
@@ -46,7 +46,7 @@ fn put_front(
     put_u32(alloc, out, plane.width())?;
     put_u32(alloc, out, plane.height())?;
     put_string(alloc, out, name.as_slice())?;
-    write_props(alloc, out, &marked(is_selection), kept)
+    write_props(alloc, out, &known_of_channel(is_selection), kept)
 }
 
 /// Appends a mask, a channel or the selection: its fields, the pointer to its plane, and the plane.

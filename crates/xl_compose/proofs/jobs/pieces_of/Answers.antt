@@ -5,7 +5,7 @@ use Rattle.spec_forest.specs.Forest.{ids, stack_at}
 use Rattle.xl_doc.specs.Nodes.{nodes_of}
 use Rattle.xl_doc.proofs.NodesOf.{agrees_in, stack-nodes_of}
 use Rattle.xl_compose.specs.Added.{AreAdded}
-use Rattle.xl_compose.specs.JobRoom.{tile_band}
+use Rattle.xl_compose.specs.JobScratch.{tile_band}
 use Rattle.xl_compose.proofs.CleanGroups.{right_below}
 use Rattle.xl_compose.proofs.JobPieces.{are_for}
 use Rattle.xl_compose.proofs.LaidCosts.{stack_weighs}

@@ -3,4 +3,4 @@ use Rattle.spec_document.specs.Limits.{AreBytes}
 use Rattle.xl_core.proofs.group.know_bytes.Goals as goal
 
 pub returns : goal.returns
-returns c = subst AreBytes c.as_slice.ensures.value c.told.ensures
+returns c = subst AreBytes c.as_slice.ensures.value c.know_slice.ensures

@@ -19,7 +19,7 @@ returns-in_default-clause-value c =
     let e : node_of (find c.args.id.0 c.doc.inside.tree) ≡ None = sym c.find.ensures ∙ ap option_copied c.in_default.is in
     let gone = no_node_seen c.args.id.0 c.doc.inside.tree c.doc.invariant.marks e in
     let at = ap (λ f. rect_found f) gone in
-    c.cut.ensures ∙ (ap (λ r. meet r (sheet c.args.doc.now.width c.args.doc.now.height)) (c.no_rect.ensures.value
+    c.part_on_canvas.ensures ∙ (ap (λ r. meet r (sheet c.args.doc.now.width c.args.doc.now.height)) (c.no_rect.ensures.value
     ∙ (sym at ∙ ap (λ d. rect_found (find c.args.id.0 d.nodes)) c.doc.view_is)))
 
 pub group_extent-requires-clause-some : goal.group_extent-requires-clause-some
@@ -46,7 +46,7 @@ returns-in-Leaf-clause-value c =
     let at : IsLeafAt c.args.id.0 c.in-Some.node.now c.doc.inside.tree =
     leaf_seen c.args.id.0 c.doc.inside.tree c.in-Some.node.now c.doc.invariant.marks e (subst IsLeaf (sym c.in-Leaf.is) tt) in
     let own = ap (λ b. nodes.sheet_of b) c.in-Leaf.is in
-    c.cut-in-Leaf.ensures ∙ (ap (λ r. meet r (sheet c.args.doc.now.width c.args.doc.now.height))
+    c.part_on_canvas-in-Leaf.ensures ∙ (ap (λ r. meet r (sheet c.args.doc.now.width c.args.doc.now.height))
     (c.layer_rect.ensures.value ∙ (ap (λ s. record { x = s.x; y = s.y; w = s.plane.width; h = s.plane.height }) (sym own)
     ∙ (ap (λ f. rect_found f) (sym at.seen) ∙ ap (λ d. rect_found (find c.args.id.0 d.nodes)) c.doc.view_is))))
 

@@ -4,7 +4,7 @@ use Rattle.xl_edit.proofs.filling.alike_rows.Goals as goal
 
 pub returns : goal.returns
 returns c =
-    IfOk-weaker c.repeated-2.result _ _
+    IfOk-weaker c.repeat-2.result _ _
     (λ v rows. alike_are_rows c.args.w c.args.h c.args.pixel.now c.in_ok-row.row.items v.items c.in_ok-row.ensures
     (rw c.deref.ensures.value at rows))
-    c.repeated-2.ensures
+    c.repeat-2.ensures

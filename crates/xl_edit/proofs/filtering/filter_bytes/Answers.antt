@@ -11,8 +11,8 @@ use Rattle.xl_edit.proofs.FilteredRows.{filter_painted}
 use Rattle.xl_checks.proofs.LayerFound.{of_sheet}
 use Rattle.xl_edit.proofs.filtering.filter_bytes.Goals as goal
 
-pub laid_or_given-requires-clause-new : goal.laid_or_given-requires-clause-new
-laid_or_given-requires-clause-new c =
+pub bytes_after_own_write-requires-clause-new : goal.bytes_after_own_write-requires-clause-new
+bytes_after_own_write-requires-clause-new c =
     let rect = c.args.rect in
     c.in_ok-new.ensures.size ∙ ap (λ (s : Sheet). rect.w * rect.h * s.plane.bpp) (sym c.layer.view_is)
 

@@ -14,5 +14,5 @@ loop-k-preserved c =
     let still : slice_index c.loop-k.bytes (at + here) ≡ old (at + here) = c.loop-k.invariant (at + here)
     ∙ after_behind at here _ _ (at + here) (omega arith) in
     byte_more c.loop-k.bytes at here _ of old (omega arith)
-    (c.mixed.ensures ∙ (λ i. mixed (slice_index c.args.weights.now (sym column i)) (slice_index c.args.new.now (sym column i))
+    (c.mix.ensures ∙ (λ i. mixed (slice_index c.args.weights.now (sym column i)) (slice_index c.args.new.now (sym column i))
     (still i))) c.loop-k.invariant

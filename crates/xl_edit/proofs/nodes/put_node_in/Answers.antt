@@ -22,7 +22,7 @@ insert-requires-clause-few c = let P : ℕ → Type 0 = λ n. n < MAX_NODES in s
 pub insert-requires-clause-low : goal.insert-requires-clause-low
 insert-requires-clause-low c = λ free.
     low_with_one c.args.parent.0 c.args.place c.args.id.0 c.args.node c.args.tree.now c.requires.ids c.requires.place
-    c.requires.deep c.told.ensures
+    c.requires.deep c.know_levels.ensures
 
 pub unreachable-requires : goal.unreachable-requires
 unreachable-requires c =

@@ -12,8 +12,8 @@ use Rattle.xl_edit.proofs.MixedRows.{old_length}
 use Rattle.xl_edit.proofs.PaintMade.{copy_painted}
 use Rattle.xl_edit.proofs.pixels.copy_bytes.Goals as goal
 
-pub laid_or_given-requires-clause-new : goal.laid_or_given-requires-clause-new
-laid_or_given-requires-clause-new c =
+pub bytes_after_own_write-requires-clause-new : goal.bytes_after_own_write-requires-clause-new
+bytes_after_own_write-requires-clause-new c =
     let rect = c.args.rect in
     let source = c.in_ok-two.two.from.now in
     let bpp : source.plane.bpp ≡ c.to.inside.plane.bpp = c.in_ok-two.ensures.bpp

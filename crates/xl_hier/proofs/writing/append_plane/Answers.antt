@@ -61,8 +61,8 @@ pub returns-in_err-resize-clause-front : goal.returns-in_err-resize-clause-front
 returns-in_err-resize-clause-front g c =
     begins_then _ _ _ c.append_heads.ensures.front (begins_itself _ _ c.in_err-resize.ensures.items)
 
-pub returns-in_err-room-clause-front : goal.returns-in_err-room-clause-front
-returns-in_err-room-clause-front g c =
+pub returns-in_err-scratch-clause-front : goal.returns-in_err-scratch-clause-front
+returns-in_err-scratch-clause-front g c =
     let p = c.args.plane.now in
     let table = c.len-table.result in
     let n = 4 * (tiles_along p.height * tiles_along p.width) + 4 in

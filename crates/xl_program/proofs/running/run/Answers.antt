@@ -6,11 +6,12 @@ use Rattle.spec_command.specs.Ends.{source_fault, bad_line, refused, stop_line}
 use Rattle.xl_command.specs.Asking.{asked_of, arguments_of}
 use Rattle.xl_ports.specs.Shelf.{Content, selected_content}
 use Rattle.xl_program.specs.Command.{IsEdit, ReadsFile}
-use Rattle.xl_program.specs.Lines.{Tells}
+use Rattle.xl_program.specs.Lines.{WritesLine}
 use Rattle.xl_program.specs.Outcome.{Given, given_of, HasFault, InGrammar, Shelved, shelved}
 use Rattle.xl_program.proofs.Taken.{nothing_taken, nothing_saved}
-use Rattle.xl_program.proofs.ScriptEnded.{ended_told}
-use Rattle.xl_program.proofs.Told.{bad_line_told, refusal_told, script_first_told, shelf_fault_asked, source_fault_told}
+use Rattle.xl_program.proofs.ScriptEnded.{ended_written}
+use Rattle.xl_program.proofs.StopLines.{bad_line_written, refusal_written, script_in_grammar, shelf_fault_asked}
+use Rattle.xl_program.proofs.StopLines.{source_fault_written}
 use Rattle.xl_program.proofs.running.run.Goals as goal
 use Rattle.xl_program.proofs.running.run.Goals.{in-Ok-result, in-Err}
 
@@ -40,19 +41,19 @@ returns-clause-shelf_fault g c = λ six. elim c.match-done.branch [
       w.tell_stop-status.ensures (rw c.in-Some.is at c.in-Ok.ensures.asked) (sym w.sink-is)
 ]
 
-pub returns-clause-source_fault_told : goal.returns-clause-source_fault_told
-returns-clause-source_fault_told g c = λ five. elim c.match-done.branch [
+pub returns-clause-source_fault_written : goal.returns-clause-source_fault_written
+returns-clause-source_fault_written g c = λ five. elim c.match-done.branch [
   | in-Ok-result w ↦ absurd (omega arith)
   | in-Err w ↦
       let content = g.D.Shelf.content c.args.shelf in
       let command = asked_of c.in-Some.command in
       let is : Some command ≡ asked_in (arguments_of c.args.words.now) = rw c.in-Some.is at c.in-Ok.ensures.asked in
       let told =
-      source_fault_told g.K.Sink.held g.K.Sink.faults _ content _ _ command w.in-Err.stopped _ _ _ _ (sym w.status-is ∙ five)
+      source_fault_written g.K.Sink.held g.K.Sink.faults _ content _ _ command w.in-Err.stopped _ _ _ _ (sym w.status-is ∙ five)
       (rw w.in-Err.is at c.obey-done.ensures.comes) (rw w.in-Err.is at c.obey-done.ensures.stops)
       w.tell_stop-status.ensures in (
         subst (λ (o : Option Asked). IsEdit o) is told.0,
-        subst (λ k. Tells g.K.Sink.held g.K.Sink.faults c.args.sink.now k (stop_line source_fault)) (sym w.sink-is) told.1,
+        subst (λ k. WritesLine g.K.Sink.held g.K.Sink.faults c.args.sink.now k (stop_line source_fault)) (sym w.sink-is) told.1,
       )
 ]
 
@@ -64,13 +65,14 @@ returns-clause-bad_line g c = λ three. elim c.match-done.branch [
       let command = asked_of c.in-Some.command in
       let is : Some command ≡ asked_in (arguments_of c.args.words.now) = rw c.in-Some.is at c.in-Ok.ensures.asked in
       let told =
-      bad_line_told g.K.Sink.held g.K.Sink.faults _ content _ _ command w.in-Err.stopped _ _ _ _ (sym w.status-is ∙ three)
+      bad_line_written g.K.Sink.held g.K.Sink.faults _ content _ _ command w.in-Err.stopped _ _ _ _ (sym w.status-is ∙ three)
       (rw w.in-Err.is at c.obey-done.ensures.comes) (rw w.in-Err.is at c.obey-done.ensures.stops)
       w.tell_stop-status.ensures in (
         told.0,
         subst (λ (o : Option Asked). IsEdit o) is told.1,
         told.2,
-        subst (λ k. Tells g.K.Sink.held g.K.Sink.faults c.args.sink.now k (stop_line (bad_line told.0))) (sym w.sink-is) told.3,
+        subst (λ k. WritesLine g.K.Sink.held g.K.Sink.faults c.args.sink.now k (stop_line (bad_line told.0)))
+            (sym w.sink-is) told.3,
       )
 ]
 
@@ -82,14 +84,14 @@ returns-clause-refused g c = λ four. elim c.match-done.branch [
       let command = asked_of c.in-Some.command in
       let is : Some command ≡ asked_in (arguments_of c.args.words.now) = rw c.in-Some.is at c.in-Ok.ensures.asked in
       let told =
-      refusal_told g.K.Sink.held g.K.Sink.faults _ content _ _ command w.in-Err.stopped _ _ _ _ (sym w.status-is ∙ four)
+      refusal_written g.K.Sink.held g.K.Sink.faults _ content _ _ command w.in-Err.stopped _ _ _ _ (sym w.status-is ∙ four)
       (rw w.in-Err.is at c.obey-done.ensures.comes) (rw w.in-Err.is at c.obey-done.ensures.stops)
       w.tell_stop-status.ensures in (
         told.0,
         subst (λ (o : Option Asked). ReadsFile o) is told.1,
         subst (λ (o : Option Content). IfSome o (λ x. HasFault x told.0))
             (ap (λ (o : Option Asked). selected_content (option_map name_of o) content) is) told.2,
-        subst (λ k. Tells g.K.Sink.held g.K.Sink.faults c.args.sink.now k (stop_line (refused told.0))) (sym w.sink-is) told.3,
+        subst (λ k. WritesLine g.K.Sink.held g.K.Sink.faults c.args.sink.now k (stop_line (refused told.0))) (sym w.sink-is) told.3,
       )
 ]
 
@@ -107,7 +109,7 @@ returns-clause-script_first g c = λ which. elim c.match-done.branch [
       let command = asked_of c.in-Some.command in
       let is : Some command ≡ asked_in (arguments_of c.args.words.now) = rw c.in-Some.is at c.in-Ok.ensures.asked in
       subst (λ (o : Option Asked). InGrammar given o) is
-      (script_first_told g.K.Sink.held g.K.Sink.faults given content command w.in-Err.stopped _ _ _ _ (sym w.status-is) which
+      (script_in_grammar g.K.Sink.held g.K.Sink.faults given content command w.in-Err.stopped _ _ _ _ (sym w.status-is) which
       (rw w.in-Err.is at c.obey-done.ensures.stops) w.tell_stop-status.ensures)
 ]
 
@@ -119,7 +121,7 @@ returns-clause-source_ended g c = λ after asked.
     elim c.match-done.branch [
       | in-Ok-result w ↦ (rw w.in-Ok-result.is at c.obey-done.ensures.ended) edits
       | in-Err w ↦
-          ended_told g.K.Sink.held g.K.Sink.faults (g.S.Source.left c.obey-done.new.source) w.in-Err.stopped _ _ _ _
+          ended_written g.K.Sink.held g.K.Sink.faults (g.S.Source.left c.obey-done.new.source) w.in-Err.stopped _ _ _ _
           (sym w.status-is) after w.tell_stop-status.ensures
           ((rw w.in-Err.is at c.obey-done.ensures.ended) edits)
     ]

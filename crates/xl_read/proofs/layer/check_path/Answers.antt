@@ -6,18 +6,18 @@ use Rattle.spec_document.specs.declared.numbers.TheConstants.{ITEM_PATH}
 
 pub returns-then-path-ge-MAX_DEPTH-clause-rule : goal.returns-then-path-ge-MAX_DEPTH-clause-rule
 returns-then-path-ge-MAX_DEPTH-clause-rule c =
-    long_not c.args.draft.now c.args.head.now c.parent-path.result.now c.path_place.result c.refused.result
+    long_not c.args.draft.now c.args.head.now c.parent-path.result.now c.path_place.result c.refuse.result
     (c.parent-path.ensures ∙ ap (λ h. path_to h.props.list) c.head.view_is)
     (c.path_place.ensures ∙ ap (λ h. place_of ITEM_PATH h.props.list) c.head.view_is)
-    c.refused.ensures (omega arith)
+    c.refuse.ensures (omega arith)
 
 pub returns-then-not-leads-clause-rule : goal.returns-then-not-leads-clause-rule
 returns-then-not-leads-clause-rule c =
     leads_not c.args.draft.now c.args.head.now c.parent-path.result.now c.path_place-then-not-leads.result
-    c.refused-then-not-leads.result
+    c.refuse-then-not-leads.result
     (c.parent-path.ensures ∙ ap (λ h. path_to h.props.list) c.head.view_is)
     (c.path_place-then-not-leads.ensures ∙ ap (λ h. place_of ITEM_PATH h.props.list) c.head.view_is)
-    c.refused-then-not-leads.ensures (omega arith) (search rules)
+    c.refuse-then-not-leads.ensures (omega arith) (search rules)
 
 pub returns-clause-rule : goal.returns-clause-rule
 returns-clause-rule c =

@@ -11,10 +11,10 @@ loop-layer-preserved c =
     let so_far = c.loop-layer.looks.items in
     rw c.in_ok-push.ensures.items
     (record {
-      drawn = times_step look n (n + 1) c.args.draws.now c.loop-layer.draws c.drawn.new.draws so_far c.drawn.result refl
-          c.loop-layer.invariant.drawn c.drawn.ensures.drawn;
-      many = omega (arith, length-append so_far (c.drawn.result ∷ []), c.loop-layer.invariant.many);
-      each = all-append IsLook so_far (c.drawn.result ∷ []) c.loop-layer.invariant.each (c.drawn.ensures.fits, tt);
+      drawn = times_step look n (n + 1) c.args.draws.now c.loop-layer.draws c.draw.new.draws so_far c.draw.result refl
+          c.loop-layer.invariant.drawn c.draw.ensures.drawn;
+      many = omega (arith, length-append so_far (c.draw.result ∷ []), c.loop-layer.invariant.many);
+      each = all-append IsLook so_far (c.draw.result ∷ []) c.loop-layer.invariant.each (c.draw.ensures.fits, tt);
     })
 
 pub returns-clause-drawn : goal.returns-clause-drawn

@@ -7,7 +7,7 @@ use Rattle.xl_rle.proofs.decode.put_code.Goals.{then-head, else-head, then-out-f
 use Rattle.xl_rle.proofs.decode.put_code.Goals.{then-out-filled-via-else-out-filled+then-left-eq0}
 
 pub returns-in_default : goal.returns-in_default
-returns-in_default c = cut _ _ _ _ (rw c.in_default.is at c.head_at.ensures) ∙ ap Err (sym c.refused.ensures)
+returns-in_default c = cut _ _ _ _ (rw c.in_default.is at c.head_at.ensures) ∙ ap Err (sym c.refuse.ensures)
 
 pub returns-then-out-filled : goal.returns-then-out-filled
 returns-then-out-filled c =
@@ -16,14 +16,14 @@ returns-then-out-filled c =
     elim c.then-out-filled.branch [
       | then-out-filled-via-then-out-filled w ↦ too_long _ _ _ _ h begins (omega arith)
       | then-out-filled-via-else-out-filled+then-left-eq0 w ↦ rw w.if-left-eq0.true (too_many _ _ _ h begins)
-    ] ∙ ap Err (sym c.refused-then-out-filled.ensures)
+    ] ∙ ap Err (sym c.refuse-then-out-filled.ensures)
 
 pub returns-then-bytes-head : goal.returns-then-bytes-head
 returns-then-bytes-head c =
     let h = as_read c.in-Some.head in
     let begins = head_begins c.args.bytes.now c.args.at c.in-Some.head c.in-Some.ensures in
     short _ _ _ _ h begins (omega arith) (omega arith) (omega (arith, c.body_length-body.ensures))
-    ∙ ap Err (sym c.refused-then-bytes-head.ensures)
+    ∙ ap Err (sym c.refuse-then-bytes-head.ensures)
 
 pub returns : goal.returns
 returns c =

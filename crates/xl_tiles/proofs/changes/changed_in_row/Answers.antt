@@ -25,8 +25,8 @@ loop-col-preserved c =
     subst (λ same. c.difference-count.result ≤ cond (not same) 1 0)
     (λ i. bytes_eq (own i) (other i)) c.difference-count.ensures.value in
     record {
-      room = c.difference-count.auto.room ∙ c.loop-col.invariant.room;
-      other_room = c.difference-count.auto.other_room ∙ c.loop-col.invariant.other_room;
+      scratch = c.difference-count.auto.scratch ∙ c.loop-col.invariant.scratch;
+      other_scratch = c.difference-count.auto.other_scratch ∙ c.loop-col.invariant.other_scratch;
       few = omega (arith, c.loop-col.invariant.few, c.difference-count.ensures.few);
       counted = one_counted (differ_at p q)
           (λ col. tile col c.args.row) c.loop-col.col c.loop-col.count c.difference-count.result c.loop-col.invariant.counted next;

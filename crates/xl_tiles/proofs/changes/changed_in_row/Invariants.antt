@@ -8,8 +8,8 @@ use Rattle.xl_tiles.proofs.changes.changed_in_row.Given as goal
 -- the tiles so far are counted
 abbrev pub invariant-loop-col : goal.invariant-loop-col
 invariant-loop-col l = record {
-  room : length l.room ≡ 32768;
-  other_room : length l.other_room ≡ 32768;
+  scratch : length l.scratch ≡ 32768;
+  other_scratch : length l.other_scratch ≡ 32768;
   few : l.count ≤ l.col;
   counted : l.count ≤ length (filter
       (differ_at (plane_by l.fn.sheet.width l.fn.sheet.height l.fn.sheet.bpp l.tiles)

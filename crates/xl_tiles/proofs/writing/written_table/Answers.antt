@@ -39,7 +39,7 @@ loop-k-preserved c =
       c.loop-k.invariant.swapped.count,
     ) in
     record {
-      room = c.written_tile.auto.room ∙ c.loop-k.invariant.room;
+      scratch = c.written_tile.auto.scratch ∙ c.loop-k.invariant.scratch;
       swapped =
           swapped_more c.loop-k.invariant.swapped c.spot_of-spot.result.col c.spot_of-spot.result.row spot.col spot.row col_in there
           c.replace.new.self c.in_ok-tile.tile

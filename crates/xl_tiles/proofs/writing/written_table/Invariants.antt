@@ -8,7 +8,7 @@ use Rattle.xl_tiles.proofs.writing.written_table.Given as goal
 -- the tiles so far are put into the table
 abbrev pub invariant-loop-k : goal.invariant-loop-k
 invariant-loop-k l = record {
-  room : length l.room ≡ 32768;
+  scratch : length l.scratch ≡ 32768;
   swapped : Swapped l.sheet.width l.sheet.height
       (written (plane_by l.sheet.width l.sheet.height l.sheet.bpp l.tiles) (rect_of l.area) l.bytes) l.range l.k l.tiles l.next;
 }

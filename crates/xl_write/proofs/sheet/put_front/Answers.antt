@@ -16,4 +16,5 @@ returns c =
     (c.in_ok-put_u32.ensures.ok ∙ ap (λ n. c.args.out.now.items ++ word n) c.width.ensures.value)
     (c.in_ok-put_u32-2.ensures.ok ∙ ap (λ n. c.put_u32.new.out.items ++ word n) c.height.ensures.value)
     (c.in_ok-put_string.ensures.ok ∙ ap (λ name. c.put_u32-2.new.out.items ++ text name) c.as_slice.ensures)
-    (e ∙ ap (λ (k : Known). c.put_string.new.out.items ++ written k c.args.kept.now) c.marked.ensures)) c.write_props.ensures.ok
+    (e ∙ ap (λ (k : Known). c.put_string.new.out.items ++ written k c.args.kept.now) c.known_of_channel.ensures))
+    c.write_props.ensures.ok

@@ -1,4 +1,4 @@
 use Rattle.xl_compose.proofs.pictures.RecomposePictures.fill.Given as goal
 
-abbrev pub ghosts-counted : goal.ghosts-counted
-ghosts-counted a = record { name = a.blank.name; parts = a.blank.parts }
+abbrev pub ghosts-stack_picture : goal.ghosts-stack_picture
+ghosts-stack_picture a = record { name = a.blank.name; parts = a.blank.parts }

@@ -1,7 +1,7 @@
 -- The edits of a group are those of its call; so is the tile.
 use Rattle.std.proofs.Common.{rules, ◌≡◌, sym, ◌∙◌, ap, subst}
 use Rattle.spec_history.specs.Machine as machine
-use Rattle.xl_core.specs.Now.{told, Tells}
+use Rattle.xl_core.specs.Now.{response, Gives}
 use Rattle.xl_edit.specs.Replies.{reply_of}
 use Rattle.spec_history.specs.Limited as limited
 use Rattle.xl_edit.specs.Calls.{call_of}
@@ -15,10 +15,10 @@ returns-in-Edit-clause-chest g c =
     part_same c.edit.result _ _ (limited.edits_of (call_of c.args.call.now))
     (edits_of c.as_slice-edits.result.now) same c.edit.ensures.chest
 
-pub returns-in_ok-tile-in-Tile-clause-told : goal.returns-in_ok-tile-in-Tile-clause-told
-returns-in_ok-tile-in-Tile-clause-told g c =
+pub returns-in_ok-tile-in-Tile-clause-response : goal.returns-in_ok-tile-in-Tile-clause-response
+returns-in_ok-tile-in-Tile-clause-response g c =
     let same : call_of c.args.call.now ≡ machine.tile c.in-Tile.node.0 c.in-Tile.at = search rules in
-    let tile = c.in_ok-tile-in-Tile.ensures.told in
-    subst (λ call. Tells (told c.args.self.now.what call c.args.seen c.unasked-in-Tile.result.tables)
-    (reply_of c.unasked-in-Tile.result.reply) c.tile.new.self.what) (sym same)
-    (ap reply_of c.unasked-in-Tile.ensures.reply ∙ tile.0, tile.1)
+    let tile = c.in_ok-tile-in-Tile.ensures.response in
+    subst (λ call. Gives (response c.args.self.now.what call c.args.seen c.without_filters-in-Tile.result.tables)
+    (reply_of c.without_filters-in-Tile.result.reply) c.tile.new.self.what) (sym same)
+    (ap reply_of c.without_filters-in-Tile.ensures.reply ∙ tile.0, tile.1)

@@ -2,12 +2,12 @@
 use Rattle.std.proofs.Common.{not, sym, ◌∙◌, ap, subst}
 use Rattle.std.specs.Prelude.{reverse}
 use Rattle.spec_history.specs.Machine as machine
-use Rattle.xl_core.specs.Now.{Now, Tells, with_cache, shown}
-use Rattle.xl_core.proofs.CleanTiles.{told-tile}
+use Rattle.xl_core.specs.Now.{Now, Gives, with_cache, shown}
+use Rattle.xl_core.proofs.CleanTiles.{response-tile}
 use Rattle.xl_core.proofs.standing.Standing.tile.Goals as goal
 
-pub returns-clause-told : goal.returns-clause-told
-returns-clause-told g c =
+pub returns-clause-response : goal.returns-clause-response
+returns-clause-response g c =
     let what : Now = record {
       document = c.self.inside.document;
       undo = reverse c.self.inside.undo.items;
@@ -17,7 +17,7 @@ returns-clause-told g c =
       version = c.self.inside.version;
       cache = c.self.inside.cache;
     } in
-    subst (λ s. Tells (shown s.what c.args.node.0 c.args.at) (machine.tile_of c.self.inside.version)
+    subst (λ s. Gives (shown s.what c.args.node.0 c.args.at) (machine.tile_of c.self.inside.version)
     (with_cache what c.show.new.cache)) c.self.view_is
-    (told-tile what c.show.new.cache c.args.node.0 c.args.at (ap not (sym c.has_stack.ensures ∙ c.if-not-has_stack.false))
+    (response-tile what c.show.new.cache c.args.node.0 c.args.at (ap not (sym c.has_stack.ensures ∙ c.if-not-has_stack.false))
     (ap not (sym c.has_tile.ensures ∙ c.if-not-has_tile.false)) c.in_ok-show.ensures.cache)

@@ -77,7 +77,7 @@ went g c =
     (call_of c.args.call) c.args.seen c.in_ok-answered.answered.tables
     (reply_of c.in_ok-answered.answered.reply) c.self.invariant.0 c.self.told c.requires.session (seen_is g c)
     (few g c) c.requires.built
-    c.in_ok-answered.ensures.bytes c.in_ok-answered.ensures.told
+    c.in_ok-answered.ensures.bytes c.in_ok-answered.ensures.response
 
 items : (g : given.Over) (c : goal.After-push_reserved g)
     → c.push_reserved.new.self.items ≡ c.self.inside.entries.items ++ entry g c ∷ []
@@ -169,7 +169,7 @@ returns-clause-shown g c =
     shows c.self.inside.base c.push_reserved.new.self.items c.self.inside.standing.what c.answer.new.self.what
     (slice_set c.self.inside.made c.args.session (slice_index c.self.inside.made c.args.session + 1))
     (call_of c.args.call) c.args.seen c.in_ok-answered.answered.tables
-    (reply_of c.in_ok-answered.answered.reply) c.answer.new.desk.out c.in_ok-answered.ensures.told
+    (reply_of c.in_ok-answered.answered.reply) c.answer.new.desk.out c.in_ok-answered.ensures.response
     (stands g c) c.in_ok-answered.ensures.shown
 
 pub answer-requires-clause-ids : goal.answer-requires-clause-ids

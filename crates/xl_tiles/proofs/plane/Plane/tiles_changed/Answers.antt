@@ -9,5 +9,5 @@ returns c =
     let bpp : c.other.inside.bpp ≡ c.self.inside.bpp = rw (← c.self.view_is, ← c.other.view_is) at c.requires.bpp in
     rw (← c.self.view_is, ← c.other.view_is)
     (count_is c.self.inside.width c.self.inside.height c.self.inside.bpp c.other.inside.width c.other.inside.height
-    c.other.inside.bpp c.self.inside.tiles c.other.inside.tiles c.changed.result width height bpp
-    c.changed.ensures.value)
+    c.other.inside.bpp c.self.inside.tiles c.other.inside.tiles c.count_changed.result width height bpp
+    c.count_changed.ensures.value)

@@ -1,0 +1,42 @@
+-- What a job holds.
+use Rattle.std.specs.Prelude.{◌≡◌, ℕ, ◌+◌, ◌-◌, ◌*◌, ◌≤◌, min, List, length}
+use Rattle.spec_grid.specs.declared.TileAt.{TileAt}
+use Rattle.spec_document.specs.Document.{Document}
+use Rattle.spec_blend.specs.declared.Pixel.{Pixel}
+use Rattle.spec_blend.specs.Over.{clear}
+use Rattle.xl_compose.specs.declared.pieces.Piece.{Piece}
+use Rattle.xl_compose.specs.declared.span.Band.{Band}
+use Rattle.xl_compose.specs.Laid.{pixel}
+use Rattle.spec_picture.specs.Picture.{project}
+use Rattle.xl_compose.specs.Cost.{visible_below}
+use Rattle.xl_compose.specs.Levels.{AreIn, points}
+use Rattle.xl_compose.specs.Pieces.{AllFit, composed, weights}
+use Rattle.spec_grid.specs.declared.TheConstants.{MAX_SIDE}
+
+-- the tile is on the canvas
+pub record IsTile (band : Band) : Type 0 where
+  pub right : band.x + band.w ≤ MAX_SIDE
+  pub below : band.y + band.h ≤ MAX_SIDE
+  pub wide : band.w ≤ 64
+  pub high : band.h ≤ 64
+  pub some : 1 ≤ band.h
+
+-- all pieces are in the scratch, which is as yet clear, and there is room for all that laying them needs
+pub record IsReady (band : Band) (pieces : List Piece) (scratch source : List Pixel) (bytes : List ℕ) : Type 0 where
+  pub tile : IsTile band
+  pub fit : AreIn (length scratch) band pieces
+  pub first : points band ≤ length scratch
+  pub blank : (i : ℕ) → pixel scratch i ≡ clear
+  pub source_is : length source ≡ points band
+  pub bytes_is : length bytes ≡ 32768 + 320 * band.w
+
+-- the tile of a document
+abbrev pub tile_band : Document → TileAt → Band
+tile_band d at =
+    record { x = 64 * at.col; y = 64 * at.row; w = min 64 (d.width - 64 * at.col); h = min 64 (d.height - 64 * at.row) }
+
+-- pieces on so many levels that make the picture of a stack of a document
+pub record AreFor (deep : ℕ) (d : Document) (stack : ℕ) (at : TileAt) (pieces : List Piece) : Type 0 where
+  pub fit : AllFit deep (tile_band d at) pieces
+  pub shows : composed d.colours (tile_band d at) pieces ≡ project d stack at
+  pub cost : weights pieces ≤ visible_below d stack
