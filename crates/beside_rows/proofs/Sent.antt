@@ -1,4 +1,4 @@
--- What may go to another thread: what is heard, a closure by five captures, and a pair.
+-- What may go to another thread: what is heard, and a pair.
 use mathlib.Core.List.{[], ◌∷◌}
 use Prim.Native.Nat.{ℕ}
 use mir.Syntax.{Ty, Sym}
@@ -16,11 +16,6 @@ use Rattle.xl_studio.proofs.Sent.{parts_send}
 
 pub heard_send : IsSend (Result.the_row Reply.the_row AllocError.the_row)
 heard_send = search (reply.the_send, crosses, sendable) depth 60 fits 20000
-
-pub five_send : (i : ℕ) (δ : Ty) (ν : Sym) (A B C D E : RattleType) → IsSend A → IsSend B → IsSend C → IsSend D → IsSend E
-    → IsSend (param i (arg δ no (TupleAt ν (A ∷ B ∷ C ∷ D ∷ E ∷ []))))
-five_send i δ ν A B C D E a b c d e =
-    param_send i _ (arg_send δ no _ (parts_send (type_at ν (A ∷ B ∷ C ∷ D ∷ E ∷ [])) (a, (b, (c, (d, (e, tt)))))))
 
 pub pair_send : (i : ℕ) (δ : Ty) (ν : Sym) (A B : RattleType) → IsSend A → IsSend B
     → IsSend (param i (arg δ no (TupleAt ν (A ∷ B ∷ []))))

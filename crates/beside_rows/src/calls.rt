@@ -21,7 +21,7 @@ const TILE: TileAt = TileAt { col: 0, row: 0 };
 
 /// What a session asks.
 #[derive(Clone, Copy)]
-pub enum Ask {
+pub(crate) enum Ask {
     Top,
     Edit(Change),
     Undo,
@@ -84,7 +84,7 @@ fn ask_with<W: Wait, D: Shelf, L: Ledger>(
 }
 
 /// Makes a call of a session.
-pub fn ask_for<W: Wait, D: Shelf>(
+pub(crate) fn ask_for<W: Wait, D: Shelf>(
     rt: &W,
     alloc: Global,
     studio: &Studio<D>,
@@ -101,7 +101,7 @@ pub fn ask_for<W: Wait, D: Shelf>(
 }
 
 /// Makes a call of a session, which passes the gate before and after it.
-pub fn make_call<W: Wait, D: Shelf, G: Gate>(
+pub(crate) fn make_call<W: Wait, D: Shelf, G: Gate>(
     rt: &W,
     alloc: Global,
     studio: &Studio<D>,

@@ -9,8 +9,8 @@ use xl_rle::{Greedy, PlaneCoder};
 
 /// Codes as `Greedy` does.
 #[derive(Drop)]
-pub struct GatedCoder<'a, G: Gate> {
-    pub gate: &'a G,
+pub(crate) struct GatedCoder<'a, G: Gate> {
+    pub(crate) gate: &'a G,
 }
 
 impl<'a, G: Gate> PlaneCoder for GatedCoder<'a, G> {

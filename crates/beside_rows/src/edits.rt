@@ -9,17 +9,17 @@ use std::alloc::{AllocError, Global};
 use xl_edit::{Bytes, Edit, Edits, Group, NodeId, Rect};
 
 /// The image.
-pub const IMAGE: NodeId = NodeId(0);
+pub(crate) const IMAGE: NodeId = NodeId(0);
 
 /// The group that is made, which is the document's second node.
-pub const GROUP: NodeId = NodeId(2);
+pub(crate) const GROUP: NodeId = NodeId(2);
 
 /// The layer.
 const LAYER: NodeId = NodeId(1);
 
 /// What an edit does.
 #[derive(Clone, Copy)]
-pub enum Change {
+pub(crate) enum Change {
     /// The layer gets this opacity.
     Fade(u8),
     /// The layer's pixel becomes another.
@@ -81,7 +81,7 @@ fn add_group(alloc: Global, name: &[u8]) -> Result<Group, AllocError>
 }
 
 /// The edit that makes a change.
-pub fn edit_for(alloc: Global, change: Change) -> Result<Group, AllocError>
+pub(crate) fn edit_for(alloc: Global, change: Change) -> Result<Group, AllocError>
     ensures built { IfOk result (λ group. IsGroupOfEdits (edits_of group.edits)) }
     ensures plain { IfOk result (λ group. AreThere [] (edits_of group.edits)) }
 {

@@ -7,16 +7,16 @@ use xl_ports::{Actor, Place};
 const MOST_LOOKS: u32 = 100_000_000;
 
 /// The session that makes calls beside a worker.
-pub const SESSION: Actor = Actor::Session(0);
+const SESSION: Actor = Actor::Session(0);
 
 /// The worker.
-pub const WORKER: Actor = Actor::Worker(0);
+pub(crate) const WORKER: Actor = Actor::Worker(0);
 
 /// The session that edits beside a save.
-pub const EDITOR: Actor = Actor::Session(1);
+const EDITOR: Actor = Actor::Session(1);
 
 /// The session's second call waits until the worker has its first job.
-pub const CALL_AFTER_JOB: Hold = Hold {
+pub(crate) const CALL_AFTER_JOB: Hold = Hold {
     actor: SESSION,
     place: Place::BeforeCall,
     nth: 1,
@@ -26,7 +26,7 @@ pub const CALL_AFTER_JOB: Hold = Hold {
 };
 
 /// The worker, which has its first job, waits until the session's second call is about to be made.
-pub const JOB_BEFORE_CALL: Hold = Hold {
+pub(crate) const JOB_BEFORE_CALL: Hold = Hold {
     actor: WORKER,
     place: Place::JobTaken,
     nth: 0,
@@ -36,7 +36,7 @@ pub const JOB_BEFORE_CALL: Hold = Hold {
 };
 
 /// The worker hands its first picture in when the session's second call was answered.
-pub const PICTURE_AFTER_CALL: Hold = Hold {
+pub(crate) const PICTURE_AFTER_CALL: Hold = Hold {
     actor: WORKER,
     place: Place::BeforeFinish,
     nth: 0,
@@ -46,7 +46,7 @@ pub const PICTURE_AFTER_CALL: Hold = Hold {
 };
 
 /// The editor begins once the coder is in its first plane, which it passes as a worker does that has taken a job.
-pub const EDIT_IN_SAVE: Hold = Hold {
+pub(crate) const EDIT_IN_SAVE: Hold = Hold {
     actor: EDITOR,
     place: Place::BeforeCall,
     nth: 0,
@@ -56,7 +56,7 @@ pub const EDIT_IN_SAVE: Hold = Hold {
 };
 
 /// The coder waits in its first plane until the edit was answered.
-pub const PLANE_AFTER_EDIT: Hold = Hold {
+pub(crate) const PLANE_AFTER_EDIT: Hold = Hold {
     actor: WORKER,
     place: Place::JobTaken,
     nth: 0,
@@ -65,10 +65,8 @@ pub const PLANE_AFTER_EDIT: Hold = Hold {
     until_nth: 0,
 };
 
-/// A gate with two holds.
-pub fn gate_with(alloc: Global, one: Hold, other: Hold) -> Result<HoldGate, AllocError> {
-    let mut holds = Vec::new(alloc);
-    holds.push(one)?;
-    holds.push(other)?;
+/// A gate with these holds.
+pub(crate) fn gate_with(alloc: Global, holds: &[Hold]) -> Result<HoldGate, AllocError> {
+    let holds = holds.to_vec(alloc)?;
     HoldGate::new(alloc, holds, MOST_LOOKS)
 }

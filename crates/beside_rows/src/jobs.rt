@@ -17,7 +17,7 @@ use xl_ports::Shelf;
 use xl_studio::{JobDesk, Seat, Studio, Taken};
 
 /// A seat for a worker, which has no job out.
-pub fn worker_of<D: Shelf>(studio: &Studio<D>, seat: &mut Seat<D>) -> Seat<D>
+pub(crate) fn worker_of<D: Shelf>(studio: &Studio<D>, seat: &mut Seat<D>) -> Seat<D>
     requires seat { IsSeatOf studio.now seat.old }
     requires weight { 2 ≤ weight_of seat.old }
     ensures seat { IsSeatOf studio.now seat.new }
@@ -39,7 +39,7 @@ fn of_stack(job: Job, stack: NodeId) -> Result<Job, AllocError>
 }
 
 /// The next job, where it is of this stack.
-pub fn take_of<W: Wait, D: Shelf>(
+pub(crate) fn take_of<W: Wait, D: Shelf>(
     rt: &W,
     alloc: Global,
     studio: &Studio<D>,
@@ -77,7 +77,7 @@ fn compose_and_finish<W: Wait, D: Shelf, L: Ledger>(
 }
 
 /// Composes the job that is out, and hands its picture in.
-pub fn hand_in<W: Wait, D: Shelf>(
+pub(crate) fn hand_in<W: Wait, D: Shelf>(
     rt: &W,
     studio: &Studio<D>,
     worker: &mut Seat<D>,

@@ -1,5 +1,7 @@
 //! Jobs whose tile is marked again, or whose stack goes, while they are out.
-ghost use Rattle.std.specs.Prelude.{◌≡◌, ◌<◌, None};
+ghost use Rattle.std.specs.Prelude.{◌≡◌, None};
+ghost use Rattle.xl_core.specs.Jobs.{IsTaken};
+ghost use Rattle.xl_core.specs.declared.jobs.Taken.TheVariants as takes;
 ghost use Rattle.xl_studio.specs.Jobs.{job_out, IsWorker};
 ghost use Rattle.xl_studio.specs.Seats.{IsSeatOf};
 
@@ -9,25 +11,80 @@ use crate::jobs::{hand_in, take_of, worker_of};
 use crate::opened::studio_of;
 use std::alloc::{AllocError, Global};
 use std::sync::Wait;
-use xl_core::Finished;
+use xl_core::{Finished, Job};
 use xl_edit::Reply;
 use xl_ports::Shelf;
 use xl_studio::{Seat, Studio};
 
-/// What came of a job whose tile was marked again, and what the session was then answered to a peek, a tile and a peek.
-#[derive(Drop)]
-pub struct MarkedAgain {
-    pub finished: Finished,
-    pub replies: [Reply; 3],
-}
+// The tile is clean at version 3, and marked at version 4.
+const MARK_AFTER_3: [(Ask, Reply); 5] = [
+    (
+        Ask::Edit(Change::Fade(40)),
+        Reply::Changed {
+            version: 1,
+            group: 1,
+            next: 2,
+        },
+    ),
+    (
+        Ask::Edit(Change::Fade(30)),
+        Reply::Changed {
+            version: 2,
+            group: 2,
+            next: 2,
+        },
+    ),
+    (
+        Ask::Edit(Change::Fade(20)),
+        Reply::Changed {
+            version: 3,
+            group: 3,
+            next: 2,
+        },
+    ),
+    (Ask::Tile, Reply::Tile { version: 3 }),
+    (
+        Ask::Edit(Change::Fade(10)),
+        Reply::Changed {
+            version: 4,
+            group: 4,
+            next: 2,
+        },
+    ),
+];
 
-/// What came of two jobs of a group: of one after the group was deleted, and of the other after that was undone.
-#[derive(Drop)]
-pub struct Undone {
-    pub finished: Finished,
-    pub undone: Reply,
-    pub finished_after: Finished,
-}
+// The tile that is kept is older than the edit that made version 5.
+const LOOK_AFTER_5: [(Ask, Reply); 3] = [
+    (
+        Ask::Peek,
+        Reply::Stale {
+            have: Some(3),
+            seen: 5,
+        },
+    ),
+    (Ask::Tile, Reply::Tile { version: 5 }),
+    (Ask::Peek, Reply::Tile { version: 5 }),
+];
+
+// A new group has the only tile that is marked.
+const MARK_GROUP: [(Ask, Reply); 2] = [
+    (
+        Ask::Edit(Change::AddGroup),
+        Reply::Changed {
+            version: 1,
+            group: 1,
+            next: 3,
+        },
+    ),
+    (Ask::Tile, Reply::Tile { version: 1 }),
+];
+
+/// A reply before the job was taken that is another, what came of the job, and a reply after it was handed in that is another.
+pub(crate) type MarkedAgain = (Option<Reply>, Finished, Option<Reply>);
+
+/// A reply before the jobs were taken that is another, what came of one job after the group was deleted, the reply to the undo of
+/// that, and what came of the other job then.
+pub(crate) type Undone = (Option<Reply>, Finished, Reply, Finished);
 
 // A session's call.
 fn ask<W: Wait, D: Shelf>(
@@ -43,22 +100,44 @@ fn ask<W: Wait, D: Shelf>(
     ask_for(rt, alloc, studio, seat, 0, ask)
 }
 
-// The tile is clean at version 3, and marked at version 4.
-fn mark_after_3<W: Wait, D: Shelf>(
+// Makes calls of a session. The first reply that is another.
+fn first_wrong<W: Wait, D: Shelf>(
     rt: &W,
     alloc: Global,
     studio: &Studio<D>,
     seat: &mut Seat<D>,
-) -> Result<(), AllocError>
+    rows: &[(Ask, Reply)],
+) -> Result<Option<Reply>, AllocError>
     requires { IsSeatOf studio.now seat.old }
     ensures { IsSeatOf studio.now seat.new }
 {
-    ask(rt, alloc, studio, seat, Ask::Edit(Change::Fade(40)))?;
-    ask(rt, alloc, studio, seat, Ask::Edit(Change::Fade(30)))?;
-    ask(rt, alloc, studio, seat, Ask::Edit(Change::Fade(20)))?;
-    ask(rt, alloc, studio, seat, Ask::Tile)?;
-    ask(rt, alloc, studio, seat, Ask::Edit(Change::Fade(10)))?;
-    Ok(())
+    for row in rows {
+        let (call, expected) = *row;
+        let reply = ask(rt, alloc, studio, seat, call)?;
+        if reply != expected {
+            return Ok(Some(reply));
+        }
+    }
+    Ok(None)
+}
+
+// The reply to a call, and what comes of a job that is handed in behind it.
+fn hand_in_after<W: Wait, D: Shelf>(
+    rt: &W,
+    alloc: Global,
+    studio: &Studio<D>,
+    seat: &mut Seat<D>,
+    worker: &mut Seat<D>,
+    job: Job,
+    call: Ask,
+) -> Result<(Reply, Finished), AllocError>
+    requires seat { IsSeatOf studio.now seat.old }
+    requires worker { IsWorker studio.now worker.old }
+    requires job { IsTaken (takes.Job job) (job_out worker.old) }
+    ensures { IsSeatOf studio.now seat.new }
+{
+    let reply = ask(rt, alloc, studio, seat, call)?;
+    Ok((reply, hand_in(rt, studio, worker, job)))
 }
 
 // What comes of a job of version 4 after the edit that makes version 5.
@@ -72,55 +151,92 @@ fn hand_in_late<W: Wait, D: Shelf>(
     requires seat { IsSeatOf studio.now seat.old }
     requires worker { IsWorker studio.now worker.old }
     requires free { job_out worker.old ≡ None }
-    ensures seat { IsSeatOf studio.now seat.new }
+    ensures { IsSeatOf studio.now seat.new }
 {
-    mark_after_3(rt, alloc, studio, seat)?;
     let job = take_of(rt, alloc, studio, worker, IMAGE)?;
-    ask(rt, alloc, studio, seat, Ask::Edit(Change::Fade(9)))?;
-    Ok(hand_in(rt, studio, worker, job))
+    let edit = Ask::Edit(Change::Fade(9));
+    let (_, finished) = hand_in_after(rt, alloc, studio, seat, worker, job, edit)?;
+    Ok(finished)
 }
 
-// The answers to a peek, a tile and a peek.
-fn look<W: Wait, D: Shelf>(
+// The calls of a session, with a job between them.
+fn mark_again<W: Wait, D: Shelf>(
     rt: &W,
     alloc: Global,
     studio: &Studio<D>,
     seat: &mut Seat<D>,
-) -> Result<[Reply; 3], AllocError>
-    requires { IsSeatOf studio.now seat.old }
+    worker: &mut Seat<D>,
+) -> Result<MarkedAgain, AllocError>
+    requires seat { IsSeatOf studio.now seat.old }
+    requires worker { IsWorker studio.now worker.old }
+    requires free { job_out worker.old ≡ None }
 {
-    let first = ask(rt, alloc, studio, seat, Ask::Peek)?;
-    let second = ask(rt, alloc, studio, seat, Ask::Tile)?;
-    let third = ask(rt, alloc, studio, seat, Ask::Peek)?;
-    Ok([first, second, third])
+    let before = first_wrong(rt, alloc, studio, seat, &MARK_AFTER_3)?;
+    let finished = hand_in_late(rt, alloc, studio, seat, worker)?;
+    let after = first_wrong(rt, alloc, studio, seat, &LOOK_AFTER_5)?;
+    Ok((before, finished, after))
 }
 
 /// The tile is clean at version 3. A worker takes the job at version 4, and hands it in at version 5.
-pub fn marked_again<W: Wait>(rt: &W, alloc: Global) -> Result<MarkedAgain, AllocError> {
+pub(crate) fn edit_while_out<W: Wait>(rt: &W, alloc: Global) -> Result<MarkedAgain, AllocError> {
     let (studio, mut seat) = studio_of(alloc)?;
     let mut worker = worker_of(&studio, &mut seat);
-    let finished = hand_in_late(rt, alloc, &studio, &mut seat, &mut worker)?;
-    let replies = look(rt, alloc, &studio, &mut seat)?;
-    Ok(MarkedAgain { finished, replies })
-}
-
-// A new group has the only tile that is marked.
-fn mark_group<W: Wait, D: Shelf>(
-    rt: &W,
-    alloc: Global,
-    studio: &Studio<D>,
-    seat: &mut Seat<D>,
-) -> Result<(), AllocError>
-    requires { IsSeatOf studio.now seat.old }
-    ensures { IsSeatOf studio.now seat.new }
-{
-    ask(rt, alloc, studio, seat, Ask::Edit(Change::AddGroup))?;
-    ask(rt, alloc, studio, seat, Ask::Tile)?;
-    Ok(())
+    mark_again(rt, alloc, &studio, &mut seat, &mut worker)
 }
 
 // Two jobs of the group are out. It is deleted, and one is handed in; that is undone, and the other is.
 fn hand_in_both<W: Wait, D: Shelf>(
+    rt: &W,
+    alloc: Global,
+    studio: &Studio<D>,
+    seat: &mut Seat<D>,
+    first: &mut Seat<D>,
+    second: &mut Seat<D>,
+    job: Job,
+    other: Job,
+) -> Result<(Finished, Reply, Finished), AllocError>
+    requires seat { IsSeatOf studio.now seat.old }
+    requires first { IsWorker studio.now first.old }
+    requires job { IsTaken (takes.Job job) (job_out first.old) }
+    requires second { IsWorker studio.now second.old }
+    requires other { IsTaken (takes.Job other) (job_out second.old) }
+{
+    let delete = Ask::Edit(Change::DropGroup);
+    let (_, finished) = hand_in_after(rt, alloc, studio, seat, first, job, delete)?;
+    let (undone, finished_after) = hand_in_after(
+        rt,
+        alloc,
+        studio,
+        seat,
+        second,
+        other,
+        Ask::Undo,
+    )?;
+    Ok((finished, undone, finished_after))
+}
+
+// Two workers take a job each of the group, and hand them in.
+fn take_both<W: Wait, D: Shelf>(
+    rt: &W,
+    alloc: Global,
+    studio: &Studio<D>,
+    seat: &mut Seat<D>,
+    first: &mut Seat<D>,
+    second: &mut Seat<D>,
+) -> Result<(Finished, Reply, Finished), AllocError>
+    requires seat { IsSeatOf studio.now seat.old }
+    requires first { IsWorker studio.now first.old }
+    requires first_free { job_out first.old ≡ None }
+    requires second { IsWorker studio.now second.old }
+    requires second_free { job_out second.old ≡ None }
+{
+    let job = take_of(rt, alloc, studio, first, GROUP)?;
+    let other = take_of(rt, alloc, studio, second, GROUP)?;
+    hand_in_both(rt, alloc, studio, seat, first, second, job, other)
+}
+
+// The calls that mark the group, and what comes of two jobs of it.
+fn mark_and_undo<W: Wait, D: Shelf>(
     rt: &W,
     alloc: Global,
     studio: &Studio<D>,
@@ -134,25 +250,16 @@ fn hand_in_both<W: Wait, D: Shelf>(
     requires second { IsWorker studio.now second.old }
     requires second_free { job_out second.old ≡ None }
 {
-    let job = take_of(rt, alloc, studio, first, GROUP)?;
-    let older = take_of(rt, alloc, studio, second, GROUP)?;
-    ask(rt, alloc, studio, seat, Ask::Edit(Change::DropGroup))?;
-    let finished = hand_in(rt, studio, first, job);
-    let undone = ask(rt, alloc, studio, seat, Ask::Undo)?;
-    let finished_after = hand_in(rt, studio, second, older);
-    Ok(Undone {
-        finished,
-        undone,
-        finished_after,
-    })
+    let before = first_wrong(rt, alloc, studio, seat, &MARK_GROUP)?;
+    let (finished, undone, finished_after) = take_both(rt, alloc, studio, seat, first, second)?;
+    Ok((before, finished, undone, finished_after))
 }
 
 /// A group is made, and each of two workers takes a job of it. One is handed in after the group was deleted, and the other after
 /// that was undone.
-pub fn delete_and_undo<W: Wait>(rt: &W, alloc: Global) -> Result<Undone, AllocError> {
+pub(crate) fn delete_and_undo<W: Wait>(rt: &W, alloc: Global) -> Result<Undone, AllocError> {
     let (studio, mut seat) = studio_of(alloc)?;
     let mut first = worker_of(&studio, &mut seat);
     let mut second = worker_of(&studio, &mut seat);
-    mark_group(rt, alloc, &studio, &mut seat)?;
-    hand_in_both(rt, alloc, &studio, &mut seat, &mut first, &mut second)
+    mark_and_undo(rt, alloc, &studio, &mut seat, &mut first, &mut second)
 }

@@ -3,6 +3,8 @@
 #![tactic(auto)]
 
 #[cfg(test)]
+mod beside;
+#[cfg(test)]
 mod calls;
 #[cfg(test)]
 mod coder;
@@ -17,7 +19,7 @@ mod late;
 #[cfg(test)]
 mod opened;
 #[cfg(test)]
-mod saver;
+mod played;
 #[cfg(test)]
 mod tests;
 #[cfg(test)]

@@ -64,7 +64,9 @@ fn core_over<D: Shelf>(alloc: Global, document: Document, shelf: D) -> Result<Co
 }
 
 /// A studio and its first seat.
-pub fn studio_of(alloc: Global) -> Result<(Studio<MemoryShelf>, Seat<MemoryShelf>), AllocError>
+pub(crate) fn studio_of(
+    alloc: Global,
+) -> Result<(Studio<MemoryShelf>, Seat<MemoryShelf>), AllocError>
     ensures seat { IfOk result (λ r. IsSeatOf r.0 r.1) }
     ensures weight { IfOk result (λ r. weight_of r.1 ≡ 2 ^ 32) }
 {
@@ -78,7 +80,7 @@ pub fn studio_of(alloc: Global) -> Result<(Studio<MemoryShelf>, Seat<MemoryShelf
 }
 
 /// A desk without filters.
-pub fn plain_desk(alloc: Global) -> Result<Desk, AllocError>
+pub(crate) fn plain_desk(alloc: Global) -> Result<Desk, AllocError>
     ensures { IfOk result (λ desk. states_in state desk.chest ≡ []) }
 {
     let Ok(chest) = Chest::new(alloc, Vec::new(alloc)) else {

@@ -14,6 +14,7 @@ fn canvas(alloc: Global, tree: Tree<Node>) -> Result<Document, AllocError>
     requires { IsSound tree (canvas_of tree) }
     ensures { IfOk result (λ d. d ≡ canvas_of tree) }
 {
+    let channels = Channels::new(alloc)?;
     Ok(Document {
         width: 70,
         height: 10,
@@ -22,7 +23,7 @@ fn canvas(alloc: Global, tree: Tree<Node>) -> Result<Document, AllocError>
         colours: ColourMap::new(alloc),
         kept: PropList::new(alloc),
         tree,
-        channels: Channels::new(alloc)?,
+        channels,
         selection: None,
     })
 }
@@ -48,7 +49,10 @@ fn begins_marked(alloc: Global, doc: &Document) -> Result<bool, AllocError> {
     Ok(cache.take().is_some())
 }
 
-fn change_to_itself(alloc: Global, doc: &Document, damage: Damage) -> Result<Change, AllocError> {
+fn change_to_itself(alloc: Global, doc: &Document) -> Result<Change, AllocError>
+    requires { doc.now ≡ canvas_of none }
+{
+    let damage = no_damage(alloc, doc)?;
     Change::new(alloc, doc, doc, damage)
 }
 
@@ -56,8 +60,7 @@ fn change_to_itself(alloc: Global, doc: &Document, damage: Damage) -> Result<Cha
 fn there_is_memory(rt: HostRuntime) -> Result<(), Fail> {
     let alloc = rt.alloc();
     let doc = empty_canvas(alloc)?;
-    let damage = no_damage(alloc, &doc)?;
-    let _change = change_to_itself(alloc, &doc, damage)?;
+    let _change = change_to_itself(alloc, &doc)?;
     assert!(rt; begins_marked(alloc, &doc)?);
     Ok(())
 }

@@ -1,9 +1,10 @@
 //! Lists of properties.
 use spec_blend::Mode;
+use std::alloc::{AllocError, Global};
 use std::test::Fail;
 use xl_fields::{Kind, ReadRefusedOrMemory};
 use xl_props::{
-    Bytes, ColourMap, Kept, Known, Offsets, Owner, Path, PropList, read_props, write_props,
+    Bytes, ColourMap, Kept, Known, Offsets, Owner, Path, PropList, Props, read_props, write_props,
 };
 
 /// A layer of opacity 128 in mode 3, at 3 and -5, with a tattoo, and the end.
@@ -12,9 +13,14 @@ const LAYER: [u8; 60] = [
     8, 0, 0, 0, 3, 255, 255, 255, 251, 0, 0, 0, 20, 0, 0, 0, 4, 0, 0, 0, 7, 0, 0, 0, 0, 0, 0, 0, 0,
 ];
 
+// What is read of the layer from an offset on. Without a clause, so that no test carries one.
+fn read(alloc: Global, at: usize) -> Result<Props, ReadRefusedOrMemory> {
+    read_props(alloc, &LAYER, at, Owner::Layer)
+}
+
 #[test]
 fn a_layer_is_read(rt: HostRuntime) -> Result<(), Fail> {
-    let props = read_props(rt.alloc(), &LAYER, 0, Owner::Layer)?;
+    let props = read(rt.alloc(), 0)?;
     assert_eq!(rt; props.known.opacity, Some(128));
     assert_eq!(rt; props.known.mode, Some(Mode::Multiply));
     assert_eq!(rt; props.known.visible, None);
@@ -25,20 +31,32 @@ fn a_layer_is_read(rt: HostRuntime) -> Result<(), Fail> {
     Ok(())
 }
 
-#[test]
-fn behind_the_file_there_is_no_list(rt: HostRuntime) -> Result<(), Fail> {
-    for at in [57, 60, 61, usize::MAX] {
-        let read = read_props(rt.alloc(), &LAYER, at, Owner::Layer);
-        assert!(rt;
-            matches!(&read, Err(ReadRefusedOrMemory::Refused(refused)) if refused.kind == Kind::Truncated && refused.at == at as u64)
-        );
+// Where the list from an offset on is cut off, if it is refused for that.
+fn cut_off_at(alloc: Global, at: usize) -> Option<u64> {
+    match read(alloc, at) {
+        Err(ReadRefusedOrMemory::Refused(refused)) => {
+            if refused.kind == Kind::Truncated {
+                Some(refused.at)
+            } else {
+                None
+            }
+        }
+        Err(ReadRefusedOrMemory::Memory) | Ok(_) => None,
     }
-    Ok(())
 }
 
 #[test]
-fn a_layer_is_written(rt: HostRuntime) -> Result<(), Fail> {
-    let alloc = rt.alloc();
+fn behind_the_file_there_is_no_list(rt: HostRuntime) {
+    for at in [57, 60, 61, usize::MAX] {
+        assert_eq!(rt; cut_off_at(rt.alloc(), at), Some(at as u64));
+    }
+}
+
+/// What is written of the opacity, the mode, the offsets and the tattoo of the layer.
+fn written(alloc: Global) -> Result<Vec<u8>, AllocError> {
+    let payload = Bytes::from_slice(alloc, &[0, 0, 0, 7])?;
+    let mut kept = PropList::new(alloc);
+    kept.push(Kept { kind: 20, payload })?;
     let known = Known {
         colours: None,
         compression: None,
@@ -51,31 +69,47 @@ fn a_layer_is_written(rt: HostRuntime) -> Result<(), Fail> {
         path: None,
         selection: false,
     };
-    let mut kept = PropList::new(alloc);
-    kept.push(Kept {
-        kind: 20,
-        payload: Bytes::from_slice(alloc, &[0, 0, 0, 7])?,
-    })?;
     let mut out = Vec::new(alloc);
     write_props(alloc, &mut out, &known, &kept)?;
-    assert_eq!(rt; out.as_slice(), LAYER.as_slice());
+    Ok(out)
+}
+
+#[test]
+fn a_layer_is_written(rt: HostRuntime) -> Result<(), Fail> {
+    assert_eq!(rt; written(rt.alloc())?.as_slice(), LAYER.as_slice());
     Ok(())
+}
+
+fn grown_bytes(alloc: Global) -> Result<Bytes, AllocError> {
+    let mut bytes = Bytes::new(alloc);
+    bytes.push(7)?;
+    bytes.share(alloc)
+}
+
+fn grown_colours(alloc: Global) -> Result<ColourMap, AllocError> {
+    let mut colours = ColourMap::new(alloc);
+    colours.push([1, 2, 3])?;
+    Ok(colours)
+}
+
+fn grown_path(alloc: Global) -> Result<Path, AllocError> {
+    let mut path = Path::new(alloc);
+    path.push(5)?;
+    Ok(path)
+}
+
+fn grown_offsets(alloc: Global) -> Result<Offsets, AllocError> {
+    let mut offsets = Offsets::new(alloc);
+    offsets.push(9)?;
+    Ok(offsets)
 }
 
 #[test]
 fn lists_grow(rt: HostRuntime) -> Result<(), Fail> {
     let alloc = rt.alloc();
-    let mut bytes = Bytes::new(alloc);
-    bytes.push(7)?;
-    assert_eq!(rt; bytes.share(alloc)?.as_slice(), [7].as_slice());
-    let mut colours = ColourMap::new(alloc);
-    colours.push([1, 2, 3])?;
-    assert_eq!(rt; colours.as_slice(), [[1, 2, 3]].as_slice());
-    let mut path = Path::new(alloc);
-    path.push(5)?;
-    assert_eq!(rt; path.as_slice(), [5].as_slice());
-    let mut offsets = Offsets::new(alloc);
-    offsets.push(9)?;
-    assert_eq!(rt; offsets.as_slice(), [9].as_slice());
+    assert_eq!(rt; grown_bytes(alloc)?.as_slice(), [7].as_slice());
+    assert_eq!(rt; grown_colours(alloc)?.as_slice(), [[1, 2, 3]].as_slice());
+    assert_eq!(rt; grown_path(alloc)?.as_slice(), [5].as_slice());
+    assert_eq!(rt; grown_offsets(alloc)?.as_slice(), [9].as_slice());
     Ok(())
 }

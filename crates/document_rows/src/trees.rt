@@ -31,15 +31,19 @@ impl Share for Mark {
     }
 }
 
+// Whether there was such a node to remove.
+fn removes(alloc: Global, tree: &mut Tree<Mark>, id: NodeId) -> Result<bool, AllocError> {
+    let mut branch = Branch::new(alloc, tree.size(id))?;
+    Ok(tree.remove(id, &mut branch).is_ok())
+}
+
 #[test]
 fn a_shared_tree_stays(rt: HostRuntime) -> Result<(), Fail> {
     let alloc = rt.alloc();
     let mut tree = Tree::new(alloc)?;
     tree.put_last(&[], NodeId(7), Mark { group: false });
     let other = tree.share(alloc)?;
-    let mut branch = Branch::new(alloc, tree.size(NodeId(7)))?;
-    let taken = tree.remove(NodeId(7), &mut branch);
-    assert!(rt; taken.is_ok());
+    assert!(rt; removes(alloc, &mut tree, NodeId(7))?);
     assert_eq!(rt; tree.len(), 0);
     assert_eq!(rt; other.len(), 1);
     assert!(rt; other.find(NodeId(7)).is_some());

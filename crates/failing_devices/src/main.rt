@@ -246,36 +246,40 @@ impl<'a, R: Threads + Wait + Sync> Shown<'a, R> {
         Ok(())
     }
 
-    // Writes that fail, of the output and of the line that tells why a command stopped.
+    // What is written in pieces of some bytes: the output, and the line that tells why a command stopped.
+    fn show_pieces(&self, failing: Failing) -> io::Result<()> {
+        self.show(
+            Asked {
+                step: 10,
+                ..edit("0 undo\n0 undo")
+            },
+            failing,
+        )?;
+        self.show(Asked { step: 10, ..RENDER }, failing)?;
+        self.show(
+            Asked {
+                step: 5,
+                ..edit("0 blur")
+            },
+            failing,
+        )?;
+        self.show(
+            Asked {
+                words: ["render", "-"],
+                step: 3,
+                ..RENDER
+            },
+            failing,
+        )
+    }
+
+    // Writes that fail.
     fn show_writes(&self) -> io::Result<()> {
         for write in 0..3 {
-            let failing = Failing {
+            self.show_pieces(Failing {
                 write: Some(write),
                 ..NONE
-            };
-            self.show(
-                Asked {
-                    step: 10,
-                    ..edit("0 undo\n0 undo")
-                },
-                failing,
-            )?;
-            self.show(Asked { step: 10, ..RENDER }, failing)?;
-            self.show(
-                Asked {
-                    step: 5,
-                    ..edit("0 blur")
-                },
-                failing,
-            )?;
-            self.show(
-                Asked {
-                    words: ["render", "-"],
-                    step: 3,
-                    ..RENDER
-                },
-                failing,
-            )?;
+            })?;
         }
         let failing = Failing {
             call: Some(SYNC),

@@ -1,12 +1,9 @@
 //! The kept pictures of a core, over documents that are read from bytes: which answers calls give, which slots they
-//! mark, and what becomes of
-//! jobs that are out.
+//! mark, and what becomes of jobs that are out.
 #![tactic(auto)]
 
 #[cfg(test)]
 mod bench;
-#[cfg(test)]
-mod files;
 #[cfg(test)]
 mod row;
 #[cfg(test)]

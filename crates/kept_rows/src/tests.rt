@@ -1,6 +1,6 @@
-use crate::files::{DEEP, ONE, TWO};
 use crate::row::{Row, first_wrong};
 use crate::step::Step;
+use sample_files::{DEEP, ONE, TWO};
 use std::test::Fail;
 use xl_core::Finished;
 use xl_edit::{EditRefused, Reply};

@@ -12,10 +12,10 @@ use xl_doc::{Base, Channels, ColourMap, Document, NodeId, Pictures, PropList, Re
 fn blank(alloc: Global) -> Result<Document, AllocError>
     ensures { IfOk result (λ d. (d.width ≡ 100) × (d.height ≡ 70)) }
 {
-    let colours = ColourMap::new(alloc);
-    let kept = PropList::new(alloc);
     let tree = Tree::new(alloc)?;
     let channels = Channels::new(alloc)?;
+    let colours = ColourMap::new(alloc);
+    let kept = PropList::new(alloc);
     Ok(Document {
         width: 100,
         height: 70,
@@ -29,6 +29,7 @@ fn blank(alloc: Global) -> Result<Document, AllocError>
     })
 }
 
+// Writes the picture of the last tile.
 fn last_tile<L: Ledger>(
     alloc: Global,
     doc: &Document,
@@ -52,16 +53,31 @@ fn last_tile<L: Ledger>(
     )
 }
 
-#[test]
-fn a_tile_is_recomposed(rt: HostRuntime) -> Result<(), Fail> {
-    let alloc = rt.alloc();
+// The picture of the last tile.
+fn last_picture(alloc: Global) -> Result<Picture, AllocError> {
     let doc = blank(alloc)?;
     let mut picture = Picture::blank(alloc)?;
     last_tile::<Brand>(alloc, &doc, &mut picture, Blank::new(1))?;
-    assert_eq!(rt; picture.bytes(), [0; 864].as_slice());
+    Ok(picture)
+}
+
+// Whether there are so many bytes, and all are 0.
+fn is_clear(bytes: &[u8], count: usize) -> bool {
+    bytes.len() == count && bytes.iter().all(|byte| *byte == 0)
+}
+
+// How many bytes a copy of a picture has.
+fn copied_len(alloc: Global, picture: &Picture) -> Result<usize, AllocError> {
     let mut copy = Picture::blank(alloc)?;
-    copy.copy_from(&picture);
-    assert_eq!(rt; copy.bytes().len(), 864);
+    copy.copy_from(picture);
+    Ok(copy.bytes().len())
+}
+
+#[test]
+fn a_tile_is_recomposed(rt: HostRuntime) -> Result<(), Fail> {
+    let picture = last_picture(rt.alloc())?;
+    assert!(rt; is_clear(picture.bytes(), 864));
+    assert_eq!(rt; copied_len(rt.alloc(), &picture)?, 864);
     Ok(())
 }
 

@@ -1,4 +1,6 @@
 //! Filters and their chest.
+ghost use Rattle.std.specs.Prelude.{◌≡◌, length, IfOk};
+
 use std::alloc::{AllocError, Global};
 use std::test::Fail;
 use xl_filters::{Chest, Fade, Invert, PointFilter, Posterize, Threshold};
@@ -17,21 +19,52 @@ fn fade_lessens_more_with_each_use(rt: HostRuntime) {
     assert_eq!(rt; next_bytes(&mut fade, 200), [200, 122, 43, 0]);
 }
 
-#[test]
-fn other_kinds_stay_the_same(rt: HostRuntime) {
-    assert_eq!(rt; next_bytes(&mut Invert::new(7), 55), [200; 4]);
-    assert_eq!(rt; next_bytes(&mut Threshold::new(128), 127), [0; 4]);
-    assert_eq!(rt; next_bytes(&mut Threshold::new(128), 128), [255; 4]);
-    assert_eq!(rt; next_bytes(&mut Posterize::new(4), 200), [170; 4]);
-    assert_eq!(rt; next_bytes(&mut Posterize::new(4), 42), [0; 4]);
-    assert_eq!(rt; next_bytes(&mut Posterize::new(0), 128), [255; 4]);
-    assert_eq!(rt; next_bytes(&mut Posterize::new(255), 77), [77; 4]);
+/// A kind of filter that no use changes.
+#[derive(Clone, Copy)]
+enum Steady {
+    Invert,
+    Threshold,
+    Posterize,
 }
 
-fn usual_filters(alloc: Global) -> Result<Chest, AllocError> {
+/// A kind, its amount, a byte, and what it makes of this byte each time.
+const STEADY_BYTES: [(Steady, u8, u8, u8); 7] = [
+    (Steady::Invert, 7, 55, 200),
+    (Steady::Threshold, 128, 127, 0),
+    (Steady::Threshold, 128, 128, 255),
+    (Steady::Posterize, 4, 200, 170),
+    (Steady::Posterize, 4, 42, 0),
+    (Steady::Posterize, 0, 128, 255),
+    (Steady::Posterize, 255, 77, 77),
+];
+
+fn steady_bytes(kind: Steady, amount: u8, byte: u8) -> [u8; 4] {
+    match kind {
+        Steady::Invert => next_bytes(&mut Invert::new(amount), byte),
+        Steady::Threshold => next_bytes(&mut Threshold::new(amount), byte),
+        Steady::Posterize => next_bytes(&mut Posterize::new(amount), byte),
+    }
+}
+
+#[test]
+fn other_kinds_stay_the_same(rt: HostRuntime) {
+    for (kind, amount, byte, made) in &STEADY_BYTES {
+        assert_eq!(rt; steady_bytes(*kind, *amount, *byte), [*made; 4]);
+    }
+}
+
+// The first two of the usual filters.
+fn first_filters(alloc: Global) -> Result<Vec<Box<dyn PointFilter + Send>>, AllocError>
+    ensures { IfOk result (λ boxes. length boxes.items ≡ 2) }
+{
     let mut boxes: Vec<Box<dyn PointFilter + Send>> = Vec::new(alloc);
     boxes.push(Box::new(alloc, Invert::new(0))?)?;
     boxes.push(Box::new(alloc, Threshold::new(128))?)?;
+    Ok(boxes)
+}
+
+fn usual_filters(alloc: Global) -> Result<Chest, AllocError> {
+    let mut boxes = first_filters(alloc)?;
     boxes.push(Box::new(alloc, Posterize::new(4))?)?;
     boxes.push(Box::new(alloc, Fade::new(100))?)?;
     Ok(Chest::new(alloc, boxes)?)
@@ -56,16 +89,23 @@ fn byte_by(chest: &mut Chest, slot: u32, byte: u8) -> Option<u8> {
     }
 }
 
+/// A slot of the usual filters, a byte, and what is made of it, one after another.
+const USES: [(u32, u8, Option<u8>); 6] = [
+    (0, 55, Some(200)),
+    (1, 128, Some(255)),
+    (2, 200, Some(170)),
+    (3, 200, Some(200)),
+    (3, 200, Some(122)),
+    (4, 200, None),
+];
+
 #[test]
 fn chest_keeps_each_filter_in_its_slot(rt: HostRuntime) -> Result<(), Fail> {
     let mut chest = usual_filters(rt.alloc())?;
     assert_eq!(rt; slots(&chest), [true, true, true, true, false]);
-    assert_eq!(rt; byte_by(&mut chest, 0, 55), Some(200));
-    assert_eq!(rt; byte_by(&mut chest, 1, 128), Some(255));
-    assert_eq!(rt; byte_by(&mut chest, 2, 200), Some(170));
-    assert_eq!(rt; byte_by(&mut chest, 3, 200), Some(200));
-    assert_eq!(rt; byte_by(&mut chest, 3, 200), Some(122));
-    assert_eq!(rt; byte_by(&mut chest, 4, 200), None);
+    for (slot, byte, made) in &USES {
+        assert_eq!(rt; byte_by(&mut chest, *slot, *byte), *made);
+    }
     Ok(())
 }
 

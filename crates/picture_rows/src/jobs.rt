@@ -54,16 +54,18 @@ impl CleanTiles for Kept {
 fn layer(alloc: Global) -> Result<Node, AllocError>
     ensures { IfOk result (λ node. node ≡ inner) }
 {
+    let cover = Plane::new(alloc, 3, 2, 1, &[100])?;
+    let plane = Plane::new(alloc, 3, 2, 3, &[10, 20, 30])?;
     let mask = Mask {
         name: Bytes::new(alloc),
         kept: PropList::new(alloc),
-        plane: Plane::new(alloc, 3, 2, 1, &[100])?,
+        plane: cover,
     };
     let layer = Layer {
         kind: 0,
         x: 1,
         y: -1,
-        plane: Plane::new(alloc, 3, 2, 3, &[10, 20, 30])?,
+        plane,
         mask: Some(mask),
         apply_mask: true,
     };
@@ -103,10 +105,10 @@ fn tree(alloc: Global) -> Result<Tree<Node>, AllocError>
 fn document(alloc: Global) -> Result<Document, AllocError>
     ensures { IfOk result (λ d. d ≡ sample) }
 {
-    let colours = ColourMap::new(alloc);
-    let kept = PropList::new(alloc);
     let channels = Channels::new(alloc)?;
     let tree = tree(alloc)?;
+    let colours = ColourMap::new(alloc);
+    let kept = PropList::new(alloc);
     Ok(Document {
         width: 5,
         height: 4,
@@ -155,28 +157,46 @@ fn composed<L: Ledger, K: CleanTiles>(
     Ok(compose(made, &mut steps))
 }
 
+// The picture of a stack, recomposed.
+fn whole(alloc: Global, node: NodeId) -> Result<Picture, AllocError>
+    requires { IsSome (stack_at node.0 sample.nodes) }
+    ensures { IfOk result (λ picture. picture ≡ project sample node.0 (record { col = 0; row = 0 })) }
+{
+    let doc = document(alloc)?;
+    let mut out = Picture::blank(alloc)?;
+    recomposed::<Brand>(alloc, &doc, node, &mut out, Blank::new(1))?;
+    Ok(out)
+}
+
+// What the job of the image gives.
+fn composed_job<K: CleanTiles>(alloc: Global, clean: &K) -> Result<Done, AllocError>
+    requires { AreClean (K.clean_tile clean.now) sample (record { col = 0; row = 0 }) }
+{
+    let doc = document(alloc)?;
+    composed::<Brand, K>(alloc, &doc, clean, Blank::new(1))
+}
+
+fn group_kept(alloc: Global) -> Result<Kept, AllocError>
+    ensures { IfOk result (λ kept. kept.picture ≡ project sample 1 (record { col = 0; row = 0 })) }
+{
+    let picture = whole(alloc, NodeId(1))?;
+    Ok(Kept { picture })
+}
+
 #[test]
 fn a_job_gives_the_picture_that_is_recomposed(rt: HostRuntime) -> Result<(), Fail> {
-    let alloc = rt.alloc();
-    let doc = document(alloc)?;
-    let mut whole = Picture::blank(alloc)?;
-    recomposed::<Brand>(alloc, &doc, NodeId(0), &mut whole, Blank::new(1))?;
-    let done = composed::<Brand, Nothing>(alloc, &doc, &Nothing, Blank::new(1))?;
-    assert_eq!(rt; done.picture.bytes(), whole.bytes());
+    let picture = whole(rt.alloc(), NodeId(0))?;
+    let done = composed_job(rt.alloc(), &Nothing)?;
+    assert_eq!(rt; done.picture.bytes(), picture.bytes());
     assert_eq!(rt; done.version, 3);
     Ok(())
 }
 
 #[test]
 fn a_kept_picture_of_the_group_is_taken(rt: HostRuntime) -> Result<(), Fail> {
-    let alloc = rt.alloc();
-    let doc = document(alloc)?;
-    let mut whole = Picture::blank(alloc)?;
-    recomposed::<Brand>(alloc, &doc, NodeId(0), &mut whole, Blank::new(1))?;
-    let mut picture = Picture::blank(alloc)?;
-    recomposed::<Brand>(alloc, &doc, NodeId(1), &mut picture, Blank::new(1))?;
-    let kept = Kept { picture };
-    let done = composed::<Brand, Kept>(alloc, &doc, &kept, Blank::new(1))?;
-    assert_eq!(rt; done.picture.bytes(), whole.bytes());
+    let kept = group_kept(rt.alloc())?;
+    let done = composed_job(rt.alloc(), &kept)?;
+    let picture = whole(rt.alloc(), NodeId(0))?;
+    assert_eq!(rt; done.picture.bytes(), picture.bytes());
     Ok(())
 }

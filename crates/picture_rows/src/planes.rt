@@ -33,41 +33,54 @@ fn write_nines(alloc: Global, plane: &mut Plane) -> Result<(), AllocError>
     plane.write_rect(alloc, rect, &[9, 9])
 }
 
+// The bytes of the last two columns of the first tile, and that of the second.
+fn last_bytes(plane: &Plane) -> [u8; 3]
+    requires width { plane.now.width ≡ 65 }
+    requires height { plane.now.height ≡ 1 }
+    requires bpp { plane.now.bpp ≡ 1 }
+{
+    [
+        plane.get(62, 0, 0),
+        plane.get(63, 0, 0),
+        plane.get(64, 0, 0),
+    ]
+}
+
 #[test]
 fn a_write_leaves_the_other_holder(rt: HostRuntime) -> Result<(), Fail> {
     let alloc = rt.alloc();
     let mut plane = sevens(alloc)?;
     let other = plane.share(alloc)?;
     write_nines(alloc, &mut plane)?;
-    assert_eq!(rt;
-        [
-            plane.get(62, 0, 0),
-            plane.get(63, 0, 0),
-            plane.get(64, 0, 0)
-        ],
-        [7, 9, 9]
-    );
-    assert_eq!(rt;
-        [
-            other.get(62, 0, 0),
-            other.get(63, 0, 0),
-            other.get(64, 0, 0)
-        ],
-        [7, 7, 7]
-    );
+    assert_eq!(rt; last_bytes(&plane), [7, 9, 9]);
+    assert_eq!(rt; last_bytes(&other), [7, 7, 7]);
     Ok(())
+}
+
+// Holds so many shares of a plane at once. How many they are.
+fn held_at_once(alloc: Global, plane: &Plane, count: usize) -> Result<usize, AllocError> {
+    let mut held = Vec::with_capacity(alloc, count)?;
+    for _k in 0..count {
+        held.push(plane.share(alloc)?)?;
+    }
+    Ok(held.len())
 }
 
 #[test]
 fn a_thousand_shares_are_held_at_once(rt: HostRuntime) -> Result<(), Fail> {
     let alloc = rt.alloc();
     let plane = Plane::new(alloc, 2048, 2048, 4, &[1, 2, 3, 4])?;
-    let mut held = Vec::with_capacity(alloc, 1000)?;
-    for _k in 0..1000 {
-        held.push(plane.share(alloc)?)?;
-    }
-    assert_eq!(rt; held.len(), 1000);
+    assert_eq!(rt; held_at_once(alloc, &plane, 1000)?, 1000);
     Ok(())
+}
+
+/// A plane of a row of two pixels.
+fn pair(alloc: Global, bytes: [u8; 4]) -> Result<Plane, AllocError>
+    ensures width { IfOk result (λ p. p.width ≡ 2) }
+    ensures height { IfOk result (λ p. p.height ≡ 1) }
+    ensures bpp { IfOk result (λ p. p.bpp ≡ 2) }
+{
+    Plane::of_pixels(alloc, 2, 1, 2, &bytes)
 }
 
 /// Exchanges the only tile of two planes of one size.
@@ -87,27 +100,63 @@ fn exchange(alloc: Global, plane: &mut Plane, other: &Plane) -> Result<TileRef, 
     Ok(plane.swap_tile(alloc, at, tile)?)
 }
 
+// Whether a tile has these bytes.
+fn has_bytes(tile: &TileRef, bytes: &[u8]) -> bool {
+    let mut scratch = [0; SCRATCH];
+    tile.bytes(&mut scratch) == bytes
+}
+
+// The bytes of both pixels.
+fn pair_bytes(plane: &Plane) -> [u8; 4]
+    requires width { plane.now.width ≡ 2 }
+    requires height { plane.now.height ≡ 1 }
+    requires bpp { plane.now.bpp ≡ 2 }
+{
+    let whole = Rect {
+        x: 0,
+        y: 0,
+        w: 2,
+        h: 1,
+    };
+    let mut scratch = [0; SCRATCH];
+    let mut out = [0; 4];
+    plane.read_rect(whole, &mut out, &mut scratch);
+    out
+}
+
 #[test]
 fn a_tile_is_exchanged(rt: HostRuntime) -> Result<(), Fail> {
     let alloc = rt.alloc();
-    let mut plane = Plane::of_pixels(alloc, 2, 1, 2, &[1, 2, 3, 4])?;
-    let other = Plane::of_pixels(alloc, 2, 1, 2, &[5, 6, 7, 8])?;
+    let mut plane = pair(alloc, [1, 2, 3, 4])?;
+    let other = pair(alloc, [5, 6, 7, 8])?;
     let old = exchange(alloc, &mut plane, &other)?;
-    let mut scratch = [0; SCRATCH];
-    assert_eq!(rt; old.bytes(&mut scratch), [1, 2, 3, 4].as_slice());
-    let mut out = [0; 4];
-    plane.read_rect(
-        Rect {
-            x: 0,
-            y: 0,
-            w: 2,
-            h: 1,
-        },
-        &mut out,
-        &mut scratch,
-    );
-    assert_eq!(rt; out, [5, 6, 7, 8]);
+    assert!(rt; has_bytes(&old, &[1, 2, 3, 4]));
+    assert_eq!(rt; pair_bytes(&plane), [5, 6, 7, 8]);
     Ok(())
+}
+
+/// Writes a value into all pixels of a rectangle.
+fn write_all(alloc: Global, plane: &mut Plane, rect: Rect, value: u8) -> Result<(), AllocError>
+    requires width { plane.old.width ≡ 200 }
+    requires height { plane.old.height ≡ 200 }
+    requires bpp { plane.old.bpp ≡ 1 }
+    requires within { IsWithin 200 200 rect }
+    ensures width { plane.new.width ≡ 200 }
+    ensures height { plane.new.height ≡ 200 }
+    ensures bpp { plane.new.bpp ≡ 1 }
+{
+    let bytes = vec![in alloc; value; rect.w as usize * rect.h as usize]?;
+    plane.write_rect(alloc, rect, &bytes)
+}
+
+fn tiles_changed(plane: &Plane, old: &Plane) -> u32
+    requires width { old.now.width ≡ plane.now.width }
+    requires height { old.now.height ≡ plane.now.height }
+    requires bpp { old.now.bpp ≡ plane.now.bpp }
+{
+    let mut scratch = [0; SCRATCH];
+    let mut other_scratch = [0; SCRATCH];
+    plane.tiles_changed(old, &mut scratch, &mut other_scratch)
 }
 
 /// How many tiles of a plane of 200 by 200 pixels of the value 7 differ from those before a rectangle was written.
@@ -116,11 +165,8 @@ fn changed_by(alloc: Global, rect: Rect, value: u8) -> Result<u32, AllocError>
 {
     let old = Plane::new(alloc, 200, 200, 1, &[7])?;
     let mut plane = old.share(alloc)?;
-    let bytes = vec![in alloc; value; rect.w as usize * rect.h as usize]?;
-    plane.write_rect(alloc, rect, &bytes)?;
-    let mut scratch = [0; SCRATCH];
-    let mut other_scratch = [0; SCRATCH];
-    Ok(plane.tiles_changed(&old, &mut scratch, &mut other_scratch))
+    write_all(alloc, &mut plane, rect, value)?;
+    Ok(tiles_changed(&plane, &old))
 }
 
 #[test]

@@ -7,12 +7,13 @@ use xl_blend::{
     Mode, Pixel, Steps, blend, code_of, fade_row, fade_row_by, mode_of, mul, over, over_row,
 };
 
-fn grey(value: u8, alpha: u8) -> Pixel {
+// A pixel of a grey and an alpha.
+fn grey(parts: (u8, u8)) -> Pixel {
     Pixel {
-        r: value,
-        g: value,
-        b: value,
-        a: alpha,
+        r: parts.0,
+        g: parts.0,
+        b: parts.0,
+        a: parts.1,
     }
 }
 
@@ -33,24 +34,28 @@ fn laid(mode: Mode, below: Pixel, above: Pixel) -> [Pixel; 6] {
     lay::<Brand>(mode, below, above, Blank::new(1))
 }
 
+/// A mode, a pixel below, one above, and what comes of them, each as a grey and an alpha.
+const LAID: [(Mode, (u8, u8), (u8, u8), (u8, u8)); 4] = [
+    (Mode::Normal, (100, 128), (200, 128), (167, 192)),
+    (Mode::Multiply, (200, 128), (100, 255), (119, 128)),
+    // opaque below
+    (Mode::Multiply, (200, 255), (100, 255), (78, 255)),
+    (Mode::Normal, (100, 255), (200, 255), (200, 255)),
+];
+
 #[test]
 fn rows_are_laid(rt: HostRuntime) {
-    let mixed = laid(Mode::Normal, grey(100, 128), grey(200, 128));
-    assert_eq!(rt; mixed, [grey(167, 192); 6]);
-    let multiplied = laid(Mode::Multiply, grey(200, 128), grey(100, 255));
-    assert_eq!(rt; multiplied, [grey(119, 128); 6]);
-    let opaque = laid(Mode::Multiply, grey(200, 255), grey(100, 255));
-    assert_eq!(rt; opaque, [grey(78, 255); 6]);
-    let covered = laid(Mode::Normal, grey(100, 255), grey(200, 255));
-    assert_eq!(rt; covered, [grey(200, 255); 6]);
+    for (mode, below, above, mixed) in &LAID {
+        assert_eq!(rt; laid(*mode, grey(*below), grey(*above)), [grey(*mixed); 6]);
+    }
 }
 
 #[test]
 fn rows_are_faded(rt: HostRuntime) {
-    let mut row = [grey(7, 200); 5];
+    let mut row = [grey((7, 200)); 5];
     fade_row(&mut row, 128);
     fade_row_by(&mut row, &[100; 5]);
-    assert_eq!(rt; row, [grey(7, 39); 5]);
+    assert_eq!(rt; row, [grey((7, 39)); 5]);
 }
 
 #[test]

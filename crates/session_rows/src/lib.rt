@@ -2,12 +2,16 @@
 #![tactic(auto)]
 
 #[cfg(test)]
-mod files;
+mod fills;
 #[cfg(test)]
 mod gates;
 #[cfg(test)]
 mod looks;
 #[cfg(test)]
-mod orders;
-#[cfg(test)]
 mod played;
+#[cfg(test)]
+mod row;
+#[cfg(test)]
+mod saves;
+#[cfg(test)]
+mod tests;

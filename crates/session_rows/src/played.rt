@@ -4,51 +4,92 @@ use std::alloc::{AllocError, Global};
 use std::sync::Wait;
 use std::thread::Threads;
 use xl_fakes::{Hold, HoldGate, MemoryShelf, MemorySink, MemorySource};
-use xl_program::run;
+use xl_ports::{Actor, Place};
+use xl_program::{Ended, run};
 
 /// How often a hold looks at most.
 const MOST_LOOKS: u32 = 100_000_000;
 
+/// Who passes where, and which of these passes it is, from 0.
+pub(crate) type Pass = (Actor, Place, u32);
+
 /// What a run wrote and left.
 #[derive(Drop)]
-pub struct Outcome {
-    pub status: u8,
-    pub text: Vec<u8>,
-    pub file: Vec<u8>,
+pub(crate) struct Outcome {
+    pub(crate) status: u8,
     /// Whether some hold was given up.
-    pub missed: bool,
+    pub(crate) missed: bool,
+    sink: MemorySink,
+    shelf: MemoryShelf,
+}
+
+impl Outcome {
+    /// What was written.
+    pub(crate) fn text(&self) -> &[u8] {
+        self.sink.held()
+    }
+
+    /// What the file holds.
+    pub(crate) fn file(&self) -> &[u8] {
+        self.shelf.file("f").unwrap_or(&[])
+    }
+}
+
+// The first pass waits for the second one.
+fn hold(pass: Pass, until: Pass) -> Hold {
+    let (actor, place, nth) = pass;
+    let (until_actor, until_place, until_nth) = until;
+    Hold {
+        actor,
+        place,
+        nth,
+        until_actor,
+        until_place,
+        until_nth,
+    }
+}
+
+// A gate at which the first pass of each pair waits for the second one.
+fn gate_with(alloc: Global, pairs: &[(Pass, Pass)]) -> Result<HoldGate, AllocError> {
+    let mut holds = Vec::new(alloc);
+    for (pass, until) in pairs {
+        holds.push(hold(*pass, *until))?;
+    }
+    HoldGate::new(alloc, holds, MOST_LOOKS)
+}
+
+// The files of a shelf with one file, f.
+fn files_with(alloc: Global, file: &[u8]) -> Result<Vec<(String, Vec<u8>)>, AllocError> {
+    let name = String::from_str(alloc, "f")?;
+    let bytes = file.to_vec(alloc)?;
+    let mut files = Vec::new(alloc);
+    files.push((name, bytes))?;
+    Ok(files)
 }
 
 // A shelf with one file, f.
 fn shelf_with(alloc: Global, file: &[u8]) -> Result<MemoryShelf, AllocError> {
-    let mut files = Vec::new(alloc);
-    files.push((String::from_str(alloc, "f")?, file.to_vec(alloc)?))?;
+    let files = files_with(alloc, file)?;
     MemoryShelf::new(alloc, files, Vec::new(alloc), None)
 }
 
-// What the file holds.
-fn file_of(alloc: Global, shelf: &MemoryShelf) -> Result<Vec<u8>, AllocError> {
-    match shelf.file("f") {
-        Some(bytes) => bytes.to_vec(alloc),
-        None => Ok(Vec::new(alloc)),
-    }
-}
-
-/// Plays a script on a file, with so many workers and these holds.
-pub fn play<R: Threads + Wait + Sync>(
+// Plays a script on a shelf.
+fn play_on<R: Threads + Wait + Sync>(
     rt: &R,
     alloc: Global,
-    file: &[u8],
-    script: &[u8],
+    shelf: MemoryShelf,
+    script: Vec<u8>,
     workers: &str,
-    holds: Vec<Hold>,
-) -> Result<Outcome, AllocError> {
-    let gate = HoldGate::new(alloc, holds, MOST_LOOKS)?;
-    let shelf = shelf_with(alloc, file)?;
-    let mut source = MemorySource::new(script.to_vec(alloc)?, 1 << 16, Vec::new(alloc));
+    gate: &HoldGate,
+) -> Outcome {
+    let mut source = MemorySource::new(script, 1 << 16, Vec::new(alloc));
     let mut sink = MemorySink::new(alloc, 1 << 20, Vec::new(alloc));
     let words = ["edit", "f", "--workers", workers];
-    let ended = run(
+    let Ended {
+        status,
+        cause: _,
+        shelf,
+    } = run(
         rt,
         alloc,
         &words,
@@ -56,12 +97,39 @@ pub fn play<R: Threads + Wait + Sync>(
         &mut sink,
         shelf,
         Vec::new(alloc),
-        &gate,
+        gate,
     );
-    Ok(Outcome {
-        status: ended.status,
-        text: sink.held().to_vec(alloc)?,
-        file: file_of(alloc, &ended.shelf)?,
+    Outcome {
+        status,
         missed: gate.missed(),
-    })
+        sink,
+        shelf,
+    }
+}
+
+// Plays a script on a file.
+fn play_at<R: Threads + Wait + Sync>(
+    rt: &R,
+    alloc: Global,
+    file: &[u8],
+    script: &[u8],
+    workers: &str,
+    gate: &HoldGate,
+) -> Result<Outcome, AllocError> {
+    let script = script.to_vec(alloc)?;
+    let shelf = shelf_with(alloc, file)?;
+    Ok(play_on(rt, alloc, shelf, script, workers, gate))
+}
+
+/// Plays a script on a file, with so many workers. The first pass of each pair waits for the second one.
+pub(crate) fn play<R: Threads + Wait + Sync>(
+    rt: &R,
+    alloc: Global,
+    file: &[u8],
+    script: &[u8],
+    workers: &str,
+    pairs: &[(Pass, Pass)],
+) -> Result<Outcome, AllocError> {
+    let gate = gate_with(alloc, pairs)?;
+    play_at(rt, alloc, file, script, workers, &gate)
 }

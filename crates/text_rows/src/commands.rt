@@ -8,56 +8,26 @@ fn command<'a>(alloc: Global, arguments: &'a [&'a str]) -> Result<Option<Command
     command_of(alloc, arguments)
 }
 
-#[test]
-fn edit_with_and_without_workers(rt: HostRuntime) -> Result<(), Fail> {
-    let plain = ["edit", "f"];
-    let with_workers = ["edit", "f", "--workers", "8"];
-    assert!(rt;
-        matches!(
-            command(rt.alloc(), plain.as_slice())?,
-            Some(Command::Edit("f", 2))
-        )
-    );
-    assert!(rt;
-        matches!(
-            command(rt.alloc(), with_workers.as_slice())?,
-            Some(Command::Edit("f", 8))
-        )
-    );
-    Ok(())
-}
+/// Arguments, and the command that they are.
+const ARGUMENTS: [(&'static [&'static str], Option<Command<'static>>); 7] = [
+    (&["edit", "f"], Some(Command::Edit("f", 2))),
+    (
+        &["edit", "f", "--workers", "8"],
+        Some(Command::Edit("f", 8)),
+    ),
+    (&["render", "f"], Some(Command::Render("f"))),
+    (&["info", "--", "f"], Some(Command::Info("f"))),
+    (&["make", "f", "--seed=7"], Some(Command::Make("f", 7))),
+    // too many workers
+    (&["edit", "f", "--workers", "9"], None),
+    // an option in place of a file
+    (&["render", "--", "-f"], None),
+];
 
 #[test]
-fn render_info_and_make(rt: HostRuntime) -> Result<(), Fail> {
-    let render = ["render", "f"];
-    let info = ["info", "--", "f"];
-    let make = ["make", "f", "--seed=7"];
-    assert!(rt;
-        matches!(
-            command(rt.alloc(), render.as_slice())?,
-            Some(Command::Render("f"))
-        )
-    );
-    assert!(rt;
-        matches!(
-            command(rt.alloc(), info.as_slice())?,
-            Some(Command::Info("f"))
-        )
-    );
-    assert!(rt;
-        matches!(
-            command(rt.alloc(), make.as_slice())?,
-            Some(Command::Make("f", 7))
-        )
-    );
-    Ok(())
-}
-
-#[test]
-fn other_arguments_are_no_command(rt: HostRuntime) -> Result<(), Fail> {
-    let too_many_workers = ["edit", "f", "--workers", "9"];
-    let option_as_file = ["render", "--", "-f"];
-    assert!(rt; matches!(command(rt.alloc(), too_many_workers.as_slice())?, None));
-    assert!(rt; matches!(command(rt.alloc(), option_as_file.as_slice())?, None));
+fn arguments_are_commands(rt: HostRuntime) -> Result<(), Fail> {
+    for (arguments, asked) in &ARGUMENTS {
+        assert_eq!(rt; command(rt.alloc(), *arguments)?, *asked);
+    }
     Ok(())
 }

@@ -1,9 +1,10 @@
 //! What is made of a seed.
+use crate::lines::asked;
 use std::alloc::{AllocError, Global};
 use std::test::Fail;
 use xl_doc::NodeId;
 use xl_report::{Made, make};
-use xl_script::{Call, Line};
+use xl_script::Line;
 
 // Without a clause, so that a test need not carry one.
 fn make_seed(alloc: Global, seed: u32) -> Result<Made, AllocError> {
@@ -19,36 +20,26 @@ fn document_has_ten_nodes(rt: HostRuntime) -> Result<(), Fail> {
     Ok(())
 }
 
-fn fills(lines: &[Line]) -> usize {
-    lines
-        .iter()
-        .filter(|line| matches!(line, Line::Call(Call::Edit(_))))
-        .count()
+// How many lines have a keyword.
+fn count(lines: &[Line], keyword: &str) -> usize {
+    lines.iter().filter(|line| asked(line).0 == keyword).count()
 }
 
-fn tiles(lines: &[Line]) -> usize {
-    lines
-        .iter()
-        .filter(|line| matches!(line, Line::Call(Call::Tile(..))))
-        .count()
-}
-
-fn saves(lines: &[Line]) -> usize {
-    lines
-        .iter()
-        .filter(|line| matches!(line, Line::Save))
-        .count()
+// How many lines there are, and how many of them are fills, tiles and saves.
+fn counts(lines: &[Line]) -> [usize; 4] {
+    [
+        lines.len(),
+        count(lines, "edit"),
+        count(lines, "tile"),
+        count(lines, "save"),
+    ]
 }
 
 #[test]
 fn each_session_has_a_hundred_calls(rt: HostRuntime) -> Result<(), Fail> {
     let made = make_seed(rt.alloc(), 7)?;
     for session in 0..8 {
-        let lines = made.script.lines(session);
-        assert_eq!(rt; lines.len(), 100);
-        assert_eq!(rt; fills(lines), 96);
-        assert_eq!(rt; tiles(lines), 3);
-        assert_eq!(rt; saves(lines), 1);
+        assert_eq!(rt; counts(made.script.lines(session)), [100, 96, 3, 1]);
     }
     Ok(())
 }
@@ -61,14 +52,21 @@ fn opacity(made: &Made, id: u32) -> u8 {
     }
 }
 
+// What is drawn of two layers, and how many lines the last session has.
+fn looks(alloc: Global, seed: u32) -> Result<(u8, u8, usize), AllocError> {
+    let made = make_seed(alloc, seed)?;
+    Ok((
+        opacity(&made, 2),
+        opacity(&made, 10),
+        made.script.lines(7).len(),
+    ))
+}
+
 #[test]
 fn a_seed_makes_the_same_again(rt: HostRuntime) -> Result<(), Fail> {
-    let alloc = rt.alloc();
-    let one = make_seed(alloc, 7)?;
-    let two = make_seed(alloc, 7)?;
-    assert_eq!(rt; opacity(&one, 2), 206);
-    assert_eq!(rt; opacity(&two, 2), 206);
-    assert_eq!(rt; opacity(&one, 10), opacity(&two, 10));
-    assert_eq!(rt; one.script.lines(7).len(), two.script.lines(7).len());
+    let one = looks(rt.alloc(), 7)?;
+    let two = looks(rt.alloc(), 7)?;
+    assert_eq!(rt; one.0, 206);
+    assert_eq!(rt; one, two);
     Ok(())
 }

@@ -1,4 +1,5 @@
-use crate::tests::{ONE, plain_sink, status_of};
+use crate::tests::{plain_sink, status_of};
+use sample_files::ONE;
 use std::alloc::{AllocError, Global};
 use std::sync::Wait;
 use std::test::Fail;

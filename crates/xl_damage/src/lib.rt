@@ -8,8 +8,6 @@ mod accepted;
 mod cutting;
 mod pairs;
 mod stacks;
-#[cfg(test)]
-mod tests;
 
 pub use accepted::damage;
 pub use pairs::damage_between;

@@ -41,7 +41,7 @@ fn add_rect(
 }
 
 /// Adds what a node covered before the edit.
-pub(crate) fn add_extent_before(
+fn add_extent_before(
     alloc: Global,
     list: &mut Vec<(NodeId, Rect)>,
     before: &Document,
@@ -96,7 +96,7 @@ fn add_bottoms(
 }
 
 /// Adds what each layer covers, hidden ones too, as a part of the whole image.
-pub(crate) fn add_layers(
+fn add_layers(
     alloc: Global,
     list: &mut Vec<(NodeId, Rect)>,
     before: &Document,
@@ -124,7 +124,7 @@ pub(crate) fn add_layers(
 }
 
 /// Adds the pairs of a node that is shown, hidden or taken out.
-pub(crate) fn add_shown(
+fn add_shown(
     alloc: Global,
     list: &mut Vec<(NodeId, Rect)>,
     before: &Document,
