@@ -1,1 +1,2 @@
 mod Outs
+mod Stacks

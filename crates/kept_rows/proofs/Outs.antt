@@ -1,13 +1,12 @@
 -- The jobs that are out stay right as the history goes on.
 use Rattle.std.proofs.Common.{◌≡◌, ℕ, zero, suc, ◌+◌, ◌≤◌, Bool, true, false, cond, ◌==◌, List, [], ◌∷◌, ◌++◌, length}
 use Rattle.std.proofs.Common.{refl, sym, ◌∙◌, ap, subst, arith}
-use Rattle.std.specs.Prelude.{Option, Some, None, Result, Ok, Err, IfOk, IfSome, OnErr, option_map, count_by}
+use Rattle.std.specs.Prelude.{Option, Some, None, Result, Ok, Err, IfOk, IfSome, OnErr, option_to_list, count_by}
 use Rattle.std.specs.List.{AllByRecursion}
 use Rattle.std.proofs.lemmas.List.{append-nil}
 use Rattle.spec_grid.specs.Grid.{is_on_grid}
 use Rattle.spec_picture.specs.Picture.{project}
 use Rattle.spec_document.specs.Document.{Document}
-use Rattle.spec_cache.specs.Cache.{Place, next_place}
 use Rattle.spec_history.specs.Machine.{Call, Reply, history_full, has_stack, latest}
 use Rattle.spec_history.specs.History.{Entry, asked, replay, next_index, document_of, is_changed, latest_of}
 use Rattle.spec_history.specs.Kept.{IsLegal}
@@ -18,12 +17,12 @@ use Rattle.spec_world.specs.World.{World, free_entries}
 use Rattle.spec_world.specs.Events as events
 use Rattle.spec_world.specs.Events.{Outcome}
 use Rattle.spec_world.specs.Right as worlds
+use Rattle.spec_world.proofs.Filled.{all-behind}
 use Rattle.xl_compose.specs.Job.{Job, StandsFor, IsDone}
 use Rattle.xl_compose.specs.declared.clean.Done.{Done}
-use Rattle.xl_core.specs.Editing.{Editing, world, IsSubmitted, taken, place_of_job, IsPictureOf, IsAsBefore}
+use Rattle.xl_core.specs.Editing.{Editing, world, IsSubmitted, IsPictureOf, IsAsBefore}
 use Rattle.xl_core.specs.History.{History, version, document}
-use Rattle.xl_core.specs.Now.{IsTileOf}
-use Rattle.kept_rows.specs.Asked.{PicturesStay}
+use Rattle.kept_rows.specs.Asked.{PicturesStay, IsOfLast}
 
 -- there may be more entries
 pub record Grows (old new : History) : Type 0 where
@@ -109,23 +108,44 @@ pub all_stay : (old new : History) (outs : List Done) → PicturesStay old new �
 all_stay old new [] stay all = tt
 all_stay old new (d ∷ ds) stay all = (stay d all.0, all_stay old new ds stay all.1)
 
+-- ---- one job more, or one less
+
+pub all_with : (h : History) (outs : List Done) (done : Done) → AllByRecursion (IsPictureOf h) outs → IsPictureOf h done
+    → AllByRecursion (IsPictureOf h) (outs ++ done ∷ [])
+all_with h outs done all is = all-behind (IsPictureOf h) outs (done ∷ []) all (is, tt)
+
+all_front : {A : Type 0} (P : A → Type 0) (xs ys : List A) → AllByRecursion P (xs ++ ys) → AllByRecursion P xs × AllByRecursion P ys
+all_front P [] ys all = (tt, all)
+all_front P (x ∷ xs) ys all = let rest = all_front P xs ys all.1 in ((all.0, rest.0), rest.1)
+
+pub all_parted : (h : History) (outs rest : List Done) (last : Option Done) → outs ≡ rest ++ option_to_list last
+    → AllByRecursion (IsPictureOf h) outs
+    → AllByRecursion (IsPictureOf h) rest × IfSome last (IsPictureOf h)
+all_parted h outs rest last is all =
+    go last (all_front (IsPictureOf h) rest (option_to_list last) (subst (AllByRecursion (IsPictureOf h)) is all))
+  where
+    go : (o : Option Done) → AllByRecursion (IsPictureOf h) rest × AllByRecursion (IsPictureOf h) (option_to_list o)
+        → AllByRecursion (IsPictureOf h) rest × IfSome o (IsPictureOf h)
+    go None both = (both.0, tt)
+    go (Some d) both = (both.0, both.1.0)
+
 -- ---- a job that was taken and composed
 
-pub picture_of_job : {K : Type 0} (old new : Editing K) (job : Job) (done : Done) → new ≡ taken old
-    → option_map place_of_job (Some job) ≡ next_place old.cache
-    → IfSome (next_place old.cache) (IsTileOf (document old.history))
-    → StandsFor (document old.history) job.stack job.at (version old.history) job → IsDone job done
-    → IsPictureOf new.history done
-picture_of_job old new job done after place there stands is =
-    let h = old.history in
+pub of_last : (h : History) (job : Job) (done : Done) → StandsFor (document h) job.stack job.at (version h) job → IsDone job done
+    → IsOfLast h done
+of_last h job done stands is = record {
+  version_is = is.version_is ∙ stands.version_is;
+  picture_is = is.picture_is ∙ (stands.picture_is ∙ (λ i. project (document h) (sym is.node_is i) (sym is.at_is i)));
+}
+
+pub picture_is_of : (h : History) (done : Done) → IsOfLast h done → has_stack (document h) done.node.0 ≡ true
+    → is_on_grid (document h).width (document h).height done.at ≡ true → IsPictureOf h done
+picture_is_of h done last has on =
     let canvas = canvas-document h.base h.entries (version h) in
-    let number : done.version ≡ version h = is.version_is ∙ stands.version_is in
-    let tile : IsTileOf (document h) (place_of_job job) =
-    subst (λ (p : Option Place). IfSome p (IsTileOf (document h))) (sym place) there in
-    subst (λ (other : History). IsPictureOf other done) (ap (λ (e : Editing _). e.history) (sym after)) (record {
+    let number = last.version_is in
+    record {
       version = omega (arith, number);
-      has = (λ i. has_stack (document_of h.base h.entries (number i)) (is.node_is i)) ∙ tile.has;
-      on_grid = (λ i. is_on_grid (sym canvas.width i) (sym canvas.height i) (is.at_is i)) ∙ tile.on_grid;
-      picture = is.picture_is
-          ∙ (stands.picture_is ∙ (λ i. project (document_of h.base h.entries (sym number i)) (sym is.node_is i) (sym is.at_is i)));
-    })
+      has = ap (λ v. has_stack (document_of h.base h.entries v) done.node.0) number ∙ has;
+      on_grid = (λ i. is_on_grid (sym canvas.width i) (sym canvas.height i) done.at) ∙ on;
+      picture = last.picture_is ∙ ap (λ v. project (document_of h.base h.entries v) done.node.0 done.at) (sym number);
+    }

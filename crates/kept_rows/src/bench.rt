@@ -1,6 +1,8 @@
 //! A core with its jobs.
-ghost use Rattle.std.specs.Prelude.{◌≡◌, ◌<◌, ◌≤◌, [], IfOk, IfSome, IsSome, OnOk};
-ghost use Rattle.kept_rows.specs.Asked.{IsPlain, PicturesStay};
+ghost use Rattle.std.specs.Prelude.{◌≡◌, ◌<◌, ◌≤◌, [], IfOk, IfSome};
+ghost use Rattle.spec_grid.specs.Grid.{is_on_grid};
+ghost use Rattle.spec_history.specs.Machine.{has_stack as document_has_stack};
+ghost use Rattle.kept_rows.specs.Asked.{IsPlain, PicturesStay, IsOfLast};
 ghost use Rattle.xl_core.specs.Editing.{IsPictureOf};
 ghost use Rattle.xl_doc.specs.Numbered.{AreNumbered};
 ghost use Rattle.xl_edit.specs.Calls.{call_of};
@@ -14,10 +16,11 @@ use std::sync::ledger::{Blank, Ledger};
 use xl_blend::Steps;
 use xl_compose::compose;
 use xl_core::{Core, Desk, Done, Finished, Picture};
-use xl_doc::Document;
+use xl_doc::{Document, NodeId, TileAt};
 use xl_edit::{Call, Reply};
 use xl_fakes::MemoryShelf;
 use xl_filters::Chest;
+use xl_grid::grid;
 use xl_ports::Shelf;
 
 /// For how many more calls room is taken at most.
@@ -43,33 +46,18 @@ impl Model for Bench {
     ghost invariant = { λ b. AllByRecursion (IsPictureOf b.core.history) b.outs.items };
 }
 
-// Selects a name.
-fn select<D: Shelf>(shelf: &mut D) -> Result<(), AllocError>
-    ensures { OnOk result (IsSome (D.selected shelf.new)) }
-{
-    match shelf.select("f") {
-        Ok(()) => Ok(()),
-        Err(_) => Err(AllocError),
-    }
-}
-
-// A core over a shelf.
+// A core over a shelf, on which a name is selected.
 fn core_over<D: Shelf>(alloc: Global, document: Document, shelf: D) -> Result<Core<D>, AllocError>
-    requires numbered { AreNumbered document.nodes }
-    requires selected { IsSome (D.selected shelf) }
+    requires { AreNumbered document.nodes }
 {
+    let mut shelf = shelf;
+    if shelf.select("f").is_err() {
+        return Err(AllocError);
+    }
     match Core::open(alloc, document, shelf) {
         Ok(core) => Ok(core),
         Err(_) => Err(AllocError),
     }
-}
-
-// The core of a file's document.
-fn core_of(alloc: Global, file: &[u8]) -> Result<Core<MemoryShelf>, AllocError> {
-    let mut shelf = MemoryShelf::new(alloc, Vec::new(alloc), Vec::new(alloc), None)?;
-    select(&mut shelf)?;
-    let document = document(alloc, file)?;
-    core_over(alloc, document, shelf)
 }
 
 // A desk without filters.
@@ -115,8 +103,8 @@ fn reserve<D: Shelf>(core: &mut Core<D>, n: u32) -> Result<u32, AllocError>
     Ok(core.spare())
 }
 
-// Takes a job and composes it, with steps of its own.
-fn compose_with<L: Ledger, D: Shelf>(
+// Takes a job and composes it.
+fn compose_next<L: Ledger, D: Shelf>(
     alloc: Global,
     core: &mut Core<D>,
     blank: Blank,
@@ -125,7 +113,7 @@ fn compose_with<L: Ledger, D: Shelf>(
     requires parts { blank.parts ≡ L.parts }
     requires some { 0 < blank.parts }
     ensures same { core.new.history ≡ core.old.history }
-    ensures right { IfOk result (λ done. IfSome done (IsPictureOf core.new.history)) }
+    ensures last { IfOk result (λ done. IfSome done (IsOfLast core.new.history)) }
 {
     let mut steps = Steps::<L>::new(blank);
     match core.take_job(alloc)? {
@@ -134,19 +122,45 @@ fn compose_with<L: Ledger, D: Shelf>(
     }
 }
 
-// Takes a job and composes it.
-fn compose_next<D: Shelf>(alloc: Global, core: &mut Core<D>) -> Result<Option<Done>, AllocError>
+// Whether the document has this stack.
+fn has_stack(document: &Document, node: NodeId) -> bool
+    ensures { result ≡ document_has_stack document.now node.0 }
+{
+    document.tree.stack(node).is_some()
+}
+
+// Whether the canvas has this tile.
+fn has_tile(document: &Document, at: TileAt) -> bool
+    ensures { result ≡ is_on_grid document.now.width document.now.height at }
+{
+    let (columns, rows) = grid(document.width, document.height);
+    at.col < columns && at.row < rows
+}
+
+// Takes a job and composes it, where it is of a tile that is there.
+fn next<D: Shelf>(alloc: Global, core: &mut Core<D>) -> Result<Option<Done>, AllocError>
     ensures same { core.new.history ≡ core.old.history }
     ensures right { IfOk result (λ done. IfSome done (IsPictureOf core.new.history)) }
 {
-    compose_with::<Brand, D>(alloc, core, Blank::new(1))
+    let Some(done) = compose_next::<Brand, D>(alloc, core, Blank::new(1))? else {
+        return Ok(None);
+    };
+    if !has_stack(core.document(), done.node) {
+        return Err(AllocError);
+    }
+    if !has_tile(core.document(), done.at) {
+        return Err(AllocError);
+    }
+    Ok(Some(done))
 }
 
 impl Bench {
     /// The core of a file's document.
     pub fn open(alloc: Global, file: &[u8]) -> Result<Bench, AllocError> {
+        let document = document(alloc, file)?;
+        let shelf = MemoryShelf::new(alloc, Vec::new(alloc), Vec::new(alloc), None)?;
         let shown = Picture::blank(alloc)?;
-        let core = core_of(alloc, file)?;
+        let core = core_over(alloc, document, shelf)?;
         Ok(Bench {
             core,
             outs: Vec::new(alloc),
@@ -157,15 +171,14 @@ impl Bench {
     /// The reply to a step.
     pub fn ask(&mut self, alloc: Global, step: Step) -> Result<Reply, AllocError> {
         let mut desk = plain_desk(alloc)?;
-        self.ask_at(alloc, step, &mut desk)
-    }
-
-    // The reply at a desk without filters.
-    fn ask_at(&mut self, alloc: Global, step: Step, desk: &mut Desk) -> Result<Reply, AllocError>
-        requires { states_in state desk.old.chest ≡ [] }
-    {
         let call = call(alloc, step)?;
-        let reply = submit::<Brand, MemoryShelf>(alloc, &mut self.core, call, desk, Blank::new(1))?;
+        let reply = submit::<Brand, MemoryShelf>(
+            alloc,
+            &mut self.core,
+            call,
+            &mut desk,
+            Blank::new(1),
+        )?;
         self.shown.copy_from(&desk.out);
         Ok(reply)
     }
@@ -188,7 +201,7 @@ impl Bench {
     /// Takes a job, which is out then behind the others. Its stack and its tile.
     pub fn take(&mut self, alloc: Global) -> Result<Option<(u32, u32, u32)>, AllocError> {
         self.outs.reserve(1)?;
-        let Some(done) = compose_next(alloc, &mut self.core)? else {
+        let Some(done) = next(alloc, &mut self.core)? else {
             return Ok(None);
         };
         let place = (done.node.0, done.at.col, done.at.row);

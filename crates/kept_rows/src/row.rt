@@ -160,22 +160,13 @@ fn holds(alloc: Global, bench: &mut Bench, row: Row) -> Result<bool, AllocError>
     }
 }
 
-// The first of some rows that does not hold after those before it.
-fn first_wrong_of(
-    alloc: Global,
-    bench: &mut Bench,
-    rows: &[Row],
-) -> Result<Option<usize>, AllocError> {
+/// The first of some rows, counted from 0, that does not hold of a file's document after those before it.
+pub fn first_wrong(alloc: Global, file: &[u8], rows: &[Row]) -> Result<Option<usize>, AllocError> {
+    let mut bench = Bench::open(alloc, file)?;
     for (i, row) in rows.iter().enumerate() {
-        if !holds(alloc, bench, *row)? {
+        if !holds(alloc, &mut bench, *row)? {
             return Ok(Some(i));
         }
     }
     Ok(None)
-}
-
-/// The first of some rows, counted from 0, that does not hold of a file's document after those before it.
-pub fn first_wrong(alloc: Global, file: &[u8], rows: &[Row]) -> Result<Option<usize>, AllocError> {
-    let mut bench = Bench::open(alloc, file)?;
-    first_wrong_of(alloc, &mut bench, rows)
 }

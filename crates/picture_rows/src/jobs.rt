@@ -122,7 +122,7 @@ fn document(alloc: Global) -> Result<Document, AllocError>
     })
 }
 
-fn recomposed<L: Ledger>(
+fn recompose_by<L: Ledger>(
     alloc: Global,
     doc: &Document,
     node: NodeId,
@@ -140,7 +140,7 @@ fn recomposed<L: Ledger>(
     recompose_tile(alloc, doc, node, FIRST, out, &mut steps)
 }
 
-fn composed<L: Ledger, K: CleanTiles>(
+fn compose_by<L: Ledger, K: CleanTiles>(
     alloc: Global,
     doc: &Document,
     clean: &K,
@@ -164,7 +164,7 @@ fn whole(alloc: Global, node: NodeId) -> Result<Picture, AllocError>
 {
     let doc = document(alloc)?;
     let mut out = Picture::blank(alloc)?;
-    recomposed::<Brand>(alloc, &doc, node, &mut out, Blank::new(1))?;
+    recompose_by::<Brand>(alloc, &doc, node, &mut out, Blank::new(1))?;
     Ok(out)
 }
 
@@ -173,7 +173,7 @@ fn composed_job<K: CleanTiles>(alloc: Global, clean: &K) -> Result<Done, AllocEr
     requires { AreClean (K.clean_tile clean.now) sample (record { col = 0; row = 0 }) }
 {
     let doc = document(alloc)?;
-    composed::<Brand, K>(alloc, &doc, clean, Blank::new(1))
+    compose_by::<Brand, K>(alloc, &doc, clean, Blank::new(1))
 }
 
 fn group_kept(alloc: Global) -> Result<Kept, AllocError>

@@ -135,20 +135,6 @@ fn a_tile_is_exchanged(rt: HostRuntime) -> Result<(), Fail> {
     Ok(())
 }
 
-/// Writes a value into all pixels of a rectangle.
-fn write_all(alloc: Global, plane: &mut Plane, rect: Rect, value: u8) -> Result<(), AllocError>
-    requires width { plane.old.width ≡ 200 }
-    requires height { plane.old.height ≡ 200 }
-    requires bpp { plane.old.bpp ≡ 1 }
-    requires within { IsWithin 200 200 rect }
-    ensures width { plane.new.width ≡ 200 }
-    ensures height { plane.new.height ≡ 200 }
-    ensures bpp { plane.new.bpp ≡ 1 }
-{
-    let bytes = vec![in alloc; value; rect.w as usize * rect.h as usize]?;
-    plane.write_rect(alloc, rect, &bytes)
-}
-
 fn tiles_changed(plane: &Plane, old: &Plane) -> u32
     requires width { old.now.width ≡ plane.now.width }
     requires height { old.now.height ≡ plane.now.height }
@@ -165,7 +151,8 @@ fn changed_by(alloc: Global, rect: Rect, value: u8) -> Result<u32, AllocError>
 {
     let old = Plane::new(alloc, 200, 200, 1, &[7])?;
     let mut plane = old.share(alloc)?;
-    write_all(alloc, &mut plane, rect, value)?;
+    let bytes = vec![in alloc; value; rect.w as usize * rect.h as usize]?;
+    plane.write_rect(alloc, rect, &bytes)?;
     Ok(tiles_changed(&plane, &old))
 }
 

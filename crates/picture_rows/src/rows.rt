@@ -30,7 +30,7 @@ fn lay<L: Ledger>(mode: Mode, below: Pixel, above: Pixel, blank: Blank) -> [Pixe
     row
 }
 
-fn laid(mode: Mode, below: Pixel, above: Pixel) -> [Pixel; 6] {
+fn lay_pixels(mode: Mode, below: Pixel, above: Pixel) -> [Pixel; 6] {
     lay::<Brand>(mode, below, above, Blank::new(1))
 }
 
@@ -46,7 +46,10 @@ const LAID: [(Mode, (u8, u8), (u8, u8), (u8, u8)); 4] = [
 #[test]
 fn rows_are_laid(rt: HostRuntime) {
     for (mode, below, above, mixed) in &LAID {
-        assert_eq!(rt; laid(*mode, grey(*below), grey(*above)), [grey(*mixed); 6]);
+        assert_eq!(rt;
+            lay_pixels(*mode, grey(*below), grey(*above)),
+            [grey(*mixed); 6]
+        );
     }
 }
 

@@ -1,7 +1,6 @@
 -- The ids and the stacks of a document are those of its tree.
-use Rattle.std.proofs.Common.{◌≡◌, ℕ, ◌≤◌, List, [], ◌∷◌, ◌++◌, refl, ◌∙◌, ap, arith}
-use Rattle.std.specs.Prelude.{max, fold, Option, Some, None, option_map, is_some}
-use Rattle.std.specs.List.{AllByRecursion}
+use Rattle.std.proofs.Common.{◌≡◌, ℕ, ◌∷◌, ◌++◌, refl, ◌∙◌, ap}
+use Rattle.std.specs.Prelude.{Option, Some, None, option_map, is_some}
 use Rattle.spec_forest.specs.Forest.{Forest, none, leaf, group, ids, stack_at}
 use Rattle.xl_doc.specs.declared.node.Node.{Node}
 use Rattle.xl_doc.specs.Nodes.{nodes_of}
@@ -11,14 +10,6 @@ pub ids-nodes_of : (f : Forest Node Node) → ids (nodes_of f) ≡ ids f
 ids-nodes_of none = refl
 ids-nodes_of (leaf id n under) = ap (λ is. id ∷ is) (ids-nodes_of under)
 ids-nodes_of (group id n children under) = λ i. id ∷ (ids-nodes_of children i ++ ids-nodes_of under i)
-
--- the greatest of numbers up to n
-greatest_from : (most n : ℕ) (xs : List ℕ) → n ≤ most → AllByRecursion (λ x. x ≤ most) xs → fold max n xs ≤ most
-greatest_from most n [] le all = le
-greatest_from most n (x ∷ xs) le all = let here = all.0 in greatest_from most (max n x) xs (omega arith) all.1
-
-pub greatest_within : (most : ℕ) (xs : List ℕ) → AllByRecursion (λ x. x ≤ most) xs → fold max 0 xs ≤ most
-greatest_within most xs all = greatest_from most 0 xs (omega arith) all
 
 mapped_is_some : {A B : Type 0} (f : A → B) (o : Option A) → is_some (option_map f o) ≡ is_some o
 mapped_is_some f None = refl

@@ -3,3 +3,4 @@ pub mod Hulls
 pub mod SelectedRows
 pub mod Sample
 pub mod Blank
+pub mod NextId

@@ -7,8 +7,8 @@ use std::alloc::{AllocError, Global};
 use xl_fields::number_of;
 use xl_ports::{Sink, write_all};
 
-/// Writes a line. Where the sink fails there is nothing else to tell it by.
-pub fn tell<K: Sink>(sink: &mut K, text: &[u8])
+/// Writes a line. Where the sink fails nothing else is written.
+pub fn write_line<K: Sink>(sink: &mut K, text: &[u8])
     ensures { WritesLine K.held K.faults sink.old sink.new text.now }
 {
     let _ = write_all(sink, text);

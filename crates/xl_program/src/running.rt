@@ -14,7 +14,7 @@ ghost use Rattle.xl_program.specs.Outcome.{given_of, shelved, ComesWell, ShelfFa
 ghost use Rattle.xl_program.specs.Outcome.{MaySave, IsUntouched, StopsBefore, IsBadLine, InGrammar, HasFault, Keeps};
 ghost use Rattle.xl_program.specs.Outcome.{Takes, IsStatus};
 
-use crate::line::tell;
+use crate::line::write_line;
 use crate::obeying::obey;
 use crate::stop_lines::{MEMORY, write_stop};
 use crate::stopped::Stopped;
@@ -124,7 +124,7 @@ pub fn run<R: Threads + Wait + Sync, S: Source, K: Sink, D: Shelf, G: Gate>(
         };
     };
     let Some(command) = asked else {
-        tell(sink, b"usage\n");
+        write_line(sink, b"usage\n");
         return Ended {
             status: USAGE,
             cause: None,

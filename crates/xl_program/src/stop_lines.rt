@@ -2,7 +2,7 @@ ghost use Rattle.std.specs.Prelude.{◌≡◌, MatchResult, string_bytes};
 ghost use Rattle.xl_program.specs.Lines.{WritesLine};
 ghost use Rattle.xl_program.specs.Outcome.{WritesStop};
 
-use crate::line::{bad_line_text, refusal_text, tell};
+use crate::line::{bad_line_text, refusal_text, write_line};
 use crate::stopped::Stopped;
 use std::alloc::{AllocError, Global};
 use xl_ports::Sink;
@@ -20,36 +20,36 @@ const SINK_FAULT: u8 = 7;
 /// The status where memory ran out.
 pub const MEMORY: u8 = 8;
 
-// Tells a line and answers its status, unless memory ran out for it.
-fn tell_text<K: Sink>(sink: &mut K, text: Result<String, AllocError>, status: u8) -> u8
+// Writes a line and answers its status, unless memory ran out for it.
+fn write_text<K: Sink>(sink: &mut K, text: Result<String, AllocError>, status: u8) -> u8
     ensures { MatchResult text
         (λ text. (result ≡ status) × WritesLine K.held K.faults sink.old sink.new (string_bytes text))
         (λ _. (result ≡ 8) × (sink.new ≡ sink.old)) }
 {
     match text {
         Ok(text) => {
-            tell(sink, text.as_bytes());
+            write_line(sink, text.as_bytes());
             status
         }
         Err(_) => MEMORY,
     }
 }
 
-/// Tells why a command stopped, and answers the status.
+/// Writes why a command stopped, and answers the status.
 pub fn write_stop<K: Sink>(alloc: Global, sink: &mut K, stopped: Stopped) -> u8
     ensures { WritesStop K.held K.faults sink.old sink.new stopped result }
 {
     match stopped {
         Stopped::SourceFault => {
-            tell(sink, b"source fault\n");
+            write_line(sink, b"source fault\n");
             SOURCE_FAULT
         }
-        Stopped::BadLine(number) => tell_text(sink, bad_line_text(alloc, number), BAD_LINE),
+        Stopped::BadLine(number) => write_text(sink, bad_line_text(alloc, number), BAD_LINE),
         Stopped::ShelfFault => {
-            tell(sink, b"shelf fault\n");
+            write_line(sink, b"shelf fault\n");
             SHELF_FAULT
         }
-        Stopped::Refused(refused) => tell_text(sink, refusal_text(alloc, refused), REFUSED),
+        Stopped::Refused(refused) => write_text(sink, refusal_text(alloc, refused), REFUSED),
         Stopped::SaveFault => SHELF_FAULT,
         Stopped::SinkFault => SINK_FAULT,
         Stopped::Memory => MEMORY,

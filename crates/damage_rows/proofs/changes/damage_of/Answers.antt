@@ -1,6 +1,6 @@
 -- There is an id left.
 use Rattle.std.proofs.Common.{arith}
-use Rattle.damage_rows.proofs.NextId.{next_small}
+use Rattle.xl_doc.proofs.NextId.{next_small}
 use Rattle.damage_rows.proofs.changes.damage_of.Goals as goal
 
 pub damage-requires-clause-next : goal.damage-requires-clause-next

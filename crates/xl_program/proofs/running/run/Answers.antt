@@ -38,7 +38,7 @@ returns-clause-shelf_fault g c = λ six. elim c.match-done.branch [
       c.obey-done.result.shelf in
       shelf_fault_asked g.K.Sink.held g.K.Sink.faults _ content before after (asked_of c.in-Some.command) w.in-Err.stopped _ _ _ _
       (sym w.status-is ∙ six) (rw w.in-Err.is at c.obey-done.ensures.comes) (rw w.in-Err.is at c.obey-done.ensures.shelf_cause)
-      w.tell_stop-status.ensures (rw c.in-Some.is at c.in-Ok.ensures.asked) (sym w.sink-is)
+      w.write_stop-status.ensures (rw c.in-Some.is at c.in-Ok.ensures.asked) (sym w.sink-is)
 ]
 
 pub returns-clause-source_fault_written : goal.returns-clause-source_fault_written
@@ -51,7 +51,7 @@ returns-clause-source_fault_written g c = λ five. elim c.match-done.branch [
       let told =
       source_fault_written g.K.Sink.held g.K.Sink.faults _ content _ _ command w.in-Err.stopped _ _ _ _ (sym w.status-is ∙ five)
       (rw w.in-Err.is at c.obey-done.ensures.comes) (rw w.in-Err.is at c.obey-done.ensures.stops)
-      w.tell_stop-status.ensures in (
+      w.write_stop-status.ensures in (
         subst (λ (o : Option Asked). IsEdit o) is told.0,
         subst (λ k. WritesLine g.K.Sink.held g.K.Sink.faults c.args.sink.now k (stop_line source_fault)) (sym w.sink-is) told.1,
       )
@@ -67,7 +67,7 @@ returns-clause-bad_line g c = λ three. elim c.match-done.branch [
       let told =
       bad_line_written g.K.Sink.held g.K.Sink.faults _ content _ _ command w.in-Err.stopped _ _ _ _ (sym w.status-is ∙ three)
       (rw w.in-Err.is at c.obey-done.ensures.comes) (rw w.in-Err.is at c.obey-done.ensures.stops)
-      w.tell_stop-status.ensures in (
+      w.write_stop-status.ensures in (
         told.0,
         subst (λ (o : Option Asked). IsEdit o) is told.1,
         told.2,
@@ -86,7 +86,7 @@ returns-clause-refused g c = λ four. elim c.match-done.branch [
       let told =
       refusal_written g.K.Sink.held g.K.Sink.faults _ content _ _ command w.in-Err.stopped _ _ _ _ (sym w.status-is ∙ four)
       (rw w.in-Err.is at c.obey-done.ensures.comes) (rw w.in-Err.is at c.obey-done.ensures.stops)
-      w.tell_stop-status.ensures in (
+      w.write_stop-status.ensures in (
         told.0,
         subst (λ (o : Option Asked). ReadsFile o) is told.1,
         subst (λ (o : Option Content). IfSome o (λ x. HasFault x told.0))
@@ -110,7 +110,7 @@ returns-clause-script_first g c = λ which. elim c.match-done.branch [
       let is : Some command ≡ asked_in (arguments_of c.args.words.now) = rw c.in-Some.is at c.in-Ok.ensures.asked in
       subst (λ (o : Option Asked). InGrammar given o) is
       (script_in_grammar g.K.Sink.held g.K.Sink.faults given content command w.in-Err.stopped _ _ _ _ (sym w.status-is) which
-      (rw w.in-Err.is at c.obey-done.ensures.stops) w.tell_stop-status.ensures)
+      (rw w.in-Err.is at c.obey-done.ensures.stops) w.write_stop-status.ensures)
 ]
 
 pub returns-clause-source_ended : goal.returns-clause-source_ended
@@ -122,7 +122,7 @@ returns-clause-source_ended g c = λ after asked.
       | in-Ok-result w ↦ (rw w.in-Ok-result.is at c.obey-done.ensures.ended) edits
       | in-Err w ↦
           ended_written g.K.Sink.held g.K.Sink.faults (g.S.Source.left c.obey-done.new.source) w.in-Err.stopped _ _ _ _
-          (sym w.status-is) after w.tell_stop-status.ensures
+          (sym w.status-is) after w.write_stop-status.ensures
           ((rw w.in-Err.is at c.obey-done.ensures.ended) edits)
     ]
 

@@ -1,13 +1,13 @@
 use Rattle.spec_command.specs.Ends.{bad_line, refused}
 use Rattle.xl_program.proofs.StopLines.{text_written}
-use Rattle.xl_program.proofs.telling.tell_stop.Goals as goal
+use Rattle.xl_program.proofs.stop_lines.write_stop.Goals as goal
 
 pub returns-in-BadLine : goal.returns-in-BadLine
 returns-in-BadLine g c =
     rw c.in-BadLine.is (text_written g.K.Sink.held g.K.Sink.faults c.bad_line_text.result (bad_line c.in-BadLine.number) _ _ _
-    c.bad_line_text.ensures c.tell_text.ensures)
+    c.bad_line_text.ensures c.write_text.ensures)
 
 pub returns-in-Refused : goal.returns-in-Refused
 returns-in-Refused g c =
     rw c.in-Refused.is (text_written g.K.Sink.held g.K.Sink.faults c.refusal_text.result (refused c.in-Refused.refused) _ _ _
-    c.refusal_text.ensures c.tell_text-in-Refused.ensures)
+    c.refusal_text.ensures c.write_text-in-Refused.ensures)

@@ -2,7 +2,8 @@
 use Rattle.std.proofs.Common.{◌≡◌, ◌+◌, arith, sym, ◌∙◌, ap}
 use Rattle.std.specs.Prelude.{max, fold, reverse}
 use Rattle.spec_forest.specs.Forest.{ids, size}
-use Rattle.xl_core.proofs.Numbers.{ids-nodes_of, greatest_within}
+use Rattle.xl_doc.proofs.NextId.{greatest_within}
+use Rattle.xl_core.proofs.Numbers.{ids-nodes_of}
 use Rattle.xl_core.proofs.standing.Standing.new.Goals as goal
 
 greatest : (c : goal.After-greatest_id-next_id) → c.greatest_id-next_id.result ≡ fold max 0 (ids c.args.document.nodes)

@@ -1,6 +1,6 @@
 -- The jobs that are out stay right.
 use Rattle.kept_rows.proofs.Outs.{all_stay}
-use Rattle.kept_rows.proofs.bench.Bench.ask_at.Goals as goal
+use Rattle.kept_rows.proofs.bench.Bench.ask.Goals as goal
 
 pub invariant_of-self : goal.invariant_of-self
 invariant_of-self c = all_stay _ _ _ c.submit.ensures c.self.invariant
