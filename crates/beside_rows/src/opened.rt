@@ -6,14 +6,13 @@ ghost use Rattle.xl_doc.specs.Numbered.{AreNumbered};
 ghost use Rattle.xl_filters.specs.Chests.{states_in};
 ghost use Rattle.xl_studio.specs.Seats.{weight_of, IsSeatOf};
 
+use sample_documents::document;
 use std::alloc::{AllocError, Global};
-use std::sync::Arc;
 use xl_core::{Core, Desk};
 use xl_doc::Document;
 use xl_fakes::MemoryShelf;
 use xl_filters::Chest;
 use xl_ports::Shelf;
-use xl_read::decode;
 use xl_studio::{Seat, Studio};
 
 /// A layer of one pixel, which is the canvas, in runs, as the writer lays it out.
@@ -26,21 +25,6 @@ pub const ONE_PIXEL: [u8; 197] = [
     153, 0, 0, 0, 0, 0, 0, 0, 1, 0, 0, 0, 1, 0, 0, 0, 4, 0, 0, 0, 173, 0, 0, 0, 0, 0, 0, 0, 1, 0,
     0, 0, 1, 0, 0, 0, 189, 0, 0, 0, 0, 255, 200, 255, 100, 255, 50, 255, 255,
 ];
-
-// The document of a file.
-fn document(alloc: Global, file: &[u8]) -> Result<Document, AllocError>
-    ensures { IfOk result (λ document. AreNumbered document.nodes) }
-{
-    let bytes = file.to_vec(alloc)?;
-    if bytes.len() > 1 << 31 {
-        return Err(AllocError);
-    }
-    let shared = Arc::new(alloc, bytes)?;
-    match decode(alloc, &shared) {
-        Ok(document) => Ok(document),
-        Err(_) => Err(AllocError),
-    }
-}
 
 // A core over a shelf, on which a name is selected.
 fn core_over<D: Shelf>(alloc: Global, document: Document, shelf: D) -> Result<Core<D>, AllocError>

@@ -79,14 +79,14 @@ fn document(alloc: Global) -> Result<Document, AllocError> {
     })
 }
 
-fn shared(alloc: Global) -> Result<Document, AllocError> {
+fn document_again(alloc: Global) -> Result<Document, AllocError> {
     let doc = document(alloc)?;
     doc.share(alloc)
 }
 
 #[test]
 fn a_shared_document_is_the_same(rt: HostRuntime) -> Result<(), Fail> {
-    let other = shared(rt.alloc())?;
+    let other = document_again(rt.alloc())?;
     assert_eq!(rt; other.area(), 6 + 6 + 100);
     assert_eq!(rt; other.least_version(), 2);
     assert_eq!(rt; other.tree.greatest_id(), 7);

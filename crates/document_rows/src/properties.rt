@@ -53,7 +53,7 @@ fn behind_the_file_there_is_no_list(rt: HostRuntime) {
 }
 
 /// What is written of the opacity, the mode, the offsets and the tattoo of the layer.
-fn written(alloc: Global) -> Result<Vec<u8>, AllocError> {
+fn layer_list(alloc: Global) -> Result<Vec<u8>, AllocError> {
     let payload = Bytes::from_slice(alloc, &[0, 0, 0, 7])?;
     let mut kept = PropList::new(alloc);
     kept.push(Kept { kind: 20, payload })?;
@@ -76,7 +76,7 @@ fn written(alloc: Global) -> Result<Vec<u8>, AllocError> {
 
 #[test]
 fn a_layer_is_written(rt: HostRuntime) -> Result<(), Fail> {
-    assert_eq!(rt; written(rt.alloc())?.as_slice(), LAYER.as_slice());
+    assert_eq!(rt; layer_list(rt.alloc())?.as_slice(), LAYER.as_slice());
     Ok(())
 }
 

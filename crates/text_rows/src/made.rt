@@ -1,5 +1,5 @@
 //! What is made of a seed.
-use crate::lines::asked;
+use crate::lines::question;
 use std::alloc::{AllocError, Global};
 use std::test::Fail;
 use xl_doc::NodeId;
@@ -22,7 +22,10 @@ fn document_has_ten_nodes(rt: HostRuntime) -> Result<(), Fail> {
 
 // How many lines have a keyword.
 fn count(lines: &[Line], keyword: &str) -> usize {
-    lines.iter().filter(|line| asked(line).0 == keyword).count()
+    lines
+        .iter()
+        .filter(|line| question(line).0 == keyword)
+        .count()
 }
 
 // How many lines there are, and how many of them are fills, tiles and saves.

@@ -1,5 +1,5 @@
 //! Scripts and the lines that answer them.
-use crate::lines::asked;
+use crate::lines::question;
 use std::alloc::{AllocError, Global};
 use std::test::Fail;
 use xl_edit::{EditRefused, NodeId};
@@ -139,7 +139,7 @@ fn sessions_without_a_number_have_no_filter(rt: HostRuntime) -> Result<(), Fail>
 }
 
 // Without a clause, so that a test need not carry one.
-fn parsed(alloc: Global, text: &[u8]) -> Result<Script, BadLineOrMemory> {
+fn script_of(alloc: Global, text: &[u8]) -> Result<Script, BadLineOrMemory> {
     parse(alloc, text, &CHESTS)
 }
 
@@ -149,7 +149,7 @@ fn lines_ask(lines: &[Line], all: &[(&str, Option<u32>)]) -> bool {
         let Some(expected) = all.get(i) else {
             return false;
         };
-        if asked(line) != *expected {
+        if question(line) != *expected {
             return false;
         }
     }
@@ -163,7 +163,7 @@ fn asks(
     session: u8,
     all: &[(&str, Option<u32>)],
 ) -> Result<bool, BadLineOrMemory> {
-    let script = parsed(alloc, text)?;
+    let script = script_of(alloc, text)?;
     Ok(session < SESSIONS && lines_ask(script.lines(session), all))
 }
 
@@ -201,7 +201,7 @@ fn begins_guarded(lines: &[Line]) -> bool {
 
 #[test]
 fn group_is_one_call(rt: HostRuntime) -> Result<(), Fail> {
-    let script = parsed(rt.alloc(), TWO_GROUPS)?;
+    let script = script_of(rt.alloc(), TWO_GROUPS)?;
     assert!(rt; begins_guarded(script.lines(0)));
     Ok(())
 }
@@ -255,7 +255,7 @@ fn print_words(alloc: Global, out: &mut String) -> Result<(), AllocError> {
     print_order(alloc, out, &[word, OrderWord { end: true, ..word }])
 }
 
-fn printed(alloc: Global) -> Result<String, AllocError> {
+fn text_of_replies(alloc: Global) -> Result<String, AllocError> {
     let mut out = String::new(alloc);
     print_replies(alloc, &mut out)?;
     print_words(alloc, &mut out)?;
@@ -265,6 +265,6 @@ fn printed(alloc: Global) -> Result<String, AllocError> {
 #[test]
 fn replies_are_printed(rt: HostRuntime) -> Result<(), Fail> {
     let text = "0.0 changed 1 1 2\n0.1 refused 0 1 99\n0.2 tile 1 df3f\norder 0.0 0.0e\n";
-    assert_eq!(rt; printed(rt.alloc())?.as_str(), text);
+    assert_eq!(rt; text_of_replies(rt.alloc())?.as_str(), text);
     Ok(())
 }
