@@ -1,14 +1,14 @@
 -- The jobs that are out stay right as the history goes on.
-use Rattle.std.proofs.Common.{◌≡◌, ℕ, zero, suc, ◌+◌, ◌≤◌, Bool, true, false, cond, ◌==◌, List, [], ◌∷◌, ◌++◌, length}
-use Rattle.std.proofs.Common.{refl, sym, ◌∙◌, ap, subst, arith}
-use Rattle.std.specs.Prelude.{Option, Some, None, Result, Ok, Err, IfOk, IfSome, OnErr, option_to_list, count_by}
+use Rattle.std.proofs.Common.{◌≡◌, ℕ, ◌+◌, ◌≤◌, Bool, true, false, cond, ◌==◌, List, [], ◌∷◌, ◌++◌}
+use Rattle.std.proofs.Common.{sym, ◌∙◌, ap, subst, arith}
+use Rattle.std.specs.Prelude.{Option, Some, None, Result, Ok, Err, IfOk, IfSome, OnErr, option_to_list}
 use Rattle.std.specs.List.{AllByRecursion}
 use Rattle.std.proofs.lemmas.List.{append-nil}
 use Rattle.spec_grid.specs.Grid.{is_on_grid}
 use Rattle.spec_picture.specs.Picture.{project}
 use Rattle.spec_document.specs.Document.{Document}
-use Rattle.spec_history.specs.Machine.{Call, Reply, history_full, has_stack, latest}
-use Rattle.spec_history.specs.History.{Entry, asked, replay, next_index, document_of, is_changed, latest_of}
+use Rattle.spec_history.specs.Machine.{Call, Reply, history_full, has_stack}
+use Rattle.spec_history.specs.History.{Entry, asked, next_index, document_of, latest_of}
 use Rattle.spec_history.specs.Kept.{IsLegal}
 use Rattle.spec_history.proofs.Canvas.{canvas-document}
 use Rattle.spec_history.proofs.Growing.{document_of-append, latest_of-cons}

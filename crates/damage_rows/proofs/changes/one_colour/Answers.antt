@@ -1,5 +1,5 @@
 -- The map has one colour.
-use Rattle.std.proofs.Common.{[], ◌∷◌, refl, sym, subst, arith}
+use Rattle.std.proofs.Common.{refl, sym, subst, arith}
 use Rattle.spec_edit.specs.Edit as edits
 use Rattle.damage_rows.proofs.changes.one_colour.Goals as goal
 

@@ -1,5 +1,5 @@
 -- A job of the last version is that version's picture.
-use Rattle.std.proofs.Common.{◌≡◌, true, rules, ◌∙◌, sym, ap}
+use Rattle.std.proofs.Common.{◌≡◌, true, rules}
 use Rattle.spec_grid.specs.Grid.{is_on_grid}
 use Rattle.spec_history.specs.Machine.{has_stack}
 use Rattle.xl_core.specs.History.{document}

@@ -1,4 +1,3 @@
-use Rattle.std.proofs.Common.{◌≡◌}
 use Rattle.std.specs.Prelude.{None}
 use Rattle.spec_document.specs.declared.Base.TheVariants.{Rgb}
 use Rattle.xl_doc.specs.Nodes.{nodes_of}
