@@ -2,7 +2,7 @@
 use xl_script::{Call, Line};
 
 /// The keyword of a line, and the first number that it gives, if it gives one. An edit and a group have the same keyword.
-pub fn question(line: &Line) -> (&'static str, Option<u32>) {
+pub fn keyword_and_number(line: &Line) -> (&'static str, Option<u32>) {
     match line {
         Line::Call(Call::Edit(_)) => ("edit", None),
         Line::Call(Call::Undo(group)) => ("undo", *group),

@@ -1,5 +1,5 @@
 //! What is made of a seed.
-use crate::lines::question;
+use crate::lines::keyword_and_number;
 use std::alloc::{AllocError, Global};
 use std::test::Fail;
 use xl_doc::NodeId;
@@ -24,7 +24,7 @@ fn document_has_ten_nodes(rt: HostRuntime) -> Result<(), Fail> {
 fn count(lines: &[Line], keyword: &str) -> usize {
     lines
         .iter()
-        .filter(|line| question(line).0 == keyword)
+        .filter(|line| keyword_and_number(line).0 == keyword)
         .count()
 }
 

@@ -1,5 +1,5 @@
 //! Scripts and the lines that answer them.
-use crate::lines::question;
+use crate::lines::keyword_and_number;
 use std::alloc::{AllocError, Global};
 use std::test::Fail;
 use xl_edit::{EditRefused, NodeId};
@@ -149,7 +149,7 @@ fn lines_ask(lines: &[Line], all: &[(&str, Option<u32>)]) -> bool {
         let Some(expected) = all.get(i) else {
             return false;
         };
-        if question(line) != *expected {
+        if keyword_and_number(line) != *expected {
             return false;
         }
     }
