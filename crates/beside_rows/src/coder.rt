@@ -1,5 +1,5 @@
 //! A coder that passes a gate in each plane.
-ghost use Rattle.std.specs.Prelude.{◌≡◌};
+ghost use Rattle.std.specs.Prelude.{◌≡◌, Unit};
 ghost use Rattle.spec_rle.specs.Greedy as spelling;
 
 use crate::gates::WORKER;
@@ -15,6 +15,8 @@ pub(crate) struct GatedCoder<'a, G: Gate> {
 
 impl<'a, G: Gate> PlaneCoder for GatedCoder<'a, G> {
     ghost fits = { λ plane bytes. bytes ≡ spelling.greedy plane };
+
+    ghost follows = { λ before plane after. Unit {0} };
 
     fn encode_plane(
         &mut self,

@@ -9,7 +9,10 @@ use std::alloc::{AllocError, Global};
 pub trait PlaneCoder {
     ghost fits: { List ℕ → List ℕ → Type 0 };
 
-    /// Appends a spelling of the plane that fits it. Out of memory, `out` is as before.
+    /// What becomes of a coder, as it was and as it is, by a plane that it codes.
+    ghost follows: { Self → List ℕ → Self → Type 0 };
+
+    /// Appends a spelling of the plane that fits it, and follows the plane. Out of memory, `out` is as before.
     fn encode_plane(
         &mut self,
         alloc: Global,
@@ -19,6 +22,7 @@ pub trait PlaneCoder {
         requires some { 1 ≤ length plane.now }
         requires few { length plane.now ≤ 4096 }
         ensures ok { OnOk result (Appends fits plane.now out.old.items out.new.items) }
+        ensures followed { OnOk result (follows self.old plane.now self.new) }
         ensures err { OnErr result (out.new.items ≡ out.old.items) };
 }
 
@@ -28,6 +32,8 @@ pub struct Greedy;
 
 impl PlaneCoder for Greedy {
     ghost fits = { λ plane bytes. bytes ≡ spelling.greedy plane };
+
+    ghost follows = { λ before plane after. after ≡ before };
 
     fn encode_plane(
         &mut self,
