@@ -34,6 +34,13 @@ impl Bytes {
         })
     }
 
+    /// These bytes, without a copy.
+    pub fn from_vec(bytes: Vec<u8>) -> Self
+        ensures { result ≡ bytes.items }
+    {
+        Bytes { items: bytes }
+    }
+
     /// The same bytes again.
     pub fn share(&self, alloc: Global) -> Result<Self, AllocError>
         ensures { IfOk result (λ other. other ≡ self.now) }
