@@ -10,6 +10,7 @@ mod Edited
 mod Keeping
 mod LastFile
 mod FirstSaves
+mod FlatSaves
 mod MadeFiles
 mod MadeRuns
 mod MadeScripts

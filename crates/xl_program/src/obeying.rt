@@ -1,17 +1,20 @@
 ghost use Rattle.std.specs.Prelude.{◌≡◌, ◌<◌, ◌^◌, ◌⊎◌, Some, length};
 ghost use Rattle.std.specs.List.{AllByRecursion};
 ghost use Rattle.spec_command.specs.Arguments.{name_of};
-ghost use Rattle.xl_command.specs.Asking.{asked_of, HasFewWorkers};
+ghost use Rattle.xl_command.specs.Asking.{asked_of, IsInRange};
 ghost use Rattle.xl_core.specs.Editing.{known};
-ghost use Rattle.xl_program.specs.Command.{IsEdit};
+ghost use Rattle.xl_program.specs.Command.{ReadsSource};
 ghost use Rattle.xl_program.specs.Outcome.{given_of, ComesTo, ReadsToEnd, SourceCause, ShelfCauseOf, Takes, shelved};
 ghost use Rattle.xl_program.specs.Parts.{StopsFor};
 
 use crate::describing::describe;
 use crate::editing::edit;
 use crate::ended::Done;
+use crate::flattening::flatten;
 use crate::making::make;
+use crate::packing::pack;
 use crate::rendering::render;
+use crate::viewing::view;
 use std::alloc::Global;
 use std::sync::Wait;
 use std::thread::Threads;
@@ -31,7 +34,7 @@ pub fn obey<R: Threads + Wait + Sync, S: Source, K: Sink, D: Shelf, G: Gate>(
     gate: &G,
 ) -> Done<D>
     requires boxes { AllByRecursion (λ boxes. length boxes.items < 2 ^ 32) chest.items }
-    requires few { HasFewWorkers (asked_of command) }
+    requires range { IsInRange (asked_of command) }
     ensures comes { ComesTo K.held K.faults (given_of (S.left source.old) (λ b. state b) chest.items)
         (shelved D.content D.selected D.disk D.reading_faults D.saving_faults shelf)
         (shelved D.content D.selected D.disk D.reading_faults D.saving_faults result.shelf)
@@ -39,7 +42,7 @@ pub fn obey<R: Threads + Wait + Sync, S: Source, K: Sink, D: Shelf, G: Gate>(
     ensures stops { StopsFor (given_of (S.left source.old) (λ b. state b) chest.items)
         (D.content shelf) (asked_of command.entry) result.result }
     ensures takes { Takes S.left S.faults source.old source.new (Some (asked_of command.entry)) }
-    ensures ended { IsEdit (Some (asked_of command.entry)) → ReadsToEnd (S.left source.new) result.result }
+    ensures ended { ReadsSource (Some (asked_of command.entry)) → ReadsToEnd (S.left source.new) result.result }
     ensures source_cause { SourceCause (S.faults source.old) (S.faults source.new) result.result }
     ensures shelf_cause { ShelfCauseOf (known D.selected D.disk D.reading_faults D.saving_faults shelf)
         (known D.selected D.disk D.reading_faults D.saving_faults result.shelf) (asked_of command.entry) result.result }
@@ -67,5 +70,13 @@ pub fn obey<R: Threads + Wait + Sync, S: Source, K: Sink, D: Shelf, G: Gate>(
             gate,
         ),
         Command::Make(name, seed) => make(rt, alloc, name, seed, sink, shelf, gate),
+        Command::Pack(name, with_plans) => {
+            let result = pack(alloc, name, with_plans, sink, &mut shelf);
+            Done { result, shelf }
+        }
+        Command::Flatten(name) => flatten(alloc, name, sink, shelf),
+        Command::View(name, cols, rows) => {
+            view(alloc, name, cols, rows, source, sink, shelf, chest)
+        }
     }
 }
