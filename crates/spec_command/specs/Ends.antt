@@ -10,7 +10,7 @@ use Rattle.spec_command.specs.Arguments.{Asked, edit, render, info, make, pack, 
 
 -- ---- before the work is done
 
--- why a command stops before it; the shelf's fault is one of reading, or of the first save of what is made
+-- why a command stops before it; the shelf's fault is one of reading, of the one save of a command, or of the first of what is made
 pub data Stop : Type 0 where
   usage : Stop
   source_fault : Stop

@@ -1,5 +1,5 @@
 -- A value that a command took passed the parser of its argument.
-use Rattle.std.proofs.Common.{◌≡◌, ◌≢◌, ◌<◌, ◌≤◌, ℕ, zero, suc, List, [], ◌∷◌, Bool, true, false, true≢false, map}
+use Rattle.std.proofs.Common.{◌≡◌, ◌<◌, ◌≤◌, ℕ, zero, suc, List, [], ◌∷◌, Bool, true, false, map}
 use Rattle.std.proofs.Common.{length, Option, Some, None, option_map, refl, sym, ap, ◌∙◌, subst, arith, inl, inr, ◌⊎◌}
 use Rattle.std.specs.Prelude.{slice_get, unwrap_or}
 use Rattle.std.specs.List.{All, slice_index_or}
@@ -11,7 +11,7 @@ use Rattle.clap.specs.Facts.{args_of, groups_of, Entry, EntryPasses, PassesArg, 
 use Rattle.clap.specs.Built.{IsParsedFrom, IsAuto, SameRules}
 use Rattle.clap.specs.Matches.{matched_of, first_value, found_of}
 use Rattle.clap.specs.Values.{Accepts}
-use Rattle.clap.specs.Simple.{App, app_of, is_simple}
+use Rattle.clap.specs.Simple.{App, app_of}
 use Rattle.clap.specs.Walk.{Row, Rule, Text, first_of, rows_of, rule_of}
 use Rattle.clap.specs.declared.builder.arg.Arg.{Arg}
 use Rattle.clap.specs.declared.builder.command.Command.{Command}

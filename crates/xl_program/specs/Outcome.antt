@@ -11,7 +11,7 @@ use Rattle.spec_report.specs.Json as json
 use Rattle.spec_report.specs.Pam.{pam}
 use Rattle.spec_filters.specs.declared.FilterState.{FilterState}
 use Rattle.spec_generated.specs.Generated.{document, script as made_script}
-use Rattle.spec_script.specs.Script.{Line, script}
+use Rattle.spec_script.specs.Script.{Line, list_at, script}
 use Rattle.spec_history.specs.History.{Entry, document_of}
 use Rattle.spec_history.specs.Kept.{IsLegal}
 use Rattle.spec_saves.specs.Names.{save_faults}
@@ -23,7 +23,7 @@ use Rattle.xl_ports.specs.Faults.{Rose}
 use Rattle.xl_ports.specs.Shelf.{Content}
 use Rattle.xl_ports.specs.Sink.{WritesAll, WritesPart}
 use Rattle.xl_ports.specs.Source.{led_by, IsEnded}
-use Rattle.xl_sessions.specs.Outcomes.{list_at, states_of}
+use Rattle.xl_sessions.specs.Outcomes.{states_of}
 use Rattle.xl_program.specs.Files.{HoldsDocument}
 use Rattle.xl_program.specs.Flattening.{IsFlattened, MayBeFlattened}
 use Rattle.xl_program.specs.LastSaved.{HasLastSaved}

@@ -1,7 +1,7 @@
 use Rattle.std.proofs.Common.{◌∙◌, ap, codes, true, Some, arith}
 use Rattle.clap.specs.Words.{app_of, found_of, rows_of}
 use Rattle.spec_command.specs.Arguments.{view}
-use Rattle.spec_command.specs.Grammar.{view_app, view_of}
+use Rattle.spec_command.specs.Grammar.{number_of, view_app, view_of}
 use Rattle.xl_command.specs.Asking.{arguments_of}
 use Rattle.xl_command.proofs.Given.{asked_given}
 use Rattle.xl_command.proofs.Passed.{cols_are_there, number_is_small, number_is_taken, number_is_within, rows_are_there}
@@ -24,9 +24,10 @@ number_in-rows-requires c =
 pub returns-clause-asked : goal.returns-clause-asked
 returns-clause-asked c =
     let found = rw c.in-Some.is at c.in_ok-matches.ensures.ok in
+    let given = rows_of (found_of c.in-Some.matches) in
     let name = rw c.in-Some-file_in.is at c.file_in.ensures in
     ap (λ n. Some (view c.in-Some-file_in.name.now n c.number_in-rows.result)) c.number_in-cols.ensures
-    ∙ (ap (λ n. Some (view c.in-Some-file_in.name.now _ n)) c.number_in-rows.ensures
+    ∙ (ap (λ n. Some (view c.in-Some-file_in.name.now (number_of given (codes "cols") 1) n)) c.number_in-rows.ensures
     ∙ asked_given (app_of c.in_ok-view_command.field-0) view_app
     (arguments_of c.args.arguments.now) view_of c.in-Some.matches c.in-Some-file_in.name.now c.in_ok-view_command.ensures
     found.0 found.1 name)
