@@ -4,11 +4,10 @@ use crate::before::{Before, before_line, line_of};
 use crate::cause::Cause;
 use crate::keywords::Task;
 use crate::lines::{Asked, asked_by};
+use spec_history::MAX_EDITS;
 
 /// How long a script is at most.
 const MAX_LEN: usize = 1 << 24;
-
-const MAX_EDITS: u32 = 1024;
 
 const MAX_CALLS: u32 = 1 << 19;
 
