@@ -33,6 +33,6 @@ unfolding keywords
 first_told = refl
 
 -- a group without an end is found behind all lines
-end_last : view_script (ln (codes "0 begin none") ++ codes "1 top") 0 ≡ Err 2
+end_last : view_script (ln (codes "0 begin") ++ codes "1 top") 0 ≡ Err 2
 unfolding keywords
 end_last = refl
