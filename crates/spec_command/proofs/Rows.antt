@@ -6,10 +6,12 @@ use Rattle.clap.specs.Walk.{walked, bundle_met}
 use Rattle.clap.specs.Faults.{walk_fault, flags_fault, defaults_fault}
 use Rattle.spec_fields.specs.declared.Kind.TheVariants.{Truncated}
 use Rattle.spec_history.specs.Machine.{changed, saved, save_fault, save_memory}
-use Rattle.spec_command.specs.Arguments.{Argument, Asked, edit, render, info, make}
+use Rattle.spec_flat.specs.declared.FlatRefused.TheVariants.{Selected, TooMany}
+use Rattle.spec_command.specs.Arguments.{Argument, Asked, edit, render, info, make, pack, flatten, view}
 use Rattle.spec_command.specs.Grammar.{asked_in}
 use Rattle.spec_command.proofs.Shapes.{asked_by_shape}
-use Rattle.spec_command.specs.Ends.{Found, first_stop, usage, source_fault, bad_line, shelf_fault, refused, stop_line, end_status}
+use Rattle.spec_command.specs.Ends.{Found, first_stop, usage, source_fault, bad_line, shelf_fault, refused, flat_refused}
+use Rattle.spec_command.specs.Ends.{stop_line, end_status}
 
 -- ---- arguments that are a command; each computed apart from the definitions
 
@@ -40,6 +42,12 @@ commands =
     ∷ (codes "render" ∷ codes "" ∷ [])
     ∷ (codes "make" ∷ codes "9" ∷ codes "--seed" ∷ codes "9" ∷ [])
     ∷ (codes "edit" ∷ codes "--" ∷ codes "9" ∷ [])
+    ∷ (codes "pack" ∷ codes "f" ∷ [])
+    ∷ (codes "pack" ∷ codes "f" ∷ codes "--plan" ∷ [])
+    ∷ (codes "pack" ∷ codes "--plan" ∷ codes "--" ∷ codes "f" ∷ [])
+    ∷ (codes "flatten" ∷ codes "f" ∷ [])
+    ∷ (codes "view" ∷ codes "f" ∷ codes "--cols" ∷ codes "1" ∷ codes "--rows" ∷ codes "16" ∷ [])
+    ∷ (codes "view" ∷ codes "--rows=2" ∷ codes "--cols=03" ∷ codes "f" ∷ [])
     ∷ []
 
 abbrev wanted : List (Option Asked)
@@ -69,6 +77,12 @@ wanted =
     ∷ Some (render (codes ""))
     ∷ Some (make (codes "9") 9)
     ∷ Some (edit (codes "9") 2)
+    ∷ Some (pack (codes "f") false)
+    ∷ Some (pack (codes "f") true)
+    ∷ Some (pack (codes "f") true)
+    ∷ Some (flatten (codes "f"))
+    ∷ Some (view (codes "f") 1 16)
+    ∷ Some (view (codes "f") 3 2)
     ∷ []
 
 commands_by_shape : map asked_by_shape commands ≡ wanted
@@ -111,7 +125,25 @@ others =
     ∷ (codes "make" ∷ codes "f" ∷ codes "--seed" ∷ codes "99999999999999999999" ∷ [])
     ∷ (codes "make" ∷ codes "f" ∷ codes "--seeds" ∷ codes "1" ∷ [])
     ∷ (codes "make" ∷ codes "f" ∷ codes "--see" ∷ codes "1" ∷ [])
-    ∷ (codes "pack" ∷ codes "f" ∷ [])
+    ∷ (codes "pack" ∷ [])
+    ∷ (codes "pack" ∷ codes "f" ∷ codes "--plan" ∷ codes "--plan" ∷ [])
+    ∷ (codes "pack" ∷ codes "f" ∷ codes "--plan=true" ∷ [])
+    ∷ (codes "pack" ∷ codes "--plan" ∷ [])
+    ∷ (codes "pack" ∷ codes "f" ∷ codes "--plans" ∷ [])
+    ∷ (codes "pack" ∷ codes "--" ∷ codes "f" ∷ codes "--plan" ∷ [])
+    ∷ (codes "flatten" ∷ [])
+    ∷ (codes "flatten" ∷ codes "f" ∷ codes "--plan" ∷ [])
+    ∷ (codes "flatten" ∷ codes "f" ∷ codes "g" ∷ [])
+    ∷ (codes "view" ∷ codes "f" ∷ [])
+    ∷ (codes "view" ∷ codes "f" ∷ codes "--cols" ∷ codes "1" ∷ [])
+    ∷ (codes "view" ∷ codes "f" ∷ codes "--rows" ∷ codes "1" ∷ [])
+    ∷ (codes "view" ∷ codes "--cols" ∷ codes "1" ∷ codes "--rows" ∷ codes "1" ∷ [])
+    ∷ (codes "view" ∷ codes "f" ∷ codes "--cols" ∷ codes "0" ∷ codes "--rows" ∷ codes "1" ∷ [])
+    ∷ (codes "view" ∷ codes "f" ∷ codes "--cols" ∷ codes "1" ∷ codes "--rows" ∷ codes "0" ∷ [])
+    ∷ (codes "view" ∷ codes "f" ∷ codes "--cols" ∷ codes "17" ∷ codes "--rows" ∷ codes "1" ∷ [])
+    ∷ (codes "view" ∷ codes "f" ∷ codes "--cols" ∷ codes "1" ∷ codes "--rows" ∷ codes "17" ∷ [])
+    ∷ (codes "view" ∷ codes "f" ∷ codes "--cols" ∷ codes "--rows" ∷ codes "1" ∷ [])
+    ∷ (codes "view" ∷ codes "f" ∷ codes "--cols=1" ∷ codes "--rows=1" ∷ codes "--cols=1" ∷ [])
     ∷ (codes "help" ∷ [])
     ∷ (codes "help" ∷ codes "edit" ∷ [])
     ∷ (codes "--help" ∷ [])
@@ -179,11 +211,16 @@ others_ask_nothing = refl
 -- ---- ends
 
 abbrev fine : Found
-fine = record { source_fails = false; bad = None; shelf_fails = false; fault = None }
+fine = record { source_fails = false; bad = None; shelf_fails = false; fault = None; flat = None }
 
 abbrev all_wrong : Found
-all_wrong =
-    record { source_fails = true; bad = Some 2; shelf_fails = true; fault = Some (record { kind = Truncated; at = 38; value = 0 }) }
+all_wrong = record {
+  source_fails = true;
+  bad = Some 2;
+  shelf_fails = true;
+  fault = Some (record { kind = Truncated; at = 38; value = 0 });
+  flat = Some Selected;
+}
 
 abbrev an_edit : Option Asked
 an_edit = Some (edit (codes "f") 2)
@@ -202,11 +239,22 @@ other_stops : first_stop (Some (render (codes "f"))) all_wrong
     ≡ Some shelf_fault ∷ None ∷ []
 other_stops = refl
 
+abbrev read_well : Found
+read_well = record all_wrong { shelf_fails = false; fault = None }
+
+-- what keeps a document from being made flat is asked last, and stops nothing else; a view reads its script first
+flat_stops : first_stop (Some (flatten (codes "f"))) all_wrong
+    ∷ first_stop (Some (flatten (codes "f"))) read_well ∷ first_stop (Some (flatten (codes "f"))) fine
+    ∷ first_stop (Some (pack (codes "f") true)) read_well
+    ∷ first_stop (Some (view (codes "f") 2 2)) (record all_wrong { source_fails = false }) ∷ []
+    ≡ Some shelf_fault ∷ Some (flat_refused Selected) ∷ None ∷ None ∷ Some (bad_line 2) ∷ []
+flat_stops = refl
+
 lines : map stop_line (usage ∷ source_fault ∷ bad_line 2 ∷ shelf_fault ∷ refused (record { kind = Truncated; at = 38; value = 0 })
-    ∷ [])
+    ∷ flat_refused (TooMany 1023) ∷ [])
     ≡ (codes "usage" ++ 10 ∷ []) ∷ (codes "source fault" ++ 10 ∷ []) ∷ (codes "bad line 2" ++ 10 ∷ [])
     ∷ (codes "shelf fault" ++ 10 ∷ [])
-    ∷ (codes "file refused 3 at 38" ++ 10 ∷ []) ∷ []
+    ∷ (codes "file refused 3 at 38" ++ 10 ∷ []) ∷ (codes "flatten refused 3" ++ 10 ∷ []) ∷ []
 unfolding digits
 lines = refl
 

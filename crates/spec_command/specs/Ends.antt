@@ -3,18 +3,21 @@ use Rattle.std.specs.Prelude.{ℕ, Bool, true, false, ◌||◌, if◌then◌else
 use Rattle.std.specs.List.{list_any}
 use Rattle.spec_fields.specs.declared.ReadRefused.{ReadRefused}
 use Rattle.spec_fields.specs.Kinds.{kind_number}
+use Rattle.spec_flat.specs.declared.FlatRefused.{FlatRefused}
+use Rattle.spec_flat.specs.Numbers.{flat_number}
 use Rattle.spec_history.specs.Machine.{Reply, save_fault, save_memory}
-use Rattle.spec_command.specs.Arguments.{Asked, edit, render, info, make}
+use Rattle.spec_command.specs.Arguments.{Asked, edit, render, info, make, pack, flatten, view}
 
 -- ---- before the work is done
 
--- why a command stops before it; the shelf's fault is one of reading, or of the first save of what is made
+-- why a command stops before it; the shelf's fault is one of reading, of the one save of a command, or of the first of what is made
 pub data Stop : Type 0 where
   usage : Stop
   source_fault : Stop
   bad_line : (number : ℕ) → Stop
   shelf_fault : Stop
   refused : ReadRefused → Stop
+  flat_refused : FlatRefused → Stop
 
 abbrev pub stop_status : Stop → ℕ
 stop_status usage = 2
@@ -22,6 +25,7 @@ stop_status source_fault = 5
 stop_status (bad_line number) = 3
 stop_status shelf_fault = 6
 stop_status (refused why) = 4
+stop_status (flat_refused why) = 9
 
 abbrev pub stop_text : Stop → List ℕ
 stop_text usage = codes "usage"
@@ -29,17 +33,19 @@ stop_text source_fault = codes "source fault"
 stop_text (bad_line number) = codes "bad line " ++ decimal number
 stop_text shelf_fault = codes "shelf fault"
 stop_text (refused why) = codes "file refused " ++ (decimal (kind_number why.kind) ++ (codes " at " ++ decimal why.at))
+stop_text (flat_refused why) = codes "flatten refused " ++ decimal (flat_number why)
 
 abbrev pub stop_line : Stop → List ℕ
 stop_line stop = stop_text stop ++ 10 ∷ []
 
 -- What is found on the way: whether the source has a fault, the line at which the script is refused, whether the shelf has a fault,
--- and the first fault of the file.
+-- the first fault of the file, and what keeps its document from being made flat.
 pub record Found : Type 0 where
   pub source_fails : Bool
   pub bad : Option ℕ
   pub shelf_fails : Bool
   pub fault : Option ReadRefused
+  pub flat : Option FlatRefused
 
 abbrev pub first : List (Option Stop) → Option Stop
 first [] = None
@@ -54,15 +60,26 @@ abbrev pub stop_of : {A : Type 0} → (A → Stop) → Option A → Option Stop
 stop_of why None = None
 stop_of why (Some a) = Some (why a)
 
--- The first stop, in this order. Only an edit reads the source, and what is made needs no file.
-abbrev pub first_stop : Option Asked → Found → Option Stop
-first_stop None f = Some usage
-first_stop (Some (edit name workers)) f =
+-- the first stop of a command that reads a file
+abbrev pub file_stop : Found → Option Stop
+file_stop f = first (stop_if f.shelf_fails shelf_fault ∷ stop_of refused f.fault ∷ [])
+
+-- that of a command which reads a script before its file
+abbrev pub script_stop : Found → Option Stop
+script_stop f =
     first (stop_if f.source_fails source_fault ∷ stop_of bad_line f.bad ∷ stop_if f.shelf_fails shelf_fault
     ∷ stop_of refused f.fault ∷ [])
-first_stop (Some (render name)) f = first (stop_if f.shelf_fails shelf_fault ∷ stop_of refused f.fault ∷ [])
-first_stop (Some (info name)) f = first (stop_if f.shelf_fails shelf_fault ∷ stop_of refused f.fault ∷ [])
+
+-- The first stop. Only an edit and a view read the source, and what is made needs no file.
+abbrev pub first_stop : Option Asked → Found → Option Stop
+first_stop None f = Some usage
+first_stop (Some (edit name workers)) f = script_stop f
+first_stop (Some (render name)) f = file_stop f
+first_stop (Some (info name)) f = file_stop f
 first_stop (Some (make name seed)) f = stop_if f.shelf_fails shelf_fault
+first_stop (Some (pack name with_plans)) f = file_stop f
+first_stop (Some (flatten name)) f = first (file_stop f ∷ stop_of flat_refused f.flat ∷ [])
+first_stop (Some (view name cols rows)) f = script_stop f
 
 -- ---- after it
 

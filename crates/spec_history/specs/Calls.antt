@@ -3,10 +3,11 @@ use Rattle.std.specs.Prelude.{ℕ, ◌^◌, ◌≤◌, List, length}
 use Rattle.std.specs.List.{AllByRecursion}
 use Rattle.spec_edit.specs.Edit.{Edit, IsEdit}
 use Rattle.spec_history.specs.Machine.{Call, edit, undo, redo, tile, peek, top}
+use Rattle.spec_history.specs.declared.TheConstants.{MAX_EDITS}
 
 -- edits in a group
 abbrev pub most_edits : ℕ
-most_edits = 1024
+most_edits = MAX_EDITS
 
 -- entries in a history
 abbrev pub most_entries : ℕ

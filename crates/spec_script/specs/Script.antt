@@ -13,6 +13,10 @@ use Rattle.spec_history.specs.Calls.{most_edits}
 use Rattle.spec_script.specs.Words.{◌>>=◌, lines_of, words_of}
 use Rattle.spec_script.specs.Commands.{Command, Asked, an_edit, begins, ends, a_call, saves, forgets, command_of}
 
+-- a session's own list, and none past the last one
+abbrev pub list_at : {A : Type 0} → List (List A) → (session : ℕ) → List A
+list_at lists session = unwrap_or (slice_get lists session) []
+
 -- calls in a script
 abbrev pub most_calls : ℕ
 most_calls = 2 ^ 19

@@ -15,7 +15,9 @@ use Rattle.spec_tables.specs.Tables.{HaveTables, expected_tables, filters_after,
 use Rattle.spec_text.specs.Text.{calls_of, is_save_memory, made_by}
 use Rattle.spec_seats.specs.Picked.{picked, seen_at, IsCaughtUp, IsFreshAt}
 use Rattle.spec_seats.specs.Ended.{MayFollow, opened_by, AreEndedFrom, AreEnded}
-use Rattle.spec_seats.specs.Made.{filters_along, calls_along, IsOf, HasMade}
+use Rattle.spec_seats.specs.Made.{IsOf, HasMade}
+use Rattle.spec_text.specs.Text.{calls_along}
+use Rattle.spec_tables.specs.Tables.{filters_along}
 use Rattle.spec_seats.proofs.Places.{all_later, all_and_last, rise_more}
 use Rattle.spec_seats.proofs.Entries.{picked-grows, picked-last, picked-none, seen-none, seen-grows, seen-last}
 use Rattle.spec_seats.proofs.Entries.{fresh-grows, fresh-last}
@@ -180,11 +182,6 @@ pub tables_more : (filters : List FilterState) (es : List Entry) (e : Entry) →
     → tables_in e.kind ≡ expected_tables (filters_along filters es) e.kind e.reply → HaveTables filters (es ++ e ∷ [])
 tables_more filters [] e have here = (here, tt)
 tables_more filters (x ∷ es) e have here = (have.0, tables_more (filters_after filters x.kind x.reply) es e have.1 here)
-
-pub filters-append : (filters : List FilterState) (es more : List Entry)
-    → filters_along filters (es ++ more) ≡ filters_along (filters_along filters es) more
-filters-append filters [] more = refl
-filters-append filters (e ∷ es) more = filters-append (filters_after filters e.kind e.reply) es more
 
 -- what is expected of a call does not look at the tables that it has
 pub expected_same : (filters : List FilterState) (c : Call) (tables others : List (List ℕ)) (r : Reply)

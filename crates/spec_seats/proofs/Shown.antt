@@ -24,77 +24,7 @@ use Rattle.spec_seats.specs.Picked.{is_at, picked_from, picked}
 use Rattle.spec_seats.specs.Digests.{is_tile_reply, asks_tile, shows_tile, digest_in, digests_in}
 use Rattle.spec_seats.proofs.Entries.{picked-none}
 use Rattle.spec_seats.proofs.More.{picked_grown, picked_one, picked_two, before_end, with_save}
-
--- ---- what is shown is there
-
--- a tile that is shown is that of a version that is there
-abbrev pub IsUpTo : (last : ℕ) → Reply → Type 0
-IsUpTo last (tile_of version) = version ≤ last
-IsUpTo last reply = Unit {0}
-
-pub up_to_later : (now last : ℕ) (r : Reply) → now ≤ last → IsUpTo now r → IsUpTo last r
-up_to_later now last (tile_of version) le is = omega (arith, le, is)
-up_to_later now last r le is = tt
-
-up_to_made : (n : ℕ) (s : State) (old : At) (es : List Edit) (tables : List (List ℕ)) (r : Result At Refused)
-    → IsUpTo n (made s old es tables r).reply
-up_to_made n s old es tables (Err r) = tt
-up_to_made n s old es tables (Ok new) = tt
-
-up_to_undo : (n : ℕ) (s : State) (named : Option ℕ) (ds : List Done) → IsUpTo n (undo_answer s named ds).reply
-up_to_undo n s named [] = tt
-up_to_undo n s named (d ∷ ds) = cond_both (λ (a : Answer). IsUpTo n a.reply) (names named d.group) _ _ tt tt
-
-up_to_redo : (n : ℕ) (s : State) (ds : List Done) → IsUpTo n (redo_answer s ds).reply
-up_to_redo n s [] = tt
-up_to_redo n s (d ∷ ds) = tt
-
--- of the replies to a tile, whichever is given
-pub tile_either : (P : Reply → Type 0) (d : Document) (stack : ℕ) (at : TileAt) (reply : Reply) → P (no_stack stack)
-    → P outside_tile → P reply → P (tile_reply d stack at reply)
-tile_either P d stack at reply none outside given =
-    cond_both P (not (has_stack d stack)) (no_stack stack) (cond (not (is_on_grid d.width d.height at)) outside_tile reply) none
-    (cond_both P (not (is_on_grid d.width d.height at)) outside_tile reply outside given)
-
-up_to_peek : (base : Document) (s : State) (stack : ℕ) (r : Reply) → MayPeek base s stack r → IsUpTo (latest s) r
-up_to_peek base s stack (tile_of version) may = may.0
-up_to_peek base s stack r may = tt
-
-up_to_answers : (base : Document) (s : State) (c : Call) (tables : List (List ℕ)) (r : Reply) → Answers base s c tables r
-    → IsUpTo (latest s) r
-up_to_answers base s (edit guard es) tables r same =
-    let old : At = record { document = document_at base s (latest s); next = s.next_id } in
-    subst (IsUpTo (latest s)) (sym same)
-    (cond_both (λ (a : Answer). IsUpTo (latest s) a.reply) (names guard (latest s))
-    (made s old es tables (apply_group old es tables)) (stays s (moved (latest s)))
-    (up_to_made (latest s) s old es tables (apply_group old es tables)) tt)
-up_to_answers base s (undo named) tables r same = subst (IsUpTo (latest s)) (sym same) (up_to_undo (latest s) s named s.undo)
-up_to_answers base s redo tables r same = subst (IsUpTo (latest s)) (sym same) (up_to_redo (latest s) s s.redo)
-up_to_answers base s (tile stack at) tables r same =
-    let le : latest s ≤ latest s = omega arith in
-    subst (IsUpTo (latest s)) (sym same)
-    (tile_either (IsUpTo (latest s)) (document_at base s (latest s)) stack at (tile_of (latest s)) tt tt le)
-up_to_answers base s (peek stack at) tables r answers =
-    tile_either (λ (plain : Reply). PeekAnswers base s stack plain r
-    → IsUpTo (latest s) r) (document_at base s (latest s)) stack at (tile_of (latest s))
-    (λ same. subst (IsUpTo (latest s)) (sym same) tt) (λ same. subst (IsUpTo (latest s)) (sym same) tt)
-    (up_to_peek base s stack r) answers
-up_to_answers base s top tables r same = subst (IsUpTo (latest s)) (sym same) tt
-
-up_to_end : (now version : ℕ) (r : Reply) → EndsWith version r → IsUpTo now r
-up_to_end now version (tile_of shown) is = absurd is
-up_to_end now version r is = tt
-
-up_to_ends : (now : ℕ) (out : Option Saving) (session index : ℕ) (r : Reply) → MayEnd out session index r → IsUpTo now r
-up_to_ends now None session index r may = absurd may
-up_to_ends now (Some o) session index r may = up_to_end now o.version r may.2
-
--- what an entry that may come now shows is there
-pub up_to_step : (base : Document) (s : State) (earlier : List Entry) (e : Entry) (k : Kind) → MayBe base s earlier e k
-    → IsUpTo (latest s) e.reply
-up_to_step base s earlier e (asked c tables) may = up_to_answers base s c tables e.reply may.1
-up_to_step base s earlier e starts may = subst (IsUpTo (latest s)) (sym may.2) tt
-up_to_step base s earlier e ends may = up_to_ends (latest s) s.out e.session e.index e.reply may
+use Rattle.spec_text.proofs.Shown.{IsUpTo, up_to_later, up_to_step, digest_stays}
 
 -- each version that is shown along a run is there at its end
 up_to_run : (base : Document) (s : State) (earlier es : List Entry) → IsSound s → RunFrom base s earlier es
@@ -107,18 +37,6 @@ up_to_run base s earlier (e ∷ es) sound run =
       up_to_later (latest s) (latest (replay_from base s (e ∷ es))) e.reply le (up_to_step base s earlier e e.kind run.0),
       up_to_run base (after_entry base s e) (earlier ++ e ∷ []) es goes.sound run.1,
     )
-
--- ---- a digest stays
-
-pub digest_stays : (base : Document) (all more : List Entry) (k : Kind) (r : Reply) → IsUpTo (latest (replay base all)) r
-    → shown_digest base (all ++ more) k r ≡ shown_digest base all k r
-digest_stays base all more (asked (tile stack at) tables) (tile_of version) up =
-    ap (λ (d : Document). digest_of (project d stack at)) (document_of-append base all more version up)
-digest_stays base all more (asked (peek stack at) tables) (tile_of version) up =
-    ap (λ (d : Document). digest_of (project d stack at)) (document_of-append base all more version up)
-digest_stays base all more (asked c tables) r up = refl
-digest_stays base all more starts r up = refl
-digest_stays base all more ends r up = refl
 
 digests_along : (base : Document) (all more own : List Entry) → AllByRecursion (λ e. IsUpTo (latest (replay base all)) e.reply) own
     → digests_in base (all ++ more) own ≡ digests_in base all own

@@ -4,19 +4,10 @@ use Rattle.std.specs.List.{AllByRecursion}
 use Rattle.spec_history.specs.History.{Entry}
 use Rattle.spec_filters.specs.declared.FilterState.{FilterState}
 use Rattle.spec_script.specs.Script.{Line}
-use Rattle.spec_tables.specs.Tables.{HaveTables, filters_after}
-use Rattle.spec_text.specs.Text.{calls_of, is_save_memory, made_by}
+use Rattle.spec_tables.specs.Tables.{HaveTables}
+use Rattle.spec_text.specs.Text.{calls_along, calls_of, is_save_memory}
 use Rattle.spec_seats.specs.Picked.{picked, Rise, IsFreshAt}
 use Rattle.spec_seats.specs.Ended.{AreEnded}
-
--- the filters after these entries of their session
-abbrev pub filters_along : List FilterState → List Entry → List FilterState
-filters_along filters [] = filters
-filters_along filters (e ∷ es) = filters_along (filters_after filters e.kind e.reply) es
-
--- the calls and saves that the entries are for
-abbrev pub calls_along : List Entry → List Line
-calls_along es = filter_map (λ e. made_by e.kind) es
 
 -- The entries at these places are a session's, and each save of it has ended.
 pub record IsOf (session : ℕ) (places : List ℕ) (es : List Entry) : Type 0 where

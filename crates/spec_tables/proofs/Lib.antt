@@ -5,3 +5,4 @@ pub mod Accepted
 pub mod Chests
 pub mod Made
 pub mod Asked
+pub mod Along

@@ -37,6 +37,11 @@ tables_in (asked c tables) = tables
 tables_in starts = []
 tables_in ends = []
 
+-- the filters after these entries of their session
+abbrev pub filters_along : List FilterState → List Entry → List FilterState
+filters_along filters [] = filters
+filters_along filters (e ∷ es) = filters_along (filters_after filters e.kind e.reply) es
+
 -- along the entries of one session
 abbrev pub HaveTables : List FilterState → List Entry → Type 0
 HaveTables filters [] = Unit {0}

@@ -13,7 +13,7 @@ use Rattle.clap.specs.declared.parser.matches.ArgMatches.{ArgMatches}
 use Rattle.clap.specs.declared.parser.matches.Found.{Found}
 use Rattle.clap.proofs.WalkLemmas.{first_value-rows}
 use Rattle.spec_command.specs.Arguments.{Argument, Asked}
-use Rattle.spec_command.specs.Grammar.{file_where, is_faultless, number_of, asked_in, asked_where}
+use Rattle.spec_command.specs.Grammar.{file_where, is_faultless, is_given, number_of, asked_in, asked_where}
 use Rattle.xl_command.specs.Asking.{plain_name, arguments_of}
 
 abbrev text_of : Option (Bor (List ℕ)) → Option (List ℕ)
@@ -37,6 +37,16 @@ pub number_given : (f : Found) (id : Text) (o : Option (Bor (List ℕ))) (s : Bo
 number_given f id o s n default value is read =
     read ∙ ap (λ (t : Option (List ℕ)). unwrap_or (option_map (λ text. nat_abs (signed_digits_value 10 text)) t) default)
     (sym (first_is f id o (Some s) value is))
+
+-- a flag is given where its value is this word
+pub flag_none : (f : Found) (id : Text) (o : Option (Bor (List ℕ))) → text_of o ≡ first_value f id → o ≡ None
+    → false ≡ is_given (rows_of f) id
+flag_none f id o value is = sym (ap (λ (t : Option (List ℕ)). bytes_eq (unwrap_or t []) (codes "true")) (first_is f id o None value is))
+
+pub flag_some : (f : Found) (id : Text) (o : Option (Bor (List ℕ))) (s : Bor (List ℕ)) → text_of o ≡ first_value f id → o ≡ Some s
+    → bytes_eq s.now (codes "true") ≡ is_given (rows_of f) id
+flag_some f id o s value is =
+    sym (ap (λ (t : Option (List ℕ)). bytes_eq (unwrap_or t []) (codes "true")) (first_is f id o (Some s) value is))
 
 pub file_of : (f : Found) (id : Text) (o found : Option (Bor (List ℕ))) (r : Option Argument) → text_of o ≡ first_value f id
     → o ≡ found → r ≡ plain_name (text_of found) → r ≡ plain_name (first_of id (rows_of f))
@@ -70,17 +80,21 @@ asked_given a b arguments ask m name same fine rows file =
 -- no command has this name
 pub none_asked : (arguments : List Argument) (verb : Argument) → slice_get arguments 0 ≡ Some verb
     → bytes_eq verb (codes "edit") ≡ false → bytes_eq verb (codes "render") ≡ false
-    → bytes_eq verb (codes "info") ≡ false → bytes_eq verb (codes "make") ≡ false → None ≡ asked_in arguments
-none_asked [] verb has e r i m = refl
-none_asked (w ∷ arguments) verb has e r i m =
+    → bytes_eq verb (codes "info") ≡ false → bytes_eq verb (codes "make") ≡ false
+    → bytes_eq verb (codes "pack") ≡ false → bytes_eq verb (codes "flatten") ≡ false
+    → bytes_eq verb (codes "view") ≡ false → None ≡ asked_in arguments
+none_asked [] verb has e r i m p f v = refl
+none_asked (w ∷ arguments) verb has e r i m p f v =
     let same : w ≡ verb = ap (λ (o : Option Argument). unwrap_or o w) has in
-    subst (λ v. None ≡ asked_in (v ∷ arguments)) (sym same) (rw (e, r, i, m) refl)
+    subst (λ v. None ≡ asked_in (v ∷ arguments)) (sym same) (rw (e, r, i, m, p, f, v) refl)
 
 pub none_among : (arguments : List (Bor Argument)) (verb : Bor Argument) → slice_get arguments 0 ≡ Some verb
     → bytes_eq verb.now (codes "edit") ≡ false → bytes_eq verb.now (codes "render") ≡ false
-    → bytes_eq verb.now (codes "info") ≡ false → bytes_eq verb.now (codes "make") ≡ false → None ≡ asked_in (arguments_of arguments)
-none_among [] verb has e r i m = refl
-none_among (w ∷ arguments) verb has e r i m = none_asked (arguments_of (w ∷ arguments)) verb.now (ap text_of has) e r i m
+    → bytes_eq verb.now (codes "info") ≡ false → bytes_eq verb.now (codes "make") ≡ false
+    → bytes_eq verb.now (codes "pack") ≡ false → bytes_eq verb.now (codes "flatten") ≡ false
+    → bytes_eq verb.now (codes "view") ≡ false → None ≡ asked_in (arguments_of arguments)
+none_among [] verb has e r i m p f v = refl
+none_among (w ∷ arguments) verb has e r i m p f v = none_asked (arguments_of (w ∷ arguments)) verb.now (ap text_of has) e r i m p f v
 
 pub differ_in_bytes : (a b : Argument) → (a ≡ b → ⊥) → bytes_eq a b ≡ false
 differ_in_bytes a b differs = go (bytes_eq a b) refl

@@ -1,5 +1,5 @@
 -- A value that a command took passed the parser of its argument.
-use Rattle.std.proofs.Common.{◌≡◌, ◌≢◌, ◌<◌, ◌≤◌, ℕ, zero, suc, List, [], ◌∷◌, Bool, true, false, true≢false, map}
+use Rattle.std.proofs.Common.{◌≡◌, ◌<◌, ◌≤◌, ℕ, zero, suc, List, [], ◌∷◌, Bool, true, false, map}
 use Rattle.std.proofs.Common.{length, Option, Some, None, option_map, refl, sym, ap, ◌∙◌, subst, arith, inl, inr, ◌⊎◌}
 use Rattle.std.specs.Prelude.{slice_get, unwrap_or}
 use Rattle.std.specs.List.{All, slice_index_or}
@@ -11,7 +11,7 @@ use Rattle.clap.specs.Facts.{args_of, groups_of, Entry, EntryPasses, PassesArg, 
 use Rattle.clap.specs.Built.{IsParsedFrom, IsAuto, SameRules}
 use Rattle.clap.specs.Matches.{matched_of, first_value, found_of}
 use Rattle.clap.specs.Values.{Accepts}
-use Rattle.clap.specs.Simple.{App, app_of, is_simple}
+use Rattle.clap.specs.Simple.{App, app_of}
 use Rattle.clap.specs.Walk.{Row, Rule, Text, first_of, rows_of, rule_of}
 use Rattle.clap.specs.declared.builder.arg.Arg.{Arg}
 use Rattle.clap.specs.declared.builder.command.Command.{Command}
@@ -28,8 +28,7 @@ use Rattle.std.specs.Prelude.{codes, pos, nat_abs, ◌^◌, ◌-◌}
 use Rattle.std.specs.Str.Parse.{signed_digits_value}
 use Rattle.std.proofs.lemmas.Int.{ints}
 use Rattle.std.specs.List.{list_all}
-use Rattle.clap.specs.Simple.{with_rule}
-use Rattle.spec_command.specs.Grammar.{edit_app, file_rule, number_rule, number_of, plain_app}
+use Rattle.spec_command.specs.Grammar.{edit_app, make_app, number_rule, number_of, view_app}
 
 accepts_of : (a y : Arg) (q : ValueParser) (t : List ℕ) → SameRules a y → a.value_parser ≡ Some q
     → Accepts y.ignore_case (parser_of y) t → Accepts a.ignore_case q t
@@ -96,74 +95,181 @@ module _ (old : Command) (m : ArgMatches) (p : IsParsedFrom old m) (k : ℕ) (d 
           entry_passes x found.0 t found.1
           ((bytes_eq-Decides found.0.0.now (slice_index_or (args_of old) k d).id.now).0 found.2) found.3 first
 
-two_rules : (xs : List Arg) (r s : Rule) → map rule_of xs ≡ r ∷ s ∷ []
-    → (a : Arg) × (b : Arg) × (xs ≡ a ∷ b ∷ []) × (rule_of a ≡ r) × (rule_of b ≡ s)
-two_rules [] r s e = let bad = ap length e in absurd (omega (arith, bad))
-two_rules (a ∷ []) r s e = let bad = ap length e in absurd (omega (arith, bad))
-two_rules (a ∷ b ∷ []) r s e = (a, b, refl, ap (λ l. slice_index_or l 0 r) e, ap (λ l. slice_index_or l 1 s) e)
-two_rules (a ∷ b ∷ c ∷ xs) r s e = let bad = ap length e in absurd (omega (arith, bad))
+-- ---- an argument by its place in the list of rules
 
--- a number of a command with this one option is at most the greatest that the option takes
-pub number_is_taken : (old : Command) (m : ArgMatches) → IsParsedFrom old m → (verb name : Text) (most : ℕ) (required : Bool)
-    → bytes_eq (codes "file") name ≡ false → (name ≡ [] → ⊥) → ((name ≡ codes "help") ⊎ (name ≡ codes "version") → ⊥)
-    → app_of old ≡ with_rule (plain_app verb) (number_rule name most required)
-    → (t : List ℕ) → first_of name (rows_of (found_of m)) ≡ Some t → IsSignedIn (pos 0) (pos most) t
-number_is_taken old m p verb name most required other named own is t has =
-    let two = two_rules (args_of old) file_rule (number_rule name most required) (ap (λ (a : App). a.top.rules) is) in
-    let a = two.0 in
-    let b = two.1 in
-    let list = two.2 in
-    let plain = plain_fields old (ap (λ (a : App). a.top.is_plain) is) in
-    let no_names = simple_groups old (ap (λ (a : App). list_all (λ r. r.is_simple) a.top.rules) is) in
-    let at : slice_index_or (args_of old) 1 b ≡ b = ap (λ l. slice_index_or l 1 b) list in
-    let id : (slice_index_or (args_of old) 1 b).id.now ≡ name = ap (λ (x : Arg). x.id.now) at ∙ ap (λ (r : Rule). r.id) two.4 in
-    let count : length (args_of old) ≡ 2 = ap length list in
-    value_passes old m p 1 b (omega (arith, count)) (unique a b list id (ap (λ (r : Rule). r.id) two.3)) (λ e. named (sym id ∙ e))
-    (λ auto. own (elim auto [ inl h ↦ inl (sym id ∙ h) | inr h ↦ inr (sym id ∙ h) ]))
-    (vp.Signed (pos 0) (pos most)) (ap (λ (x : Arg). x.value_parser) at ∙ ap (λ (r : Rule). r.parser) two.4)
-    plain.globals ((p.from.same_groups no_names).1 ∙ plain.groups) t (ap (first_value (found_of m)) id
-    ∙ (first_value-rows (found_of m) name ∙ has))
+one_of : (xs : List Arg) → 0 < length xs → Arg
+one_of [] some = absurd (omega (arith, some))
+one_of (x ∷ xs) some = x
+
+rule_at : (xs : List Arg) (j : ℕ) (d : Arg) → slice_index_or (map rule_of xs) j (rule_of d) ≡ rule_of (slice_index_or xs j d)
+rule_at [] j d = refl
+rule_at (x ∷ xs) zero d = refl
+rule_at (x ∷ xs) (suc j) d = rule_at xs j d
+
+rule_count : (xs : List Arg) → length (map rule_of xs) ≡ length xs
+rule_count [] = refl
+rule_count (x ∷ xs) = ap suc (rule_count xs)
+
+-- a plain command whose arguments are simple, with a number at this place, whose name no other argument has
+pub record HasNumber (app : App) (k : ℕ) (name : Text) (least most : ℕ) (required : Bool) : Type 0 where
+  pub plain : app.top.is_plain ≡ true
+  pub simple : list_all (λ r. r.is_simple) app.top.rules ≡ true
+  pub within : k < length app.top.rules
+  pub rule : (r : Rule) → slice_index_or app.top.rules k r ≡ number_rule name least most required
+  pub unique : (j : ℕ) (r : Rule) → j < length app.top.rules → bytes_eq (slice_index_or app.top.rules j r).id name ≡ true → j ≡ k
+  pub named : name ≡ [] → ⊥
+  pub own : (name ≡ codes "help") ⊎ (name ≡ codes "version") → ⊥
+
+-- such a number lies between the least and the greatest that the option takes
+pub number_is_taken : (old : Command) (m : ArgMatches) → IsParsedFrom old m → (app : App) (k : ℕ) (name : Text) (least most : ℕ)
+    (required : Bool) → HasNumber app k name least most required → app_of old ≡ app
+    → (t : List ℕ) → first_of name (rows_of (found_of m)) ≡ Some t → IsSignedIn (pos least) (pos most) t
+number_is_taken old m p app k name least most required h is t has =
+    let fields = plain_fields old (ap (λ (a : App). a.top.is_plain) is ∙ h.plain) in
+    let names = simple_groups old (ap (λ (a : App). list_all (λ r. r.is_simple) a.top.rules) is ∙ h.simple) in
+    value_passes old m p k d within unique (λ e. h.named (sym id ∙ e))
+    (λ auto. h.own (elim auto [ inl e ↦ inl (sym id ∙ e) | inr e ↦ inr (sym id ∙ e) ]))
+    (vp.Signed (pos least) (pos most)) (ap (λ (r : Rule). r.parser) rule)
+    fields.globals ((p.from.same_groups names).1 ∙ fields.groups) t
+    (ap (first_value (found_of m)) id ∙ (first_value-rows (found_of m) name ∙ has))
   where
-    unique : (a b : Arg) → args_of old ≡ a ∷ b ∷ [] → (slice_index_or (args_of old) 1 b).id.now ≡ name → a.id.now ≡ codes "file"
-        → (j : ℕ) (e : Arg) → j < length (args_of old)
-        → bytes_eq (slice_index_or (args_of old) j e).id.now (slice_index_or (args_of old) 1 b).id.now ≡ true → j ≡ 1
-    unique a b list id first zero e below same =
-        let file : (slice_index_or (args_of old) 0 e).id.now ≡ codes "file" =
-        ap (λ (l : List Arg). (slice_index_or l 0 e).id.now) list ∙ first in
-        let bad : bytes_eq (codes "file") name ≡ true = (λ i. bytes_eq (sym file i) (sym id i)) ∙ same in
-        absurd (true≢false (sym bad ∙ other))
-    unique a b list id first (suc zero) e below same = refl
-    unique a b list id first (suc (suc j)) e below same = let count = ap length list in absurd (omega (arith, count))
+    rules : map rule_of (args_of old) ≡ app.top.rules
+    rules = ap (λ (a : App). a.top.rules) is
+
+    count : length (args_of old) ≡ length app.top.rules
+    count = sym (rule_count (args_of old)) ∙ ap length rules
+
+    within : k < length (args_of old)
+    within = subst (λ n. k < n) (sym count) h.within
+
+    d : Arg
+    d = one_of (args_of old) (let few = within in omega (arith, few))
+
+    at : (j : ℕ) (e : Arg) → rule_of (slice_index_or (args_of old) j e) ≡ slice_index_or app.top.rules j (rule_of e)
+    at j e = sym (rule_at (args_of old) j e) ∙ ap (λ (rs : List Rule). slice_index_or rs j (rule_of e)) rules
+
+    rule : rule_of (slice_index_or (args_of old) k d) ≡ number_rule name least most required
+    rule = at k d ∙ h.rule (rule_of d)
+
+    id : (slice_index_or (args_of old) k d).id.now ≡ name
+    id = ap (λ (r : Rule). r.id) rule
+
+    unique : (j : ℕ) (e : Arg) → j < length (args_of old)
+        → bytes_eq (slice_index_or (args_of old) j e).id.now (slice_index_or (args_of old) k d).id.now ≡ true → j ≡ k
+    unique j e below same =
+        let its : (slice_index_or (args_of old) j e).id.now ≡ (slice_index_or app.top.rules j (rule_of e)).id =
+        ap (λ (r : Rule). r.id) (at j e) in
+        let both : bytes_eq (slice_index_or app.top.rules j (rule_of e)).id name ≡ true =
+        (λ i. bytes_eq (sym its i) (sym id i)) ∙ same in
+        h.unique j (rule_of e) (subst (λ n. j < n) count below) both
 
 -- so it is below 2 ^ 32
-pub number_is_small : (most : ℕ) (t : List ℕ) → most ≤ 2 ^ 32 - 1 → IsSignedIn (pos 0) (pos most) t
+pub number_is_small : (least most : ℕ) (t : List ℕ) → most ≤ 2 ^ 32 - 1 → IsSignedIn (pos least) (pos most) t
     → IsSignedIn (pos 0) (pos (2 ^ 32 - 1)) t
-number_is_small most t few low =
+number_is_small least most t few low =
+    let from = low.2 in
     let high = low.3 in
-    (low.0, low.1, low.2, omega (arith, ints, few, high))
+    (low.0, low.1, omega (arith, ints, from), omega (arith, ints, few, high))
 
 -- the number of an option, or the one that stands for it
-pub number_is_few : (rows : List Row) (name : Text) (default most : ℕ) → default ≤ most
-    → ((t : List ℕ) → first_of name rows ≡ Some t → IsSignedIn (pos 0) (pos most) t) → number_of rows name default ≤ most
-number_is_few rows name default most fits each = go (first_of name rows) refl
+pub number_is_within : (rows : List Row) (name : Text) (default least most : ℕ) → least ≤ default → default ≤ most
+    → ((t : List ℕ) → first_of name rows ≡ Some t → IsSignedIn (pos least) (pos most) t)
+    → (least ≤ number_of rows name default) × (number_of rows name default ≤ most)
+number_is_within rows name default least most some fits each = go (first_of name rows) refl
   where
     go : (o : Option (List ℕ)) → first_of name rows ≡ o
-        → unwrap_or (option_map (λ text. nat_abs (signed_digits_value 10 text)) o) default ≤ most
-    go None is = fits
+        → (least ≤ unwrap_or (option_map (λ text. nat_abs (signed_digits_value 10 text)) o) default)
+        × (unwrap_or (option_map (λ text. nat_abs (signed_digits_value 10 text)) o) default ≤ most)
+    go None is = (some, fits)
     go (Some t) is =
         let low = each t is in
-        let least = low.2 in
+        let from = low.2 in
         let high = low.3 in
-        omega (arith, ints, least, high)
+        (omega (arith, ints, from, high), omega (arith, ints, from, high))
 
--- so it is for the workers of an edit
-pub workers_are_taken : (old : Command) (m : ArgMatches) → IsParsedFrom old m → app_of old ≡ edit_app → (t : List ℕ)
-    → first_of (codes "workers") (rows_of (found_of m)) ≡ Some t → IsSignedIn (pos 0) (pos 8) t
-workers_are_taken old m p is =
-    number_is_taken old m p (codes "edit") (codes "workers") 8 false refl
-    (λ e. let bad = ap (λ l. slice_index_or l 0 0) e in absurd (omega (arith, bad)))
-    (λ auto. elim auto [
-      | inl e ↦ let bad = ap (λ l. slice_index_or l 0 0) e in absurd (omega (arith, bad))
-      | inr e ↦ let bad = ap (λ l. slice_index_or l 0 0) e in absurd (omega (arith, bad))
-    ])
-    is
+-- ---- the numbers of the commands
+
+not_empty : (a : ℕ) (rest : List ℕ) → a ∷ rest ≡ [] → ⊥
+not_empty a rest e = let bad = ap length e in absurd (omega (arith, bad))
+
+pub workers_are_there : HasNumber edit_app 1 (codes "workers") 0 8 false
+workers_are_there = record {
+  plain = refl;
+  simple = refl;
+  within = omega arith;
+  rule = λ r. refl;
+  unique = unique;
+  named = not_empty 119 (codes "orkers");
+  own = λ auto. elim auto [
+    | inl e ↦ let bad = ap (λ l. slice_index_or l 0 0) e in absurd (omega (arith, bad))
+    | inr e ↦ let bad = ap (λ l. slice_index_or l 0 0) e in absurd (omega (arith, bad))
+  ];
+}
+  where
+    unique : (j : ℕ) (r : Rule) → j < length edit_app.top.rules
+        → bytes_eq (slice_index_or edit_app.top.rules j r).id (codes "workers") ≡ true → j ≡ 1
+    unique zero r below same = cc
+    unique (suc zero) r below same = refl
+    unique (suc (suc j)) r below same = absurd (omega (arith, below))
+
+pub seed_is_there : HasNumber make_app 1 (codes "seed") 0 (2 ^ 32 - 1) true
+seed_is_there = record {
+  plain = refl;
+  simple = refl;
+  within = omega arith;
+  rule = λ r. refl;
+  unique = unique;
+  named = not_empty 115 (codes "eed");
+  own = λ auto. elim auto [
+    | inl e ↦ let bad = ap (λ l. slice_index_or l 0 0) e in absurd (omega (arith, bad))
+    | inr e ↦ let bad = ap (λ l. slice_index_or l 0 0) e in absurd (omega (arith, bad))
+  ];
+}
+  where
+    unique : (j : ℕ) (r : Rule) → j < length make_app.top.rules
+        → bytes_eq (slice_index_or make_app.top.rules j r).id (codes "seed") ≡ true → j ≡ 1
+    unique zero r below same = cc
+    unique (suc zero) r below same = refl
+    unique (suc (suc j)) r below same = absurd (omega (arith, below))
+
+pub cols_are_there : HasNumber view_app 1 (codes "cols") 1 16 true
+cols_are_there = record {
+  plain = refl;
+  simple = refl;
+  within = omega arith;
+  rule = λ r. refl;
+  unique = unique;
+  named = not_empty 99 (codes "ols");
+  own = λ auto. elim auto [
+    | inl e ↦ let bad = ap (λ l. slice_index_or l 0 0) e in absurd (omega (arith, bad))
+    | inr e ↦ let bad = ap (λ l. slice_index_or l 0 0) e in absurd (omega (arith, bad))
+  ];
+}
+  where
+    unique : (j : ℕ) (r : Rule) → j < length view_app.top.rules
+        → bytes_eq (slice_index_or view_app.top.rules j r).id (codes "cols") ≡ true → j ≡ 1
+    unique zero r below same = cc
+    unique (suc zero) r below same = refl
+    unique (suc (suc zero)) r below same = cc
+    unique (suc (suc (suc j))) r below same = absurd (omega (arith, below))
+
+pub rows_are_there : HasNumber view_app 2 (codes "rows") 1 16 true
+rows_are_there = record {
+  plain = refl;
+  simple = refl;
+  within = omega arith;
+  rule = λ r. refl;
+  unique = unique;
+  named = not_empty 114 (codes "ows");
+  own = λ auto. elim auto [
+    | inl e ↦ let bad = ap (λ l. slice_index_or l 0 0) e in absurd (omega (arith, bad))
+    | inr e ↦ let bad = ap (λ l. slice_index_or l 0 0) e in absurd (omega (arith, bad))
+  ];
+}
+  where
+    unique : (j : ℕ) (r : Rule) → j < length view_app.top.rules
+        → bytes_eq (slice_index_or view_app.top.rules j r).id (codes "rows") ≡ true → j ≡ 2
+    unique zero r below same = cc
+    unique (suc zero) r below same = cc
+    unique (suc (suc zero)) r below same = refl
+    unique (suc (suc (suc j))) r below same = absurd (omega (arith, below))

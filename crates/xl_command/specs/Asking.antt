@@ -1,8 +1,8 @@
 -- What a command of the code asks for.
-use Rattle.std.specs.Prelude.{◌≤◌, List, Option, Some, None, map, if◌then◌else◌}
+use Rattle.std.specs.Prelude.{◌≤◌, ℕ, List, Option, Some, None, map, if◌then◌else◌}
 use denote.Ref.{Bor}
 use Rattle.std.specs.Str.Parse.{starts_with_minus}
-use Rattle.spec_command.specs.Arguments.{Argument, Asked, edit, render, info, make}
+use Rattle.spec_command.specs.Arguments.{Argument, Asked, edit, render, info, make, pack, flatten, view}
 use Rattle.xl_command.specs.declared.command.Command.{Command}
 use Rattle.xl_command.specs.declared.command.Command.TheVariants as code
 
@@ -20,10 +20,23 @@ asked_of (code.Edit name workers) = edit name.now workers
 asked_of (code.Render name) = render name.now
 asked_of (code.Info name) = info name.now
 asked_of (code.Make name seed) = make name.now seed
+asked_of (code.Pack name with_plans) = pack name.now with_plans
+asked_of (code.Flatten name) = flatten name.now
+asked_of (code.View name cols rows) = view name.now cols rows
 
--- an edit asks for eight workers at most
-abbrev pub HasFewWorkers : Asked → Type 0
-HasFewWorkers (edit name workers) = workers ≤ 8
-HasFewWorkers (render name) = Unit {0}
-HasFewWorkers (info name) = Unit {0}
-HasFewWorkers (make name seed) = Unit {0}
+-- a window has 1 to 16 columns and rows
+pub record IsWindowSize (cols rows : ℕ) : Type 0 where
+  pub some_cols : 1 ≤ cols
+  pub few_cols : cols ≤ 16
+  pub some_rows : 1 ≤ rows
+  pub few_rows : rows ≤ 16
+
+-- an edit asks for eight workers at most, and a view for a window
+abbrev pub IsInRange : Asked → Type 0
+IsInRange (edit name workers) = workers ≤ 8
+IsInRange (render name) = Unit {0}
+IsInRange (info name) = Unit {0}
+IsInRange (make name seed) = Unit {0}
+IsInRange (pack name with_plans) = Unit {0}
+IsInRange (flatten name) = Unit {0}
+IsInRange (view name cols rows) = IsWindowSize cols rows

@@ -9,4 +9,10 @@ pub enum Command<'a> {
     Info(&'a str),
     /// Makes a file from a seed.
     Make(&'a str, u32),
+    /// Saves a file as small as it can be, and tells how it is spelled where that is asked for.
+    Pack(&'a str, bool),
+    /// Puts one layer in the place of all nodes of a file.
+    Flatten(&'a str),
+    /// Shows windows of a file, of so many columns and rows of tiles.
+    View(&'a str, u32, u32),
 }

@@ -1,9 +1,10 @@
 //! The commands as clap takes them.
 ghost use Rattle.std.specs.Prelude.{◌≡◌, ◌^◌, ◌-◌, true, false, IfOk, codes};
 ghost use Rattle.clap.specs.Words.{app_of, rule_of};
-ghost use Rattle.spec_command.specs.Grammar.{file_rule, number_rule, plain_app, edit_app, make_app};
+ghost use Rattle.spec_command.specs.Grammar.{file_rule, flag_rule, number_rule, plain_app};
+ghost use Rattle.spec_command.specs.Grammar.{edit_app, make_app, pack_app, view_app};
 
-use clap::{Arg, Command, value_parser};
+use clap::{Arg, ArgAction, Command, value_parser};
 use std::alloc::{AllocError, Global};
 
 // The name of the file, which has to be there.
@@ -15,7 +16,7 @@ fn file<'a>(alloc: Global) -> Arg<'a>
 }
 
 fn workers<'a>(alloc: Global) -> Arg<'a>
-    ensures rule { rule_of result ≡ number_rule (codes "workers") 8 false }
+    ensures rule { rule_of result ≡ number_rule (codes "workers") 0 8 false }
     ensures local { result.global ≡ false }
 {
     Arg::new(alloc, "workers")
@@ -24,13 +25,33 @@ fn workers<'a>(alloc: Global) -> Arg<'a>
 }
 
 fn seed<'a>(alloc: Global) -> Arg<'a>
-    ensures rule { rule_of result ≡ number_rule (codes "seed") (2 ^ 32 - 1) true }
+    ensures rule { rule_of result ≡ number_rule (codes "seed") 0 (2 ^ 32 - 1) true }
     ensures local { result.global ≡ false }
 {
     Arg::new(alloc, "seed")
         .long("seed")
         .required(true)
         .value_parser(value_parser!(u32))
+}
+
+fn plan<'a>(alloc: Global) -> Arg<'a>
+    ensures rule { rule_of result ≡ flag_rule (codes "plan") }
+    ensures local { result.global ≡ false }
+{
+    Arg::new(alloc, "plan")
+        .long("plan")
+        .action(ArgAction::SetTrue)
+}
+
+// A side of a window, in tiles.
+fn side<'a>(alloc: Global, name: &'a str) -> Arg<'a>
+    ensures rule { rule_of result ≡ number_rule name.entry.now 1 16 true }
+    ensures local { result.global ≡ false }
+{
+    Arg::new(alloc, name)
+        .long(name)
+        .required(true)
+        .value_parser(value_parser!(u32).range(1..=16))
 }
 
 /// A command with a file alone.
@@ -50,4 +71,17 @@ pub fn make_command<'a>(alloc: Global) -> Result<Command<'a>, AllocError>
     ensures { IfOk result (λ c. app_of c ≡ make_app) }
 {
     plain_command(alloc, "make")?.arg(seed(alloc))
+}
+
+pub fn pack_command<'a>(alloc: Global) -> Result<Command<'a>, AllocError>
+    ensures { IfOk result (λ c. app_of c ≡ pack_app) }
+{
+    plain_command(alloc, "pack")?.arg(plan(alloc))
+}
+
+pub fn view_command<'a>(alloc: Global) -> Result<Command<'a>, AllocError>
+    ensures { IfOk result (λ c. app_of c ≡ view_app) }
+{
+    let command = plain_command(alloc, "view")?.arg(side(alloc, "cols"))?;
+    command.arg(side(alloc, "rows"))
 }

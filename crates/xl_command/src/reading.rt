@@ -2,14 +2,15 @@ ghost use Rattle.std.specs.Prelude.{◌≡◌, nat_abs, ◌^◌, ◌-◌, ℕ, L
 ghost use Rattle.std.specs.Prelude.{option_map, codes};
 ghost use Rattle.clap.specs.Words.{app_of, found_of, rows_of, matches_of, first_of, is_simple_and_free, IsParsedFrom, IsSignedIn};
 ghost use Rattle.spec_command.specs.Grammar.{edit_app, edit_of, is_faultless, make_app, make_of, number_of, plain_app};
+ghost use Rattle.spec_command.specs.Grammar.{pack_app, pack_of, view_app, view_of, is_given};
 ghost use Rattle.spec_command.specs.Grammar.{plain_of, asked_in, asked_where};
 ghost use Rattle.spec_command.specs.Arguments.{Argument, Asked};
 ghost use Rattle.spec_command.specs.Arguments as definition;
 ghost use Rattle.std.specs.Str.Parse.{signed_digits_value};
-ghost use Rattle.xl_command.specs.Asking.{asked_of, plain_name, arguments_of, HasFewWorkers};
+ghost use Rattle.xl_command.specs.Asking.{asked_of, plain_name, arguments_of, IsInRange};
 
 use crate::command::Command;
-use crate::grammar::{edit_command, make_command, plain_command};
+use crate::grammar::{edit_command, make_command, pack_command, plain_command, view_command};
 use clap::ArgMatches;
 use clap::error::ErrorKind;
 use std::alloc::{AllocError, Global};
@@ -82,6 +83,16 @@ fn number_in(matches: &ArgMatches<'_>, id: &str, default: u32) -> u32
     }
 }
 
+// Whether an option that has no value is given.
+fn flag_in(matches: &ArgMatches<'_>, id: &str) -> bool
+    ensures { result ≡ is_given (rows_of (found_of matches.now)) id.now }
+{
+    match matches.get_str(id) {
+        None => false,
+        Some(text) => text == "true",
+    }
+}
+
 // The name of the file of a command without an option.
 fn plain_file<'a>(
     alloc: Global,
@@ -104,7 +115,7 @@ fn render<'a>(
 ) -> Result<Option<Command<'a>>, AllocError>
     ensures asked { IfOk result (λ command. option_map asked_of command
         ≡ asked_where (plain_app verb.entry.now) (arguments_of arguments.entry.now) (plain_of definition.render)) }
-    ensures few { IfOk result (λ command. IfSome command (λ command. HasFewWorkers (asked_of command))) }
+    ensures range { IfOk result (λ command. IfSome command (λ command. IsInRange (asked_of command))) }
 {
     match plain_file(alloc, verb, arguments)? {
         Some(name) => Ok(Some(Command::Render(name))),
@@ -119,7 +130,7 @@ fn info<'a>(
 ) -> Result<Option<Command<'a>>, AllocError>
     ensures asked { IfOk result (λ command. option_map asked_of command
         ≡ asked_where (plain_app verb.entry.now) (arguments_of arguments.entry.now) (plain_of definition.info)) }
-    ensures few { IfOk result (λ command. IfSome command (λ command. HasFewWorkers (asked_of command))) }
+    ensures range { IfOk result (λ command. IfSome command (λ command. IsInRange (asked_of command))) }
 {
     match plain_file(alloc, verb, arguments)? {
         Some(name) => Ok(Some(Command::Info(name))),
@@ -130,7 +141,7 @@ fn info<'a>(
 fn edit<'a>(alloc: Global, arguments: &'a [&'a str]) -> Result<Option<Command<'a>>, AllocError>
     ensures asked { IfOk result (λ command. option_map asked_of command
         ≡ asked_where edit_app (arguments_of arguments.entry.now) edit_of) }
-    ensures few { IfOk result (λ command. IfSome command (λ command. HasFewWorkers (asked_of command))) }
+    ensures range { IfOk result (λ command. IfSome command (λ command. IsInRange (asked_of command))) }
 {
     let Some(matches) = matches_in(edit_command(alloc)?, arguments)? else {
         return Ok(None);
@@ -144,7 +155,7 @@ fn edit<'a>(alloc: Global, arguments: &'a [&'a str]) -> Result<Option<Command<'a
 fn make<'a>(alloc: Global, arguments: &'a [&'a str]) -> Result<Option<Command<'a>>, AllocError>
     ensures asked { IfOk result (λ command. option_map asked_of command
         ≡ asked_where make_app (arguments_of arguments.entry.now) make_of) }
-    ensures few { IfOk result (λ command. IfSome command (λ command. HasFewWorkers (asked_of command))) }
+    ensures range { IfOk result (λ command. IfSome command (λ command. IsInRange (asked_of command))) }
 {
     let Some(matches) = matches_in(make_command(alloc)?, arguments)? else {
         return Ok(None);
@@ -155,13 +166,58 @@ fn make<'a>(alloc: Global, arguments: &'a [&'a str]) -> Result<Option<Command<'a
     Ok(Some(Command::Make(name, number_in(&matches, "seed", 0))))
 }
 
+fn pack<'a>(alloc: Global, arguments: &'a [&'a str]) -> Result<Option<Command<'a>>, AllocError>
+    ensures asked { IfOk result (λ command. option_map asked_of command
+        ≡ asked_where pack_app (arguments_of arguments.entry.now) pack_of) }
+    ensures range { IfOk result (λ command. IfSome command (λ command. IsInRange (asked_of command))) }
+{
+    let Some(matches) = matches_in(pack_command(alloc)?, arguments)? else {
+        return Ok(None);
+    };
+    let Some(name) = file_in(&matches) else {
+        return Ok(None);
+    };
+    Ok(Some(Command::Pack(name, flag_in(&matches, "plan"))))
+}
+
+fn flatten<'a>(
+    alloc: Global,
+    verb: &'a str,
+    arguments: &'a [&'a str],
+) -> Result<Option<Command<'a>>, AllocError>
+    ensures asked { IfOk result (λ command. option_map asked_of command
+        ≡ asked_where (plain_app verb.entry.now) (arguments_of arguments.entry.now) (plain_of definition.flatten)) }
+    ensures range { IfOk result (λ command. IfSome command (λ command. IsInRange (asked_of command))) }
+{
+    match plain_file(alloc, verb, arguments)? {
+        Some(name) => Ok(Some(Command::Flatten(name))),
+        None => Ok(None),
+    }
+}
+
+fn view<'a>(alloc: Global, arguments: &'a [&'a str]) -> Result<Option<Command<'a>>, AllocError>
+    ensures asked { IfOk result (λ command. option_map asked_of command
+        ≡ asked_where view_app (arguments_of arguments.entry.now) view_of) }
+    ensures range { IfOk result (λ command. IfSome command (λ command. IsInRange (asked_of command))) }
+{
+    let Some(matches) = matches_in(view_command(alloc)?, arguments)? else {
+        return Ok(None);
+    };
+    let Some(name) = file_in(&matches) else {
+        return Ok(None);
+    };
+    let cols = number_in(&matches, "cols", 1);
+    let rows = number_in(&matches, "rows", 1);
+    Ok(Some(Command::View(name, cols, rows)))
+}
+
 /// The command that the arguments are. No other arguments are one.
 pub fn command_of<'a>(
     alloc: Global,
     arguments: &'a [&'a str],
 ) -> Result<Option<Command<'a>>, AllocError>
     ensures asked { IfOk result (λ command. option_map asked_of command ≡ asked_in (arguments_of arguments.entry.now)) }
-    ensures few { IfOk result (λ command. IfSome command (λ command. HasFewWorkers (asked_of command))) }
+    ensures range { IfOk result (λ command. IfSome command (λ command. IsInRange (asked_of command))) }
 {
     let Some(verb) = arguments.first() else {
         return Ok(None);
@@ -171,6 +227,9 @@ pub fn command_of<'a>(
         "render" => render(alloc, *verb, arguments),
         "info" => info(alloc, *verb, arguments),
         "make" => make(alloc, arguments),
+        "pack" => pack(alloc, arguments),
+        "flatten" => flatten(alloc, *verb, arguments),
+        "view" => view(alloc, arguments),
         _ => Ok(None),
     }
 }

@@ -4,10 +4,10 @@ use spec_fields::ReadRefused;
 use std::alloc::{AllocError, Global};
 use xl_command::{Command, command_of};
 use xl_program::Stopped;
-use xl_why::cause_of;
+use xl_why::{cause_of, cause_of_viewed};
 
 const USAGE: &str =
-    "these words are no command; the commands are\n  xcfedit render FILE              writes the picture of FILE as a PAM\n  xcfedit info FILE                writes the layers of FILE as a line of JSON\n  xcfedit edit FILE [--workers N]  runs a script from standard input on FILE, N from 0 to 8\n  xcfedit make FILE --seed N       saves the document of the seed N, runs the seed's script on FILE and sums the run up in a line";
+    "these words are no command; the commands are\n  xcfedit render FILE              writes the picture of FILE as a PAM\n  xcfedit info FILE                writes the layers of FILE as a line of JSON\n  xcfedit edit FILE [--workers N]  runs a script from standard input on FILE, N from 0 to 8\n  xcfedit make FILE --seed N       saves the document of the seed N, runs the seed's script on FILE and sums the run up in a line\n  xcfedit pack FILE [--plan]       saves FILE as small as it can be with run-length coded tiles\n  xcfedit flatten FILE             puts one layer in the place of all nodes of FILE\n  xcfedit view FILE --cols W --rows H  runs a script of session 0 on FILE, a tile with its neighbours, W and H from 1 to 16";
 
 /// The status where memory ran out.
 const MEMORY: u8 = 8;
@@ -35,6 +35,7 @@ fn file_of(command: Command<'_>) -> &str {
     match command {
         Command::Edit(name, _) | Command::Make(name, _) => name,
         Command::Render(name) | Command::Info(name) => name,
+        Command::Pack(name, _) | Command::Flatten(name) | Command::View(name, _, _) => name,
     }
 }
 
@@ -47,9 +48,12 @@ fn stop_text(
     let name = file_of(command);
     match stopped {
         Stopped::SourceFault => String::from_str(alloc, "the script cannot be read"),
-        Stopped::BadLine(number) => line_text(alloc, script, number),
+        Stopped::BadLine(number) => line_text(alloc, command, script, number),
         Stopped::ShelfFault => shelf_text(alloc, command),
         Stopped::Refused(refused) => refusal_text(alloc, name, refused),
+        Stopped::NotFlattened(why) => format!(in alloc;
+            "{name}: the image cannot be made flat: {why}"
+        ),
         Stopped::SaveFault => format!(in alloc; "{name}: a save failed"),
         Stopped::SinkFault => String::from_str(alloc, "the output cannot be written"),
         Stopped::Memory => String::from_str(alloc, "out of memory"),
@@ -57,17 +61,28 @@ fn stop_text(
 }
 
 // The bad line of a script.
-fn line_text(alloc: Global, script: &[u8], number: u32) -> Result<String, AllocError> {
-    let fault = cause_text(alloc, cause_of(script, number))?;
+fn line_text(
+    alloc: Global,
+    command: Command<'_>,
+    script: &[u8],
+    number: u32,
+) -> Result<String, AllocError> {
+    let cause = match command {
+        Command::View(_, _, _) => cause_of_viewed(script, number),
+        _ => cause_of(script, number),
+    };
+    let fault = cause_text(alloc, cause)?;
     format!(in alloc; "script line {number}: {fault}")
 }
 
-// A fault of the shelf before the output: what is made is not read, but saved.
+// A fault of the shelf before the output: what is made is not read, but saved, and two commands may have failed at either.
 fn shelf_text(alloc: Global, command: Command<'_>) -> Result<String, AllocError> {
     let name = file_of(command);
     let done = match command {
         Command::Make(_, _) => "saved",
-        Command::Edit(_, _) | Command::Render(_) | Command::Info(_) => "read",
+        Command::Edit(_, _) | Command::Render(_) | Command::Info(_) | Command::View(_, _, _) =>
+            "read",
+        Command::Pack(_, _) | Command::Flatten(_) => "read or saved",
     };
     format!(in alloc; "{name}: the file cannot be {done}")
 }

@@ -177,7 +177,7 @@ fn the_commands_are_listed(rt: HostRuntime) -> Result<(), Fail> {
     let words = ["edit"];
     let text = message(alloc, words.as_slice(), 2, None, &[])?;
     assert!(rt; text.as_str().starts_with("these words are no command"));
-    assert_eq!(rt; text.as_str().lines().count(), 5);
+    assert_eq!(rt; text.as_str().lines().count(), 8);
     Ok(())
 }
 

@@ -17,7 +17,7 @@ use Rattle.spec_world.specs.Events.{where_tile, reply_to}
 use Rattle.spec_world.specs.Right.{IsRight}
 use Rattle.spec_world.specs.Exact.{SlotsAreExact}
 use Rattle.spec_world.proofs.StaysExact.{answers-so}
-use Rattle.spec_seats.proofs.Shown.{tile_either}
+use Rattle.spec_text.proofs.Shown.{tile_either}
 
 -- ---- entries behind others
 

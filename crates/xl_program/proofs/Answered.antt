@@ -13,7 +13,7 @@ use Rattle.spec_history.specs.Machine.{document_at, names, stays, made, answer, 
 use Rattle.spec_history.specs.Kept.{IsFreshReply}
 use Rattle.spec_history.proofs.Growing.{cond_both}
 use Rattle.spec_text.specs.Text.{is_save_memory}
-use Rattle.spec_seats.proofs.Shown.{tile_either}
+use Rattle.spec_text.proofs.Shown.{tile_either}
 use Rattle.spec_world.specs.World.{World}
 use Rattle.spec_world.specs.Events.{peek_reply, where_tile, reply_to}
 

@@ -6,7 +6,7 @@ use Rattle.xl_ports.specs.Faults.{Rose}
 use Rattle.xl_program.specs.Outcome.{FaultsRose, ShelfCause, ShelfCauseOf}
 use Rattle.xl_program.specs.declared.stopped.Stopped.{Stopped}
 use Rattle.xl_program.specs.declared.stopped.Stopped.TheVariants.{SourceFault, BadLine, ShelfFault, Refused, SaveFault}
-use Rattle.xl_program.specs.declared.stopped.Stopped.TheVariants.{SinkFault, Memory}
+use Rattle.xl_program.specs.declared.stopped.Stopped.TheVariants.{NotFlattened, SinkFault, Memory}
 
 -- the cause of a command that a fault of reading stops
 pub cause_of : (before after : Known) (command : Asked) (result : Result (Unit {0}) Stopped)
@@ -17,6 +17,7 @@ cause_of before after command (Err SourceFault) rises cause = cause
 cause_of before after command (Err (BadLine number)) rises cause = cause
 cause_of before after command (Err ShelfFault) rises cause = rises cause
 cause_of before after command (Err (Refused why)) rises cause = cause
+cause_of before after command (Err (NotFlattened why)) rises cause = cause
 cause_of before after command (Err SaveFault) rises cause = cause
 cause_of before after command (Err SinkFault) rises cause = cause
 cause_of before after command (Err Memory) rises cause = cause

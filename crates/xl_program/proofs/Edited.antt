@@ -6,14 +6,15 @@ use Rattle.spec_command.specs.Arguments.{edit}
 use Rattle.spec_document.specs.Document.{Document}
 use Rattle.spec_document.specs.Limits.{IsDocument}
 use Rattle.spec_saves.specs.Names.{save_faults}
-use Rattle.xl_program.specs.Outcome.{Given, HoldsDocument, HasLines, Shelved, opened, IsUntouched, IsHistory}
+use Rattle.xl_program.specs.Files.{HoldsDocument}
+use Rattle.xl_program.specs.Outcome.{Given, HasLines, Shelved, opened, IsUntouched, IsHistory}
 use Rattle.xl_program.specs.Outcome.{IsReplies, NoneFailed, SomeFailed, AnyFailed, ComesTo}
 use Rattle.xl_ports.specs.Shelf.{Content}
 use Rattle.xl_program.specs.Parts.{Loads, ReadsScript, StopsEdit, WhetherFailed, IsPlayed, WritesReplies}
 use Rattle.xl_program.specs.declared.playing.Replies.{Replies}
 use Rattle.xl_program.specs.declared.stopped.Stopped.{Stopped}
 use Rattle.xl_program.specs.declared.stopped.Stopped.TheVariants.{SourceFault, BadLine, ShelfFault, Refused, SaveFault}
-use Rattle.xl_program.specs.declared.stopped.Stopped.TheVariants.{SinkFault, Memory}
+use Rattle.xl_program.specs.declared.stopped.Stopped.TheVariants.{NotFlattened, SinkFault, Memory}
 use Rattle.spec_script.specs.Fits.{FitsFilters}
 use Rattle.spec_script.specs.Script.{Line}
 use Rattle.xl_doc.specs.Numbered.{AreNumbered}
@@ -90,6 +91,7 @@ module _ {given : Given} {before mid : Shelved} {name : List ℕ} {d : Document}
   played_comes held faults old new (Ok replies) (Err (BadLine number)) played writes = absurd writes
   played_comes held faults old new (Ok replies) (Err ShelfFault) played writes = absurd writes
   played_comes held faults old new (Ok replies) (Err (Refused refused)) played writes = absurd writes
+  played_comes held faults old new (Ok replies) (Err (NotFlattened why)) played writes = absurd writes
   played_comes held faults old new (Ok replies) (Err Memory) played writes = absurd writes
   played_comes held faults old new (Err e) result played writes =
       subst (λ (r : Result (Unit {0}) Stopped). ComesTo held faults given before after (edit name workers) old new r) (sym writes.0)
@@ -105,6 +107,7 @@ read_stopped held faults given s name sink SourceFault reads workers = ((refl, r
 read_stopped held faults given s name sink (BadLine number) reads workers = ((refl, refl), untouched s)
 read_stopped held faults given s name sink ShelfFault reads workers = absurd reads
 read_stopped held faults given s name sink (Refused refused) reads workers = absurd reads
+read_stopped held faults given s name sink (NotFlattened cause) reads workers = absurd reads
 read_stopped held faults given s name sink SaveFault reads workers = absurd reads
 read_stopped held faults given s name sink SinkFault reads workers = absurd reads
 read_stopped held faults given s name sink Memory reads workers = ((refl, refl), inl (untouched s))
@@ -116,6 +119,7 @@ load_stops given content lists SourceFault has loads = absurd loads
 load_stops given content lists (BadLine number) has loads = absurd loads
 load_stops given content lists ShelfFault has loads = (lists, has)
 load_stops given content lists (Refused refused) has loads = ((lists, has), loads)
+load_stops given content lists (NotFlattened cause) has loads = absurd loads
 load_stops given content lists SaveFault has loads = absurd loads
 load_stops given content lists SinkFault has loads = absurd loads
 load_stops given content lists Memory has loads = tt
@@ -129,6 +133,7 @@ play_stops held faults old new given content lists (Ok replies) (Err SourceFault
 play_stops held faults old new given content lists (Ok replies) (Err (BadLine number)) has writes = absurd writes
 play_stops held faults old new given content lists (Ok replies) (Err ShelfFault) has writes = absurd writes
 play_stops held faults old new given content lists (Ok replies) (Err (Refused refused)) has writes = absurd writes
+play_stops held faults old new given content lists (Ok replies) (Err (NotFlattened why)) has writes = absurd writes
 play_stops held faults old new given content lists (Ok replies) (Err SaveFault) has writes = (lists, has)
 play_stops held faults old new given content lists (Ok replies) (Err SinkFault) has writes = tt
 play_stops held faults old new given content lists (Ok replies) (Err Memory) has writes = absurd writes

@@ -10,6 +10,8 @@ mod Edited
 mod Keeping
 mod LastFile
 mod FirstSaves
+mod FlatGroup
+mod FlatSaves
 mod MadeFiles
 mod MadeRuns
 mod MadeScripts

@@ -13,7 +13,7 @@ use Rattle.spec_file.specs.Header.{header_of}
 use Rattle.spec_file.specs.Holds.{Holds}
 use Rattle.spec_file.specs.Reading.{reading, fault_in}
 use Rattle.xl_ports.specs.Shelf.{Content, absent, file, GivesFront}
-use Rattle.xl_program.specs.Outcome.{HoldsDocument, HasFault}
+use Rattle.xl_program.specs.Files.{HoldsDocument, HasFault}
 
 -- a file as long as the limit is refused, whatever is in it
 too_long : (bytes : List ℕ) → 2 ^ 31 ≤ length bytes → reading bytes ≡ Err (fault TooLarge (2 ^ 31 - 1))

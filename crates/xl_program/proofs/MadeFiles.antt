@@ -15,7 +15,7 @@ use Rattle.spec_saves.specs.Names.{is_fault, ends_by_fault, save_faults}
 use Rattle.spec_merged.specs.Fills.{EndsWithSave}
 use Rattle.spec_script.specs.Script.{Line, call, save, forget}
 use Rattle.spec_text.specs.Text.{made_by, is_save_memory}
-use Rattle.xl_program.specs.Playing.{calls_made}
+use Rattle.spec_text.specs.Text.{calls_along}
 
 -- ---- the entries behind the start of the last save
 
@@ -30,12 +30,12 @@ line_is_there (Some x) line lines is none = let bad : x ∷ lines ≡ [] = none 
 
 -- nothing can end where no save is out
 nothing_more : (base : Document) (s : State) (earlier es : List Entry) → s.out ≡ None → RunFrom base s earlier es
-    → calls_made es ≡ [] → es ≡ []
+    → calls_along es ≡ [] → es ≡ []
 nothing_more base s earlier [] out run none = refl
 nothing_more base s earlier (e ∷ es) out run none = go e.kind refl run.0 where
   go : (k : Kind) → e.kind ≡ k → MayBe base s earlier e k → e ∷ es ≡ []
-  go (asked c tables) is may = absurd (line_is_there (made_by e.kind) (call c) (calls_made es) (ap made_by is) none)
-  go starts is may = absurd (line_is_there (made_by e.kind) save (calls_made es) (ap made_by is) none)
+  go (asked c tables) is may = absurd (line_is_there (made_by e.kind) (call c) (calls_along es) (ap made_by is) none)
+  go starts is may = absurd (line_is_there (made_by e.kind) save (calls_along es) (ap made_by is) none)
   go ends is may = absurd (subst (λ (o : Option Saving). MayEnd o e.session e.index e.reply) out may)
 
 well_end : (v : ℕ) (ns : List Named) (r : Reply) → EndsWith v r → is_save_memory r ≡ false → is_fault r ≡ false
@@ -48,19 +48,19 @@ well_end v ns r same memory fault = absurd same
 -- the end of the save that is out is the last entry
 ends_well : (base : Document) (s : State) (earlier es : List Entry) (ns : List Named) (o : Saving) → s.out ≡ Some o
     → o.version ≡ latest s → RunFrom base s earlier es → (replay_from base s es).out ≡ None
-    → calls_made es ≡ [] → AllByRecursion IsWell es → fold after_one ns es ≡ version (latest (replay_from base s es)) ∷ []
+    → calls_along es ≡ [] → AllByRecursion IsWell es → fold after_one ns es ≡ version (latest (replay_from base s es)) ∷ []
 ends_well base s earlier [] ns o out at run last none well = let bad : false ≡ true = ap is_some (sym last ∙ out) in cc
 ends_well base s earlier (e ∷ es) ns o out at run last none well = go e.kind refl run.0 where
   go : (k : Kind) → e.kind ≡ k → MayBe base s earlier e k
       → fold after_one ns (e ∷ es) ≡ version (latest (replay_from base s (e ∷ es))) ∷ []
-  go (asked c tables) is may = absurd (line_is_there (made_by e.kind) (call c) (calls_made es) (ap made_by is) none)
-  go starts is may = absurd (line_is_there (made_by e.kind) save (calls_made es) (ap made_by is) none)
+  go (asked c tables) is may = absurd (line_is_there (made_by e.kind) (call c) (calls_along es) (ap made_by is) none)
+  go starts is may = absurd (line_is_there (made_by e.kind) save (calls_along es) (ap made_by is) none)
   go ends is may =
       let with : MayEnd (Some o) e.session e.index e.reply =
       subst (λ (x : Option Saving). MayEnd x e.session e.index e.reply) out may in
       let fault : is_fault e.reply ≡ false = subst (λ (k : Kind). ends_by_fault k e.reply ≡ false) is well.0.fault in
       let state : after_entry base s e ≡ record s { out = None } = ap (after_kind base s e) is in
-      let rest : calls_made es ≡ [] = subst (λ (k : Kind). cons_option (made_by k) (calls_made es) ≡ []) is none in
+      let rest : calls_along es ≡ [] = subst (λ (k : Kind). cons_option (made_by k) (calls_along es) ≡ []) is none in
       let over : es ≡ [] =
       nothing_more base (after_entry base s e) (earlier ++ e ∷ []) es (ap (λ (t : State). t.out) state) run.1 rest in
       let first : after_one ns e ≡ version (latest s) ∷ [] =
@@ -85,7 +85,7 @@ first_of (x ∷ xs) = x
 
 module _ (base : Document) where
   saved_last : (s : State) (earlier es : List Entry) (ns : List Named) → RunFrom base s earlier es
-      → (replay_from base s es).out ≡ None → EndsWithSave (calls_made es) → AllByRecursion IsWell es
+      → (replay_from base s es).out ≡ None → EndsWithSave (calls_along es) → AllByRecursion IsWell es
       → fold after_one ns es ≡ version (latest (replay_from base s es)) ∷ []
   saved_last s earlier [] ns run last ([], is) well = let bad : [] ≡ save ∷ [] = is in cc
   saved_last s earlier [] ns run last (x ∷ front, is) well = let bad : [] ≡ x ∷ (front ++ save ∷ []) = is in cc
@@ -93,29 +93,29 @@ module _ (base : Document) where
       by_kind e.kind refl run.0 front is
       (λ f same. saved_last (after_entry base s e) (earlier ++ e ∷ []) es (after_one ns e) run.1 last (f, same) well.1) where
         by_kind : (k : Kind) → e.kind ≡ k → MayBe base s earlier e k → (f : List Line)
-            → cons_option (made_by e.kind) (calls_made es) ≡ f ++ save ∷ []
-            → ((f : List Line) → calls_made es ≡ f ++ save ∷ []
+            → cons_option (made_by e.kind) (calls_along es) ≡ f ++ save ∷ []
+            → ((f : List Line) → calls_along es ≡ f ++ save ∷ []
             → fold after_one (after_one ns e) es ≡ version (latest (replay_from base (after_entry base s e) es)) ∷ [])
             → fold after_one ns (e ∷ es) ≡ version (latest (replay_from base s (e ∷ es))) ∷ []
         by_kind (asked c tables) kind may [] same rest =
-            let here : call c ∷ calls_made es ≡ save ∷ [] =
-            ap (λ (k : Kind). cons_option (made_by k) (calls_made es)) (sym kind) ∙ same in
+            let here : call c ∷ calls_along es ≡ save ∷ [] =
+            ap (λ (k : Kind). cons_option (made_by k) (calls_along es)) (sym kind) ∙ same in
             let bad : false ≡ true = ap (λ (ls : List Line). is_save (first_of ls)) here in cc
         by_kind (asked c tables) kind may (x ∷ f) same rest =
-            rest f (tail_of (call c) x (calls_made es) (f ++ save ∷ [])
-            (ap (λ (k : Kind). cons_option (made_by k) (calls_made es)) (sym kind) ∙ same))
+            rest f (tail_of (call c) x (calls_along es) (f ++ save ∷ [])
+            (ap (λ (k : Kind). cons_option (made_by k) (calls_along es)) (sym kind) ∙ same))
         by_kind starts kind may [] same rest =
-            let none : calls_made es ≡ [] =
-            tail_of save save (calls_made es) []
-            (ap (λ (k : Kind). cons_option (made_by k) (calls_made es)) (sym kind) ∙ same) in
+            let none : calls_along es ≡ [] =
+            tail_of save save (calls_along es) []
+            (ap (λ (k : Kind). cons_option (made_by k) (calls_along es)) (sym kind) ∙ same) in
             let o : Saving = record { session = e.session; index = e.index; version = latest s } in
             let state : after_entry base s e ≡ record s { out = Some o } = ap (after_kind base s e) kind in
             ends_well base (after_entry base s e) (earlier ++ e ∷ []) es (after_one ns e) o (ap (λ (t : State). t.out) state)
             (ap latest (sym state)) run.1 last none well.1
         by_kind starts kind may (x ∷ f) same rest =
-            rest f (tail_of save x (calls_made es) (f ++ save ∷ [])
-            (ap (λ (k : Kind). cons_option (made_by k) (calls_made es)) (sym kind) ∙ same))
-        by_kind ends kind may f same rest = rest f (ap (λ (k : Kind). cons_option (made_by k) (calls_made es)) (sym kind) ∙ same)
+            rest f (tail_of save x (calls_along es) (f ++ save ∷ [])
+            (ap (λ (k : Kind). cons_option (made_by k) (calls_along es)) (sym kind) ∙ same))
+        by_kind ends kind may f same rest = rest f (ap (λ (k : Kind). cons_option (made_by k) (calls_along es)) (sym kind) ∙ same)
 
 -- ---- a whole history
 
@@ -140,7 +140,7 @@ each_is_well (e ∷ es) none printable =
 -- where the last of all calls is a save and no save failed, the file has the last version
 pub last_is_saved : (base : Document) (es : List Entry) → IsLegal base es → (replay base es).out ≡ None
     → AllByRecursion (λ e. is_save_memory e.reply ≡ false) es
-    → EndsWithSave (calls_made es) → save_faults es ≡ 0 → names es ≡ version (latest_of es) ∷ []
+    → EndsWithSave (calls_along es) → save_faults es ≡ 0 → names es ≡ version (latest_of es) ∷ []
 last_is_saved base es legal ended printable last none =
     saved_last base (initial base) [] es (the_old ∷ []) legal.run ended last (each_is_well es none printable)
     ∙ ap (λ (v : ℕ). version v ∷ []) (sym (latest_of-legal base es legal))

@@ -37,7 +37,7 @@ use Rattle.xl_snapshot.specs.Saving.{IsSavedOn}
 use Rattle.xl_program.specs.declared.playing.Replies.{Replies}
 use Rattle.xl_program.specs.declared.stopped.Stopped.{Stopped}
 use Rattle.xl_program.specs.declared.stopped.Stopped.TheVariants.{SourceFault, BadLine, ShelfFault, Refused, SaveFault}
-use Rattle.xl_program.specs.declared.stopped.Stopped.TheVariants.{SinkFault, Memory}
+use Rattle.xl_program.specs.declared.stopped.Stopped.TheVariants.{NotFlattened, SinkFault, Memory}
 use Rattle.xl_program.proofs.Edited.{none_failed, some_failed}
 use Rattle.xl_program.proofs.MadeFiles.{last_is_saved}
 use Rattle.xl_program.proofs.MadeScripts.{script_fits}
@@ -241,6 +241,7 @@ module _ (d : Document) (lists : List (List Line)) (sessions : IsMade d lists) (
   made_comes held faults U F old new (Ok told) (Err (BadLine number)) summed_up writes = absurd writes
   made_comes held faults U F old new (Ok told) (Err ShelfFault) summed_up writes = absurd writes
   made_comes held faults U F old new (Ok told) (Err (Refused refused)) summed_up writes = absurd writes
+  made_comes held faults U F old new (Ok told) (Err (NotFlattened why)) summed_up writes = absurd writes
   made_comes held faults U F old new (Ok told) (Err Memory) summed_up writes = absurd writes
   made_comes held faults U F old new (Err e) result summed_up writes =
       subst (λ (r : Result (Unit {0}) Stopped).
@@ -258,6 +259,7 @@ made_stops held faults old new (Ok told) (Err SourceFault) writes = absurd write
 made_stops held faults old new (Ok told) (Err (BadLine number)) writes = absurd writes
 made_stops held faults old new (Ok told) (Err ShelfFault) writes = absurd writes
 made_stops held faults old new (Ok told) (Err (Refused refused)) writes = absurd writes
+made_stops held faults old new (Ok told) (Err (NotFlattened why)) writes = absurd writes
 made_stops held faults old new (Ok told) (Err SaveFault) writes = tt
 made_stops held faults old new (Ok told) (Err SinkFault) writes = tt
 made_stops held faults old new (Ok told) (Err Memory) writes = absurd writes
@@ -272,6 +274,7 @@ made_cause held faults old new before after name seed (Ok told) (Err SourceFault
 made_cause held faults old new before after name seed (Ok told) (Err (BadLine number)) same writes = absurd writes
 made_cause held faults old new before after name seed (Ok told) (Err ShelfFault) same writes = absurd writes
 made_cause held faults old new before after name seed (Ok told) (Err (Refused refused)) same writes = absurd writes
+made_cause held faults old new before after name seed (Ok told) (Err (NotFlattened why)) same writes = absurd writes
 made_cause held faults old new before after name seed (Ok told) (Err SaveFault) same writes = same
 made_cause held faults old new before after name seed (Ok told) (Err SinkFault) same writes = same
 made_cause held faults old new before after name seed (Ok told) (Err Memory) same writes = absurd writes

@@ -11,11 +11,12 @@ use Rattle.spec_script.specs.Fits.{AreFit, EachFit, FitsFilters, count_calls}
 use Rattle.spec_text.specs.Text.{calls_of}
 use Rattle.xl_script.specs.Lines.{lines_of, lists_of}
 use Rattle.xl_script.specs.declared.script.Line.{Line}
-use Rattle.xl_sessions.specs.Outcomes.{list_at, states_of}
+use Rattle.xl_sessions.specs.Outcomes.{states_of}
+use Rattle.spec_script.specs.Script.{list_at}
 use Rattle.xl_sessions.specs.Players.{boxes_at}
 use Rattle.xl_sessions.proofs.Brought.{count_at}
 use Rattle.xl_program.specs.Playing.{AreOfFirst}
-use Rattle.xl_program.proofs.VersionsWithin.{calls_are}
+use Rattle.spec_text.proofs.CallsWithin.{calls_are}
 
 abbrev AreBlank : List (List script.Line) → Type 0
 AreBlank lists = AllByRecursion (λ lines. lines ≡ []) lists

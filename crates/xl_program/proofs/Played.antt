@@ -11,11 +11,12 @@ use Rattle.spec_history.specs.History.{replay_from, replay, EndsWith, RunFrom}
 use Rattle.spec_history.specs.Kept.{IsFreshReply, IsFresh, IsLegal}
 use Rattle.spec_text.specs.Printed.{line_text}
 use Rattle.spec_text.specs.Text.{entry_line, end_reply, is_save_memory, shown_digest, made_by, IsAlone}
-use Rattle.xl_program.specs.Playing.{AreOf, IsPrintable, ArePlayed, lines_in, calls_made}
+use Rattle.xl_program.specs.Playing.{AreOf, IsPrintable, ArePlayed, lines_in}
+use Rattle.spec_text.specs.Text.{calls_along}
 use Rattle.spec_history.proofs.Growing.{replay-snoc, replay-append, IsLegal-empty, out-answer}
 use Rattle.xl_program.proofs.Alone.{alone_call, alone_save}
 use Rattle.xl_program.proofs.Answered.{IsSaid, said_fresh, said_printable}
-use Rattle.xl_sessions.proofs.Ends.{no_end_at_next, end_behind}
+use Rattle.spec_text.proofs.Ends.{no_end_at_next, end_behind}
 use Rattle.xl_program.proofs.Plain.{both_own}
 use Rattle.xl_program.proofs.Seen.{fresh_more}
 use Rattle.xl_program.proofs.Stays.{lines_stay}
@@ -116,5 +117,5 @@ played_save base es out started ended played start_printed end_printed legal =
           );
     }
 
-pub calls_behind : (es more : List Entry) → calls_made (es ++ more) ≡ calls_made es ++ calls_made more
+pub calls_behind : (es more : List Entry) → calls_along (es ++ more) ≡ calls_along es ++ calls_along more
 calls_behind es more = filter_map-append (λ (x : Entry). made_by x.kind) es more

@@ -6,7 +6,7 @@ use Rattle.xl_program.specs.Outcome.{Given, ComesAfterScript, ReadsToEnd, Writes
 use Rattle.xl_program.specs.Parts.{ReadsScript}
 use Rattle.xl_program.specs.declared.stopped.Stopped.{Stopped}
 use Rattle.xl_program.specs.declared.stopped.Stopped.TheVariants.{SourceFault, BadLine, ShelfFault, Refused, SaveFault}
-use Rattle.xl_program.specs.declared.stopped.Stopped.TheVariants.{SinkFault, Memory}
+use Rattle.xl_program.specs.declared.stopped.Stopped.TheVariants.{NotFlattened, SinkFault, Memory}
 
 -- whatever comes behind it
 pub ended_anyhow : (left : Option (List ℕ)) (result : Result (Unit {0}) Stopped) → IsEnded left → ReadsToEnd left result
@@ -15,6 +15,7 @@ ended_anyhow left (Err SourceFault) ended = tt
 ended_anyhow left (Err (BadLine number)) ended = tt
 ended_anyhow left (Err ShelfFault) ended = ended
 ended_anyhow left (Err (Refused why)) ended = ended
+ended_anyhow left (Err (NotFlattened why)) ended = ended
 ended_anyhow left (Err SaveFault) ended = ended
 ended_anyhow left (Err SinkFault) ended = ended
 ended_anyhow left (Err Memory) ended = tt
@@ -25,6 +26,7 @@ unread given left SourceFault reads = tt
 unread given left (BadLine number) reads = tt
 unread given left ShelfFault reads = absurd reads
 unread given left (Refused refused) reads = absurd reads
+unread given left (NotFlattened cause) reads = absurd reads
 unread given left SaveFault reads = absurd reads
 unread given left SinkFault reads = absurd reads
 unread given left Memory reads = tt
@@ -41,6 +43,7 @@ ended_written held faults left (BadLine number) status last old new same after (
     let bad : false ≡ true = subst ComesAfterScript (sym same ∙ told.0) after in cc
 ended_written held faults left ShelfFault status last old new same after told reads = reads
 ended_written held faults left (Refused why) status last old new same after told reads = reads
+ended_written held faults left (NotFlattened why) status last old new same after told reads = reads
 ended_written held faults left SaveFault status last old new same after told reads = reads
 ended_written held faults left SinkFault status last old new same after told reads = reads
 ended_written held faults left Memory status last old new same after told reads =

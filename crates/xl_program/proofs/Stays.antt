@@ -12,8 +12,8 @@ use Rattle.spec_history.proofs.Versions.{IsSound, sound-initial, goes-step, ends
 use Rattle.spec_text.specs.Printed.{line_text}
 use Rattle.spec_text.specs.Text.{entry_line, shown_digest, printed_reply}
 use Rattle.xl_program.specs.Playing.{lines_in}
-use Rattle.xl_sessions.proofs.Ends.{HasEnd, has_end, has_end_behind, first_ends, end_stays}
-use Rattle.spec_seats.proofs.Shown.{IsUpTo, up_to_later, up_to_step, digest_stays}
+use Rattle.spec_text.proofs.Ends.{HasEnd, has_end, has_end_behind, first_ends, end_stays}
+use Rattle.spec_text.proofs.Shown.{IsUpTo, up_to_later, up_to_step, digest_stays}
 
 -- all that the line of an entry tells is there
 record IsTold (base : Document) (all : List Entry) (e : Entry) : Type 0 where

@@ -3,20 +3,22 @@ use Rattle.std.proofs.Common.{◌≡◌, ◌⊎◌, inl, inr, ℕ, List, Option,
 use Rattle.std.specs.Prelude.{IfSome, IfOk, MatchResult, String, string_bytes}
 use Rattle.std.specs.declared.alloc.AllocError.{AllocError}
 use Rattle.std.specs.declared.alloc.Global.{Global}
-use Rattle.spec_command.specs.Arguments.{Asked, render, edit, info, make, name_of}
-use Rattle.spec_command.specs.Ends.{Stop, source_fault, bad_line, shelf_fault, refused, stop_line, stop_status}
+use Rattle.spec_command.specs.Arguments.{Asked, render, edit, info, make, pack, flatten, view, name_of}
+use Rattle.spec_command.specs.Ends.{Stop, source_fault, bad_line, shelf_fault, refused, flat_refused, stop_line, stop_status}
 use Rattle.spec_fields.specs.declared.ReadRefused.{ReadRefused}
+use Rattle.spec_flat.specs.declared.FlatRefused.{FlatRefused}
 use Rattle.xl_ports.specs.Faults.{Rose}
 use Rattle.xl_ports.specs.Shelf.{Content}
 use Rattle.xl_ports.specs.Sink.{appended}
-use Rattle.xl_program.specs.Command.{IsEdit, ReadsFile}
+use Rattle.xl_program.specs.Command.{IsFlatten, ReadsFile, ReadsSource}
+use Rattle.xl_program.specs.Files.{CannotBeFlat, HasFault}
 use Rattle.xl_program.specs.Lines.{WritesLine}
-use Rattle.xl_program.specs.Outcome.{Given, HasFault, InGrammar, IsBadLine, Keeps, Shelved, ComesTo, IsOutput}
+use Rattle.xl_program.specs.Outcome.{Given, InGrammar, IsBadLineOf, Keeps, Shelved, ComesTo, IsOutput}
 use Rattle.xl_program.specs.Outcome.{ShelfCauseOf, ShelfFails, SomeFailed, WritesLineOr, WritesStop, WritesSome}
 use Rattle.xl_program.specs.Parts.{StopsFor}
 use Rattle.xl_program.specs.declared.stopped.Stopped.{Stopped}
 use Rattle.xl_program.specs.declared.stopped.Stopped.TheVariants.{SourceFault, BadLine, ShelfFault, Refused, SaveFault}
-use Rattle.xl_program.specs.declared.stopped.Stopped.TheVariants.{SinkFault, Memory}
+use Rattle.xl_program.specs.declared.stopped.Stopped.TheVariants.{NotFlattened, SinkFault, Memory}
 
 module _ {K : Type 0} (held : K → Option (List ℕ)) (faults : K → ℕ) where
   -- a line that was made is written, and else nothing
@@ -42,58 +44,82 @@ module _ {K : Type 0} (held : K → Option (List ℕ)) (faults : K → ℕ) wher
     fault = subst (λ (n : ℕ). Rose n (faults new)) kept.1 part.fault;
   })
 
-module _ {K : Type 0} (held : K → Option (List ℕ)) (faults : K → ℕ) (given : Given) (content : List ℕ → Option Content) where
+-- what stops a command whose script was read
+abbrev IsLate : Stopped → Type 0
+IsLate ShelfFault = Unit {0}
+IsLate SaveFault = Unit {0}
+IsLate (Refused why) = Unit {0}
+IsLate SourceFault = ⊥
+IsLate (BadLine number) = ⊥
+IsLate (NotFlattened why) = ⊥
+IsLate SinkFault = ⊥
+IsLate Memory = ⊥
+
+module _ {K : Type 0} (held : K → Option (List ℕ)) (faults : K → ℕ) where
+  -- status 4 or 6 tells of that
+  is_late : (stopped : Stopped) (status last : ℕ) (mid new : K) → status ≡ last → (last ≡ 4) ⊎ (last ≡ 6)
+      → WritesStop held faults mid new stopped status → IsLate stopped
+  is_late ShelfFault status last mid new same which told = tt
+  is_late SaveFault status last mid new same which told = tt
+  is_late (Refused why) status last mid new same which told = tt
+  is_late SourceFault status last mid new same (inl four) told = absurd (omega (arith, same, four, told.0))
+  is_late SourceFault status last mid new same (inr six) told = absurd (omega (arith, same, six, told.0))
+  is_late (BadLine number) status last mid new same (inl four) (inl told) = absurd (omega (arith, same, four, told.0))
+  is_late (BadLine number) status last mid new same (inl four) (inr told) = absurd (omega (arith, same, four, told.0))
+  is_late (BadLine number) status last mid new same (inr six) (inl told) = absurd (omega (arith, same, six, told.0))
+  is_late (BadLine number) status last mid new same (inr six) (inr told) = absurd (omega (arith, same, six, told.0))
+  is_late (NotFlattened why) status last mid new same (inl four) (inl told) = absurd (omega (arith, same, four, told.0))
+  is_late (NotFlattened why) status last mid new same (inl four) (inr told) = absurd (omega (arith, same, four, told.0))
+  is_late (NotFlattened why) status last mid new same (inr six) (inl told) = absurd (omega (arith, same, six, told.0))
+  is_late (NotFlattened why) status last mid new same (inr six) (inr told) = absurd (omega (arith, same, six, told.0))
+  is_late SinkFault status last mid new same (inl four) told = absurd (omega (arith, same, four, told.0))
+  is_late SinkFault status last mid new same (inr six) told = absurd (omega (arith, same, six, told.0))
+  is_late Memory status last mid new same (inl four) told = absurd (omega (arith, same, four, told.0))
+  is_late Memory status last mid new same (inr six) told = absurd (omega (arith, same, six, told.0))
+
+module _ (given : Given) (content : List ℕ → Option Content) where
+  late_in_grammar : (command : Asked) (stopped : Stopped) → IsLate stopped → StopsFor given content command (Err stopped)
+      → InGrammar given (Some command)
+  late_in_grammar (render name) stopped late stops = tt
+  late_in_grammar (info name) stopped late stops = tt
+  late_in_grammar (make name seed) stopped late stops = tt
+  late_in_grammar (pack name with_plans) stopped late stops = tt
+  late_in_grammar (flatten name) stopped late stops = tt
+  late_in_grammar (edit name workers) ShelfFault late stops = stops
+  late_in_grammar (edit name workers) SaveFault late stops = stops
+  late_in_grammar (edit name workers) (Refused why) late stops = stops.0
+  late_in_grammar (edit name workers) SourceFault late stops = absurd late
+  late_in_grammar (edit name workers) (BadLine number) late stops = absurd late
+  late_in_grammar (edit name workers) (NotFlattened why) late stops = absurd late
+  late_in_grammar (edit name workers) SinkFault late stops = absurd late
+  late_in_grammar (edit name workers) Memory late stops = absurd late
+  late_in_grammar (view name cols rows) ShelfFault late stops = stops
+  late_in_grammar (view name cols rows) SaveFault late stops = absurd stops
+  late_in_grammar (view name cols rows) (Refused why) late stops = stops.0
+  late_in_grammar (view name cols rows) SourceFault late stops = absurd late
+  late_in_grammar (view name cols rows) (BadLine number) late stops = absurd late
+  late_in_grammar (view name cols rows) (NotFlattened why) late stops = absurd late
+  late_in_grammar (view name cols rows) SinkFault late stops = absurd late
+  late_in_grammar (view name cols rows) Memory late stops = absurd late
+
   -- where a file is refused or the shelf failed, the script is in the grammar
-  pub script_in_grammar : (command : Asked) (stopped : Stopped) (status last : ℕ) (mid new : K) → status ≡ last
+  pub script_in_grammar : {K : Type 0} (held : K → Option (List ℕ)) (faults : K → ℕ) (command : Asked) (stopped : Stopped)
+      (status last : ℕ) (mid new : K) → status ≡ last
       → (last ≡ 4) ⊎ (last ≡ 6) → StopsFor given content command (Err stopped)
       → WritesStop held faults mid new stopped status → InGrammar given (Some command)
-  script_in_grammar (render name) stopped status last mid new same which stops told = tt
-  script_in_grammar (info name) stopped status last mid new same which stops told = tt
-  script_in_grammar (make name seed) stopped status last mid new same which stops told = tt
-  script_in_grammar (edit name workers) ShelfFault status last mid new same which stops told = stops
-  script_in_grammar (edit name workers) SaveFault status last mid new same which stops told = stops
-  script_in_grammar (edit name workers) (Refused why) status last mid new same which stops told = stops.0
-  script_in_grammar (edit name workers) SourceFault status last mid new same (inl four) stops told =
-      absurd (omega (arith, same, four, told.0))
-  script_in_grammar (edit name workers) SourceFault status last mid new same (inr six) stops told =
-      absurd (omega (arith, same, six, told.0))
-  script_in_grammar (edit name workers) (BadLine number) status last mid new same (inl four) stops (inl told) =
-      absurd (omega (arith, same, four, told.0))
-  script_in_grammar (edit name workers) (BadLine number) status last mid new same (inl four) stops (inr told) =
-      absurd (omega (arith, same, four, told.0))
-  script_in_grammar (edit name workers) (BadLine number) status last mid new same (inr six) stops (inl told) =
-      absurd (omega (arith, same, six, told.0))
-  script_in_grammar (edit name workers) (BadLine number) status last mid new same (inr six) stops (inr told) =
-      absurd (omega (arith, same, six, told.0))
-  script_in_grammar (edit name workers) SinkFault status last mid new same (inl four) stops told =
-      absurd (omega (arith, same, four, told.0))
-  script_in_grammar (edit name workers) SinkFault status last mid new same (inr six) stops told =
-      absurd (omega (arith, same, six, told.0))
-  script_in_grammar (edit name workers) Memory status last mid new same (inl four) stops told =
-      absurd (omega (arith, same, four, told.0))
-  script_in_grammar (edit name workers) Memory status last mid new same (inr six) stops told =
-      absurd (omega (arith, same, six, told.0))
+  script_in_grammar held faults command stopped status last mid new same which stops told =
+      late_in_grammar command stopped (is_late held faults stopped status last mid new same which told) stops
 
-module _ {K : Type 0} (held : K → Option (List ℕ)) (faults : K → ℕ) (given : Given) (content : List ℕ → Option Content)
-    (before after : Shelved) where
-  -- status 3 tells the line of the script that is refused
-  pub bad_line_written : (command : Asked) (stopped : Stopped) (status : ℕ) (old mid new : K) → status ≡ 3
-      → ComesTo held faults given before after command old mid (Err stopped)
-      → StopsFor given content command (Err stopped) → WritesStop held faults mid new stopped status
-      → (number : ℕ) × IsEdit (Some command) × IsBadLine given number × WritesLine held faults old new (stop_line (bad_line number))
-  bad_line_written (edit name workers) (BadLine number) status old mid new three kept stops (inl told) =
-      (number, tt, stops, kept_then_written held faults old mid new (stop_line (bad_line number)) kept.0 told.1)
-  bad_line_written command (BadLine number) status old mid new three kept stops (inr told) = absurd (omega (arith, three, told.0))
-  bad_line_written (render name) (BadLine number) status old mid new three kept stops told = absurd stops
-  bad_line_written (info name) (BadLine number) status old mid new three kept stops told = absurd stops
-  bad_line_written (make name seed) (BadLine number) status old mid new three kept stops told = absurd stops
-  bad_line_written command SourceFault status old mid new three kept stops told = absurd (omega (arith, three, told.0))
-  bad_line_written command ShelfFault status old mid new three kept stops told = absurd (omega (arith, three, told.0))
-  bad_line_written command (Refused why) status old mid new three kept stops (inl told) = absurd (omega (arith, three, told.0))
-  bad_line_written command (Refused why) status old mid new three kept stops (inr told) = absurd (omega (arith, three, told.0))
-  bad_line_written command SaveFault status old mid new three kept stops told = absurd (omega (arith, three, told.0))
-  bad_line_written command SinkFault status old mid new three kept stops told = absurd (omega (arith, three, told.0))
-  bad_line_written command Memory status old mid new three kept stops told = absurd (omega (arith, three, told.0))
+  -- what a refused line says of each command
+  bad_line_of : (command : Asked) (number : ℕ) → StopsFor given content command (Err (BadLine number))
+      → IsBadLineOf given (Some command) number
+  bad_line_of (render name) number stops = absurd stops
+  bad_line_of (info name) number stops = absurd stops
+  bad_line_of (make name seed) number stops = absurd stops
+  bad_line_of (pack name with_plans) number stops = absurd stops
+  bad_line_of (flatten name) number stops = absurd stops
+  bad_line_of (edit name workers) number stops = stops
+  bad_line_of (view name cols rows) number stops = stops
 
   -- what a refused file says of each command
   fault_of : (command : Asked) (why : ReadRefused) → StopsFor given content command (Err (Refused why))
@@ -102,6 +128,9 @@ module _ {K : Type 0} (held : K → Option (List ℕ)) (faults : K → ℕ) (giv
   fault_of (info name) why stops = stops
   fault_of (make name seed) why stops = absurd stops
   fault_of (edit name workers) why stops = stops.1
+  fault_of (pack name with_plans) why stops = stops
+  fault_of (flatten name) why stops = stops
+  fault_of (view name cols rows) why stops = stops.1
 
   -- a command whose file is refused reads one
   reads_file : (command : Asked) (why : ReadRefused) → StopsFor given content command (Err (Refused why)) → ReadsFile (Some command)
@@ -109,6 +138,53 @@ module _ {K : Type 0} (held : K → Option (List ℕ)) (faults : K → ℕ) (giv
   reads_file (info name) why stops = tt
   reads_file (make name seed) why stops = absurd stops
   reads_file (edit name workers) why stops = tt
+  reads_file (pack name with_plans) why stops = tt
+  reads_file (flatten name) why stops = tt
+  reads_file (view name cols rows) why stops = tt
+
+  -- only one command asks whether the image can be made flat
+  flat_of : (command : Asked) (why : FlatRefused) → StopsFor given content command (Err (NotFlattened why))
+      → IsFlatten (Some command) × IfSome (content (name_of command)) (λ c. CannotBeFlat c why)
+  flat_of (render name) why stops = absurd stops
+  flat_of (info name) why stops = absurd stops
+  flat_of (make name seed) why stops = absurd stops
+  flat_of (edit name workers) why stops = absurd stops
+  flat_of (pack name with_plans) why stops = absurd stops
+  flat_of (flatten name) why stops = (tt, stops)
+  flat_of (view name cols rows) why stops = absurd stops
+
+  -- only an edit and a view read the source
+  reads_source : (command : Asked) → StopsFor given content command (Err SourceFault) → ReadsSource (Some command)
+  reads_source (render name) stops = absurd stops
+  reads_source (info name) stops = absurd stops
+  reads_source (make name seed) stops = absurd stops
+  reads_source (pack name with_plans) stops = absurd stops
+  reads_source (flatten name) stops = absurd stops
+  reads_source (edit name workers) stops = tt
+  reads_source (view name cols rows) stops = tt
+
+module _ {K : Type 0} (held : K → Option (List ℕ)) (faults : K → ℕ) (given : Given) (content : List ℕ → Option Content)
+    (before after : Shelved) where
+  -- status 3 tells the line of the script that is refused
+  pub bad_line_written : (command : Asked) (stopped : Stopped) (status : ℕ) (old mid new : K) → status ≡ 3
+      → ComesTo held faults given before after command old mid (Err stopped)
+      → StopsFor given content command (Err stopped) → WritesStop held faults mid new stopped status
+      → (number : ℕ) × IsBadLineOf given (Some command) number × WritesLine held faults old new (stop_line (bad_line number))
+  bad_line_written command (BadLine number) status old mid new three kept stops (inl told) = (
+    number,
+    bad_line_of given content command number stops,
+    kept_then_written held faults old mid new (stop_line (bad_line number)) kept.0 told.1,
+  )
+  bad_line_written command (BadLine number) status old mid new three kept stops (inr told) = absurd (omega (arith, three, told.0))
+  bad_line_written command SourceFault status old mid new three kept stops told = absurd (omega (arith, three, told.0))
+  bad_line_written command ShelfFault status old mid new three kept stops told = absurd (omega (arith, three, told.0))
+  bad_line_written command (Refused why) status old mid new three kept stops (inl told) = absurd (omega (arith, three, told.0))
+  bad_line_written command (Refused why) status old mid new three kept stops (inr told) = absurd (omega (arith, three, told.0))
+  bad_line_written command (NotFlattened why) status old mid new three kept stops (inl told) = absurd (omega (arith, three, told.0))
+  bad_line_written command (NotFlattened why) status old mid new three kept stops (inr told) = absurd (omega (arith, three, told.0))
+  bad_line_written command SaveFault status old mid new three kept stops told = absurd (omega (arith, three, told.0))
+  bad_line_written command SinkFault status old mid new three kept stops told = absurd (omega (arith, three, told.0))
+  bad_line_written command Memory status old mid new three kept stops told = absurd (omega (arith, three, told.0))
 
   -- status 4 tells the first fault of the file that a command reads
   pub refusal_written : (command : Asked) (stopped : Stopped) (status : ℕ) (old mid new : K) → status ≡ 4
@@ -118,18 +194,41 @@ module _ {K : Type 0} (held : K → Option (List ℕ)) (faults : K → ℕ) (giv
       × WritesLine held faults old new (stop_line (refused why))
   refusal_written command (Refused why) status old mid new four kept stops (inl told) = (
     why,
-    reads_file command why stops,
-    fault_of command why stops,
+    reads_file given content command why stops,
+    fault_of given content command why stops,
     kept_then_written held faults old mid new (stop_line (refused why)) kept.0 told.1,
   )
   refusal_written command (Refused why) status old mid new four kept stops (inr told) = absurd (omega (arith, four, told.0))
   refusal_written command (BadLine number) status old mid new four kept stops (inl told) = absurd (omega (arith, four, told.0))
   refusal_written command (BadLine number) status old mid new four kept stops (inr told) = absurd (omega (arith, four, told.0))
+  refusal_written command (NotFlattened why) status old mid new four kept stops (inl told) = absurd (omega (arith, four, told.0))
+  refusal_written command (NotFlattened why) status old mid new four kept stops (inr told) = absurd (omega (arith, four, told.0))
   refusal_written command SourceFault status old mid new four kept stops told = absurd (omega (arith, four, told.0))
   refusal_written command ShelfFault status old mid new four kept stops told = absurd (omega (arith, four, told.0))
   refusal_written command SaveFault status old mid new four kept stops told = absurd (omega (arith, four, told.0))
   refusal_written command SinkFault status old mid new four kept stops told = absurd (omega (arith, four, told.0))
   refusal_written command Memory status old mid new four kept stops told = absurd (omega (arith, four, told.0))
+
+  -- status 9 tells why the image of the file cannot be made flat
+  pub flat_refusal_written : (command : Asked) (stopped : Stopped) (status : ℕ) (old mid new : K) → status ≡ 9
+      → ComesTo held faults given before after command old mid (Err stopped)
+      → StopsFor given content command (Err stopped) → WritesStop held faults mid new stopped status
+      → (why : FlatRefused) × IsFlatten (Some command) × IfSome (content (name_of command)) (λ c. CannotBeFlat c why)
+      × WritesLine held faults old new (stop_line (flat_refused why))
+  flat_refusal_written command (NotFlattened why) status old mid new nine kept stops (inl told) =
+      let flat = flat_of given content command why stops in
+      (why, flat.0, flat.1, kept_then_written held faults old mid new (stop_line (flat_refused why)) kept.0 told.1)
+  flat_refusal_written command (NotFlattened why) status old mid new nine kept stops (inr told) =
+      absurd (omega (arith, nine, told.0))
+  flat_refusal_written command (BadLine number) status old mid new nine kept stops (inl told) = absurd (omega (arith, nine, told.0))
+  flat_refusal_written command (BadLine number) status old mid new nine kept stops (inr told) = absurd (omega (arith, nine, told.0))
+  flat_refusal_written command (Refused why) status old mid new nine kept stops (inl told) = absurd (omega (arith, nine, told.0))
+  flat_refusal_written command (Refused why) status old mid new nine kept stops (inr told) = absurd (omega (arith, nine, told.0))
+  flat_refusal_written command SourceFault status old mid new nine kept stops told = absurd (omega (arith, nine, told.0))
+  flat_refusal_written command ShelfFault status old mid new nine kept stops told = absurd (omega (arith, nine, told.0))
+  flat_refusal_written command SaveFault status old mid new nine kept stops told = absurd (omega (arith, nine, told.0))
+  flat_refusal_written command SinkFault status old mid new nine kept stops told = absurd (omega (arith, nine, told.0))
+  flat_refusal_written command Memory status old mid new nine kept stops told = absurd (omega (arith, nine, told.0))
 
   -- status 6 tells that the file could not be read or was not saved first, or a save failed and all is written
   pub shelf_fault_written : (command : Asked) (stopped : Stopped) (status : ℕ) (old mid new : K) → status ≡ 6
@@ -149,6 +248,8 @@ module _ {K : Type 0} (held : K → Option (List ℕ)) (faults : K → ℕ) (giv
   shelf_fault_written command (BadLine number) status old mid new six comes cause (inr told) = absurd (omega (arith, six, told.0))
   shelf_fault_written command (Refused why) status old mid new six comes cause (inl told) = absurd (omega (arith, six, told.0))
   shelf_fault_written command (Refused why) status old mid new six comes cause (inr told) = absurd (omega (arith, six, told.0))
+  shelf_fault_written command (NotFlattened why) status old mid new six comes cause (inl told) = absurd (omega (arith, six, told.0))
+  shelf_fault_written command (NotFlattened why) status old mid new six comes cause (inr told) = absurd (omega (arith, six, told.0))
   shelf_fault_written command SinkFault status old mid new six comes cause told = absurd (omega (arith, six, told.0))
   shelf_fault_written command Memory status old mid new six comes cause told = absurd (omega (arith, six, told.0))
 
@@ -163,21 +264,22 @@ module _ {K : Type 0} (held : K → Option (List ℕ)) (faults : K → ℕ) (giv
       (subst (λ (k : K). ShelfFails held faults given before after (Some command) old k) same
       (shelf_fault_written command stopped status old mid new six comes cause told))
 
-  -- status 5 tells that the source failed, which only an edit reads
+  -- status 5 tells that the source failed
   pub source_fault_written : (command : Asked) (stopped : Stopped) (status : ℕ) (old mid new : K) → status ≡ 5
       → ComesTo held faults given before after command old mid (Err stopped)
       → StopsFor given content command (Err stopped) → WritesStop held faults mid new stopped status
-      → IsEdit (Some command) × WritesLine held faults old new (stop_line source_fault)
-  source_fault_written (edit name workers) SourceFault status old mid new five kept stops told =
-      (tt, kept_then_written held faults old mid new (stop_line source_fault) kept.0 told.1)
-  source_fault_written (render name) SourceFault status old mid new five kept stops told = absurd stops
-  source_fault_written (info name) SourceFault status old mid new five kept stops told = absurd stops
-  source_fault_written (make name seed) SourceFault status old mid new five kept stops told = absurd stops
+      → ReadsSource (Some command) × WritesLine held faults old new (stop_line source_fault)
+  source_fault_written command SourceFault status old mid new five kept stops told = (
+    reads_source given content command stops,
+    kept_then_written held faults old mid new (stop_line source_fault) kept.0 told.1,
+  )
   source_fault_written command (BadLine number) status old mid new five kept stops (inl told) = absurd (omega (arith, five, told.0))
   source_fault_written command (BadLine number) status old mid new five kept stops (inr told) = absurd (omega (arith, five, told.0))
   source_fault_written command ShelfFault status old mid new five kept stops told = absurd (omega (arith, five, told.0))
   source_fault_written command (Refused why) status old mid new five kept stops (inl told) = absurd (omega (arith, five, told.0))
   source_fault_written command (Refused why) status old mid new five kept stops (inr told) = absurd (omega (arith, five, told.0))
+  source_fault_written command (NotFlattened why) status old mid new five kept stops (inl told) = absurd (omega (arith, five, told.0))
+  source_fault_written command (NotFlattened why) status old mid new five kept stops (inr told) = absurd (omega (arith, five, told.0))
   source_fault_written command SaveFault status old mid new five kept stops told = absurd (omega (arith, five, told.0))
   source_fault_written command SinkFault status old mid new five kept stops told = absurd (omega (arith, five, told.0))
   source_fault_written command Memory status old mid new five kept stops told = absurd (omega (arith, five, told.0))

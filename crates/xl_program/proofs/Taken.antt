@@ -1,6 +1,6 @@
 -- A source that was not read.
 use Rattle.std.proofs.Common.{◌≡◌, ℕ, List, [], Option, Some, None, inl, refl}
-use Rattle.spec_command.specs.Arguments.{Asked, edit, render, info, make}
+use Rattle.spec_command.specs.Arguments.{Asked, edit, render, info, make, pack, flatten, view}
 use Rattle.xl_ports.specs.Source.{led_by}
 use Rattle.xl_ports.proofs.Moments.{still}
 use Rattle.xl_program.specs.Outcome.{Takes, Shelved, IsUntouched, MaySave}
@@ -17,6 +17,9 @@ nothing_taken left faults s (Some (edit name workers)) = ([], led_by_nothing (le
 nothing_taken left faults s (Some (render name)) = (refl, refl)
 nothing_taken left faults s (Some (info name)) = (refl, refl)
 nothing_taken left faults s (Some (make name seed)) = (refl, refl)
+nothing_taken left faults s (Some (pack name with_plans)) = (refl, refl)
+nothing_taken left faults s (Some (flatten name)) = (refl, refl)
+nothing_taken left faults s (Some (view name cols rows)) = ([], led_by_nothing (left s))
 
 pub untouched : (s : Shelved) → IsUntouched s s
 untouched s = record { contents = refl; quiet = still s.known.disk; saving = refl }
@@ -28,3 +31,6 @@ nothing_saved s (Some (render name)) = untouched s
 nothing_saved s (Some (info name)) = untouched s
 nothing_saved s (Some (make name seed)) = inl (untouched s)
 nothing_saved s (Some (edit name workers)) = inl (untouched s)
+nothing_saved s (Some (pack name with_plans)) = untouched s
+nothing_saved s (Some (flatten name)) = untouched s
+nothing_saved s (Some (view name cols rows)) = untouched s

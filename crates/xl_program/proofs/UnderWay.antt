@@ -20,7 +20,8 @@ use Rattle.xl_core.specs.History.{History, with_call}
 use Rattle.xl_script.specs.Lines.{line_of, lines_of}
 use Rattle.xl_script.specs.declared.script.Line.{Line}
 use Rattle.xl_sessions.specs.Playing.{FitsChest}
-use Rattle.xl_program.specs.Playing.{AreMade, ArePlayed, IsCalled, IsBetweenLines, IsMade, KeepsExactly, calls_made}
+use Rattle.xl_program.specs.Playing.{AreMade, ArePlayed, IsCalled, IsBetweenLines, IsMade, KeepsExactly}
+use Rattle.spec_text.specs.Text.{calls_along}
 use Rattle.xl_program.proofs.Plain.{filters_now, filters_more, tables_more}
 use Rattle.xl_program.proofs.Chests.{full_stocked}
 use Rattle.xl_sessions.proofs.Brought.{full_agrees}
@@ -53,7 +54,7 @@ pub record IsOneMore (session : ℕ) (now : List FilterState) (old new : History
   pub base_is : new.base ≡ old.base
   pub more : List Entry
   pub entries : new.entries ≡ old.entries ++ more
-  pub calls : calls_made more ≡ calls_of (line ∷ [])
+  pub calls : calls_along more ≡ calls_of (line ∷ [])
   pub tables : (filters : List FilterState) (earlier : List Entry) → now ≡ filters_now filters earlier → HaveTables filters earlier
       → HaveTables filters (earlier ++ more)
   pub agrees : (filters : List FilterState) (earlier : List Entry) → now ≡ filters_now filters earlier
@@ -163,7 +164,7 @@ pub record IsUnderWay {D : Type 0} (filters : List FilterState) (start : Editing
     (chest : List (Option FilterState)) (core : Editing D) (out : List ℕ) : Type 0 where
   pub index_is : index ≡ next_index core.history.entries 0
   pub between : IsBetweenLines start.history.base start.opening core
-  pub calls : calls_made core.history.entries ++ calls_of (lines_of left) ≡ calls_of (lines_of all)
+  pub calls : calls_along core.history.entries ++ calls_of (lines_of left) ≡ calls_of (lines_of all)
   pub tables : HaveTables filters core.history.entries
   pub agrees : Agrees chest (filters_now filters core.history.entries)
   pub few : length core.history.entries + 2 * length (calls_of (lines_of left)) ≤ 2 * length (calls_of (lines_of all))
@@ -191,7 +192,7 @@ module _ {D : Type 0} where
       (record {
         index_is = zero ∙ sym (ap (λ (es : List Entry). next_index es 0) fresh);
         between = record { base_is = refl; opening_is = refl; inside = inside; legal = played.legal };
-        calls = ap (λ (es : List Entry). calls_made es ++ calls_of (lines_of all)) fresh;
+        calls = ap (λ (es : List Entry). calls_along es ++ calls_of (lines_of all)) fresh;
         tables = subst (HaveTables filters) (sym fresh) tt;
         agrees = subst (λ (es : List Entry). Agrees chest (filters_now filters es)) (sym fresh)
             (subst (λ slots. Agrees slots filters) (sym full) (full_agrees filters));
@@ -250,11 +251,11 @@ module _ {D : Type 0} where
           between = still_between new way.between after;
           calls =
               ap (λ (ls : List script.Line). ls ++ calls_of (lines_of rest))
-              (ap (λ (l : List Entry). calls_made l) one.entries ∙ calls_behind es one.more
-              ∙ ap (λ (ls : List script.Line). calls_made es ++ ls) one.calls)
-              ∙ append_assoc (calls_made es) (calls_of (line_of line ∷ [])) (calls_of (lines_of rest))
-              ∙ ap (λ (ls : List script.Line). calls_made es ++ ls) (sym split)
-              ∙ ap (λ (ls : List Line). calls_made es ++ calls_of (lines_of ls)) (sym turn)
+              (ap (λ (l : List Entry). calls_along l) one.entries ∙ calls_behind es one.more
+              ∙ ap (λ (ls : List script.Line). calls_along es ++ ls) one.calls)
+              ∙ append_assoc (calls_along es) (calls_of (line_of line ∷ [])) (calls_of (lines_of rest))
+              ∙ ap (λ (ls : List script.Line). calls_along es ++ ls) (sym split)
+              ∙ ap (λ (ls : List Line). calls_along es ++ calls_of (lines_of ls)) (sym turn)
               ∙ way.calls;
           tables = subst (HaveTables filters) (sym one.entries) (one.tables filters es refl way.tables);
           agrees = subst (λ (l : List Entry). Agrees after_chest (filters_now filters l)) (sym one.entries)
@@ -273,7 +274,7 @@ module _ {D : Type 0} where
       → AreMade filters (lines_of all) core.history.entries
   under_way_all {left = left} {core = core} way none = record {
     calls =
-        sym (append-nil (calls_made core.history.entries))
-        ∙ ap (λ (ls : List Line). calls_made core.history.entries ++ calls_of (lines_of ls)) (sym (no_more left none)) ∙ way.calls;
+        sym (append-nil (calls_along core.history.entries))
+        ∙ ap (λ (ls : List Line). calls_along core.history.entries ++ calls_of (lines_of ls)) (sym (no_more left none)) ∙ way.calls;
     tables = way.tables;
   }

@@ -14,12 +14,14 @@ use Rattle.spec_script.specs.Script.{Line}
 use Rattle.spec_tables.specs.Tables.{HaveTables}
 use Rattle.spec_text.specs.Printed.{order_text}
 use Rattle.spec_text.specs.Text.{AreAlone, IsTextOf, entry_line, calls_of, calls_in}
-use Rattle.xl_sessions.specs.Outcomes.{list_at, states_of}
+use Rattle.xl_sessions.specs.Outcomes.{states_of}
+use Rattle.spec_script.specs.Script.{list_at}
 use Rattle.xl_sessions.specs.Players.{boxes_at}
 use Rattle.xl_sessions.proofs.Brought.{states_at}
 use Rattle.xl_program.specs.Parts.{IsToldOf, WhetherFailed}
 use Rattle.xl_program.specs.declared.playing.Replies.{Replies}
-use Rattle.xl_program.specs.Playing.{AreMade, AreOf, ArePlayed, AreOfFirst, calls_made, lines_in}
+use Rattle.xl_program.specs.Playing.{AreMade, AreOf, ArePlayed, AreOfFirst, lines_in}
+use Rattle.spec_text.specs.Text.{calls_along}
 use Rattle.xl_program.proofs.Plain.{mine_own, mine_other}
 use Rattle.xl_program.proofs.Seen.{fresh_other}
 
@@ -61,10 +63,10 @@ text_of_own base es own =
 -- ---- what a text of the script needs of each session
 
 calls_at : (lists : List (List Line)) (es : List Entry) (session : ℕ) → AreOf 0 es → AreOfFirst lists
-    → calls_made es ≡ calls_of (list_at lists 0) → calls_in es session ≡ calls_of (list_at lists session)
-calls_at lists es zero own first calls = ap (λ (l : List Entry). calls_made l) (mine_own es 0 own) ∙ calls
+    → calls_along es ≡ calls_of (list_at lists 0) → calls_in es session ≡ calls_of (list_at lists session)
+calls_at lists es zero own first calls = ap (λ (l : List Entry). calls_along l) (mine_own es 0 own) ∙ calls
 calls_at lists es (suc n) own first calls =
-    ap (λ (l : List Entry). calls_made l) (none_later es (suc n) own (omega arith)) ∙ sym (ap calls_of (blank_later lists n first))
+    ap (λ (l : List Entry). calls_along l) (none_later es (suc n) own (omega arith)) ∙ sym (ap calls_of (blank_later lists n first))
 
 fresh_at : (es : List Entry) (session : ℕ) → AreOf 0 es → IsFresh es 0 → IsFresh es session
 fresh_at es zero own fresh = fresh

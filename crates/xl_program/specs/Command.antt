@@ -1,13 +1,16 @@
--- Commands that read a script, and those that read a file.
+-- Commands that read a script, those that read a file, and the one that makes it flat.
 use Rattle.std.specs.Prelude.{Option, Some, None}
-use Rattle.spec_command.specs.Arguments.{Asked, edit, render, info, make}
+use Rattle.spec_command.specs.Arguments.{Asked, edit, render, info, make, pack, flatten, view}
 
-abbrev pub IsEdit : Option Asked → Type 0
-IsEdit None = ⊥
-IsEdit (Some (edit name workers)) = Unit {0}
-IsEdit (Some (render name)) = ⊥
-IsEdit (Some (info name)) = ⊥
-IsEdit (Some (make name seed)) = ⊥
+abbrev pub ReadsSource : Option Asked → Type 0
+ReadsSource None = ⊥
+ReadsSource (Some (edit name workers)) = Unit {0}
+ReadsSource (Some (render name)) = ⊥
+ReadsSource (Some (info name)) = ⊥
+ReadsSource (Some (make name seed)) = ⊥
+ReadsSource (Some (pack name with_plans)) = ⊥
+ReadsSource (Some (flatten name)) = ⊥
+ReadsSource (Some (view name cols rows)) = Unit {0}
 
 -- a make saves a file, and reads none
 abbrev pub ReadsFile : Option Asked → Type 0
@@ -16,3 +19,16 @@ ReadsFile (Some (edit name workers)) = Unit {0}
 ReadsFile (Some (render name)) = Unit {0}
 ReadsFile (Some (info name)) = Unit {0}
 ReadsFile (Some (make name seed)) = ⊥
+ReadsFile (Some (pack name with_plans)) = Unit {0}
+ReadsFile (Some (flatten name)) = Unit {0}
+ReadsFile (Some (view name cols rows)) = Unit {0}
+
+abbrev pub IsFlatten : Option Asked → Type 0
+IsFlatten None = ⊥
+IsFlatten (Some (edit name workers)) = ⊥
+IsFlatten (Some (render name)) = ⊥
+IsFlatten (Some (info name)) = ⊥
+IsFlatten (Some (make name seed)) = ⊥
+IsFlatten (Some (pack name with_plans)) = ⊥
+IsFlatten (Some (flatten name)) = Unit {0}
+IsFlatten (Some (view name cols rows)) = ⊥

@@ -1,7 +1,11 @@
 pub mod Command
+pub mod Files
+pub mod Flattening
 pub mod LastSaved
 pub mod Lines
 pub mod Making
 pub mod Outcome
+pub mod Packing
 pub mod Parts
 pub mod Playing
+pub mod Viewing

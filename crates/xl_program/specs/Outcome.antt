@@ -3,18 +3,15 @@ use Rattle.std.specs.Prelude.{◌≡◌, ◌⊎◌, ◌<◌, ◌==◌, ℕ, List
 use Rattle.std.specs.Prelude.{Result, Ok, Err, Vec}
 use Rattle.std.specs.declared.alloc.Global.{Global}
 use Rattle.std.specs.List.{list_any}
-use Rattle.spec_command.specs.Arguments.{Asked, edit, render, info, make}
-use Rattle.spec_command.specs.Ends.{Stop, source_fault, bad_line, shelf_fault, refused, stop_line, stop_status}
+use Rattle.spec_command.specs.Arguments.{Asked, edit, render, info, make, pack, flatten, view}
+use Rattle.spec_command.specs.Ends.{Stop, source_fault, bad_line, shelf_fault, refused, flat_refused, stop_line, stop_status}
 use Rattle.spec_document.specs.Document.{Document}
 use Rattle.spec_document.specs.Limits.{IsDocument}
-use Rattle.spec_fields.specs.declared.ReadRefused.{ReadRefused}
-use Rattle.spec_file.specs.Holds.{Holds}
-use Rattle.spec_file.specs.Reading.{first_fault}
 use Rattle.spec_report.specs.Json as json
 use Rattle.spec_report.specs.Pam.{pam}
 use Rattle.spec_filters.specs.declared.FilterState.{FilterState}
 use Rattle.spec_generated.specs.Generated.{document, script as made_script}
-use Rattle.spec_script.specs.Script.{Line, script}
+use Rattle.spec_script.specs.Script.{Line, list_at, script}
 use Rattle.spec_history.specs.History.{Entry, document_of}
 use Rattle.spec_history.specs.Kept.{IsLegal}
 use Rattle.spec_saves.specs.Names.{save_faults}
@@ -23,29 +20,21 @@ use Rattle.spec_text.specs.Text.{IsTextOf, Alone}
 use Rattle.xl_core.specs.Editing.{known}
 use Rattle.xl_ports.specs.Disk.{Disk, Between, IsQuiet}
 use Rattle.xl_ports.specs.Faults.{Rose}
-use Rattle.xl_ports.specs.Shelf.{Content, absent, file}
+use Rattle.xl_ports.specs.Shelf.{Content}
 use Rattle.xl_ports.specs.Sink.{WritesAll, WritesPart}
 use Rattle.xl_ports.specs.Source.{led_by, IsEnded}
 use Rattle.xl_sessions.specs.Outcomes.{states_of}
+use Rattle.xl_program.specs.Files.{HoldsDocument}
+use Rattle.xl_program.specs.Flattening.{IsFlattened, MayBeFlattened}
 use Rattle.xl_program.specs.LastSaved.{HasLastSaved}
 use Rattle.xl_program.specs.Lines.{WritesLine}
 use Rattle.xl_program.specs.Playing.{AreOfFirst}
 use Rattle.xl_program.specs.Making.{FailsAtFirst, IsMadeHistory, IsSummary}
+use Rattle.xl_program.specs.Packing.{IsPacked, MayBePacked}
+use Rattle.xl_program.specs.Viewing.{IsBadViewLine, IsViewed, IsViewScript}
 use Rattle.xl_program.specs.declared.stopped.Stopped.{Stopped}
 use Rattle.xl_program.specs.declared.stopped.Stopped.TheVariants.{SourceFault, BadLine, ShelfFault, Refused, SaveFault}
-use Rattle.xl_program.specs.declared.stopped.Stopped.TheVariants.{SinkFault, Memory}
-
--- ---- the file
-
--- the file is there and holds the document
-abbrev pub HoldsDocument : Content → Document → Type 0
-HoldsDocument absent d = ⊥
-HoldsDocument (file bytes) d = Holds bytes d
-
--- the file is there and holds no document: this is its first fault
-abbrev pub HasFault : Content → ReadRefused → Type 0
-HasFault absent why = ⊥
-HasFault (file bytes) why = first_fault bytes ≡ Some why
+use Rattle.xl_program.specs.declared.stopped.Stopped.TheVariants.{NotFlattened, SinkFault, Memory}
 
 -- ---- the script, which is all that the source has left
 
@@ -68,6 +57,21 @@ IsScript given = (lists : List (List Line)) × HasLines given lists
 -- the script is refused at this line, where it is told
 abbrev pub IsBadLine : Given → (number : ℕ) → Type 0
 IsBadLine given number = IfSome given.left (λ text. script text (map length given.chests) ≡ Err number)
+
+-- the filters of session 0
+abbrev pub first_filters : Given → List FilterState
+first_filters given = list_at given.chests 0
+
+-- the script of the command is refused at this line, where it is told; only an edit and a view have one
+abbrev pub IsBadLineOf : Given → Option Asked → (number : ℕ) → Type 0
+IsBadLineOf given None number = ⊥
+IsBadLineOf given (Some (edit name workers)) number = IsBadLine given number
+IsBadLineOf given (Some (render name)) number = ⊥
+IsBadLineOf given (Some (info name)) number = ⊥
+IsBadLineOf given (Some (make name seed)) number = ⊥
+IsBadLineOf given (Some (pack name with_plans)) number = ⊥
+IsBadLineOf given (Some (flatten name)) number = ⊥
+IsBadLineOf given (Some (view name cols rows)) number = IsBadViewLine given.left (first_filters given) number
 
 -- ---- the shelf
 
@@ -139,6 +143,11 @@ IsOutput given old new (info name) HaveFailed out = IsReport json.info (old.cont
 IsOutput given old new (make name seed) HaveFailed out =
     IsSummary (opened old name) new.known (document seed) (made_script seed) HaveFailed out
 IsOutput given old new (edit name workers) HaveFailed out = IsReplies given name old new workers HaveFailed out
+IsOutput given old new (pack name with_plans) HaveFailed out =
+    IsPacked (old.content name) (opened old name) new.known with_plans out × HaveFailed 0
+IsOutput given old new (flatten name) HaveFailed out = IsFlattened (old.content name) (opened old name) new.known out × HaveFailed 0
+IsOutput given old new (view name cols rows) HaveFailed out =
+    IsViewed given.left (first_filters given) (old.content name) cols rows out × IsUntouched old new × HaveFailed 0
 
 -- the shelf where memory ran out: as before, or after a history
 abbrev pub MayHaveSaved : (old new : Shelved) → Asked → Type 0
@@ -148,18 +157,25 @@ MayHaveSaved old new (make name seed) =
     IsUntouched old new ⊎ ((entries : List Entry) × IsMadeHistory (opened old name) new.known (document seed) entries)
 MayHaveSaved old new (edit name workers) =
     IsUntouched old new ⊎ ((document : Document) × (entries : List Entry) × IsHistory name old new document entries)
+MayHaveSaved old new (pack name with_plans) = IsUntouched old new
+MayHaveSaved old new (flatten name) = IsUntouched old new
+MayHaveSaved old new (view name cols rows) = IsUntouched old new
 
 -- the same of any words
 abbrev pub MaySave : (old new : Shelved) → Option Asked → Type 0
 MaySave old new None = IsUntouched old new
 MaySave old new (Some command) = MayHaveSaved old new command
 
--- the shelf where a fault of it stopped the command: as before, or after a part of the first save of what is made
+-- the shelf where a fault of it stopped the command: as before, or after a part of the one save of a command, or of the first of what
+-- is made
 abbrev pub FailsAtShelf : (old new : Shelved) → Asked → Type 0
 FailsAtShelf old new (render name) = IsUntouched old new
 FailsAtShelf old new (info name) = IsUntouched old new
 FailsAtShelf old new (make name seed) = IsUntouched old new ⊎ FailsAtFirst (opened old name) new.known (document seed)
 FailsAtShelf old new (edit name workers) = IsUntouched old new
+FailsAtShelf old new (pack name with_plans) = IsUntouched old new ⊎ MayBePacked (old.content name) (opened old name) new.known
+FailsAtShelf old new (flatten name) = IsUntouched old new ⊎ MayBeFlattened (old.content name) (opened old name) new.known
+FailsAtShelf old new (view name cols rows) = IsUntouched old new
 
 module _ {K : Type 0} (held : K → Option (List ℕ)) (faults : K → ℕ) where
   -- the sink was left as it was
@@ -185,6 +201,7 @@ module _ {K : Type 0} (held : K → Option (List ℕ)) (faults : K → ℕ) wher
   Comes IsOut Untouched Failed Saved old new (Err (BadLine number)) = Keeps old new × Untouched
   Comes IsOut Untouched Failed Saved old new (Err ShelfFault) = Keeps old new × Failed
   Comes IsOut Untouched Failed Saved old new (Err (Refused why)) = Keeps old new × Untouched
+  Comes IsOut Untouched Failed Saved old new (Err (NotFlattened why)) = Keeps old new × Untouched
 
   -- so does this command
   abbrev pub ComesTo : Given → (before after : Shelved) → Asked → (old new : K) → Result (Unit {0}) Stopped → Type 0
@@ -204,63 +221,74 @@ abbrev pub ShelfCause : {A : Type 0} → (before after : ℕ) → Result A Stopp
 ShelfCause before after (Err ShelfFault) = Rose before after
 ShelfCause before after result = after ≡ before
 
--- the faults rose that may stop the command: those of reading, and of saving for the first save of what is made
+-- the faults rose that may stop the command: those of reading, and of saving for the one save of a command, or the first of what is
+-- made
 abbrev pub FaultsRose : (before after : Known) → Asked → Type 0
 FaultsRose before after (render name) = Rose before.reading after.reading
 FaultsRose before after (info name) = Rose before.reading after.reading
 FaultsRose before after (make name seed) = Rose before.reading after.reading ⊎ Rose before.saving after.saving
 FaultsRose before after (edit name workers) = Rose before.reading after.reading
+FaultsRose before after (pack name with_plans) = Rose before.reading after.reading ⊎ Rose before.saving after.saving
+FaultsRose before after (flatten name) = Rose before.reading after.reading ⊎ Rose before.saving after.saving
+FaultsRose before after (view name cols rows) = Rose before.reading after.reading
 
 -- the same of a command; the reading faults stay where none stops it
 abbrev pub ShelfCauseOf : (before after : Known) → Asked → Result (Unit {0}) Stopped → Type 0
 ShelfCauseOf before after command (Err ShelfFault) = FaultsRose before after command
 ShelfCauseOf before after command result = after.reading ≡ before.reading
 
--- the script of an edit is in the grammar
+-- the script of an edit or a view is in its grammar
 abbrev pub InGrammar : Given → Option Asked → Type 0
 InGrammar given None = Unit {0}
 InGrammar given (Some (edit name workers)) = IsScript given
 InGrammar given (Some (render name)) = Unit {0}
 InGrammar given (Some (info name)) = Unit {0}
 InGrammar given (Some (make name seed)) = Unit {0}
+InGrammar given (Some (pack name with_plans)) = Unit {0}
+InGrammar given (Some (flatten name)) = Unit {0}
+InGrammar given (Some (view name cols rows)) = IsViewScript given.left (first_filters given)
 
 module _ {S : Type 0} (left : S → Option (List ℕ)) (faults : S → ℕ) where
   -- the source was left as it was
   abbrev pub Leaves : (old new : S) → Type 0
   Leaves old new = (left new ≡ left old) × (faults new ≡ faults old)
 
-  -- an edit takes the first bytes that the source has left
+  -- an edit and a view take the first bytes that the source has left
   abbrev pub Takes : (old new : S) → Option Asked → Type 0
   Takes old new None = Leaves old new
   Takes old new (Some (edit name workers)) = (bytes : List ℕ) × (left old ≡ led_by bytes (left new))
   Takes old new (Some (render name)) = Leaves old new
   Takes old new (Some (info name)) = Leaves old new
   Takes old new (Some (make name seed)) = Leaves old new
+  Takes old new (Some (pack name with_plans)) = Leaves old new
+  Takes old new (Some (flatten name)) = Leaves old new
+  Takes old new (Some (view name cols rows)) = (bytes : List ℕ) × (left old ≡ led_by bytes (left new))
 
--- nothing is left of the script of an edit, unless the source failed, a line is refused or memory ran out
+-- nothing is left of a script, unless the source failed, a line is refused or memory ran out
 abbrev pub ReadsToEnd : (left : Option (List ℕ)) → Result (Unit {0}) Stopped → Type 0
 ReadsToEnd left (Ok x) = IsEnded left
 ReadsToEnd left (Err SourceFault) = Unit {0}
 ReadsToEnd left (Err (BadLine number)) = Unit {0}
 ReadsToEnd left (Err ShelfFault) = IsEnded left
 ReadsToEnd left (Err (Refused why)) = IsEnded left
+ReadsToEnd left (Err (NotFlattened why)) = IsEnded left
 ReadsToEnd left (Err SaveFault) = IsEnded left
 ReadsToEnd left (Err SinkFault) = IsEnded left
 ReadsToEnd left (Err Memory) = Unit {0}
 
 -- ---- how it is told
 
--- usage, bad line, refused or source fault: nothing was played
+-- usage, bad line, refused, source fault or not made flat: nothing was played
 abbrev pub StopsBefore : (status : ℕ) → Type 0
-StopsBefore status = IsTrue (list_any (λ n. n == status) (2 ∷ 3 ∷ 4 ∷ 5 ∷ []))
+StopsBefore status = IsTrue (list_any (λ n. n == status) (2 ∷ 3 ∷ 4 ∷ 5 ∷ 9 ∷ []))
 
--- done, refused, shelf fault or a save that failed, sink fault: an edit has read its script
+-- done, refused, shelf fault or a save that failed, sink fault: a script was read
 abbrev pub ComesAfterScript : (status : ℕ) → Type 0
 ComesAfterScript status = IsTrue (list_any (λ n. n == status) (0 ∷ 4 ∷ 6 ∷ 7 ∷ []))
 
--- done, usage, bad line, refused, source fault, shelf fault or a save that failed, sink fault, memory
+-- done, usage, bad line, refused, source fault, shelf fault or a save that failed, sink fault, memory, not made flat
 abbrev pub IsStatus : (status : ℕ) → Type 0
-IsStatus status = IsTrue (list_any (λ n. n == status) (0 ∷ 2 ∷ 3 ∷ 4 ∷ 5 ∷ 6 ∷ 7 ∷ 8 ∷ []))
+IsStatus status = IsTrue (list_any (λ n. n == status) (0 ∷ 2 ∷ 3 ∷ 4 ∷ 5 ∷ 6 ∷ 7 ∷ 8 ∷ 9 ∷ []))
 
 module _ {K : Type 0} (held : K → Option (List ℕ)) (faults : K → ℕ) where
   -- all is written, and no save failed
@@ -269,7 +297,8 @@ module _ {K : Type 0} (held : K → Option (List ℕ)) (faults : K → ℕ) wher
   ComesWell given before after (Some command) old new =
       WritesSome held faults (IsOutput given before after command NoneFailed) old new
 
-  -- the file could not be read, or the first save of what is made failed, which is told; or all is written, and a save failed
+  -- the file could not be read, or the one save of a command, or the first of what is made, failed, which is told; or all is written,
+  -- and a save failed
   abbrev pub ShelfFails : Given → (before after : Shelved) → Option Asked → (old new : K) → Type 0
   ShelfFails given before after None old new = ⊥
   ShelfFails given before after (Some command) old new =
@@ -298,6 +327,7 @@ module _ {K : Type 0} (held : K → Option (List ℕ)) (faults : K → ℕ) wher
   WritesStop old new (BadLine number) status = WritesLineOr old new (bad_line number) status
   WritesStop old new ShelfFault status = WritesStopOf old new shelf_fault status
   WritesStop old new (Refused why) status = WritesLineOr old new (refused why) status
+  WritesStop old new (NotFlattened why) status = WritesLineOr old new (flat_refused why) status
   WritesStop old new SaveFault status = (status ≡ 6) × (new ≡ old)
   WritesStop old new SinkFault status = (status ≡ 7) × (new ≡ old)
   WritesStop old new Memory status = (status ≡ 8) × (new ≡ old)

@@ -1,7 +1,7 @@
 -- What the parts of a command come to.
 use Rattle.std.specs.Prelude.{◌≡◌, ℕ, Bool, true, false, List, Option, IfSome, IfOk, Result, Ok, Err, string_bytes}
 use Rattle.std.specs.declared.alloc.AllocError.{AllocError}
-use Rattle.spec_command.specs.Arguments.{Asked, edit, render, info, make}
+use Rattle.spec_command.specs.Arguments.{Asked, edit, render, info, make, pack, flatten, view}
 use Rattle.spec_document.specs.Document.{Document}
 use Rattle.spec_filters.specs.declared.FilterState.{FilterState}
 use Rattle.spec_generated.specs.Summary.{outcome, summary_of}
@@ -14,12 +14,14 @@ use Rattle.spec_text.specs.Text.{IsTextOf, Alone}
 use Rattle.xl_ports.specs.Shelf.{Content}
 use Rattle.xl_ports.specs.Sink.{WritesAll, WritesPart}
 use Rattle.xl_program.specs.Making.{IsRunOf}
-use Rattle.xl_program.specs.Outcome.{Given, HoldsDocument, HasFault, HasLines, IsScript, IsBadLine, NoneFailed, SomeFailed}
+use Rattle.xl_program.specs.Files.{CannotBeFlat, HasFault, HoldsDocument}
+use Rattle.xl_program.specs.Outcome.{first_filters, Given, HasLines, IsScript, IsBadLine, NoneFailed, SomeFailed}
 use Rattle.xl_program.specs.Playing.{AreOfFirst}
+use Rattle.xl_program.specs.Viewing.{IsBadViewLine, IsViewScript}
 use Rattle.xl_program.specs.declared.playing.Replies.{Replies}
 use Rattle.xl_program.specs.declared.stopped.Stopped.{Stopped}
 use Rattle.xl_program.specs.declared.stopped.Stopped.TheVariants.{SourceFault, BadLine, ShelfFault, Refused, SaveFault}
-use Rattle.xl_program.specs.declared.stopped.Stopped.TheVariants.{SinkFault, Memory}
+use Rattle.xl_program.specs.declared.stopped.Stopped.TheVariants.{NotFlattened, SinkFault, Memory}
 use Rattle.xl_script.specs.Lines.{lists_of}
 use Rattle.xl_script.specs.declared.script.Line.{Line}
 
@@ -90,28 +92,66 @@ module _ {K : Type 0} (held : K → Option (List ℕ)) (faults : K → ℕ) wher
   WritesReplies old new (Ok replies) result = WritesText old new replies result
   WritesReplies old new (Err e) result = (result ≡ Err Memory) × (new ≡ old)
 
--- why a report of a file stops
+-- why a command that reads a file, and no script, stops
 abbrev pub StopsReport : Option Content → Result (Unit {0}) Stopped → Type 0
-StopsReport content (Err (Refused refused)) = IfSome content (λ c. HasFault c refused)
+StopsReport content (Ok x) = Unit {0}
 StopsReport content (Err SourceFault) = ⊥
 StopsReport content (Err (BadLine number)) = ⊥
+StopsReport content (Err ShelfFault) = Unit {0}
+StopsReport content (Err (Refused refused)) = IfSome content (λ c. HasFault c refused)
+StopsReport content (Err (NotFlattened why)) = ⊥
 StopsReport content (Err SaveFault) = ⊥
-StopsReport content result = Unit {0}
+StopsReport content (Err SinkFault) = Unit {0}
+StopsReport content (Err Memory) = Unit {0}
+
+-- why one stops that makes the image flat
+abbrev pub StopsFlatten : Option Content → Result (Unit {0}) Stopped → Type 0
+StopsFlatten content (Ok x) = Unit {0}
+StopsFlatten content (Err SourceFault) = ⊥
+StopsFlatten content (Err (BadLine number)) = ⊥
+StopsFlatten content (Err ShelfFault) = Unit {0}
+StopsFlatten content (Err (Refused refused)) = IfSome content (λ c. HasFault c refused)
+StopsFlatten content (Err (NotFlattened why)) = IfSome content (λ c. CannotBeFlat c why)
+StopsFlatten content (Err SaveFault) = ⊥
+StopsFlatten content (Err SinkFault) = Unit {0}
+StopsFlatten content (Err Memory) = Unit {0}
 
 -- why an editing stops: the script is read before the file
 abbrev pub StopsEdit : Given → Option Content → Result (Unit {0}) Stopped → Type 0
+StopsEdit given content (Ok x) = Unit {0}
+StopsEdit given content (Err SourceFault) = Unit {0}
 StopsEdit given content (Err (BadLine number)) = IsBadLine given number
 StopsEdit given content (Err ShelfFault) = IsScript given
 StopsEdit given content (Err (Refused refused)) = IsScript given × IfSome content (λ c. HasFault c refused)
+StopsEdit given content (Err (NotFlattened why)) = ⊥
 StopsEdit given content (Err SaveFault) = IsScript given
-StopsEdit given content result = Unit {0}
+StopsEdit given content (Err SinkFault) = Unit {0}
+StopsEdit given content (Err Memory) = Unit {0}
+
+-- why a viewing stops: the script is read before the file, and nothing is saved
+abbrev pub StopsView : Given → Option Content → Result (Unit {0}) Stopped → Type 0
+StopsView given content (Ok x) = Unit {0}
+StopsView given content (Err SourceFault) = Unit {0}
+StopsView given content (Err (BadLine number)) = IsBadViewLine given.left (first_filters given) number
+StopsView given content (Err ShelfFault) = IsViewScript given.left (first_filters given)
+StopsView given content (Err (Refused refused)) =
+    IsViewScript given.left (first_filters given) × IfSome content (λ c. HasFault c refused)
+StopsView given content (Err (NotFlattened why)) = ⊥
+StopsView given content (Err SaveFault) = ⊥
+StopsView given content (Err SinkFault) = Unit {0}
+StopsView given content (Err Memory) = Unit {0}
 
 -- why a making stops: it reads neither a script nor a file
 abbrev pub StopsMaking : Result (Unit {0}) Stopped → Type 0
+StopsMaking (Ok x) = Unit {0}
 StopsMaking (Err SourceFault) = ⊥
 StopsMaking (Err (BadLine number)) = ⊥
+StopsMaking (Err ShelfFault) = Unit {0}
 StopsMaking (Err (Refused refused)) = ⊥
-StopsMaking result = Unit {0}
+StopsMaking (Err (NotFlattened why)) = ⊥
+StopsMaking (Err SaveFault) = Unit {0}
+StopsMaking (Err SinkFault) = Unit {0}
+StopsMaking (Err Memory) = Unit {0}
 
 -- why a command stops
 abbrev pub StopsFor : Given → (content : List ℕ → Option Content) → Asked → Result (Unit {0}) Stopped → Type 0
@@ -119,3 +159,6 @@ StopsFor given content (render name) result = StopsReport (content name) result
 StopsFor given content (info name) result = StopsReport (content name) result
 StopsFor given content (edit name workers) result = StopsEdit given (content name) result
 StopsFor given content (make name seed) result = StopsMaking result
+StopsFor given content (pack name with_plans) result = StopsReport (content name) result
+StopsFor given content (flatten name) result = StopsFlatten (content name) result
+StopsFor given content (view name cols rows) result = StopsView given (content name) result

@@ -35,10 +35,6 @@ IsPrintable e = is_save_memory e.reply ≡ false
 abbrev pub lines_in : Document → List Entry → List ℕ
 lines_in base es = flat_map (entry_line base es) es
 
--- the lines of the script that the entries are for
-abbrev pub calls_made : List Entry → List Line
-calls_made es = filter_map (λ e. made_by e.kind) es
-
 -- The entries are a legal history of calls and saves of session 0, no save is out, and the text is their lines. What the session is
 -- shown is no older than what it has seen; and where no save failed, what its peeks are answered follows from the entries.
 pub record ArePlayed (base : Document) (es : List Entry) (out : List ℕ) : Type 0 where
@@ -82,7 +78,7 @@ IsMade old session (forget slot) before after new = (new ≡ old) × (after ≡ 
 
 -- each call of the lines is made once, in their order, with the tables of these filters
 pub record AreMade (filters : List FilterState) (lines : List Line) (es : List Entry) : Type 0 where
-  pub calls : calls_made es ≡ calls_of lines
+  pub calls : calls_along es ≡ calls_of lines
   pub tables : HaveTables filters es
 
 -- the kept pictures of a document within its limits are right, and are just those that have to be kept, as no job brought any

@@ -3,7 +3,9 @@
 //! `render FILE` writes the picture of a file to the sink, and `info FILE` its document as a line of JSON. `edit FILE` reads a
 //! script from the source, makes its calls and saves on the document of a file and writes the replies to the sink; the file
 //! changes by its saves alone. `make FILE --seed N` saves the document of a seed, makes the calls and saves of the seed's script
-//! and writes a line that sums them up. The sessions of a script are played beside each other, and beside workers; session 0
+//! and writes a line that sums them up. `pack FILE` saves a file as small as it can be, and `flatten FILE` one layer in the place of
+//! all nodes; each tells of it by a line. `view FILE` makes the calls of a script of session 0 and writes the replies, a tile with
+//! those to its right and below; it saves nothing. The sessions of an edit's or a make's script are played beside each other, and beside workers; session 0
 //! alone, where an edit asks for no worker, without threads. What else a command comes to is told by one line there and by the
 //! status. Each command is a module of its own.
 #![tactic(auto)]
@@ -11,11 +13,13 @@
 mod describing;
 mod editing;
 mod ended;
+mod flattening;
 mod line;
 mod loading;
 mod making;
 mod obeying;
 mod opening;
+mod packing;
 mod playing;
 mod rendering;
 mod running;
@@ -23,6 +27,7 @@ mod saving;
 mod script_runs;
 mod stop_lines;
 mod stopped;
+mod viewing;
 
 pub use running::{Ended, run};
 pub use stopped::Stopped;

@@ -1,4 +1,4 @@
-ghost use Rattle.std.specs.Prelude.{◌≡◌, [], IfOk, IfErr, IsSome};
+ghost use Rattle.std.specs.Prelude.{◌≡◌, [], IfOk, IfErr, IsSome, Some};
 ghost use Rattle.spec_document.specs.Limits.{IsDocument};
 ghost use Rattle.spec_world.specs.Right.{IsRight};
 ghost use Rattle.xl_core.specs.Editing.{world};
@@ -17,6 +17,7 @@ pub fn open_core<D: Shelf>(alloc: Global, document: Document, shelf: D) -> Resul
     requires selected { IsSome (D.selected shelf) }
     ensures base { IfOk result (λ core. core.history.base ≡ document) }
     ensures fresh { IfOk result (λ core. core.history.entries ≡ []) }
+    ensures shelf { IfOk result (λ core. core.shelf ≡ Some shelf) }
     ensures opening { IfOk result (λ core. core.opening ≡ shelf) }
     ensures handed { IfOk result (λ core. core.handed ≡ []) }
     ensures inside { IfOk result (λ core. IsSome core.shelf) }

@@ -15,7 +15,8 @@ ghost use Rattle.xl_program.specs.Parts.{WhetherFailed, IsToldOf};
 ghost use Rattle.xl_program.specs.Playing.{AreMade, AreOfFirst, ArePlayed, IsBetweenLines, IsCalled, IsMade};
 ghost use Rattle.xl_program.specs.Playing.{KeepsExactly, shown_of, with_save};
 ghost use Rattle.xl_script.specs.Lines.{line_of, lines_of, lists_of};
-ghost use Rattle.xl_sessions.specs.Outcomes.{list_at, states_of};
+ghost use Rattle.xl_sessions.specs.Outcomes.{states_of};
+ghost use Rattle.spec_script.specs.Script.{list_at};
 ghost use Rattle.xl_sessions.specs.Playing.{FitsChest};
 
 use crate::saving::save_latest;

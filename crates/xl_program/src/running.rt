@@ -4,14 +4,16 @@ ghost use Rattle.spec_command.specs.Arguments.{name_of};
 ghost use Rattle.spec_command.specs.Ends as stop;
 ghost use Rattle.spec_command.specs.Grammar.{asked_in};
 ghost use Rattle.spec_fields.specs.declared.ReadRefused.{ReadRefused};
+ghost use Rattle.spec_flat.specs.declared.FlatRefused.{FlatRefused};
 ghost use Rattle.xl_command.specs.Asking.{arguments_of};
 ghost use Rattle.xl_ports.specs.Faults.{Rose};
 ghost use Rattle.xl_ports.specs.Shelf.{selected_content};
 ghost use Rattle.xl_ports.specs.Source.{IsEnded};
-ghost use Rattle.xl_program.specs.Command.{IsEdit, ReadsFile};
+ghost use Rattle.xl_program.specs.Command.{IsFlatten, ReadsFile, ReadsSource};
+ghost use Rattle.xl_program.specs.Files.{CannotBeFlat, HasFault};
 ghost use Rattle.xl_program.specs.Lines.{WritesLine};
 ghost use Rattle.xl_program.specs.Outcome.{given_of, shelved, ComesWell, ShelfFails, WritesInPart, ComesAfterScript};
-ghost use Rattle.xl_program.specs.Outcome.{MaySave, IsUntouched, StopsBefore, IsBadLine, InGrammar, HasFault, Keeps};
+ghost use Rattle.xl_program.specs.Outcome.{MaySave, IsUntouched, StopsBefore, IsBadLineOf, InGrammar, Keeps};
 ghost use Rattle.xl_program.specs.Outcome.{Takes, IsStatus};
 
 use crate::line::write_line;
@@ -46,11 +48,13 @@ pub struct Ended<D> {
 ///
 /// `edit` and `make` play the sessions of their script beside each other, in threads where these can be made, and beside workers:
 /// two, or as many as the words of an edit name. An edit by session 0 alone with 0 workers takes no thread. `gate` is passed by
-/// sessions and workers on their way.
+/// sessions and workers on their way. `view` plays a script of session 0 alone, without a thread or the gate; `pack` and `flatten`
+/// make one save.
 ///
 /// The statuses: 0 done, 2 the words are no command, 3 a line of the script is refused, 4 the file holds no document,
-/// 5 the source failed, 6 the file could not be read, or the first save of what is made failed, or a later save after which all
-/// was written, 7 the sink failed while the output was written, 8 memory ran out.
+/// 5 the source failed, 6 the file could not be read, or the save of `pack` and `flatten` or the first save of what is made failed, or
+/// a later save after which all was written, 7 the sink failed while the output was written, 8 memory ran out, 9 the image of the
+/// file cannot be made flat.
 ///
 /// No clause says that memory is there, that a device does not fail, or that a run of sessions, which may wait, returns. Where
 /// memory runs out for the line of a stop, the status is 8 and not that of the stop.
@@ -90,19 +94,23 @@ pub fn run<R: Threads + Wait + Sync, S: Source, K: Sink, D: Shelf, G: Gate>(
     ensures usage { (result.status ≡ 2) ↔ ((asked_in (arguments_of words.now) ≡ None) × (result.status ≢ 8)) }
     ensures usage_written { result.status ≡ 2 → WritesLine K.held K.faults sink.old sink.new (stop.stop_line stop.usage) }
     ensures bad_line { result.status ≡ 3 → (number : ℕ)
-        × IsEdit (asked_in (arguments_of words.now))
-        × IsBadLine (given_of (S.left source.old) (λ b. state b) chest.items) number
+        × IsBadLineOf (given_of (S.left source.old) (λ b. state b) chest.items) (asked_in (arguments_of words.now)) number
         × WritesLine K.held K.faults sink.old sink.new (stop.stop_line (stop.bad_line number)) }
     ensures refused { result.status ≡ 4 → (why : ReadRefused)
         × ReadsFile (asked_in (arguments_of words.now))
         × IfSome (selected_content (option_map name_of (asked_in (arguments_of words.now))) (D.content shelf))
         (λ c. HasFault c why)
         × WritesLine K.held K.faults sink.old sink.new (stop.stop_line (stop.refused why)) }
+    ensures flat_refused { result.status ≡ 9 → (why : FlatRefused)
+        × IsFlatten (asked_in (arguments_of words.now))
+        × IfSome (selected_content (option_map name_of (asked_in (arguments_of words.now))) (D.content shelf))
+        (λ c. CannotBeFlat c why)
+        × WritesLine K.held K.faults sink.old sink.new (stop.stop_line (stop.flat_refused why)) }
     ensures script_first { (result.status ≡ 4) ⊎ (result.status ≡ 6)
         → InGrammar (given_of (S.left source.old) (λ b. state b) chest.items) (asked_in (arguments_of words.now)) }
     ensures source_fault { result.status ≡ 5 → Rose (S.faults source.old) (S.faults source.new) }
     ensures no_source_fault { result.status ≢ 5 → S.faults source.new ≡ S.faults source.old }
-    ensures source_fault_written { result.status ≡ 5 → IsEdit (asked_in (arguments_of words.now))
+    ensures source_fault_written { result.status ≡ 5 → ReadsSource (asked_in (arguments_of words.now))
         × WritesLine K.held K.faults sink.old sink.new (stop.stop_line stop.source_fault) }
     ensures untouched { StopsBefore result.status → IsUntouched
         (shelved D.content D.selected D.disk D.reading_faults D.saving_faults shelf)
@@ -112,7 +120,7 @@ pub fn run<R: Threads + Wait + Sync, S: Source, K: Sink, D: Shelf, G: Gate>(
     ensures no_reading_fault { result.status ≢ 6 → D.reading_faults result.shelf ≡ D.reading_faults shelf }
     ensures source_taken { Takes S.left S.faults source.old source.new (asked_in (arguments_of words.now)) }
     ensures source_ended { ComesAfterScript result.status
-        → IsEdit (asked_in (arguments_of words.now)) → IsEnded (S.left source.new) }
+        → ReadsSource (asked_in (arguments_of words.now)) → IsEnded (S.left source.new) }
     ensures selected { (D.selected result.shelf ≡ D.selected shelf)
         ⊎ (D.selected result.shelf ≡ option_map name_of (asked_in (arguments_of words.now))) }
 {

@@ -2,7 +2,7 @@ ghost use Rattle.std.specs.Prelude.{◌≡◌, MatchResult, string_bytes};
 ghost use Rattle.xl_program.specs.Lines.{WritesLine};
 ghost use Rattle.xl_program.specs.Outcome.{WritesStop};
 
-use crate::line::{bad_line_text, refusal_text, write_line};
+use crate::line::{bad_line_text, flat_refusal_text, refusal_text, write_line};
 use crate::stopped::Stopped;
 use std::alloc::{AllocError, Global};
 use xl_ports::Sink;
@@ -19,6 +19,8 @@ const SINK_FAULT: u8 = 7;
 
 /// The status where memory ran out.
 pub const MEMORY: u8 = 8;
+
+const NOT_FLATTENED: u8 = 9;
 
 // Writes a line and answers its status, unless memory ran out for it.
 fn write_text<K: Sink>(sink: &mut K, text: Result<String, AllocError>, status: u8) -> u8
@@ -50,6 +52,9 @@ pub fn write_stop<K: Sink>(alloc: Global, sink: &mut K, stopped: Stopped) -> u8
             SHELF_FAULT
         }
         Stopped::Refused(refused) => write_text(sink, refusal_text(alloc, refused), REFUSED),
+        Stopped::NotFlattened(why) => {
+            write_text(sink, flat_refusal_text(alloc, why), NOT_FLATTENED)
+        }
         Stopped::SaveFault => SHELF_FAULT,
         Stopped::SinkFault => SINK_FAULT,
         Stopped::Memory => MEMORY,

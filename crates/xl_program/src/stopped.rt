@@ -1,4 +1,5 @@
 use spec_fields::ReadRefused;
+use spec_flat::FlatRefused;
 
 /// Why a command did not end well.
 #[derive(Clone, Copy, Debug, PartialEq, Eq)]
@@ -9,6 +10,8 @@ pub enum Stopped {
     ShelfFault,
     /// The file holds no document.
     Refused(ReadRefused),
+    /// The image of the file cannot be made flat.
+    NotFlattened(FlatRefused),
     /// The command's output is written, and a save failed.
     SaveFault,
     SinkFault,

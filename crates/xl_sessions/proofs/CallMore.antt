@@ -15,8 +15,10 @@ use Rattle.spec_tables.proofs.Made.{filters_made}
 use Rattle.spec_text.specs.Text.{is_save_memory}
 use Rattle.spec_seats.specs.Picked.{picked, IsCaughtUp}
 use Rattle.spec_seats.specs.Digests.{asks_tile, digest_in, digests_in}
-use Rattle.spec_seats.specs.Made.{filters_along, HasMade, IsOf}
-use Rattle.spec_seats.proofs.More.{picked_one, filters-append, made_call, caught_up_last}
+use Rattle.spec_seats.specs.Made.{HasMade, IsOf}
+use Rattle.spec_tables.specs.Tables.{filters_along}
+use Rattle.spec_seats.proofs.More.{picked_one, made_call, caught_up_last}
+use Rattle.spec_tables.proofs.Along.{filters_append}
 use Rattle.spec_seats.proofs.Shown.{digests_one}
 use Rattle.xl_core.specs.History.{Shows}
 use Rattle.xl_studio.specs.declared.moment.Moment.{Moment}
@@ -115,7 +117,7 @@ module _ {session : ℕ} {c : Call} {tables : List (List ℕ)} {reply : Reply} {
       → filters_along filters (picked places_then es_then) ≡ used_by (filters_along filters (picked places es)) (edits_made c reply)
   call_filters filters =
       let e = entry_more session c tables reply more.index in
-      ap (filters_along filters) picked_more ∙ filters-append filters (picked places es) (e ∷ [])
+      ap (filters_along filters) picked_more ∙ filters_append filters (picked places es) (e ∷ [])
       ∙ filters_made (filters_along filters (picked places es)) c tables reply
 
   pub call_told : (base : Document) → IsLegal base es

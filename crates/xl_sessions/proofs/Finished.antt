@@ -12,7 +12,8 @@ use Rattle.spec_seats.specs.Digests.{digests_in}
 use Rattle.spec_seats.specs.Ended.{AreEnded}
 use Rattle.spec_text.specs.Text.{IsTextOf, printed}
 use Rattle.xl_core.specs.Editing.{Editing}
-use Rattle.xl_sessions.specs.Outcomes.{list_at, FromFirst}
+use Rattle.xl_sessions.specs.Outcomes.{FromFirst}
+use Rattle.spec_script.specs.Script.{list_at}
 use Rattle.xl_sessions.specs.Players.{AreOfSessions, HaveOutcomes, HaveSomeOutcomes, AreKnown, places_of, shown_of}
 use Rattle.xl_sessions.specs.Printing.{IsPrinted}
 use Rattle.xl_sessions.specs.declared.players.Player.{Player}

@@ -23,7 +23,8 @@ use Rattle.spec_seats.proofs.Whole.{mine_picked, no_save_out, seats_make_text}
 use Rattle.xl_turn.specs.Sums.{total, times, same, below}
 use Rattle.xl_turn.specs.Seats.{IsEachOnce}
 use Rattle.xl_turn.proofs.Totals.{total_append}
-use Rattle.xl_sessions.specs.Outcomes.{list_at, FromFirst, IsOutcome}
+use Rattle.xl_sessions.specs.Outcomes.{FromFirst, IsOutcome}
+use Rattle.spec_script.specs.Script.{list_at}
 use Rattle.xl_sessions.proofs.Zips.{from_first_map}
 
 -- ---- an outcome, as the history grows

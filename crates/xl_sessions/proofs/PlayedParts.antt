@@ -11,7 +11,8 @@ use Rattle.spec_seats.specs.Made.{IsOf}
 use Rattle.spec_seats.proofs.More.{of_grows}
 use Rattle.spec_tables.specs.Agrees.{Agrees}
 use Rattle.xl_filters.specs.declared.chest.Slot.{Slot}
-use Rattle.xl_sessions.specs.Outcomes.{list_at, FromFirst, IsOutcome}
+use Rattle.xl_sessions.specs.Outcomes.{FromFirst, IsOutcome}
+use Rattle.spec_script.specs.Script.{list_at}
 use Rattle.xl_sessions.specs.Players.{IsBrought, IsFitPart, IsSeated, CanPlay, HasPlayed, Plays, HavePlayed}
 use Rattle.xl_sessions.specs.Players.{IsOfSession, AreOfSessions, HaveOutcomes, AreSeats, AreKnown, AreBrought}
 use Rattle.xl_sessions.specs.Players.{AreFitParts, AreSeated, places_of, shown_of, weight_in}

@@ -10,8 +10,10 @@ use Rattle.spec_saves.specs.Shelf as shelves
 use Rattle.spec_script.specs.Script.{Line, save}
 use Rattle.spec_seats.specs.Picked.{picked, IsCaughtUp}
 use Rattle.spec_seats.specs.Digests.{digests_in}
-use Rattle.spec_seats.specs.Made.{filters_along, HasMade, IsOf}
-use Rattle.spec_seats.proofs.More.{before_end, with_save, picked_two, filters-append, made_save, caught_up_last}
+use Rattle.spec_seats.specs.Made.{HasMade, IsOf}
+use Rattle.spec_tables.specs.Tables.{filters_along}
+use Rattle.spec_seats.proofs.More.{before_end, with_save, picked_two, made_save, caught_up_last}
+use Rattle.spec_tables.proofs.Along.{filters_append}
 use Rattle.spec_seats.proofs.Shown.{digests_save}
 use Rattle.spec_world.specs.declared.SaveEnd.{SaveEnd}
 use Rattle.spec_world.specs.declared.SaveEnd.TheVariants.{Done, Fault, Memory}
@@ -96,7 +98,7 @@ module _ {session : ℕ} {reply : Reply} {places : List ℕ} {es : List Entry} {
       let mine = picked places es in
       ap (filters_along filters) ((λ i. picked (more.places_are i) (more.entries_are i))
       ∙ picked_two places es more.entered s more.between t more.begins of.within)
-      ∙ filters-append filters (mine ++ s ∷ []) (t ∷ []) ∙ filters-append filters mine (s ∷ [])
+      ∙ filters_append filters (mine ++ s ∷ []) (t ∷ []) ∙ filters_append filters mine (s ∷ [])
 
   -- and shows no tile
   pub save_told : (base : Document) → IsLegal base es

@@ -12,7 +12,8 @@ use Rattle.spec_tables.specs.Tables.{expected_tables}
 use Rattle.spec_tables.proofs.Chests.{some_list}
 use Rattle.spec_seats.specs.Picked.{picked, IsCaughtUp}
 use Rattle.spec_seats.specs.Digests.{digests_in}
-use Rattle.spec_seats.specs.Made.{filters_along, HasMade, IsOf}
+use Rattle.spec_seats.specs.Made.{HasMade, IsOf}
+use Rattle.spec_tables.specs.Tables.{filters_along}
 use Rattle.spec_seats.proofs.Entries.{picked-none}
 use Rattle.spec_seats.proofs.More.{made_none, made_forget, caught_up_none}
 use Rattle.spec_seats.proofs.Shown.{digests_none}

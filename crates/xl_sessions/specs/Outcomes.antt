@@ -9,10 +9,6 @@ use Rattle.spec_seats.specs.Digests.{digests_in}
 use Rattle.spec_seats.specs.Made.{IsOf, HasMade}
 use Rattle.spec_seats.specs.Picked.{picked}
 
--- a session's own list, and none past the last one
-abbrev pub list_at : {A : Type 0} → List (List A) → (session : ℕ) → List A
-list_at lists session = unwrap_or (slice_get lists session) []
-
 -- the fact holds of each, the first of which is that of the session `first`
 abbrev pub FromFirst : {P : Type 0} → (Q : ℕ → P → Type 0) → (first : ℕ) → List P → Type 0
 FromFirst Q first [] = Unit {0}

@@ -15,7 +15,8 @@ use Rattle.spec_tables.specs.Agrees.{Agrees}
 use Rattle.xl_filters.specs.Chests.{states}
 use Rattle.xl_filters.specs.declared.chest.Slot.{Slot}
 use Rattle.xl_script.specs.Lines.{lines_of}
-use Rattle.xl_sessions.specs.Outcomes.{list_at, FromFirst, IsOutcome}
+use Rattle.xl_sessions.specs.Outcomes.{FromFirst, IsOutcome}
+use Rattle.spec_script.specs.Script.{list_at}
 use Rattle.xl_sessions.specs.Playing.{HasAll}
 use Rattle.xl_sessions.specs.declared.players.Part.{Part}
 use Rattle.xl_sessions.specs.declared.players.Player.{Player}

@@ -14,7 +14,8 @@ ghost use Rattle.std.specs.Prelude.{◌≡◌, ℕ, true, ◌+◌, ◌<◌, ◌�
 ghost use Rattle.std.specs.Prelude.{string_bytes, vec_capacity};
 ghost use Rattle.xl_core.specs.Editing.{world};
 ghost use Rattle.xl_script.specs.Lines.{lists_of};
-ghost use Rattle.xl_sessions.specs.Outcomes.{list_at, states_of, texts_of};
+ghost use Rattle.xl_sessions.specs.Outcomes.{states_of, texts_of};
+ghost use Rattle.spec_script.specs.Script.{list_at};
 ghost use Rattle.xl_sessions.specs.Players.{in_slots, AreBrought, AreOfAScript, HaveSomeOutcomes, AreFitParts};
 ghost use Rattle.xl_sessions.specs.Players.{AreOfSessions, HaveOutcomes, HavePlayed, HasRoom, HasWorked};
 ghost use Rattle.xl_sessions.specs.Printing.{IsPrinted};

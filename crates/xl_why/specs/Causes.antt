@@ -7,7 +7,7 @@ use Rattle.xl_why.specs.declared.cause.Cause.{Cause}
 use Rattle.xl_why.specs.declared.cause.Cause.TheVariants.{TooLong, Tab, CarriageReturn, Blank, NoSession, NoKeyword}
 use Rattle.xl_why.specs.declared.cause.Cause.TheVariants.{UnknownWord, WordCount, LeadingZero, BadWord, EndOutside}
 use Rattle.xl_why.specs.declared.cause.Cause.TheVariants.{InsideGroup, EmptyGroup, FullGroup, NotEnded, DroppedFilter}
-use Rattle.xl_why.specs.declared.cause.Cause.TheVariants.{NoFilter, TooManyCalls, Unknown}
+use Rattle.xl_why.specs.declared.cause.Cause.TheVariants.{NoFilter, TooManyCalls, OtherSession, NotViewed, Unknown}
 
 -- The grammar refuses a word that is named as the cause: it is no session, no keyword, or not of the kind that is wanted of it.
 abbrev pub Blames : Cause → Type 0
@@ -29,4 +29,6 @@ Blames NotEnded = Unit {0}
 Blames (DroppedFilter slot) = Unit {0}
 Blames (NoFilter slot) = Unit {0}
 Blames TooManyCalls = Unit {0}
+Blames OtherSession = Unit {0}
+Blames (NotViewed keyword) = Unit {0}
 Blames Unknown = Unit {0}

@@ -20,7 +20,7 @@ impl Before {
                 self.group = Some(0);
                 self.calls = self.calls.saturating_add(1);
             }
-            Task::Edit | Task::Filter | Task::Undo | Task::Call => {
+            Task::Edit | Task::Filter | Task::Undo | Task::Call | Task::Save | Task::Peek => {
                 self.calls = self.calls.saturating_add(1);
             }
             Task::Forget => self.dropped |= is_slot,

@@ -43,6 +43,10 @@ pub enum Cause<'a> {
     /// The session never had this filter.
     NoFilter(&'a [u8]),
     TooManyCalls,
+    /// A script that is viewed has session 0 alone.
+    OtherSession,
+    /// A script that is viewed has no such line.
+    NotViewed(&'static [u8]),
     /// The line cannot be looked at, or nothing is found wrong with it.
     Unknown,
 }

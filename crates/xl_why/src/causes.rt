@@ -4,11 +4,10 @@ use crate::before::{Before, before_line, line_of};
 use crate::cause::Cause;
 use crate::keywords::Task;
 use crate::lines::{Asked, asked_by};
+use spec_history::MAX_EDITS;
 
 /// How long a script is at most.
 const MAX_LEN: usize = 1 << 24;
-
-const MAX_EDITS: u32 = 1024;
 
 const MAX_CALLS: u32 = 1 << 19;
 
@@ -31,7 +30,7 @@ fn cause_inside<'a>(asked: Asked<'a>, edits: u32) -> Cause<'a>
         Task::Edit => cause_of_edit(edits, Cause::Unknown),
         Task::Filter => cause_of_edit(edits, Cause::NoFilter(asked.last)),
         Task::End => Cause::EmptyGroup,
-        Task::Begin | Task::Undo | Task::Call | Task::Forget => {
+        Task::Begin | Task::Undo | Task::Call | Task::Save | Task::Peek | Task::Forget => {
             Cause::InsideGroup(asked.keyword.word)
         }
     }
@@ -58,7 +57,9 @@ fn cause_outside<'a>(text: &[u8], number: u32, asked: Asked<'a>) -> Cause<'a>
         Task::Forget => Cause::NoFilter(asked.last),
         Task::Filter => cause_of_call(text, number, Cause::NoFilter(asked.last)),
         Task::Begin => cause_of_call(text, number, Cause::NotEnded),
-        Task::Edit | Task::Undo | Task::Call => cause_of_call(text, number, Cause::Unknown),
+        Task::Edit | Task::Undo | Task::Call | Task::Save | Task::Peek => {
+            cause_of_call(text, number, Cause::Unknown)
+        }
     }
 }
 
@@ -78,7 +79,8 @@ fn cause_of_call<'a>(text: &[u8], number: u32, otherwise: Cause<'a>) -> Cause<'a
 fn is_dropped(task: Task, before: Before) -> bool {
     match task {
         Task::Filter | Task::Forget => before.dropped,
-        Task::Edit | Task::Begin | Task::End | Task::Undo | Task::Call => false,
+        Task::Edit | Task::Begin | Task::End | Task::Undo | Task::Call | Task::Save | Task::Peek =>
+            false,
     }
 }
 
@@ -109,5 +111,39 @@ pub fn cause_of<'a>(text: &'a [u8], number: u32) -> Cause<'a>
     match asked_by(line) {
         Ok(asked) => cause_by_place(text, number, asked),
         Err(cause) => cause,
+    }
+}
+
+// Why a line is refused in a script that is viewed, where it has a session other than 0 or is a save or a peek.
+fn cause_in_view<'a>(asked: Asked<'a>, otherwise: Cause<'a>) -> Cause<'a>
+    requires { Blames otherwise }
+    ensures { Blames result }
+{
+    if asked.session != 0 {
+        return Cause::OtherSession;
+    }
+    match asked.keyword.task {
+        Task::Save | Task::Peek => Cause::NotViewed(asked.keyword.word),
+        Task::Edit
+        | Task::Filter
+        | Task::Begin
+        | Task::End
+        | Task::Undo
+        | Task::Call
+        | Task::Forget => otherwise,
+    }
+}
+
+/// The same of a script that is viewed.
+pub fn cause_of_viewed<'a>(text: &'a [u8], number: u32) -> Cause<'a>
+    ensures { Blames result }
+{
+    let cause = cause_of(text, number);
+    let Some(line) = line_of(text, number) else {
+        return cause;
+    };
+    match asked_by(line) {
+        Ok(asked) => cause_in_view(asked, cause),
+        Err(_) => cause,
     }
 }

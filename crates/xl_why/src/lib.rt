@@ -15,6 +15,6 @@ mod recorded;
 mod words;
 
 pub use cause::Cause;
-pub use causes::cause_of;
+pub use causes::{cause_of, cause_of_viewed};
 pub use kinds::Kind;
 pub use recorded::Recorded;

@@ -10,3 +10,6 @@ returns-in_default-verb-clause-asked c =
     (differ_in_bytes verb (codes "render") c.in_default-verb.not-render)
     (differ_in_bytes verb (codes "info") c.in_default-verb.not-info)
     (differ_in_bytes verb (codes "make") c.in_default-verb.not-make)
+    (differ_in_bytes verb (codes "pack") c.in_default-verb.not-pack)
+    (differ_in_bytes verb (codes "flatten") c.in_default-verb.not-flatten)
+    (differ_in_bytes verb (codes "view") c.in_default-verb.not-view)

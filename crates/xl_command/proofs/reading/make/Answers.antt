@@ -1,23 +1,18 @@
-use Rattle.std.proofs.Common.{◌∙◌, ◌^◌, ◌-◌, ap, refl, codes, Some, inl, inr, arith, slice_index, true}
+use Rattle.std.proofs.Common.{◌∙◌, ◌^◌, ◌-◌, ap, codes, Some, arith, true}
 use Rattle.clap.specs.Words.{app_of}
 use Rattle.spec_command.specs.Arguments.{make}
 use Rattle.spec_command.specs.Grammar.{make_app, make_of}
 use Rattle.xl_command.specs.Asking.{arguments_of}
 use Rattle.xl_command.proofs.Given.{asked_given}
-use Rattle.xl_command.proofs.Passed.{number_is_small, number_is_taken}
+use Rattle.xl_command.proofs.Passed.{number_is_small, number_is_taken, seed_is_there}
 use Rattle.xl_command.proofs.reading.make.Goals as goal
 
 pub number_in-requires : goal.number_in-requires
 number_in-requires c =
     let found = rw c.in-Some.is at c.in_ok-matches.ensures.ok in
-    λ text has. number_is_small (2 ^ 32 - 1) text (omega arith)
-    (number_is_taken c.in_ok-make_command.field-0 c.in-Some.matches found.2 (codes "make") (codes "seed") (2 ^ 32 - 1) true refl
-    (λ e. let bad = ap (λ l. slice_index l 0) e in absurd (omega (arith, bad)))
-    (λ auto. elim auto [
-      | inl e ↦ let bad = ap (λ l. slice_index l 0) e in absurd (omega (arith, bad))
-      | inr e ↦ let bad = ap (λ l. slice_index l 0) e in absurd (omega (arith, bad))
-    ])
-    c.in_ok-make_command.ensures text has)
+    λ text has. number_is_small 0 (2 ^ 32 - 1) text (omega arith)
+    (number_is_taken c.in_ok-make_command.field-0 c.in-Some.matches found.2 make_app 1 (codes "seed") 0 (2 ^ 32 - 1) true
+    seed_is_there c.in_ok-make_command.ensures text has)
 
 pub returns-clause-asked : goal.returns-clause-asked
 returns-clause-asked c =

@@ -1,4 +1,4 @@
-use Rattle.spec_command.specs.Arguments.{render, info, edit}
+use Rattle.spec_command.specs.Arguments.{render, info, edit, view}
 use Rattle.xl_core.specs.Editing.{known}
 use Rattle.xl_program.specs.Outcome.{Given, given_of}
 use Rattle.xl_program.proofs.Causes.{cause_of}
@@ -47,4 +47,30 @@ returns-in-Edit-clause-shelf_cause g c =
     c.edit.result.result (λ rose. rose) c.edit.ensures.shelf_cause)
 
 pub edit-requires-clause-workers : goal.edit-requires-clause-workers
-edit-requires-clause-workers g c κs within = rw c.in-Edit.is at c.requires.few
+edit-requires-clause-workers g c κs within = rw c.in-Edit.is at c.requires.range
+
+pub returns-in-Pack-clause-comes : goal.returns-in-Pack-clause-comes
+returns-in-Pack-clause-comes g c =
+    let given : Given =
+    given_of (g.S.Source.left c.args.source.now) (λ b. (goal.PointFilter-dyn g (b.vtable, b.value)).state b.value)
+    c.args.chest.items in
+    rw c.in-Pack.is (c.pack-result.ensures.comes given)
+
+pub returns-in-Flatten-clause-comes : goal.returns-in-Flatten-clause-comes
+returns-in-Flatten-clause-comes g c =
+    let given : Given =
+    given_of (g.S.Source.left c.args.source.now) (λ b. (goal.PointFilter-dyn g (b.vtable, b.value)).state b.value)
+    c.args.chest.items in
+    rw c.in-Flatten.is (c.flatten.ensures.comes given)
+
+pub returns-in-View-clause-comes : goal.returns-in-View-clause-comes
+returns-in-View-clause-comes g c = rw c.in-View.is c.view.ensures.comes
+
+pub returns-in-View-clause-shelf_cause : goal.returns-in-View-clause-shelf_cause
+returns-in-View-clause-shelf_cause g c =
+    let see = known g.D.Shelf.selected g.D.Shelf.disk g.D.Shelf.reading_faults g.D.Shelf.saving_faults in
+    rw c.in-View.is (cause_of (see c.args.shelf) (see c.view.result.shelf) (view c.in-View.name.now c.in-View.cols c.in-View.rows)
+    c.view.result.result (λ rose. rose) c.view.ensures.shelf_cause)
+
+pub view-requires-clause-size : goal.view-requires-clause-size
+view-requires-clause-size g c κs within = rw c.in-View.is at c.requires.range

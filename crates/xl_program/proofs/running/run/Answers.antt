@@ -2,16 +2,17 @@ use Rattle.std.proofs.Common.{◌≡◌, inl, inr, refl, Option, Some, sym, ◌�
 use Rattle.std.specs.Prelude.{IfSome, option_map}
 use Rattle.spec_command.specs.Arguments.{Asked, name_of}
 use Rattle.spec_command.specs.Grammar.{asked_in}
-use Rattle.spec_command.specs.Ends.{source_fault, bad_line, refused, stop_line}
+use Rattle.spec_command.specs.Ends.{source_fault, bad_line, refused, flat_refused, stop_line}
 use Rattle.xl_command.specs.Asking.{asked_of, arguments_of}
 use Rattle.xl_ports.specs.Shelf.{Content, selected_content}
-use Rattle.xl_program.specs.Command.{IsEdit, ReadsFile}
+use Rattle.xl_program.specs.Command.{IsFlatten, ReadsFile, ReadsSource}
+use Rattle.xl_program.specs.Files.{CannotBeFlat, HasFault}
 use Rattle.xl_program.specs.Lines.{WritesLine}
-use Rattle.xl_program.specs.Outcome.{Given, given_of, HasFault, InGrammar, Shelved, shelved}
+use Rattle.xl_program.specs.Outcome.{Given, given_of, InGrammar, IsBadLineOf, Shelved, shelved}
 use Rattle.xl_program.proofs.Taken.{nothing_taken, nothing_saved}
 use Rattle.xl_program.proofs.ScriptEnded.{ended_written}
-use Rattle.xl_program.proofs.StopLines.{bad_line_written, refusal_written, script_in_grammar, shelf_fault_asked}
-use Rattle.xl_program.proofs.StopLines.{source_fault_written}
+use Rattle.xl_program.proofs.StopLines.{bad_line_written, flat_refusal_written, refusal_written, script_in_grammar}
+use Rattle.xl_program.proofs.StopLines.{shelf_fault_asked, source_fault_written}
 use Rattle.xl_program.proofs.running.run.Goals as goal
 use Rattle.xl_program.proofs.running.run.Goals.{in-Ok-result, in-Err}
 
@@ -52,7 +53,7 @@ returns-clause-source_fault_written g c = λ five. elim c.match-done.branch [
       source_fault_written g.K.Sink.held g.K.Sink.faults _ content _ _ command w.in-Err.stopped _ _ _ _ (sym w.status-is ∙ five)
       (rw w.in-Err.is at c.obey-done.ensures.comes) (rw w.in-Err.is at c.obey-done.ensures.stops)
       w.write_stop-status.ensures in (
-        subst (λ (o : Option Asked). IsEdit o) is told.0,
+        subst (λ (o : Option Asked). ReadsSource o) is told.0,
         subst (λ k. WritesLine g.K.Sink.held g.K.Sink.faults c.args.sink.now k (stop_line source_fault)) (sym w.sink-is) told.1,
       )
 ]
@@ -61,17 +62,39 @@ pub returns-clause-bad_line : goal.returns-clause-bad_line
 returns-clause-bad_line g c = λ three. elim c.match-done.branch [
   | in-Ok-result w ↦ absurd (omega arith)
   | in-Err w ↦
+      let given : Given =
+      given_of (g.S.Source.left c.args.source.now) (λ b. (goal.PointFilter-dyn g (b.vtable, b.value)).state b.value)
+      c.args.chest.items in
       let content = g.D.Shelf.content c.args.shelf in
       let command = asked_of c.in-Some.command in
       let is : Some command ≡ asked_in (arguments_of c.args.words.now) = rw c.in-Some.is at c.in-Ok.ensures.asked in
       let told =
-      bad_line_written g.K.Sink.held g.K.Sink.faults _ content _ _ command w.in-Err.stopped _ _ _ _ (sym w.status-is ∙ three)
+      bad_line_written g.K.Sink.held g.K.Sink.faults given content _ _ command w.in-Err.stopped _ _ _ _ (sym w.status-is ∙ three)
       (rw w.in-Err.is at c.obey-done.ensures.comes) (rw w.in-Err.is at c.obey-done.ensures.stops)
       w.write_stop-status.ensures in (
         told.0,
-        subst (λ (o : Option Asked). IsEdit o) is told.1,
-        told.2,
+        subst (λ (o : Option Asked). IsBadLineOf given o told.0) is told.1,
         subst (λ k. WritesLine g.K.Sink.held g.K.Sink.faults c.args.sink.now k (stop_line (bad_line told.0)))
+            (sym w.sink-is) told.2,
+      )
+]
+
+pub returns-clause-flat_refused : goal.returns-clause-flat_refused
+returns-clause-flat_refused g c = λ nine. elim c.match-done.branch [
+  | in-Ok-result w ↦ absurd (omega arith)
+  | in-Err w ↦
+      let content = g.D.Shelf.content c.args.shelf in
+      let command = asked_of c.in-Some.command in
+      let is : Some command ≡ asked_in (arguments_of c.args.words.now) = rw c.in-Some.is at c.in-Ok.ensures.asked in
+      let told =
+      flat_refusal_written g.K.Sink.held g.K.Sink.faults _ content _ _ command w.in-Err.stopped _ _ _ _ (sym w.status-is ∙ nine)
+      (rw w.in-Err.is at c.obey-done.ensures.comes) (rw w.in-Err.is at c.obey-done.ensures.stops)
+      w.write_stop-status.ensures in (
+        told.0,
+        subst (λ (o : Option Asked). IsFlatten o) is told.1,
+        subst (λ (o : Option Content). IfSome o (λ x. CannotBeFlat x told.0))
+            (ap (λ (o : Option Asked). selected_content (option_map name_of o) content) is) told.2,
+        subst (λ k. WritesLine g.K.Sink.held g.K.Sink.faults c.args.sink.now k (stop_line (flat_refused told.0)))
             (sym w.sink-is) told.3,
       )
 ]
@@ -109,7 +132,7 @@ returns-clause-script_first g c = λ which. elim c.match-done.branch [
       let command = asked_of c.in-Some.command in
       let is : Some command ≡ asked_in (arguments_of c.args.words.now) = rw c.in-Some.is at c.in-Ok.ensures.asked in
       subst (λ (o : Option Asked). InGrammar given o) is
-      (script_in_grammar g.K.Sink.held g.K.Sink.faults given content command w.in-Err.stopped _ _ _ _ (sym w.status-is) which
+      (script_in_grammar given content g.K.Sink.held g.K.Sink.faults command w.in-Err.stopped _ _ _ _ (sym w.status-is) which
       (rw w.in-Err.is at c.obey-done.ensures.stops) w.write_stop-status.ensures)
 ]
 
@@ -117,7 +140,7 @@ pub returns-clause-source_ended : goal.returns-clause-source_ended
 returns-clause-source_ended g c = λ after asked.
     let is : Some (asked_of c.in-Some.command) ≡ asked_in (arguments_of c.args.words.now) =
     rw c.in-Some.is at c.in-Ok.ensures.asked in
-    let edits = subst (λ (o : Option Asked). IsEdit o) (sym is) asked in
+    let edits = subst (λ (o : Option Asked). ReadsSource o) (sym is) asked in
     elim c.match-done.branch [
       | in-Ok-result w ↦ (rw w.in-Ok-result.is at c.obey-done.ensures.ended) edits
       | in-Err w ↦
@@ -126,5 +149,5 @@ returns-clause-source_ended g c = λ after asked.
           ((rw w.in-Err.is at c.obey-done.ensures.ended) edits)
     ]
 
-pub obey-done-requires-clause-few : goal.obey-done-requires-clause-few
-obey-done-requires-clause-few g c κs within = rw c.in-Some.is at c.in-Ok.ensures.few
+pub obey-done-requires-clause-range : goal.obey-done-requires-clause-range
+obey-done-requires-clause-range g c κs within = rw c.in-Some.is at c.in-Ok.ensures.range

