@@ -1,8 +1,10 @@
 //! Runs over devices in memory of which one call fails, or all from one on: what was written, the status, and what a crash may
-//! leave of the file.
+//! leave of the file. And renderings of files that are cut or have another word somewhere.
 //!
-//! `data/one.xcf` is the worked file of one pixel, and `stdout` what each run must give.
+//! `data/one.xcf` is the worked file of one pixel, `data/flat.xcf` the same made flat, and `stdout` what each run must give.
 #![tactic(auto)]
+
+mod damaged;
 
 use std::alloc::{AllocError, Global};
 use std::process::ExitCode;
@@ -50,16 +52,17 @@ const NONE: Failing = Failing {
     stop: None,
 };
 
-/// The contents that are told by a letter: `o`, `0` and `1`.
+/// The contents that are told by a letter: `o`, `0`, `1` and `f`.
 #[derive(Drop)]
 struct Contents {
     /// The worked file, which is not as it is written.
     old: Vec<u8>,
     written: Vec<u8>,
     filled: Vec<u8>,
+    flat: Vec<u8>,
 }
 
-fn contents_of(alloc: Global, file: &[u8]) -> Result<Contents, AllocError> {
+fn contents_of(alloc: Global, file: &[u8], flat: Vec<u8>) -> Result<Contents, AllocError> {
     let written = file.to_vec(alloc)?;
     let mut old = file.to_vec(alloc)?;
     if let Some(byte) = old.get_mut(END_LENGTH) {
@@ -72,6 +75,7 @@ fn contents_of(alloc: Global, file: &[u8]) -> Result<Contents, AllocError> {
         old,
         written,
         filled,
+        flat,
     })
 }
 
@@ -100,7 +104,7 @@ fn run_words<R: Threads + Wait + Sync>(
     Ok(run(
         threads,
         alloc,
-        &asked.words,
+        asked.words,
         &mut source,
         sink,
         shelf,
@@ -114,6 +118,7 @@ fn letter(content: &Option<Vec<u8>>, known: &Contents) -> char {
         Some(bytes) if bytes.as_slice() == known.old.as_slice() => 'o',
         Some(bytes) if bytes.as_slice() == known.written.as_slice() => '0',
         Some(bytes) if bytes.as_slice() == known.filled.as_slice() => '1',
+        Some(bytes) if bytes.as_slice() == known.flat.as_slice() => 'f',
         _ => '?',
     }
 }
@@ -152,7 +157,7 @@ fn name_of_failing(alloc: Global, failing: Failing) -> Result<String, AllocError
 /// A command, its script, and how many bytes are written at a time.
 #[derive(Clone, Copy)]
 struct Asked<'a> {
-    words: [&'a str; 2],
+    words: &'a [&'a str],
     script: &'a str,
     step: usize,
 }
@@ -160,17 +165,49 @@ struct Asked<'a> {
 // The edit of the file by a script.
 fn edit(script: &str) -> Asked<'_> {
     Asked {
-        words: ["edit", NAME],
+        words: EDIT,
         script,
         step: 1 << 20,
     }
 }
 
+const EDIT: &'static [&'static str] = &["edit", NAME];
+
 const RENDER: Asked<'static> = Asked {
-    words: ["render", NAME],
+    words: &["render", NAME],
     script: "",
     step: 1 << 20,
 };
+
+const FLATTEN: Asked<'static> = Asked {
+    words: &["flatten", NAME],
+    script: "",
+    step: 1 << 20,
+};
+
+const PACK: Asked<'static> = Asked {
+    words: &["pack", NAME],
+    script: "",
+    step: 1 << 20,
+};
+
+const VIEW: Asked<'static> = Asked {
+    words: &["view", NAME, "--cols", "2", "--rows", "2"],
+    script: "0 undo\n0 undo\n0 undo\n",
+    step: 1 << 20,
+};
+
+// The words with a space between two.
+fn joined(alloc: Global, words: &[&str]) -> Result<String, AllocError> {
+    let mut text = String::new(alloc);
+    for word in words {
+        if !text.is_empty() {
+            text.push(' ')?;
+        }
+        text.push_str(*word)?;
+    }
+    Ok(text)
+}
 
 /// What is shown of runs, one after another.
 #[derive(Drop)]
@@ -195,9 +232,9 @@ impl<'a, R: Threads + Wait + Sync> Shown<'a, R> {
         )?;
         let letters = name_of_content(alloc, &ended.shelf, self.known)?;
         let fails = name_of_failing(alloc, failing)?;
-        let [verb, name] = asked.words;
+        let words = joined(alloc, asked.words)?;
         let status = ended.status;
-        let line = format!(in alloc; "== {verb} {name}{fails}: status {status} left {letters}")?;
+        let line = format!(in alloc; "== {words}{fails}: status {status} left {letters}")?;
         self.rt.println(line.as_str())?;
         let text = String::from_utf8_lossy(alloc, sink.held())?;
         self.rt.println(text.as_str())
@@ -243,6 +280,13 @@ impl<'a, R: Threads + Wait + Sync> Shown<'a, R> {
             };
             self.show(edit("0 undo\n0 undo\n0 undo\n"), failing)?;
         }
+        for read in 0..2 {
+            let failing = Failing {
+                read: Some(read),
+                ..NONE
+            };
+            self.show(edit(ONE_SAVE), failing)?;
+        }
         Ok(())
     }
 
@@ -265,7 +309,7 @@ impl<'a, R: Threads + Wait + Sync> Shown<'a, R> {
         )?;
         self.show(
             Asked {
-                words: ["render", "-"],
+                words: &["render", "-"],
                 step: 3,
                 ..RENDER
             },
@@ -281,32 +325,45 @@ impl<'a, R: Threads + Wait + Sync> Shown<'a, R> {
                 ..NONE
             })?;
         }
-        let failing = Failing {
-            call: Some(SYNC),
-            write: Some(1),
-            ..NONE
+        self.show_writes_of_a_save()
+    }
+
+    // Writes that fail behind a save, and behind one of which a call fails.
+    fn show_writes_of_a_save(&self) -> io::Result<()> {
+        let asked = Asked {
+            step: 7,
+            ..edit(ONE_SAVE)
         };
-        self.show(
-            Asked {
-                step: 7,
-                ..edit(ONE_SAVE)
-            },
-            failing,
-        )
+        for write in 0..4 {
+            let failing = Failing {
+                write: Some(write),
+                ..NONE
+            };
+            self.show(asked, failing)?;
+        }
+        for call in FIRST_SAVE..SECOND_SAVE {
+            let failing = Failing {
+                call: Some(call),
+                write: Some(1),
+                ..NONE
+            };
+            self.show(asked, failing)?;
+        }
+        Ok(())
     }
 
     // Files that cannot be read.
     fn show_loads(&self) -> io::Result<()> {
         self.show(
             Asked {
-                words: ["edit", "g"],
+                words: &["edit", "g"],
                 ..edit("0 undo")
             },
             NONE,
         )?;
         self.show(
             Asked {
-                words: ["render", "g"],
+                words: &["render", "g"],
                 ..RENDER
             },
             NONE,
@@ -322,10 +379,54 @@ impl<'a, R: Threads + Wait + Sync> Shown<'a, R> {
         }
         Ok(())
     }
+
+    // A command that makes one save, of which a call or a write fails.
+    fn show_one_save(&self, asked: Asked<'_>) -> io::Result<()> {
+        self.show(asked, NONE)?;
+        for call in 0..SECOND_SAVE {
+            self.show(
+                asked,
+                Failing {
+                    call: Some(call),
+                    ..NONE
+                },
+            )?;
+        }
+        let failing = Failing {
+            write: Some(1),
+            ..NONE
+        };
+        self.show(Asked { step: 7, ..asked }, failing)
+    }
+
+    // A view of which a read of the script, a load or a write fails.
+    fn show_view(&self) -> io::Result<()> {
+        self.show(VIEW, NONE)?;
+        for number in 0..4 {
+            let failing = Failing {
+                read: Some(number),
+                ..NONE
+            };
+            self.show(VIEW, failing)?;
+        }
+        for call in 0..FIRST_SAVE {
+            let failing = Failing {
+                call: Some(call),
+                ..NONE
+            };
+            self.show(VIEW, failing)?;
+        }
+        let failing = Failing {
+            write: Some(1),
+            ..NONE
+        };
+        self.show(Asked { step: 7, ..VIEW }, failing)
+    }
 }
 
 fn show_all<R: Threads + Wait + Sync>(rt: &HostRuntime, threads: &R) -> io::Result<()> {
-    let known = contents_of(rt.alloc(), &fs::read(rt, "one.xcf")?)?;
+    let flat = fs::read(rt, "flat.xcf")?;
+    let known = contents_of(rt.alloc(), &fs::read(rt, "one.xcf")?, flat)?;
     let shown = Shown {
         rt,
         threads,
@@ -334,7 +435,11 @@ fn show_all<R: Threads + Wait + Sync>(rt: &HostRuntime, threads: &R) -> io::Resu
     shown.show_saves()?;
     shown.show_reads()?;
     shown.show_writes()?;
-    shown.show_loads()
+    shown.show_loads()?;
+    shown.show_one_save(FLATTEN)?;
+    shown.show_one_save(PACK)?;
+    shown.show_view()?;
+    shown.show_damaged()
 }
 
 fn main(rt: HostRuntime) -> ExitCode {
