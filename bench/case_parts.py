@@ -100,25 +100,30 @@ def indexed(colour_map, index):
 
 def grey(width, tiles):
     """A grey image of one row, whose tiles have these codes; the last one's end the file."""
+    return grey_image((width, 1), (width, 1), range(len(tiles)), tiles).file()
+
+
+def grey_image(canvas, sides, places, codes, repeats=1):
+    """A grey image with a layer, to which so many pointers lead; its tiles have the codes at these places."""
     made = Assembly()
-    made.put(ONE[:22] + number(1) + property_bytes(17, b"\1") + property_bytes(0, b""))
-    made.data[14:18] = number(width)
-    made.pointer("layer")
+    made.put(ONE[:14] + number(canvas[0]) + number(canvas[1]) + number(1) + property_bytes(17, b"\1") + property_bytes(0, b""))
+    for _ in range(repeats):
+        made.pointer("layer")
     made.put(number(0) + number(0))
     made.mark("layer")
-    made.put(number(width) + number(1) + number(2) + number(0) + property_bytes(0, b""))
+    made.put(number(sides[0]) + number(sides[1]) + number(2) + number(0) + property_bytes(0, b""))
     made.pointer("hierarchy")
     made.word(0)
     made.mark("hierarchy")
-    made.put(number(width) + number(1) + number(1))
+    made.put(number(sides[0]) + number(sides[1]) + number(1))
     made.pointer("level")
     made.word(0)
     made.mark("level")
-    made.put(number(width) + number(1))
-    for tile in range(len(tiles)):
-        made.pointer(tile)
+    made.put(number(sides[0]) + number(sides[1]))
+    for place in places:
+        made.pointer(place)
     made.word(0)
-    for tile, codes in enumerate(tiles):
-        made.mark(tile)
-        made.put(codes)
-    return made.file()
+    for place, tile in enumerate(codes):
+        made.mark(place)
+        made.put(tile)
+    return made

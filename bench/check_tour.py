@@ -1,9 +1,9 @@
 #!/usr/bin/env python3
-"""Runs the commands of docs/TOUR.md in a folder of their own, and tells where their output is another.
+"""Runs the commands of docs/TOUR.md and of README.md, each page in a folder of its own, and tells where their output is another.
 
     check_tour.py BIN [--write]
 
-With --write the document takes what was written. The exit status is 1 where something differs.
+With --write the pages take what was written. The exit status is 1 where something differs.
 """
 
 import argparse
@@ -14,8 +14,10 @@ import sys
 import tempfile
 
 HERE = os.path.dirname(os.path.abspath(__file__))
-TOUR = os.path.join(HERE, "..", "docs", "TOUR.md")
-SAMPLE = os.path.join(HERE, "..", "crates", "written_files", "data", "groups-3.xcf")
+TOP = os.path.dirname(HERE)
+PHOTO, ONE = "crates/written_files/data/groups-3.xcf", "crates/xcfedit_edits/data/one.xcf"
+# The files that each page finds in its folder.
+PAGES = {"docs/TOUR.md": {"photo.xcf": PHOTO}, "README.md": {"photo.xcf": PHOTO, "one.xcf": ONE}}
 INDENT, PROMPT = "    ", "    $ "
 
 
@@ -40,25 +42,32 @@ def rewritten(lines, folder, path):
     return found
 
 
+def differs(name, path, write):
+    """Whether a command of a page writes something else; where it does, the first line is told."""
+    page = os.path.join(TOP, name)
+    with open(page, encoding="utf-8") as file:
+        old = file.readlines()
+    with tempfile.TemporaryDirectory() as folder:
+        for sample, source in PAGES[name].items():
+            shutil.copy(os.path.join(TOP, source), os.path.join(folder, sample))
+        new = rewritten(old, folder, path)
+    if write:
+        with open(page, "w", encoding="utf-8") as file:
+            file.writelines(new)
+    for left, right in zip(old, new):
+        if left != right:
+            print("%s\n- %s+ %s" % (name, left, right), end="")
+            break
+    return old != new
+
+
 def main():
     parser = argparse.ArgumentParser(description=__doc__, formatter_class=argparse.RawDescriptionHelpFormatter)
     parser.add_argument("program", metavar="BIN")
     parser.add_argument("--write", action="store_true")
     given = parser.parse_args()
-    with open(TOUR, encoding="utf-8") as file:
-        old = file.readlines()
-    with tempfile.TemporaryDirectory() as folder:
-        shutil.copy(SAMPLE, os.path.join(folder, "photo.xcf"))
-        path = os.pathsep.join([os.path.dirname(os.path.abspath(given.program)), HERE, os.environ["PATH"]])
-        new = rewritten(old, folder, path)
-    if given.write:
-        with open(TOUR, "w", encoding="utf-8") as file:
-            file.writelines(new)
-    for left, right in zip(old, new):
-        if left != right:
-            print("- %s+ %s" % (left, right), end="")
-            break
-    return 0 if old == new else 1
+    path = os.pathsep.join([os.path.dirname(os.path.abspath(given.program)), HERE, os.environ["PATH"]])
+    return int(any([differs(name, path, given.write) for name in PAGES]))
 
 
 if __name__ == "__main__":

@@ -3,15 +3,17 @@
 
     make_failing_rows.py FOLDER
 
-FOLDER is the crate's. Nothing is run: the texts are those of the rules, cut where the write that fails stands. The file of
-the worked image made flat, `data/flat.xcf`, is made from `data/one.xcf` by the writer beside this: it has that one layer, without
-its name.
+FOLDER is the crate's. Nothing is run: the texts are those of the rules, cut where the write that fails stands. What files that
+are cut or changed must give is read by `xcf_reading.py`, which knows nothing of the engine. The file of the worked image made
+flat, `data/flat.xcf`, is made from `data/one.xcf` by the writer beside this: it has that one layer, without its name.
 """
 
 import argparse
 import os
 
+from case_parts import ONE, one
 from xcf_reading import read
+from xcf_reference import output
 from xcf_written import written
 
 SELECT, LOADS, SYNC, SWAP, SETTLE, ONE_SAVE, TWO_SAVES = 0, (1, 2), 5, 6, 7, 8, 13
@@ -65,13 +67,20 @@ def rows_of_streams():
     for read in range(4):
         # 21 bytes in pieces of seven, and then the end
         yield "edit f, read %d" % read, (5, "o", "source fault\n") if read < 4 else (0, "o", nothing)
+    for read in range(2):
+        # six bytes, and then the end
+        yield "edit f, read %d" % read, (5, "o", "source fault\n")
     two = "".join("0.%d nothing to undo\n" % i for i in range(2)) + "order 0.0 0.1\n"
     for write in range(3):
         yield "edit f, write %d" % write, (7, "o", cut(two, 10, write))
         yield "render f, write %d" % write, (7, "o", cut(PAM, 10, write).decode())
         yield "edit f, write %d" % write, (3, "o", cut("bad line 1\n", 5, write))
         yield "render -, write %d" % write, (2, "o", cut("usage\n", 3, write))
-    yield "edit f, write 1, call %d" % SYNC, (7, "o", cut(saves("save fault"), 7, 1))
+    for write in range(4):
+        yield "edit f, write %d" % write, (7, "0", cut(saves("saved"), 7, write))
+    for call in range(SELECT + 3, ONE_SAVE):
+        status, left, text = failed_call(call)
+        yield "edit f, write 1, call %d" % call, (7, left, cut(text, 7, 1))
 
 
 def rows_of_one_save(words, letter, text):
@@ -109,6 +118,24 @@ def rows_of_loads():
         yield "render f, call %d" % call, SHELF_FAULT
 
 
+# Words that the worked file may have at an offset in place of its own.
+CHANGES = ((43, 2**32 - 1), (43, 192), (43, 0), (47, 55), (67, 2**32 - 1), (149, 55), (181, 0), (181, 14), (39, 7))
+
+
+def rendering(data):
+    """The status of a rendering, and its last pixel or its line."""
+    status, pieces = output(data)
+    written = b"".join(pieces)
+    return "status %d\n%s" % (status, written.decode() if status else "pixel %d %d %d %d\n" % tuple(written[-4:]))
+
+
+def rows_of_files():
+    for end in range(len(ONE) + 1):
+        yield "render f, first %d bytes" % end, rendering(ONE[:end])
+    for at, word in CHANGES:
+        yield "render f, word %d at %d" % (word, at), rendering(one({at: word}))
+
+
 def main():
     parser = argparse.ArgumentParser(description=__doc__, formatter_class=argparse.RawDescriptionHelpFormatter)
     parser.add_argument("folder", metavar="FOLDER")
@@ -120,6 +147,8 @@ def main():
         for rows in (rows_of_saves(), rows_of_streams(), rows_of_loads(), flat, packed, rows_of_view()):
             for head, (status, left, text) in rows:
                 out.write("== %s: status %d left %s\n%s\n" % (head, status, left, text))
+        for head, told in rows_of_files():
+            out.write("== %s: %s\n" % (head, told))
 
 
 if __name__ == "__main__":

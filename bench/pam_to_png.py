@@ -23,10 +23,29 @@ def chunk(kind, data):
     return struct.pack(">I", len(data)) + kind + data + struct.pack(">I", zlib.crc32(kind + data))
 
 
+# How far a byte is from 0, counted round.
+FAR = bytes(min(b, 256 - b) for b in range(256))
+
+
+def less(row, other):
+    """Each byte of a row less that of another one."""
+    high = int.from_bytes(b"\x80" * len(row), "big")
+    a, b = int.from_bytes(row, "big"), int.from_bytes(other, "big")
+    return (((a | high) - (b & ~high)) ^ ((a ^ ~b) & high)).to_bytes(len(row), "big")
+
+
+def filtered(row, above):
+    """A row as it is, less the pixels before or less the row above: the one of PNG's filters that leaves the least."""
+    left = (bytes(4) + row)[:len(row)]
+    kinds = b"\0" + row, b"\1" + less(row, left), b"\2" + less(row, above)
+    return min(kinds, key=lambda one: sum(one[1:].translate(FAR)))
+
+
 def png(width, height, pixels):
-    rows = b"".join(b"\0" + pixels[y * 4 * width:(y + 1) * 4 * width] for y in range(height))
+    rows = [bytes(4 * width)] + [pixels[y * 4 * width:(y + 1) * 4 * width] for y in range(height)]
+    body = b"".join(filtered(row, above) for above, row in zip(rows, rows[1:]))
     head = struct.pack(">IIBBBBB", width, height, 8, 6, 0, 0, 0)
-    return b"\x89PNG\r\n\x1a\n" + chunk(b"IHDR", head) + chunk(b"IDAT", zlib.compress(rows, 9)) + chunk(b"IEND", b"")
+    return b"\x89PNG\r\n\x1a\n" + chunk(b"IHDR", head) + chunk(b"IDAT", zlib.compress(body, 9)) + chunk(b"IEND", b"")
 
 
 if __name__ == "__main__":

@@ -1,8 +1,10 @@
 //! Runs over devices in memory of which one call fails, or all from one on: what was written, the status, and what a crash may
-//! leave of the file.
+//! leave of the file. And renderings of files that are cut or have another word somewhere.
 //!
 //! `data/one.xcf` is the worked file of one pixel, `data/flat.xcf` the same made flat, and `stdout` what each run must give.
 #![tactic(auto)]
+
+mod damaged;
 
 use std::alloc::{AllocError, Global};
 use std::process::ExitCode;
@@ -278,6 +280,13 @@ impl<'a, R: Threads + Wait + Sync> Shown<'a, R> {
             };
             self.show(edit("0 undo\n0 undo\n0 undo\n"), failing)?;
         }
+        for read in 0..2 {
+            let failing = Failing {
+                read: Some(read),
+                ..NONE
+            };
+            self.show(edit(ONE_SAVE), failing)?;
+        }
         Ok(())
     }
 
@@ -316,18 +325,31 @@ impl<'a, R: Threads + Wait + Sync> Shown<'a, R> {
                 ..NONE
             })?;
         }
-        let failing = Failing {
-            call: Some(SYNC),
-            write: Some(1),
-            ..NONE
+        self.show_writes_of_a_save()
+    }
+
+    // Writes that fail behind a save, and behind one of which a call fails.
+    fn show_writes_of_a_save(&self) -> io::Result<()> {
+        let asked = Asked {
+            step: 7,
+            ..edit(ONE_SAVE)
         };
-        self.show(
-            Asked {
-                step: 7,
-                ..edit(ONE_SAVE)
-            },
-            failing,
-        )
+        for write in 0..4 {
+            let failing = Failing {
+                write: Some(write),
+                ..NONE
+            };
+            self.show(asked, failing)?;
+        }
+        for call in FIRST_SAVE..SECOND_SAVE {
+            let failing = Failing {
+                call: Some(call),
+                write: Some(1),
+                ..NONE
+            };
+            self.show(asked, failing)?;
+        }
+        Ok(())
     }
 
     // Files that cannot be read.
@@ -416,7 +438,8 @@ fn show_all<R: Threads + Wait + Sync>(rt: &HostRuntime, threads: &R) -> io::Resu
     shown.show_loads()?;
     shown.show_one_save(FLATTEN)?;
     shown.show_one_save(PACK)?;
-    shown.show_view()
+    shown.show_view()?;
+    shown.show_damaged()
 }
 
 fn main(rt: HostRuntime) -> ExitCode {

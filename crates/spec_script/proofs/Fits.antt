@@ -19,7 +19,7 @@ use Rattle.spec_script.specs.Script.{ended, closed, blank, line_of_byte, start, 
 use Rattle.spec_script.specs.Limits.{IsLine, AreLines}
 use Rattle.spec_script.specs.Fits.{finds_filters, IsFit, dropped_by, AreFit, EachFit, count_calls, FitsFilters}
 use Rattle.spec_script.proofs.Limits.{IsOwnCall, IsCommand, if-then}
-use Rattle.spec_script.proofs.Calls.{keeps-command, script-keeps}
+use Rattle.spec_script.proofs.Calls.{keeps-command, taken-keep}
 
 refused_or : (P : Parsed → Type 0) (number : ℕ) (o : Option Parsed) (rest : Parsed → Result Parsed ℕ) → IfSome o P
     → ((p : Parsed) → P p → IfOk (rest p) P)
@@ -324,17 +324,9 @@ closed-held : (chests : List ℕ) (r : Result Parsed ℕ) → IfOk r (IsSoFar ch
 closed-held chests (Err line) h = tt
 closed-held chests (Ok p) so = ended-held chests (never_ended p.sessions) p so
 
-lists-held : (text chests : List ℕ) → IfOk (script text chests) (AreListsHeld chests)
-lists-held text chests = go (nat_le (length text) (2 ^ 24))
-  where
-    parsed : IfOk (closed (take_lines 1 (lines_of text) (start chests))) (AreListsHeld chests)
-    parsed = closed-held chests (take_lines 1 (lines_of text) (start chests))
-        (lines-taken chests 1 (lines_of text) (start chests) (start-held chests))
-
-    go : (b : Bool) → IfOk (cond b (closed (take_lines 1 (lines_of text) (start chests))) (Err (line_of_byte text (2 ^ 24))))
-        (AreListsHeld chests)
-    go true = parsed
-    go false = tt
+taken-held : (lines : List (List ℕ)) (chests : List ℕ) → IfOk (closed (take_lines 1 lines (start chests))) (AreListsHeld chests)
+taken-held lines chests =
+    closed-held chests (take_lines 1 lines (start chests)) (lines-taken chests 1 lines (start chests) (start-held chests))
 
 -- ---- with the limits
 
@@ -360,5 +352,14 @@ both : (chests : List ℕ) (r : Result (List (List Line)) ℕ) → IfOk r AreLin
 both chests (Err line) are held = tt
 both chests (Ok lists) are held = record { each = each-fit chests 0 lists are held.each; few = held.few }
 
+-- the lines of a text, one after another
+pub taken-fit : (lines : List (List ℕ)) (chests : List ℕ) → IfOk (closed (take_lines 1 lines (start chests))) (FitsFilters chests)
+taken-fit lines chests = both chests (closed (take_lines 1 lines (start chests))) (taken-keep lines chests) (taken-held lines chests)
+
 pub script-fits : (text chests : List ℕ) → IfOk (script text chests) (FitsFilters chests)
-script-fits text chests = both chests (script text chests) (script-keeps text chests) (lists-held text chests)
+script-fits text chests = go (nat_le (length text) (2 ^ 24))
+  where
+    go : (b : Bool) → IfOk (cond b (closed (take_lines 1 (lines_of text) (start chests))) (Err (line_of_byte text (2 ^ 24))))
+        (FitsFilters chests)
+    go true = taken-fit (lines_of text) chests
+    go false = tt

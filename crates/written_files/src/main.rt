@@ -21,9 +21,12 @@ use xl_write::{Greedy, encode};
 /// No file of more bytes is read.
 const MOST_BYTES: usize = 1 << 31;
 
-const NAMES: [&str; 28] = [
+const NAMES: [&str; 31] = [
     "one.xcf",
     "forms.xcf",
+    "wide.xcf",
+    "tall.xcf",
+    "nodes.xcf",
     "all-hidden.xcf",
     "bottom-multiply.xcf",
     "channels.xcf",

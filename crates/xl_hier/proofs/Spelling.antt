@@ -7,6 +7,8 @@ use Rattle.spec_document.specs.Plane.{Plane}
 use Rattle.spec_rle.specs.Codes.{Spells}
 use Rattle.spec_hierarchy.specs.Tiles.{tile_plane}
 use Rattle.xl_rle.specs.Appends.{Appends}
+use Rattle.xl_rle.specs.Follows.{FollowsEach}
+use Rattle.xl_rle.proofs.Following.{follows_more}
 use Rattle.spec_hierarchy.specs.Layout.{AreSpelled}
 
 -- the first c planes are spelled
@@ -41,19 +43,31 @@ last_of g first (suc n) =
     let start : suc first + n ≡ first + suc n = omega arith in
     ap (λ xs. g first ∷ xs) (last_of g (suc first) n) ∙ ap (λ k. g first ∷ (map g (count_from (suc first) n) ++ g k ∷ [])) start
 
+-- one plane more of a tile
+planes_more : (p : Plane) (t : TileAt) (c : ℕ) (plane : List ℕ) → plane ≡ tile_plane p t c
+    → map (tile_plane p t) (count_from 0 c) ++ plane ∷ [] ≡ map (tile_plane p t) (count_from 0 (c + 1))
+planes_more p t c plane is =
+    let step : suc c ≡ c + 1 = omega arith in
+    let here : 0 + c ≡ c = omega arith in
+    ap (λ xs. map (tile_plane p t) (count_from 0 c) ++ xs ∷ []) (is ∙ ap (tile_plane p t) (sym here))
+    ∙ (sym (last_of (tile_plane p t) 0 c) ∙ ap (λ k. map (tile_plane p t) (count_from 0 k)) step)
+
 pub more : (fits : List ℕ → List ℕ → Type 0) (p : Plane) (t : TileAt) (c : ℕ) (first old plane new : List ℕ)
     → Spelling fits p t c first old
     → plane ≡ tile_plane p t c → Appends fits plane old new → Spelling fits p t (c + 1) first new
-more fits p t c first old plane new so_far is made =
-    let step : suc c ≡ c + 1 = omega arith in
-    let here : 0 + c ≡ c = omega arith in
-    let planes : map (tile_plane p t) (count_from 0 c) ++ plane ∷ [] ≡ map (tile_plane p t) (count_from 0 (c + 1)) =
-    ap (λ xs. map (tile_plane p t) (count_from 0 c) ++ xs ∷ []) (is ∙ ap (tile_plane p t) (sym here))
-    ∙ (sym (last_of (tile_plane p t) 0 c) ∙ ap (λ k. map (tile_plane p t) (count_from 0 k)) step) in
-    record {
-      bytes = so_far.bytes ++ made.spelled;
-      spelled = subst (AreSpelled fits (so_far.bytes ++ made.spelled)) planes
-          (spelled_more fits (map (tile_plane p t) (count_from 0 c)) so_far.bytes made.spelled plane so_far.spelled made.spells
-          made.short made.fitting);
-      appended = made.appended ∙ (ap (λ xs. xs ++ made.spelled) so_far.appended ∙ append_assoc first so_far.bytes made.spelled);
-    }
+more fits p t c first old plane new so_far is made = record {
+  bytes = so_far.bytes ++ made.spelled;
+  spelled = subst (AreSpelled fits (so_far.bytes ++ made.spelled)) (planes_more p t c plane is)
+      (spelled_more fits (map (tile_plane p t) (count_from 0 c)) so_far.bytes made.spelled plane so_far.spelled made.spells
+      made.short made.fitting);
+  appended = made.appended ∙ (ap (λ xs. xs ++ made.spelled) so_far.appended ∙ append_assoc first so_far.bytes made.spelled);
+}
+
+-- the coder followed one plane more
+pub followed_more : {S : Type 0} (follows : S → List ℕ → S → Type 0) (p : Plane) (t : TileAt) (c : ℕ) (first before after : S)
+    → (plane : List ℕ) → plane ≡ tile_plane p t c
+    → FollowsEach follows first (map (tile_plane p t) (count_from 0 c)) before → follows before plane after
+    → FollowsEach follows first (map (tile_plane p t) (count_from 0 (c + 1))) after
+followed_more follows p t c first before after plane is so_far step =
+    subst (λ planes. FollowsEach follows first planes after) (planes_more p t c plane is)
+    (follows_more follows (map (tile_plane p t) (count_from 0 c)) plane first before after so_far step)

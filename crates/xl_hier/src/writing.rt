@@ -2,10 +2,12 @@ ghost use Rattle.std.specs.Prelude.{◌≡◌, ◌+◌, ◌*◌, ◌<◌, ◌≤
 ghost use Rattle.std.specs.Prelude.{vec_len, OnOk, OnErr};
 ghost use Rattle.std.specs.Int.{w32, to_be_bytes};
 ghost use Rattle.spec_grid.specs.Grid as grid;
+ghost use Rattle.spec_hierarchy.specs.BytePlanes.{byte_planes};
 ghost use Rattle.spec_hierarchy.specs.Holds.{HasPlane};
 ghost use Rattle.xl_fields.specs.Behind.{BeginsWith};
 ghost use Rattle.xl_hier.specs.Appended.{PlaneAppended};
 ghost use Rattle.xl_hier.specs.Filled.{TilesFilled};
+ghost use Rattle.xl_rle.specs.Follows.{FollowsEach};
 ghost use Rattle.spec_hierarchy.specs.Layout.{words};
 
 use crate::written_tile::write_tile;
@@ -75,6 +77,7 @@ fn write_tiles<C: PlaneCoder>(
     requires scratch { length scratch.old ≡ 4096 }
     requires unpacked { length unpacked.old ≡ SCRATCH }
     ensures ok { OnOk result (TilesFilled C.fits compression plane.now table out.old.items out.new.items) }
+    ensures followed { OnOk result (FollowsEach C.follows coder.old (byte_planes compression plane.now) coder.new) }
     ensures front { take table out.new.items ≡ take table out.old.items }
 {
     let (columns, rows) = xl_grid::grid(plane.width(), plane.height());
@@ -111,6 +114,7 @@ fn append_plane<C: PlaneCoder>(
     requires compression { compression ≤ 1 }
     ensures written { OnOk result (PlaneAppended C.fits compression plane.now out.old.items out.new.items) }
     ensures held { OnOk result (HasPlane out.new.items (length out.old.items) compression plane.now) }
+    ensures followed { OnOk result (FollowsEach C.follows coder.old (byte_planes compression plane.now) coder.new) }
     ensures front { BeginsWith out.new.items out.old.items }
 {
     append_heads(alloc, plane, out)?;
@@ -133,8 +137,8 @@ fn append_plane<C: PlaneCoder>(
 
 /// Appends a plane: its hierarchy, its one level and its tiles, whose pointers count from the start of `out`.
 ///
-/// The tiles stand as they are where the compression is 0, and as the coder spells their planes where it is 1. Out of memory,
-/// `out` is as before.
+/// The tiles stand as they are where the compression is 0, and as the coder spells their planes where it is 1; so the coder
+/// followed these planes, in the order in which they stand. Out of memory, `out` is as before.
 pub fn write_hierarchy<C: PlaneCoder>(
     alloc: Global,
     out: &mut Vec<u8>,
@@ -146,6 +150,7 @@ pub fn write_hierarchy<C: PlaneCoder>(
     requires compression { compression ≤ 1 }
     ensures written { OnOk result (PlaneAppended C.fits compression plane.now out.old.items out.new.items) }
     ensures held { OnOk result (HasPlane out.new.items (length out.old.items) compression plane.now) }
+    ensures followed { OnOk result (FollowsEach C.follows coder.old (byte_planes compression plane.now) coder.new) }
     ensures err { OnErr result (out.new.items ≡ out.old.items) }
 {
     let before = out.len();

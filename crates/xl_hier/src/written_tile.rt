@@ -1,7 +1,9 @@
 ghost use Rattle.std.specs.Prelude.{◌≡◌, ◌<◌, ◌≤◌, length, OnOk};
 ghost use Rattle.spec_grid.specs.Grid as grid;
+ghost use Rattle.spec_hierarchy.specs.BytePlanes.{tile_planes};
 ghost use Rattle.xl_fields.specs.Behind.{BeginsWith};
 ghost use Rattle.xl_hier.specs.Appended.{TileAppended};
+ghost use Rattle.xl_rle.specs.Follows.{FollowsEach};
 ghost use Rattle.xl_tiles.specs.declared.tile.TheConstants.{SCRATCH};
 
 use crate::gather::{append_tile, gather, tile_pixels};
@@ -25,6 +27,7 @@ fn append_run_length<C: PlaneCoder>(
     requires scratch { length scratch.old ≡ 4096 }
     requires unpacked { length unpacked.old ≡ SCRATCH }
     ensures ok { OnOk result (TileAppended C.fits 1 plane.now spot out.old.items out.new.items) }
+    ensures followed { OnOk result (FollowsEach C.follows coder.old (tile_planes 1 plane.now spot) coder.new) }
     ensures front { BeginsWith out.new.items out.old.items }
 {
     let n = tile_pixels(plane, spot);
@@ -36,7 +39,8 @@ fn append_run_length<C: PlaneCoder>(
     Ok(())
 }
 
-/// Appends a tile: its pixels as they are, or spelled. The scratch is for a plane of it, and for all of it.
+/// Appends a tile: its pixels as they are, or spelled, and the coder followed the planes that are spelled. The scratch is for
+/// a plane of it, and for all of it.
 ///
 /// Out of memory, a part of the tile may stand behind what was there.
 pub fn write_tile<C: PlaneCoder>(
@@ -55,6 +59,7 @@ pub fn write_tile<C: PlaneCoder>(
     requires scratch { length scratch.old ≡ 4096 }
     requires unpacked { length unpacked.old ≡ SCRATCH }
     ensures ok { OnOk result (TileAppended C.fits compression plane.now spot out.old.items out.new.items) }
+    ensures followed { OnOk result (FollowsEach C.follows coder.old (tile_planes compression plane.now spot) coder.new) }
     ensures front { BeginsWith out.new.items out.old.items }
 {
     if compression == 0 {

@@ -5,3 +5,4 @@ pub mod Looking
 pub mod Asking
 pub mod Steps
 mod Fits
+mod Scoped

@@ -1,13 +1,17 @@
-ghost use Rattle.std.specs.Prelude.{◌≡◌, ◌<◌, ◌≤◌, ◌^◌, length, count_by, ◌==◌, IfOk};
+ghost use Rattle.std.specs.Prelude.{◌≡◌, ◌<◌, ◌≤◌, ◌^◌, [], ◌∷◌, length, map, count_by, ◌==◌, IfOk};
+ghost use Rattle.std.specs.List.{AllByRecursion};
 ghost use Rattle.spec_script.specs.Script as grammar;
 ghost use Rattle.spec_script.specs.Fits.{FitsFilters};
 ghost use Rattle.spec_script.specs.Words.{lines_of};
+ghost use Rattle.spec_view.specs.Script.{view_lists, IsViewedLine};
 ghost use Rattle.xl_script.specs.Gives.{ScriptOf};
 ghost use Rattle.xl_script.specs.Lines.{lists_of};
+ghost use Rattle.xl_script.specs.Scopes.{line_in, script_in};
 ghost use Rattle.xl_script.specs.Sessions.{TakenAs, ParsedAs};
 
 use crate::bad_line::{BadLine, BadLineOrMemory};
 use crate::commands::command_of;
+use crate::scope::Scope;
 use crate::script::Script;
 use crate::sessions::Sessions;
 use crate::splitting::first_line;
@@ -36,13 +40,16 @@ fn is_skipped(line: &[u8]) -> bool
     matches!(line, [] | [b'#', ..])
 }
 
+// Takes a line, where it may stand in a script of this scope.
+#[tactic(auto, using(crate::proofs::Scoped::skipped_in, crate::proofs::Scoped::nothing_in, crate::proofs::Scoped::refused_in, crate::proofs::Scoped::asked_in))]
 fn take_line(
     alloc: Global,
+    scope: Scope,
     sessions: &mut Sessions,
     number: u32,
     line: &[u8],
 ) -> Result<(), BadLineOrMemory>
-    ensures { TakenAs number result sessions.new (grammar.take_line number line.now sessions.old) }
+    ensures { TakenAs number result sessions.new (grammar.take_line number (line_in scope line.now) sessions.old) }
 {
     if is_skipped(line) {
         return Ok(());
@@ -50,6 +57,9 @@ fn take_line(
     let Some(asked) = command_of(alloc, line)? else {
         return Err(BadLineOrMemory::Refused(BadLine { line: number }));
     };
+    if !scope.may_ask(&asked) {
+        return Err(BadLineOrMemory::Refused(BadLine { line: number }));
+    }
     if sessions.take(alloc, number, asked)? {
         Ok(())
     } else {
@@ -57,16 +67,21 @@ fn take_line(
     }
 }
 
-fn all_lines(alloc: Global, text: &[u8], chests: &[u32]) -> Result<Sessions, BadLineOrMemory>
+fn all_lines(
+    alloc: Global,
+    scope: Scope,
+    text: &[u8],
+    chests: &[u32],
+) -> Result<Sessions, BadLineOrMemory>
     requires { length text.now ≤ 2 ^ 24 }
-    ensures { ParsedAs result (grammar.take_lines 1 (lines_of text.now) (grammar.start chests.now)) }
+    ensures { ParsedAs result (grammar.take_lines 1 (map (line_in scope) (lines_of text.now)) (grammar.start chests.now)) }
 {
     let mut sessions = Sessions::new(alloc, chests)?;
     let mut rest = text;
     let mut number: u32 = 1;
     while !rest.is_empty() {
         let (line, after) = first_line(rest);
-        take_line(alloc, &mut sessions, number, line)?;
+        take_line(alloc, scope, &mut sessions, number, line)?;
         rest = after;
         number += 1;
     }
@@ -74,15 +89,15 @@ fn all_lines(alloc: Global, text: &[u8], chests: &[u32]) -> Result<Sessions, Bad
 }
 
 // The lines of each session, or the line that is refused.
-fn read(alloc: Global, text: &[u8], chests: &[u32]) -> Result<Script, BadLineOrMemory>
-    ensures { ScriptOf result (grammar.script text.now chests.now) }
+fn read(alloc: Global, scope: Scope, text: &[u8], chests: &[u32]) -> Result<Script, BadLineOrMemory>
+    ensures { ScriptOf result (script_in scope text.now chests.now) }
 {
     if text.len() > MAX_LEN {
         return Err(BadLineOrMemory::Refused(BadLine {
             line: line_of_last(text),
         }));
     }
-    let sessions = all_lines(alloc, text, chests)?;
+    let sessions = all_lines(alloc, scope, text, chests)?;
     match sessions.never_ended() {
         Some(line) => Err(BadLineOrMemory::Refused(BadLine { line })),
         None => Ok(sessions.into_script(alloc)?),
@@ -96,7 +111,20 @@ pub fn parse(alloc: Global, text: &[u8], chests: &[u32]) -> Result<Script, BadLi
     ensures read { ScriptOf result (grammar.script text.now chests.now) }
     ensures fits { IfOk result (λ script. FitsFilters chests.now (lists_of script)) }
 {
-    match read(alloc, text, chests) {
+    match read(alloc, Scope::Whole, text, chests) {
+        Ok(script) => Ok(script),
+        Err(refused) => Err(refused),
+    }
+}
+
+/// The lines of session 0, where the script may be viewed, or the line that is refused: by the rules of `parse`, or since it is of
+/// another session, a save or a peek. `filters` is the number of the session's filters.
+pub fn parse_viewed(alloc: Global, text: &[u8], filters: u32) -> Result<Script, BadLineOrMemory>
+    ensures read { ScriptOf result (view_lists text.now filters) }
+    ensures fits { IfOk result (λ script. FitsFilters (filters ∷ []) (lists_of script)) }
+    ensures viewed { IfOk result (λ script. AllByRecursion IsViewedLine (grammar.list_at (lists_of script) 0)) }
+{
+    match read(alloc, Scope::Viewed, text, &[filters]) {
         Ok(script) => Ok(script),
         Err(refused) => Err(refused),
     }

@@ -2,6 +2,7 @@ use Rattle.std.proofs.Common.{map, take, sym, ap, subst, arith}
 use Rattle.spec_layout.specs.Layout.{plain_sheet}
 use Rattle.xl_layout.specs.Costs.{sheet_cost}
 use Rattle.xl_layout.specs.Writable.{IsWritableSheet}
+use Rattle.xl_write.proofs.PlanesFollowed.{channel_followed}
 use Rattle.xl_write.proofs.SheetWalk.{sheets_end, writable_at, writable_first, costs_at, one_channel_more}
 use Rattle.xl_write.proofs.channels.put_channels.Goals as goal
 
@@ -17,7 +18,7 @@ put_channel-requires-clause-room g c =
     let i = c.loop-channel.channel-index in
     let end = sheets_end g.C.PlaneCoder.fits c.args.compression
     (map plain_sheet (take i cs)) c.args.pieces.now.bytes.items c.loop-channel.pieces.bytes.items _ _
-    (writable_first cs i c.requires.sheets) c.loop-channel.invariant in
+    (writable_first cs i c.requires.sheets) c.loop-channel.invariant.pieces in
     omega (
       arith,
       end,
@@ -29,9 +30,15 @@ put_channel-requires-clause-room g c =
     )
 
 pub loop-channel-preserved : goal.loop-channel-preserved
-loop-channel-preserved g c =
-    one_channel_more g.C.PlaneCoder.fits c.args.compression c.args.channels.now c.loop-channel.channel-index c.channel-item.result
-    c.channel-item.result c.args.pieces.now.bytes.items
-    c.loop-channel.pieces.bytes.items c.put_channel.new.pieces.bytes.items c.args.pieces.now.begins.items
-    c.loop-channel.pieces.begins.items c.put_channel.new.pieces.begins.items
-    c.loop-channel-test.true c.channel-item.is c.loop-channel.invariant c.in_ok-put_channel.ensures
+loop-channel-preserved g c = record {
+  pieces =
+      one_channel_more g.C.PlaneCoder.fits c.args.compression c.args.channels.now c.loop-channel.channel-index c.channel-item.result
+      c.channel-item.result c.args.pieces.now.bytes.items
+      c.loop-channel.pieces.bytes.items c.put_channel.new.pieces.bytes.items c.args.pieces.now.begins.items
+      c.loop-channel.pieces.begins.items c.put_channel.new.pieces.begins.items
+      c.loop-channel-test.true c.channel-item.is c.loop-channel.invariant.pieces c.in_ok-put_channel.ensures.piece;
+  followed =
+      channel_followed g.C.PlaneCoder.follows c.args.compression c.args.channels.now c.loop-channel.channel-index
+      c.channel-item.result c.channel-item.result c.args.coder.now c.loop-channel.coder c.put_channel.new.coder
+      c.loop-channel-test.true c.channel-item.is c.loop-channel.invariant.followed c.in_ok-put_channel.ensures.followed;
+}

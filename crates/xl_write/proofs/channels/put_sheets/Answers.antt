@@ -7,6 +7,7 @@ use Rattle.xl_layout.specs.Costs.{sheet_costs}
 use Rattle.xl_layout.specs.Writable.{IsWritableSheet}
 use Rattle.xl_write.specs.Appended.{PiecesAppended, IsSheetAt}
 use Rattle.xl_write.proofs.Followed.{both_appended}
+use Rattle.xl_write.proofs.PlanesFollowed.{sheets_followed}
 use Rattle.xl_write.proofs.SheetWalk.{sheets_end, all_before, all_behind}
 use Rattle.xl_write.proofs.channels.put_sheets.Goals as goal
 
@@ -44,7 +45,7 @@ put_selection-requires-clause-room g c =
     ++ selection_sheet (ap (λ d. d.selection) c.doc.view_is i) in
     let all = all_before IsWritableSheet xs ys (subst (AllByRecursion IsWritableSheet) (sym whole) c.requires.sheets) in
     let end = sheets_end g.C.PlaneCoder.fits c.doc.inside.compression xs c.args.pieces.now.bytes.items
-    c.put_channels.new.pieces.bytes.items _ _ all c.in_ok-put_channels.ensures in
+    c.put_channels.new.pieces.bytes.items _ _ all c.in_ok-put_channels.ensures.pieces in
     omega (
       arith,
       end,
@@ -55,8 +56,8 @@ put_selection-requires-clause-room g c =
       sheet_costs-append xs ys,
     )
 
-pub returns : goal.returns
-returns g c =
+pub returns-clause-pieces : goal.returns-clause-pieces
+returns-clause-pieces g c =
     let fits = g.C.PlaneCoder.fits in
     let xs = map plain_sheet c.as_slice.result.now in
     let ys = selection_sheet c.doc.inside.selection in
@@ -73,5 +74,18 @@ returns g c =
     (λ last. subst (λ n. PiecesAppended (IsSheetAt fits n) (sheets c.args.doc.now) old new a e)
     (ap (λ d. d.compression) c.doc.view_is)
     (subst (λ ss. PiecesAppended (IsSheetAt fits c.doc.inside.compression) ss old new a e) whole
-    (both_appended (IsSheetAt fits c.doc.inside.compression) xs ys old mid new a b e c.in_ok-put_channels.ensures last)))
-    c.put_selection.ensures
+    (both_appended (IsSheetAt fits c.doc.inside.compression) xs ys old mid new a b e c.in_ok-put_channels.ensures.pieces last)))
+    c.put_selection.ensures.pieces
+
+pub returns-clause-followed : goal.returns-clause-followed
+returns-clause-followed g c =
+    let xs = map plain_sheet c.as_slice.result.now in
+    let ys = selection_sheet c.doc.inside.selection in
+    let whole : xs ++ ys ≡ sheets c.args.doc.now =
+    λ i. map plain_sheet ((c.as_slice.ensures ∙ ap (λ d. d.channels) c.doc.view_is) i)
+    ++ selection_sheet (ap (λ d. d.selection) c.doc.view_is i) in
+    on_ok_weaker c.put_selection.result
+    (sheets_followed g.C.PlaneCoder.follows c.doc.inside.compression c.args.doc.now.compression xs ys (sheets c.args.doc.now)
+    c.args.coder.now c.put_channels.new.coder c.put_selection.new.coder (ap (λ d. d.compression) c.doc.view_is) whole
+    c.in_ok-put_channels.ensures.followed)
+    c.put_selection.ensures.followed

@@ -9,7 +9,7 @@ set_words-requires g c =
     let d = c.args.doc.now in
     let old = c.in_ok-begin_file.field-0.items in
     let count = pointers_count g.C.PlaneCoder.fits d old c.put_all.new.pieces.bytes.items c.put_all.new.pieces.begins.items
-    c.in_ok-put_all.ensures in
+    c.in_ok-put_all.ensures.all in
     let fits = table_fits d old c.len.result c.pointer_count-pointers.result c.in_ok-begin_file.ensures
     (omega (arith, c.len.ensures, c.in_ok-begin_file.field-0.ok.0)) in
     omega (
@@ -28,7 +28,7 @@ returns-clause-written g c =
     c.set_words.new.out c.as_mut_slice.result.now c.deref.result.now
     c.put_all.new.pieces.begins.items c.put_all.new.pieces.bytes.len c.len.result c.pointer_count-pointers.result
     c.pointer_count-pointers.ensures.value c.in_ok-begin_file.ensures
-    (omega (arith, c.len.ensures, c.in_ok-begin_file.field-0.ok.0)) c.in_ok-put_all.ensures c.as_mut_slice.ensures.value
+    (omega (arith, c.len.ensures, c.in_ok-begin_file.field-0.ok.0)) c.in_ok-put_all.ensures.all c.as_mut_slice.ensures.value
     c.deref.ensures.value (omega (arith, c.put_all.new.pieces.bytes.ok.0))
     c.set_words.auto.out c.set_words.ensures
 

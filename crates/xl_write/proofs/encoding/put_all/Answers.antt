@@ -7,6 +7,7 @@ use Rattle.xl_write.specs.Appended.{PiecesAppended}
 use Rattle.xl_write.proofs.Counting.{can_walk}
 use Rattle.xl_write.proofs.Followed.{items_end}
 use Rattle.xl_write.proofs.Walking.{put_moved}
+use Rattle.xl_write.proofs.PlanesFollowed.{nodes_followed, all_followed}
 use Rattle.xl_write.proofs.encoding.put_all.Goals as goal
 
 pub put_nodes-requires-clause-can : goal.put_nodes-requires-clause-can
@@ -30,3 +31,13 @@ put_sheets-requires-clause-room g c =
     let end = items_end g.C.PlaneCoder.fits d.compression d.base
     (items d) c.args.pieces.now.bytes.items c.put_nodes.new.pieces.bytes.items _ _ (items_writable d c.requires.document) put in
     omega (arith, end, room d c.requires.document, c.requires.begin, c.put_nodes.new.pieces.bytes.ok.0)
+
+pub returns-clause-followed : goal.returns-clause-followed
+returns-clause-followed g c =
+    let d = c.args.doc.now in
+    let follows = g.C.PlaneCoder.follows in
+    all_followed follows d c.args.coder.now c.put_nodes.new.coder c.put_sheets.new.coder
+    (nodes_followed follows d c.new-path.result.items [] 0 (nodes_of c.top.result) d.nodes c.args.coder.now c.put_nodes.new.coder
+    c.new-path.ensures.items
+    (ap nodes_of c.top.ensures.value ∙ ap (λ d. d.nodes) c.doc.view_is) c.in_ok-put_nodes.ensures.followed)
+    c.in_ok-put_sheets.ensures.followed

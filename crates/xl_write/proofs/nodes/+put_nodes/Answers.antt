@@ -2,12 +2,13 @@ use Rattle.std.proofs.Common.{◌≡◌, ◌+◌, ◌++◌, ◌∷◌, [], lengt
 use Rattle.std.specs.Prelude.{vec_len}
 use Rattle.std.proofs.lemmas.Result.{on_ok_weaker}
 use Rattle.spec_forest.specs.Forest.{none, leaf, group, size}
-use Rattle.spec_layout.specs.Layout.{IsItem}
+use Rattle.spec_layout.specs.Layout.{IsItem, layer_item}
 use Rattle.xl_doc.specs.Nodes.{MarksAgree, nodes_of, layer_of, group_of}
 use Rattle.xl_write.specs.Walk.{CanWalk}
 use Rattle.xl_write.proofs.Followed.{none_appended}
 use Rattle.xl_write.proofs.Walking.{under_leaf, in_group, under_group, leaf_walked, group_walked, moved, put_moved}
 use Rattle.xl_write.proofs.Walking.{piece_moved, compressed, popped}
+use Rattle.xl_write.proofs.PlanesFollowed.{leaf_followed, group_followed, nodes_followed, group_moved, item_followed}
 use Rattle.xl_write.proofs.nodes.+put_nodes.Goals as goal
 
 pub put_nodes-requires : goal.put_nodes-requires
@@ -48,7 +49,7 @@ put_nodes-requires-in-Group g t c κs within =
     moved d path path c.args.place (nodes_of c.args.nodes) (group c.in-Group.id.0 gr children under) _ _ refl
     (ap nodes_of (sym c.in-Group.ensures.parts)) start c.requires.can in
     let put = piece_moved g.C.PlaneCoder.fits d c.deref.result.now deep c.in-Group.id.0 gr old new _ _ (c.deref.ensures.value
-    ∙ c.in_ok-push-in-Group.ensures.items) c.in_ok-put_group-in-Group.ensures in
+    ∙ c.in_ok-push-in-Group.ensures.items) c.in_ok-put_group-in-Group.ensures.piece in
     let next : CanWalk d c.push.new.self.items 0 children (vec_len c.put_group.new.pieces.bytes) =
     moved d deep _ 0 children children _ _ (sym c.in_ok-push-in-Group.ensures.items) refl end
     (in_group g.C.PlaneCoder.fits d path c.args.place c.in-Group.id.0 gr children under old new _ _ can put) in
@@ -78,7 +79,7 @@ put_nodes-requires-in-Group-2 g t c κs within =
     moved d path path c.args.place (nodes_of c.args.nodes) (group c.in-Group.id.0 gr children under) _ _ refl
     (ap nodes_of (sym c.in-Group.ensures.parts)) start c.requires.can in
     let put = piece_moved g.C.PlaneCoder.fits d c.deref.result.now deep c.in-Group.id.0 gr old mid _ _ (c.deref.ensures.value
-    ∙ c.in_ok-push-in-Group.ensures.items) c.in_ok-put_group-in-Group.ensures in
+    ∙ c.in_ok-push-in-Group.ensures.items) c.in_ok-put_group-in-Group.ensures.piece in
     let inside = put_moved g.C.PlaneCoder.fits d c.push.new.self.items deep 0 children children mid new _ _
     c.in_ok-push-in-Group.ensures.items refl c.in_ok-put_nodes-in-Group.ensures.pieces in
     let next : CanWalk d c.pop.new.self.items (c.args.place + 1) under (vec_len c.put_nodes-in-Group.new.pieces.bytes) =
@@ -126,7 +127,7 @@ returns-in_ok-put_nodes-in-Group-clause-pieces g t c =
     (c.in_ok-put_nodes-in-Group.ensures.path ∙ c.in_ok-push-in-Group.ensures.items)
     (omega (arith, c.put_nodes-in-Group.new.path.ok.0)) c.pop.ensures.rest in
     let put = piece_moved fits d c.deref.result.now deep c.in-Group.id.0 gr old mid _ _ (c.deref.ensures.value
-    ∙ c.in_ok-push-in-Group.ensures.items) c.in_ok-put_group-in-Group.ensures in
+    ∙ c.in_ok-push-in-Group.ensures.items) c.in_ok-put_group-in-Group.ensures.piece in
     let inside = put_moved fits d c.push.new.self.items deep 0 children children mid far _ _ c.in_ok-push-in-Group.ensures.items
     refl c.in_ok-put_nodes-in-Group.ensures.pieces in
     on_ok_weaker c.put_nodes-in-Group-2.result
@@ -135,6 +136,60 @@ returns-in_ok-put_nodes-in-Group-clause-pieces g t c =
     (group_walked fits d path c.args.place c.in-Group.id.0 gr children under old mid far new _ _ _ _ put inside
     (put_moved fits d c.pop.new.self.items path (c.args.place + 1) under under far new _ _ back refl rest)))
     c.put_nodes-in-Group-2.ensures.pieces
+
+pub returns-in_ok-put_layer_at-in-Leaf-clause-followed : goal.returns-in_ok-put_layer_at-in-Leaf-clause-followed
+returns-in_ok-put_layer_at-in-Leaf-clause-followed g t c =
+    let d = c.args.doc.now in
+    let follows = g.C.PlaneCoder.follows in
+    let path = c.args.path.now.items in
+    let before = c.args.coder.now in
+    let between = c.put_layer_at.new.coder in
+    let after = c.put_nodes.new.coder in
+    let under = nodes_of c.in-Leaf.under in
+    let l = layer_of c.in-Leaf.node.now in
+    on_ok_weaker c.put_nodes.result
+    (λ rest. nodes_followed follows d path path c.args.place (leaf c.in-Leaf.id.0 l under) (nodes_of c.args.nodes) before after refl
+    (ap nodes_of c.in-Leaf.ensures.parts)
+    (leaf_followed follows d path c.args.place c.in-Leaf.id.0 l under before between after
+    (item_followed follows c.doc.inside.compression d.compression (layer_item (path ++ c.args.place ∷ []) l) before between
+    (ap (λ d. d.compression) c.doc.view_is) c.in_ok-put_layer_at-in-Leaf.ensures.followed)
+    (nodes_followed follows d c.put_layer_at.new.path.items path
+    (c.args.place + 1) under under between after c.in_ok-put_layer_at-in-Leaf.ensures.path refl rest)))
+    c.put_nodes.ensures.followed
+
+pub returns-in_ok-put_nodes-in-Group-clause-followed : goal.returns-in_ok-put_nodes-in-Group-clause-followed
+returns-in_ok-put_nodes-in-Group-clause-followed g t c =
+    let d = c.args.doc.now in
+    let follows = g.C.PlaneCoder.follows in
+    let path = c.args.path.now.items in
+    let deep = path ++ c.args.place ∷ [] in
+    let before = c.args.coder.now in
+    let between = c.put_group.new.coder in
+    let far = c.put_nodes-in-Group.new.coder in
+    let after = c.put_nodes-in-Group-2.new.coder in
+    let children = nodes_of c.in-Group.children in
+    let under = nodes_of c.in-Group.under in
+    let gr = group_of c.in-Group.node.now in
+    let back : c.pop.new.self.items ≡ path =
+    popped path c.put_nodes-in-Group.new.path.items c.pop.new.self.items c.args.place c.put_nodes-in-Group.new.path.len
+    (c.in_ok-put_nodes-in-Group.ensures.path ∙ c.in_ok-push-in-Group.ensures.items)
+    (omega (arith, c.put_nodes-in-Group.new.path.ok.0)) c.pop.ensures.rest in
+    let first = group_moved follows d c.deref.result.now deep c.in-Group.id.0 gr before between (c.deref.ensures.value
+    ∙ c.in_ok-push-in-Group.ensures.items) c.in_ok-put_group-in-Group.ensures.followed in
+    let inside = nodes_followed follows d c.push.new.self.items deep 0 children children between far
+    c.in_ok-push-in-Group.ensures.items refl c.in_ok-put_nodes-in-Group.ensures.followed in
+    on_ok_weaker c.put_nodes-in-Group-2.result
+    (λ rest. nodes_followed follows d path path c.args.place (group c.in-Group.id.0 gr children under)
+    (nodes_of c.args.nodes) before after refl (ap nodes_of c.in-Group.ensures.parts)
+    (group_followed follows d path c.args.place c.in-Group.id.0 gr children under before between far after first inside
+    (nodes_followed follows d c.pop.new.self.items path (c.args.place + 1) under under far after back refl rest)))
+    c.put_nodes-in-Group-2.ensures.followed
+
+pub returns-in-Empty-clause-followed : goal.returns-in-Empty-clause-followed
+returns-in-Empty-clause-followed g t c =
+    let path = c.args.path.now.items in
+    nodes_followed g.C.PlaneCoder.follows c.args.doc.now path path c.args.place none (nodes_of c.args.nodes) c.args.coder.now
+    c.args.coder.now refl (ap nodes_of c.in-Empty.ensures.parts) refl
 
 pub returns-in-Empty-clause-pieces : goal.returns-in-Empty-clause-pieces
 returns-in-Empty-clause-pieces g t c =
