@@ -3,7 +3,7 @@
 #
 #     bench/run.sh BIN [FOLDER]
 #
-# BIN is the proved program (`rt run` leaves it in crates/xcfedit/out/xcfedit). FOLDER takes the files, about 320 MB,
+# BIN is the proved program (`rt run` leaves it in crates/xcfedit/out/xcfedit). FOLDER takes the files, about 800 MB,
 # and keeps them for the next run; without it a temporary one is used and removed. The best of RUNS runs counts (3).
 set -eu
 
@@ -27,22 +27,22 @@ made() {
     [ -e "$folder/$1" ] || { echo "making $1" >&2; python3 "$here/$2" "$folder/$1"; }
 }
 
-# best NAME TOOL WORDS..: a line with the seconds and the peak memory of the fastest of the runs
+# best NAME TOOL WORDS..: a line with the seconds, those of all processors, and the peak memory of the fastest of the runs
 best() {
     file=$1 tool=$2
     shift 2
     i=0
     : > "$folder/times"
     while [ "$i" -lt "$runs" ]; do
-        /usr/bin/time -f '%e %M' -o "$folder/one" "$@" > /dev/null 2> "$folder/errors" || {
-            printf '%-12s %-14s failed: %s\n' "$file" "$tool" "$(head -n 1 "$folder/errors")"
+        /usr/bin/time -f '%e %U %S %M' -o "$folder/one" "$@" > /dev/null 2> "$folder/errors" || {
+            printf '%-12s %-20s failed: %s\n' "$file" "$tool" "$(head -n 1 "$folder/errors")"
             return 0
         }
         cat "$folder/one" >> "$folder/times"
         i=$((i + 1))
     done
     sort -n "$folder/times" | head -n 1 | awk -v file="$file" -v tool="$tool" \
-        '{ printf "%-12s %-14s %8.2f s %8.0f MB\n", file, tool, $1, $2 / 1024 }'
+        '{ printf "%-12s %-20s %8.2f s %8.2f s of processors %8.0f MB\n", file, tool, $1, $2 + $3, $4 / 1024 }'
 }
 
 # has NAME TEXT: whether a program is there, and tells this of its version
@@ -57,6 +57,16 @@ checked() {
     [ "$wanted" = "$got" ] || { echo "$1: the picture is not that of the reference reader"; exit 1; }
 }
 
+# by_one NAME WORDS..: the same of the program on one processor
+by_one() {
+    file=$1
+    shift
+    if command -v taskset > /dev/null 2>&1; then
+        first=$(taskset -cp $$ | sed 's/.*: *//; s/[,-].*//')
+        best "$file" "xcfedit, 1 processor" taskset -c "$first" "$bin" "$@"
+    fi
+}
+
 gimp_words() {
     echo "(let* ((image (car (gimp-file-load RUN-NONINTERACTIVE \"$1\" \"$1\")))) (gimp-image-merge-visible-layers image CLIP-TO-IMAGE) (gimp-quit 0))"
 }
@@ -68,6 +78,7 @@ made cases make_cases.py
 for file in plain.xcf layers.xcf; do
     checked "$file"
     best "$file" xcfedit "$bin" render "$folder/$file"
+    by_one "$file" render "$folder/$file"
     if has magick "^version: imagemagick"; then
         best "$file" magick magick "$folder/$file" -background none -flatten pam:/dev/null
     elif has convert "^version: imagemagick"; then
@@ -87,6 +98,12 @@ done
 # ten layers of one colour each
 made flat.xcf make_flat.py
 best flat.xcf xcfedit "$bin" render "$folder/flat.xcf"
+by_one flat.xcf render "$folder/flat.xcf"
+
+# a file that is loaded and saved again
+cp "$folder/layers.xcf" "$folder/saved.xcf"
+best layers.xcf "xcfedit save" sh -c 'echo "0 save" | "$0" edit "$1" --workers 0' "$bin" "$folder/saved.xcf"
+rm "$folder/saved.xcf"
 
 # 1000 fills of up to 64 by 64 with a tile after each ten, on the ten layers: the first node is a group, so its layer is 2
 [ -e "$folder/fills.txt" ] || python3 "$here/make_edits.py" "$folder/fills.txt" --size 4000 3000 --fills 1000 --up-to 64 --layer 2
@@ -104,4 +121,7 @@ best small.xcf "xcfedit edit" sh -c '"$0" edit "$1" < "$2"' "$bin" "$folder/smal
         "$0" render "$1" > /dev/null
         i=$((i + 1))
     done' "$bin" "$folder/cases/files/one.xcf"
-awk '{ printf "%-12s %-14s %8.2f ms each\n", "one.xcf", "xcfedit", 10 * $1 }' "$folder/one"
+awk '{ printf "%-12s %-20s %8.2f ms each\n", "one.xcf", "xcfedit", 10 * $1 }' "$folder/one"
+
+# a long save beside eight workers that have nothing to do, and without them
+python3 "$here/idle_workers.py" --binary "$bin" --folder "$folder" --runs "$runs" || true

@@ -14,11 +14,12 @@ if [ -z "$folder" ]; then
 fi
 
 crate=$folder/crates/turn_times
-mkdir -p "$crate/src" "$crate/proofs/turns/take_turns" "$folder/crates/xl_turn"
+mkdir -p "$crate/src" "$crate/proofs/turns/take_turns" "$folder/crates/xl_turn" "$folder/crates/xl_wait"
 cp -r "$top/crates/xl_turn/src" "$top/crates/xl_turn/specs" "$top/crates/xl_turn/proofs" "$folder/crates/xl_turn/"
+cp -r "$top/crates/xl_wait/src" "$folder/crates/xl_wait/"
 cp "$top/HANDLES" "$folder/HANDLES"
 {
-    grep '^xl_turn ' "$top/crates.txt"
+    grep -E '^xl_(wait|turn) ' "$top/crates.txt"
     echo 'turn_times: xl_turn'
 } > "$folder/crates.txt"
 for file in "$here"/*.rt.txt; do

@@ -7,10 +7,11 @@ use Rattle.spec_grid.specs.Rect.{count_from}
 use Rattle.spec_edit.specs.Effect.{changed_at}
 use Rattle.spec_history.specs.Machine as machine
 use Rattle.spec_history.specs.Calls.{most_edits}
-use Rattle.spec_script.specs.Words.{lines_of, words_of}
+use Rattle.spec_script.specs.Words.{◌>>=◌, lines_of, words_of}
 use Rattle.spec_script.specs.Commands.{Command, Asked, an_edit, begins, ends, a_call, saves, forgets, command_of}
 use Rattle.spec_script.specs.Script.{Line, call, save, forget, Open, Session, Parsed, Taken, has_filter, has_its_filter, most_calls}
-use Rattle.spec_script.specs.Script.{take_outside, take_inside, take_command, put_session, take_by, take_line, take_lines, is_skipped}
+use Rattle.spec_script.specs.Script.{take_outside, take_inside, take_command, put_session, take_by, take_asked, take_line}
+use Rattle.spec_script.specs.Script.{take_lines, is_skipped}
 use Rattle.spec_script.specs.Script.{or_refused, never_ended, ended, closed, blank, line_of_byte, start, list_at}
 use Rattle.spec_script.specs.Fits.{FitsFilters}
 use Rattle.spec_script.proofs.Limits.{if-then}
@@ -112,11 +113,7 @@ taken number line p whole (Some asked) asks all = go (asked.session == 0 && is_v
     as_it_is : is_viewed asked.command ≡ true → IsSo line
     as_it_is is =
         subst (λ o. IfSome o (λ q. AreSo q.sessions))
-        (λ i. cond (sym whole i) (Some p) (unwrapped (sym asks i))) (by-keeps number asked p all is)
-      where
-        unwrapped : Option Asked → Option Parsed
-        unwrapped None = None
-        unwrapped (Some a) = take_by number a p
+        (λ i. cond (sym whole i) (Some p) (sym asks i >>= (λ a. take_by number a p))) (by-keeps number asked p all is)
 
     go : (b : Bool) → (asked.session == 0 && is_viewed asked.command) ≡ b → IsSo (viewed_line line)
     go true is =
@@ -131,7 +128,7 @@ line-keeps number line p all = go (is_skipped line) refl
     go : (b : Bool) → is_skipped line ≡ b → IfSome (take_line number (viewed_line line) p) (λ q. AreSo q.sessions)
     go true skipped =
         subst (λ l. IfSome (take_line number l p) (λ q. AreSo q.sessions)) (sym (skipped_line line skipped))
-        (subst (λ b. IfSome (cond b (Some p) _) (λ q. AreSo q.sessions)) (sym skipped) all)
+        (subst (λ b. IfSome (cond b (Some p) (take_asked number (words_of line) p)) (λ q. AreSo q.sessions)) (sym skipped) all)
     go false whole = taken number line p whole (command_of (words_of line)) refl all
 
 or-refused : (number : ℕ) (o : Option Parsed) (rest : Parsed → Result Parsed ℕ) → IfSome o (λ q. AreSo q.sessions)

@@ -8,6 +8,7 @@ pub mod BandRows
 pub mod ColumnRuns
 pub mod StackRows
 pub mod Recomposed
+pub mod Depths
 pub mod PictureRows
 pub mod Costs
 pub mod PieceRuns

@@ -1,4 +1,5 @@
 pub mod Cost
+pub mod Depth
 pub mod Own
 pub mod Span
 pub mod Laid

@@ -7,6 +7,7 @@ ghost use Rattle.spec_picture.specs.Picture.{picture as pixel_of_picture, pictur
 ghost use Rattle.xl_doc.specs.Canvas.{IsInside};
 ghost use Rattle.xl_doc.specs.Nodes.{MarksAgree, nodes_of};
 ghost use Rattle.xl_compose.specs.Cost.{visible_in, visible_below};
+ghost use Rattle.xl_compose.specs.Depth.{levels_below};
 ghost use Rattle.xl_compose.specs.Rows.{ShowsBand};
 
 use crate::bytes::write_row;
@@ -44,9 +45,8 @@ fn compose_band<L: Ledger>(
     requires below { band.y + band.h ≤ MAX_SIDE }
     requires high { band.h ≤ 64 }
     requires some { 1 ≤ band.h }
-    requires levels { levels nodes ≤ MAX_DEPTH }
     requires picture { 64 * band.w ≤ length picture.old }
-    requires scratch { 512 * band.w ≤ length scratch.old }
+    requires scratch { 64 * (levels nodes * band.w) ≤ length scratch.old }
     requires bytes { SCRATCH + 320 * band.w ≤ length bytes.old }
     requires out { length out.old ≡ 4 * (band.h * band.w) }
     ensures length { length out.new ≡ 4 * (band.h * band.w) }
@@ -72,7 +72,7 @@ fn compose_bands<L: Ledger>(
     requires stack { IsSome (stack_at stack.0 doc.now.nodes) }
     requires inside { IsInside doc.now.width doc.now.height rect }
     requires picture { 64 * rect.w ≤ length picture.old }
-    requires scratch { 512 * rect.w ≤ length scratch.old }
+    requires scratch { 64 * (levels_below doc.now stack.0 * rect.w) ≤ length scratch.old }
     requires bytes { SCRATCH + 320 * rect.w ≤ length bytes.old }
     requires out { length out.old ≡ 4 * (rect.w * rect.h) }
     ensures picture { out.new ≡ picture_bytes doc.now stack.0 (part_above_0 rect.x) (part_above_0 rect.y) rect.w rect.h }
@@ -107,36 +107,55 @@ fn compose_bands<L: Ledger>(
     }
 }
 
+// How many levels a stack of a document has.
+fn levels_of(doc: &Document, stack: NodeId) -> u32
+    requires stack { IsSome (stack_at stack.0 doc.now.nodes) }
+    ensures levels { result ≡ levels_below doc.now stack.0 }
+    ensures low { result ≤ MAX_DEPTH }
+{
+    doc.tree.stack(stack).unwrap().levels()
+}
+
 /// Room for composing pictures in bands of 64 rows. It is taken once, and composing takes none. Contracts see the longest row, in
-/// pixels.
+/// pixels, and the most levels.
 #[derive(Drop)]
 pub struct Composer {
     width: u32,
+    levels: u32,
     picture: Vec<Pixel>,
     scratch: Vec<Pixel>,
     bytes: Vec<u8>,
 }
 
 impl Model for Composer {
-    ghost use Rattle.std.specs.Prelude.{◌≡◌, ◌+◌, ◌*◌, ℕ, vec_len};
+    ghost use Rattle.std.specs.Prelude.{◌≡◌, ◌+◌, ◌*◌, vec_len};
+    ghost use Rattle.xl_compose.specs.Depth.{Reach};
     ghost use Rattle.xl_tiles.specs.declared.tile.TheConstants.{SCRATCH};
 
-    ghost Value = { ℕ };
+    ghost Value = { Reach };
 
-    ghost view = { λ c. c.width };
+    ghost view = { λ c. record { width = c.width; levels = c.levels } };
 
-    ghost invariant = { λ c. (vec_len c.picture ≡ 64 * c.width) × (vec_len c.scratch ≡ 512 * c.width) × (vec_len c.bytes ≡ SCRATCH + 320 * c.width) };
+    ghost invariant = { λ c. (vec_len c.picture ≡ 64 * c.width) × (vec_len c.scratch ≡ 64 * (c.levels * c.width)) × (vec_len c.bytes ≡ SCRATCH + 320 * c.width) };
 }
 
 impl Composer {
-    /// Room for rows of at most `width` pixels.
-    pub fn new(alloc: Global, width: u32) -> Result<Composer, AllocError>
-        ensures { IfOk result (λ c. c ≡ width) }
+    /// Room for rows of at most `width` pixels, of a stack as deep as that of a document.
+    pub fn new(
+        alloc: Global,
+        doc: &Document,
+        stack: NodeId,
+        width: u32,
+    ) -> Result<Composer, AllocError>
+        requires stack { IsSome (stack_at stack.0 doc.now.nodes) }
+        ensures { IfOk result (λ c. c ≡ record { width = width; levels = levels_below doc.now stack.0 }) }
     {
+        let levels = levels_of(doc, stack);
         Ok(Composer {
             width,
+            levels,
             picture: vec![in alloc; CLEAR; 64 * width as usize]?,
-            scratch: vec![in alloc; CLEAR; 512 * width as usize]?,
+            scratch: vec![in alloc; CLEAR; 64 * (levels as usize * width as usize)]?,
             bytes: vec![in alloc; 0; SCRATCH + 320 * width as usize]?,
         })
     }
@@ -153,7 +172,8 @@ impl Composer {
     )
         requires stack { IsSome (stack_at stack.0 doc.now.nodes) }
         requires inside { IsInside doc.now.width doc.now.height rect }
-        requires wide { rect.w ≤ self.old }
+        requires wide { rect.w ≤ self.old.width }
+        requires deep { levels_below doc.now stack.0 ≤ self.old.levels }
         requires room { length out.old ≡ 4 * (rect.w * rect.h) }
         ensures same { self.new ≡ self.old }
         ensures picture { out.new ≡ picture_bytes doc.now stack.0 (part_above_0 rect.x) (part_above_0 rect.y) rect.w rect.h }
@@ -185,7 +205,7 @@ pub fn picture<L: Ledger>(
     ensures no_steps { OnErr result (steps.new ≡ steps.old) }
     ensures cost { steps.new ≤ steps.old + visible_below doc.now stack.0 * (rect.w * rect.h) }
 {
-    let mut composer = Composer::new(alloc, rect.w)?;
+    let mut composer = Composer::new(alloc, doc, stack, rect.w)?;
     composer.compose(doc, stack, rect, out, steps);
     Ok(())
 }

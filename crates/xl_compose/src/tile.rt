@@ -98,7 +98,7 @@ pub fn recompose_tile<L: Ledger>(
     prove!(doc.width <= MAX_SIDE);
     prove!(doc.height <= MAX_SIDE);
     let rect = tile_rect(doc.width, doc.height, at);
-    let mut composer = Composer::new(alloc, rect.w)?;
+    let mut composer = Composer::new(alloc, doc, stack, rect.w)?;
     out.set_len(4 * (rect.w as usize * rect.h as usize));
     composer.compose(doc, stack, rect, out.bytes.as_mut_slice(), steps);
     Ok(())

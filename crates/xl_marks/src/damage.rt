@@ -4,7 +4,7 @@ ghost use Rattle.std.specs.List.{AllByRecursion};
 ghost use Rattle.spec_damage.specs.Damage as damage;
 ghost use Rattle.spec_edit.specs.Refusal.{refusal};
 ghost use Rattle.spec_forest.specs.Forest.{ids};
-ghost use Rattle.xl_damage.specs.Marks.{IsMade};
+ghost use Rattle.xl_damage.specs.Marks.{IsMade, pairs_of};
 ghost use Rattle.xl_edit.specs.Edits.{edit_of};
 ghost use Rattle.xl_marks.specs.Change.{marked_by};
 
@@ -39,6 +39,13 @@ impl Damage {
         Damage {
             pairs: Vec::new(alloc),
         }
+    }
+
+    /// The rectangles, each with its stack.
+    pub fn as_slice(&self) -> &[(NodeId, Rect)]
+        ensures { pairs_of result.now ≡ self.now }
+    {
+        self.pairs.as_slice()
     }
 
     /// Marks the rectangles at a version. Where a stack has no slots nothing is marked.

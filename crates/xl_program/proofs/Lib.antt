@@ -24,6 +24,9 @@ mod ScriptPlayed
 mod WholeText
 mod Stays
 mod Submitted
+mod Windowed
+mod ViewUnderWay
+mod Viewed
 mod Taken
 mod ScriptEnded
 mod UnderWay

@@ -36,7 +36,7 @@ all_of_first (lines ∷ lists) eight each = all_blank lists (λ n below. each (s
 
 -- ---- the lines and filters of session 0
 
-first_list_fits : (counts : List ℕ) (lists : List (List script.Line)) → EachFit counts 0 lists
+pub first_list_fits : (counts : List ℕ) (lists : List (List script.Line)) → EachFit counts 0 lists
     → AreFit (unwrap_or (slice_get counts 0) 0) [] (list_at lists 0)
 first_list_fits counts [] each = tt
 first_list_fits counts (lines ∷ lists) each = each.0

@@ -21,7 +21,7 @@ too_long text chests long =
     rw test refl
 
 -- the line is that of the bytes so far
-same_line : (front more : List ℕ) → length front ≡ 2 ^ 24 + 1 → line_of_byte front (2 ^ 24) ≡ line_of_byte (front ++ more) (2 ^ 24)
+pub same_line : (front more : List ℕ) → length front ≡ 2 ^ 24 + 1 → line_of_byte front (2 ^ 24) ≡ line_of_byte (front ++ more) (2 ^ 24)
 same_line front more full =
     let cut : take (2 ^ 24) (front ++ more) ≡ take (2 ^ 24) front = take-append-le (2 ^ 24) front more (omega arith) in
     rw cut refl

@@ -16,7 +16,7 @@ use Rattle.spec_text.proofs.Ends.{HasEnd, has_end, has_end_behind, first_ends, e
 use Rattle.spec_text.proofs.Shown.{IsUpTo, up_to_later, up_to_step, digest_stays}
 
 -- all that the line of an entry tells is there
-record IsTold (base : Document) (all : List Entry) (e : Entry) : Type 0 where
+pub record IsTold (base : Document) (all : List Entry) (e : Entry) : Type 0 where
   pub shown : IsUpTo (latest (replay base all)) e.reply
   pub ended : HasEnd all e.session e.index e.kind
 
@@ -72,7 +72,12 @@ each_stays base all more (e ∷ es) told =
     ∙ ap (λ (rest : List ℕ). entry_line base all e ++ rest) (each_stays base all more es told.1)
     ∙ sym (flat_map-cons (entry_line base all) e es)
 
+-- all that the lines of a legal history with no save out tell is there
+pub each_told : (base : Document) (es : List Entry) → IsLegal base es → (replay base es).out ≡ None
+    → AllByRecursion (IsTold base es) es
+each_told base es legal none = all_told base (initial base) [] es refl (sound-initial base) legal.run none
+
 pub lines_stay : (base : Document) (es more : List Entry) → IsLegal base es → (replay base es).out ≡ None
     → flat_map (entry_line base (es ++ more)) es ≡ lines_in base es
 lines_stay base es more legal none =
-    each_stays base es more es (all_told base (initial base) [] es refl (sound-initial base) legal.run none)
+    each_stays base es more es (each_told base es legal none)

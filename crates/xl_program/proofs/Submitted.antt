@@ -104,10 +104,10 @@ module _ {D : Type 0} where
       ne_eqb (free_entries (world c)) 0 (λ q. omega (arith, none, free, q))
 
   -- a history with room takes the call
-  record IsTaken (old : Editing D) (session : ℕ) (c : Call) (seen : ℕ) (tables : List (List ℕ)) (reply : Reply)
+  pub record IsTaken (old : Editing D) (session : ℕ) (c : Call) (seen : ℕ) (tables : List (List ℕ)) (reply : Reply)
       (new : Editing D) : Type 0 where
-    replied : reply ≡ reply_to old.history.base (world old) c seen tables
-    grown : new.history ≡ core.with_call old.history session c tables reply
+    pub replied : reply ≡ reply_to old.history.base (world old) c seen tables
+    pub grown : new.history ≡ core.with_call old.history session c tables reply
 
   taken : (old : Editing D) (session : ℕ) (c : Call) (seen : ℕ) (tables : List (List ℕ)) (reply : Reply) (new : Editing D)
       → HasRoom old.history → IsSubmitted old session c seen tables reply new
@@ -212,6 +212,15 @@ module _ {D : Type 0} where
   AnswersBy chest old session c seen reply new =
       (filters : List FilterState) → Agrees chest filters
       → IsSubmitted old session c seen (expected_tables filters (asked c []) reply) reply new
+
+  -- the call is taken with the tables of some such list
+  pub chest_taken : (chest : List (Option FilterState)) (old : Editing D) (session : ℕ) (c : Call) (seen : ℕ) (reply : Reply)
+      (new : Editing D) → HasRoom old.history → AnswersBy chest old session c seen reply new
+      → (tables : List (List ℕ)) × IsTaken old session c seen tables reply new
+  chest_taken chest old session c seen reply new room answers =
+      let some = some_list chest in
+      let tables = expected_tables some.0 (asked c []) reply in
+      (tables, taken old session c seen tables reply new room (answers some.0 some.1))
 
   pub chest_called : (before after : List (Option FilterState)) (old : Editing D) (session : ℕ) (c : Call) (seen : ℕ)
       (reply : Reply) (new : Editing D) → HasRoom old.history

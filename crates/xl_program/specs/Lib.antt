@@ -9,3 +9,4 @@ pub mod Packing
 pub mod Parts
 pub mod Playing
 pub mod Viewing
+pub mod Windows

@@ -21,7 +21,7 @@ use xl_ports::{FailedOrMemory, Gate, Shelf, Sink, Source, read_all, write_all};
 use xl_script::{BadLineOrMemory, Script, parse};
 
 /// How much of a script is read: one byte more than it may have.
-const MOST_BYTES: usize = (1 << 24) + 1;
+pub(crate) const MOST_BYTES: usize = (1 << 24) + 1;
 
 /// Makes the calls and saves of a script on the document of a file, and writes the replies. The sessions are played beside each
 /// other, and beside workers; session 0 alone, where no worker is asked for, without threads.

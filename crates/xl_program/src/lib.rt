@@ -28,6 +28,7 @@ mod script_runs;
 mod stop_lines;
 mod stopped;
 mod viewing;
+mod windows;
 
 pub use running::{Ended, run};
 pub use stopped::Stopped;

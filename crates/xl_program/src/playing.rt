@@ -33,7 +33,7 @@ use xl_script::{Line, Script, print_order, print_reply};
 use xl_sessions::{desk_of, first_boxes, order_words};
 
 /// The session that is alone.
-const ALONE: u8 = 0;
+pub(crate) const ALONE: u8 = 0;
 
 /// The text of a run, and whether one of its saves failed.
 #[derive(Drop)]
@@ -185,8 +185,8 @@ fn play_lines<L: Ledger, D: Shelf, G: Gate>(
     Ok(text)
 }
 
-// The lines of session 0.
-fn first_lines(script: Script) -> Vec<Line>
+/// The lines of session 0.
+pub(crate) fn first_lines(script: Script) -> Vec<Line>
     ensures { lines_of result.items ≡ list_at (lists_of script) 0 }
 {
     let mut lists = script.into_lists();

@@ -1,16 +1,31 @@
-ghost use Rattle.std.specs.Prelude.{◌≡◌, ◌<◌, ◌≤◌, ◌^◌, ◌⊎◌, ℕ, List, length, Some};
+ghost use Rattle.std.specs.Prelude.{◌≡◌, ◌<◌, ◌≤◌, ◌^◌, ◌⊎◌, [], ◌∷◌, ℕ, List, length, Some, IfOk, OnOk, IsSome, string_bytes};
 ghost use Rattle.std.specs.List.{AllByRecursion};
 ghost use Rattle.spec_command.specs.Arguments.{view as view_of};
+ghost use Rattle.spec_document.specs.Limits.{IsDocument};
+ghost use Rattle.spec_script.specs.Fits.{FitsFilters};
+ghost use Rattle.spec_script.specs.Script.{list_at};
+ghost use Rattle.spec_view.specs.Script.{IsViewedLine};
+ghost use Rattle.spec_view.specs.Text.{Views};
 ghost use Rattle.xl_command.specs.Asking.{IsWindowSize};
-ghost use Rattle.xl_ports.specs.Source.{led_by};
+ghost use Rattle.xl_doc.specs.Numbered.{AreNumbered};
+ghost use Rattle.xl_ports.specs.Source.{led_by, IsEnded};
 ghost use Rattle.xl_program.specs.Outcome.{given_of, ComesTo, ReadsToEnd, SourceCause, ShelfCause, shelved};
 ghost use Rattle.xl_program.specs.Parts.{StopsView};
+ghost use Rattle.xl_program.specs.Windows.{ReadsViewed, WritesViewed};
+ghost use Rattle.xl_script.specs.Lines.{lists_of};
+ghost use Rattle.xl_sessions.specs.Outcomes.{states_of};
 
+use crate::editing::MOST_BYTES;
 use crate::ended::Done;
+use crate::loading::read_document;
+use crate::opening::open_core;
 use crate::stopped::Stopped;
-use std::alloc::Global;
+use crate::windows::view_script;
+use std::alloc::{AllocError, Global};
+use xl_doc::Document;
 use xl_filters::PointFilter;
-use xl_ports::{Shelf, Sink, Source};
+use xl_ports::{FailedOrMemory, Shelf, Sink, Source, read_all, write_all};
+use xl_script::{BadLineOrMemory, Script, parse_viewed};
 
 /// Makes the calls of a script of session 0 on the document of a file, without threads, and writes the replies. The digest of a
 /// tile's line is that of the tiles from there on to its right and below, `cols` by `rows`, as far as the grid goes.
@@ -24,7 +39,7 @@ pub fn view<S: Source, K: Sink, D: Shelf>(
     rows: u32,
     source: &mut S,
     sink: &mut K,
-    shelf: D,
+    mut shelf: D,
     chest: Vec<Vec<Box<dyn PointFilter + Send>>>,
 ) -> Done<D>
     requires boxes { AllByRecursion (λ boxes. length boxes.items < 2 ^ 32) chest.items }
@@ -40,8 +55,116 @@ pub fn view<S: Source, K: Sink, D: Shelf>(
     ensures shelf_cause { ShelfCause (D.reading_faults shelf) (D.reading_faults result.shelf) result.result }
     ensures selected { (D.selected result.shelf ≡ D.selected shelf) ⊎ (D.selected result.shelf ≡ Some name.now) }
 {
+    let script = match read_script(alloc, source, &chest) {
+        Ok(script) => script,
+        Err(stopped) => return Done {
+            result: Err(stopped),
+            shelf,
+        },
+    };
+    let document = match read_document(alloc, name, &mut shelf) {
+        Ok(document) => document,
+        Err(stopped) => return Done {
+            result: Err(stopped),
+            shelf,
+        },
+    };
+    let viewed = view_document(alloc, document, script, chest, cols, rows, shelf);
     Done {
-        result: Err(Stopped::Memory),
-        shelf,
+        result: write_text(sink, viewed.text),
+        shelf: viewed.shelf,
     }
+}
+
+// How many filters session 0 has.
+fn first_count(chest: &[Vec<Box<dyn PointFilter + Send>>]) -> u32
+    requires { AllByRecursion (λ boxes. length boxes.items < 2 ^ 32) chest.now }
+    ensures { result ≡ length (list_at (states_of (λ b. state b) chest.now) 0) }
+{
+    match chest.first() {
+        Some(boxes) => boxes.len() as u32,
+        None => 0,
+    }
+}
+
+// The lines of session 0.
+fn read_script<S: Source>(
+    alloc: Global,
+    source: &mut S,
+    chest: &Vec<Vec<Box<dyn PointFilter + Send>>>,
+) -> Result<Script, Stopped>
+    requires { AllByRecursion (λ boxes. length boxes.items < 2 ^ 32) chest.now.items }
+    ensures reads { ReadsViewed (S.left source.old) (list_at (states_of (λ b. state b) chest.now.items) 0) result }
+    ensures fits { IfOk result (λ script.
+        FitsFilters (length (list_at (states_of (λ b. state b) chest.now.items) 0) ∷ []) (lists_of script)) }
+    ensures viewed { IfOk result (λ script. AllByRecursion IsViewedLine (list_at (lists_of script) 0)) }
+    ensures takes { (bytes : List ℕ) × (S.left source.old ≡ led_by bytes (S.left source.new)) }
+    ensures ended { OnOk result (IsEnded (S.left source.new)) }
+    ensures cause { SourceCause (S.faults source.old) (S.faults source.new) result }
+{
+    let text = match read_all(alloc, source, MOST_BYTES) {
+        Ok(text) => text,
+        Err(FailedOrMemory::Failed) => return Err(Stopped::SourceFault),
+        Err(FailedOrMemory::Memory) => return Err(Stopped::Memory),
+    };
+    match parse_viewed(alloc, &text, first_count(chest)) {
+        Ok(script) => Ok(script),
+        Err(BadLineOrMemory::Refused(bad)) => Err(Stopped::BadLine(bad.line)),
+        Err(BadLineOrMemory::Memory) => Err(Stopped::Memory),
+    }
+}
+
+// The text of a run, and the shelf as it was handed in.
+#[derive(Drop)]
+struct Viewed<D> {
+    text: Result<String, AllocError>,
+    shelf: D,
+}
+
+// Makes the calls of a script on a document.
+fn view_document<D: Shelf>(
+    alloc: Global,
+    document: Document,
+    script: Script,
+    chest: Vec<Vec<Box<dyn PointFilter + Send>>>,
+    cols: u32,
+    rows: u32,
+    shelf: D,
+) -> Viewed<D>
+    requires limits { IsDocument document }
+    requires numbered { AreNumbered document.nodes }
+    requires selected { IsSome (D.selected shelf) }
+    requires size { IsWindowSize cols rows }
+    requires boxes { AllByRecursion (λ boxes. length boxes.items < 2 ^ 32) chest.items }
+    requires fits { FitsFilters (length (list_at (states_of (λ b. state b) chest.items) 0) ∷ []) (lists_of script) }
+    requires viewed { AllByRecursion IsViewedLine (list_at (lists_of script) 0) }
+    ensures shelf { result.shelf ≡ shelf }
+    ensures views { IfOk result.text (λ text. Views (string_bytes text) document (list_at (lists_of script) 0)
+        (list_at (states_of (λ b. state b) chest.items) 0) cols rows) }
+{
+    let mut core = match open_core(alloc, document, shelf) {
+        Ok(core) => core,
+        Err(shelf) => return Viewed {
+            text: Err(AllocError),
+            shelf,
+        },
+    };
+    let text = view_script(alloc, &mut core, cols, rows, script, chest);
+    Viewed {
+        text,
+        shelf: core.into_shelf(),
+    }
+}
+
+// Writes the text of a run.
+fn write_text<K: Sink>(sink: &mut K, text: Result<String, AllocError>) -> Result<(), Stopped>
+    ensures { WritesViewed K.held K.faults sink.old sink.new text result }
+{
+    let Ok(text) = text else {
+        return Err(Stopped::Memory);
+    };
+    if write_all(sink, text.as_bytes()).is_err() {
+        return Err(Stopped::SinkFault);
+    }
+    Ok(())
 }

@@ -1,19 +1,21 @@
-ghost use Rattle.std.specs.Prelude.{◌≡◌, ◌+◌, ◌-◌, ◌*◌, ◌<◌, ◌≤◌, length, IfOk, string_bytes, pos};
+ghost use Rattle.std.specs.Prelude.{◌≡◌, ℕ, ◌-◌, ◌<◌, ◌≤◌, length, IfOk, string_bytes, slice_index_or};
 ghost use Rattle.spec_picture.specs.Picture.{picture_bytes};
 ghost use Rattle.spec_report.specs.Pam.{pam as pam_of, pam_head};
 ghost use Rattle.xl_ports.specs.Sink.{Writes};
+ghost use Rattle.xl_report.specs.Lanes.{row_of, HasRoom, IsBand};
 ghost use Rattle.xl_report.specs.Written.{WritesText};
-ghost use Rattle.spec_grid.specs.declared.TheConstants.{MAX_SIDE};
 
 use crate::fault::PamFaultOrMemory;
+use crate::lanes::{Lane, compose_lanes, new_lanes, row_at};
+use rayon::current_num_threads;
 use std::alloc::{AllocError, Global};
-use std::marker::Brand;
-use std::sync::ledger::{Blank, Ledger};
-use xl_blend::Steps;
-use xl_compose::Composer;
-use xl_doc::{Document, NodeId, Rect};
-use xl_grid::TILE_SIDE;
+use std::thread::Threads;
+use xl_doc::Document;
+use xl_grid::MAX_SIDE;
 use xl_ports::{Failed, Sink, write_all};
+
+/// The pixels that the longest rows of all bands composed beside one another have at most, where these are more than one.
+const MOST_PIXELS: u32 = 65_536;
 
 fn head(alloc: Global, width: u32, height: u32) -> Result<String, AllocError>
     ensures { IfOk result (λ text. string_bytes text ≡ pam_head width height) }
@@ -27,68 +29,75 @@ fn head(alloc: Global, width: u32, height: u32) -> Result<String, AllocError>
     Ok(text)
 }
 
-// Rows of the canvas.
-fn band(width: u32, y: u32, h: u32) -> Rect
-    requires { y ≤ MAX_SIDE }
-    ensures { result ≡ record { x = pos 0; y = pos y; w = width; h = h } }
+// How many bands are composed beside one another: one for each processor, as far as their rows have MOST_PIXELS at most.
+fn lanes_for(threads: usize, width: u32, height: u32) -> usize
+    ensures some { 1 ≤ result }
+    ensures few { result ≤ 32 }
 {
-    Rect {
-        x: 0,
-        y: y as i32,
-        w: width,
-        h,
-    }
+    let by_room = MOST_PIXELS / width.max(1);
+    let bands = height / 64 + 1;
+    threads.min(by_room.min(bands) as usize).clamp(1, 32)
 }
 
-// Writes the rows of the picture, a piece after another.
-fn write_rows<L: Ledger, K: Sink>(
+// Writes the bands that were composed, one after another.
+fn write_lanes<K: Sink>(
     doc: &Document,
-    composer: &mut Composer,
-    rows: u32,
-    piece: &mut [u8],
+    first: u32,
+    lanes: &[Lane],
     sink: &mut K,
-    blank: Blank,
 ) -> Result<(), Failed>
-    requires name { blank.name ≡ L.name }
-    requires parts { blank.parts ≡ L.parts }
-    requires some { 0 < blank.parts }
-    requires wide { doc.now.width ≤ composer.old }
-    requires rows { 1 ≤ rows }
-    requires piece { length piece.old ≡ 4 * (doc.now.width * rows) }
+    requires first { first ≤ doc.now.height }
+    requires bands { (k : ℕ) (d : _) → k < length lanes.now
+        → IsBand doc.now first k (slice_index_or lanes.now k d).composer (slice_index_or lanes.now k d).used
+        (slice_index_or lanes.now k d).bytes.items }
+    ensures { Writes K.held K.faults sink.old sink.new
+        (picture_bytes doc.now 0 0 first doc.now.width (row_of doc.now.height first (length lanes.now) - first)) result }
+{
+    for place in 0..lanes.len() {
+        write_all(sink, lanes[place].shown())?;
+    }
+    Ok(())
+}
+
+// Writes the rows of the picture: some bands beside one another, and then those after them.
+fn write_rows<R: Threads + Sync, K: Sink>(
+    rt: &R,
+    doc: &Document,
+    lanes: &mut [Lane],
+    sink: &mut K,
+) -> Result<(), Failed>
+    requires some { 1 ≤ length lanes.old }
+    requires few { length lanes.old ≤ 32 }
+    requires room { (k : ℕ) (d : _) → k < length lanes.old
+        → HasRoom doc.now (slice_index_or lanes.old k d).composer (slice_index_or lanes.old k d).bytes.items }
     ensures { Writes K.held K.faults sink.old sink.new (picture_bytes doc.now 0 0 0 doc.now.width doc.now.height) result }
 {
-    let mut steps = Steps::<L>::new(blank);
-    let width = doc.width;
-    let height = doc.height;
+    prove!(doc.height <= MAX_SIDE);
     let mut y = 0;
-    while y < height {
-        let h = rows.min(height - y);
-        let part = &mut piece[..4 * (width as usize * h as usize)];
-        composer.compose(doc, NodeId(0), band(width, y, h), part, &mut steps);
-        write_all(sink, part)?;
-        y += h;
+    while y < doc.height {
+        compose_lanes(rt, doc, y, lanes);
+        write_lanes(doc, y, lanes, sink)?;
+        y = row_at(doc.height, y, lanes.len() as u32);
     }
     Ok(())
 }
 
 /// Writes the picture of a document as a PAM: a head of lines, and then RGBA bytes, row by row.
 ///
-/// All memory is taken before the first byte is written. A piece is a row of tiles, so that each tile is unpacked once.
-pub fn pam<K: Sink>(alloc: Global, doc: &Document, sink: &mut K) -> Result<(), PamFaultOrMemory>
+/// All memory is taken before the first byte is written. A band is a row of tiles, so that each tile is unpacked once; as many bands as
+/// there are processors are composed beside one another, each in a thread where one can be made.
+pub fn pam<R: Threads + Sync, K: Sink>(
+    rt: &R,
+    alloc: Global,
+    doc: &Document,
+    sink: &mut K,
+) -> Result<(), PamFaultOrMemory>
     ensures { WritesText K.held K.faults sink.old sink.new (pam_of doc.now) result }
 {
     let head = head(alloc, doc.width, doc.height)?;
-    let rows = TILE_SIDE.min(doc.height);
-    let mut composer = Composer::new(alloc, doc.width)?;
-    let mut piece = vec![in alloc; 0; 4 * (doc.width as usize * rows as usize)]?;
+    let count = lanes_for(current_num_threads(rt), doc.width, doc.height);
+    let mut lanes = new_lanes(alloc, doc, count)?;
     write_all(sink, head.as_bytes())?;
-    write_rows::<Brand, K>(
-        doc,
-        &mut composer,
-        rows,
-        piece.as_mut_slice(),
-        sink,
-        Blank::new(1),
-    )?;
+    write_rows(rt, doc, lanes.as_mut_slice(), sink)?;
     Ok(())
 }

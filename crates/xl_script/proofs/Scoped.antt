@@ -2,9 +2,10 @@
 use Rattle.std.proofs.Common.{◌≡◌, ℕ, Bool, true, false, cond, List, [], ◌∷◌, map, refl, sym, ◌∙◌, ap, subst}
 use Rattle.std.specs.Prelude.{Option, Some, None, IfOk, Ok, Result, slice_get, nat_le, length, ◌^◌, Err}
 use Rattle.std.specs.List.{AllByRecursion}
-use Rattle.spec_script.specs.Words.{lines_of, words_of}
+use Rattle.spec_script.specs.Words.{◌>>=◌, lines_of, words_of}
 use Rattle.spec_script.specs.Commands.{Asked, command_of}
-use Rattle.spec_script.specs.Script.{Parsed, take_line, take_by, is_skipped, Line, script, closed, take_lines, start, line_of_byte}
+use Rattle.spec_script.specs.Script.{Parsed, take_line, take_asked, take_by, is_skipped, Line, script}
+use Rattle.spec_script.specs.Script.{closed, take_lines, start, line_of_byte}
 use Rattle.spec_view.specs.Script.{no_line, view_lists}
 use Rattle.spec_view.proofs.Lines.{skipped_line, asking_line, AreViewed, lists_viewed}
 use Rattle.xl_script.specs.Scopes.{may_ask, line_in, script_in}
@@ -14,18 +15,14 @@ use Rattle.xl_script.specs.declared.scope.Scope.TheVariants.{Whole, Viewed}
 -- a line that is skipped
 pub skipped_in : (scope : Scope) (number : ℕ) (line : List ℕ) (p : Parsed) → is_skipped line ≡ true
     → take_line number (line_in scope line) p ≡ Some p
-skipped_in Whole number line p skipped = ap (λ b. cond b (Some p) _) skipped
+skipped_in Whole number line p skipped = ap (λ b. cond b (Some p) (take_asked number (words_of line) p)) skipped
 skipped_in Viewed number line p skipped =
-    ap (λ l. take_line number l p) (skipped_line line skipped) ∙ ap (λ b. cond b (Some p) _) skipped
+    ap (λ l. take_line number l p) (skipped_line line skipped) ∙ ap (λ b. cond b (Some p) (take_asked number (words_of line) p)) skipped
 
--- what the words of a line ask for, done
-asked_by : (number : ℕ) (p : Parsed) → Option Asked → Option Parsed
-asked_by number p None = None
-asked_by number p (Some asked) = take_by number asked p
-
+-- a line by what its words ask for
 by_words : (number : ℕ) (line : List ℕ) (p : Parsed) (o : Option Asked) → is_skipped line ≡ false → command_of (words_of line) ≡ o
-    → take_line number line p ≡ asked_by number p o
-by_words number line p o whole asks = λ i. cond (whole i) (Some p) (asked_by number p (asks i))
+    → take_line number line p ≡ (o >>= (λ a. take_by number a p))
+by_words number line p o whole asks = λ i. cond (whole i) (Some p) (asks i >>= (λ a. take_by number a p))
 
 -- one that asks for nothing
 pub nothing_in : (scope : Scope) (number : ℕ) (line : List ℕ) (p : Parsed) → is_skipped line ≡ false

@@ -41,6 +41,7 @@ fn is_skipped(line: &[u8]) -> bool
 }
 
 // Takes a line, where it may stand in a script of this scope.
+#[tactic(auto, using(crate::proofs::Scoped::skipped_in, crate::proofs::Scoped::nothing_in, crate::proofs::Scoped::refused_in, crate::proofs::Scoped::asked_in))]
 fn take_line(
     alloc: Global,
     scope: Scope,

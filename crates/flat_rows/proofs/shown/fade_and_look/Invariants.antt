@@ -5,6 +5,3 @@ ghosts-look g a = record { name = a.blank.name; parts = a.blank.parts }
 
 abbrev pub ghosts-submit : goal.ghosts-submit
 ghosts-submit g a = record { name = a.blank.name; parts = a.blank.parts }
-
-abbrev pub ghosts-look-2 : goal.ghosts-look-2
-ghosts-look-2 g a = record { name = a.blank.name; parts = a.blank.parts }

@@ -1,11 +1,13 @@
 use Rattle.std.proofs.Common.{◌≡◌, ℕ, ◌+◌, ◌*◌, ◌≤◌, List, length, min, ap, sym, ◌∙◌, arith, refl, mul_comm}
 use Rattle.std.specs.Prelude.{Some, flat_map}
-use Rattle.spec_forest.specs.Forest.{stack_at}
+use Rattle.spec_forest.specs.Forest.{levels, stack_at}
 use Rattle.spec_grid.specs.Rect.{count_from}
 use Rattle.xl_doc.specs.Nodes.{nodes_of}
 use Rattle.xl_doc.proofs.NodesOf.{agrees_in}
 use Rattle.spec_picture.specs.Picture.{picture, stack_pixel, picture_bytes, pixel_bytes}
 use Rattle.xl_compose.specs.Cost.{visible_in, visible_below}
+use Rattle.xl_compose.specs.Depth.{levels_below}
+use Rattle.xl_compose.proofs.Depths.{levels_are}
 use Rattle.xl_compose.proofs.Costs.{band_cost}
 use Rattle.xl_compose.proofs.Recomposed.{some_stack, picture_is, count_is}
 use Rattle.xl_compose.proofs.PictureRows.{bands_more, rows_all, rows_fit, natural_is}
@@ -15,6 +17,16 @@ use Rattle.spec_grid.specs.declared.TheConstants.{MAX_SIDE}
 pub unwrap-nodes-requires : goal.unwrap-nodes-requires
 unwrap-nodes-requires g c =
     rw c.stack.ensures.value (some_stack c.args.stack.0 c.doc.inside.tree (rw (← c.doc.view_is) at c.requires.stack))
+
+pub compose_band-requires-clause-scratch : goal.compose_band-requires-clause-scratch
+compose_band-requires-clause-scratch g c =
+    let d = c.args.doc.now in
+    let is = sym c.stack.ensures.value ∙ c.unwrap-nodes.ensures in
+    let deep : levels_below d c.args.stack.0 ≡ levels c.again.result =
+    levels_are d c.args.stack.0 c.doc.inside.tree c.unwrap-nodes.result (ap (λ d. d.nodes) (sym c.doc.view_is)) is
+    ∙ ap levels (sym c.again.ensures) in
+    let same = ap (λ n. n * c.args.rect.w) deep in
+    omega (arith, same, c.requires.scratch)
 
 pub compose_band-requires-clause-agree : goal.compose_band-requires-clause-agree
 compose_band-requires-clause-agree g c =

@@ -1,0 +1,218 @@
+-- What a script that is viewed comes to.
+use Rattle.std.proofs.Common.{◌≡◌, inl, inr, ◌⊎◌, ℕ, ◌+◌, ◌^◌, ◌≤◌, false, List, [], ◌∷◌, ◌++◌, ◌∙◌, length, map, ap, sym, subst, refl}
+use Rattle.std.proofs.Common.{arith, length-append, append-nil}
+use Rattle.std.specs.Prelude.{Vec, Option, Some, None, IfSome, IfOk, Result, Ok, Err, String, string_bytes, nat_le}
+use Rattle.std.specs.declared.alloc.AllocError.{AllocError}
+use Rattle.std.specs.declared.alloc.Global.{Global}
+use Rattle.std.proofs.lemmas.Bool.Decides.{nat_tests}
+use Rattle.std.proofs.lemmas.List.{length-map}
+use Rattle.spec_command.specs.Arguments.{view}
+use Rattle.spec_document.specs.Document.{Document}
+use Rattle.spec_document.specs.Limits.{IsDocument}
+use Rattle.spec_filters.specs.declared.FilterState.{FilterState}
+use Rattle.spec_history.specs.History.{Entry}
+use Rattle.spec_script.specs.Fits.{AreFit, FitsFilters}
+use Rattle.spec_script.specs.Script.{Line, list_at, line_of_byte}
+use Rattle.spec_text.specs.Text.{calls_along}
+use Rattle.spec_view.specs.Script.{view_script}
+use Rattle.spec_view.specs.Text.{Views}
+use Rattle.xl_ports.specs.Shelf.{Content}
+use Rattle.xl_ports.specs.Source.{led_by, IsEnded}
+use Rattle.xl_sessions.specs.Outcomes.{states_of}
+use Rattle.xl_sessions.specs.Players.{boxes_at}
+use Rattle.xl_sessions.proofs.Brought.{states_at}
+use Rattle.xl_program.specs.Files.{HoldsDocument}
+use Rattle.xl_program.specs.Outcome.{Given, Shelved, first_filters, ComesTo, IsUntouched, ReadsToEnd}
+use Rattle.xl_program.specs.Parts.{Loads, StopsView}
+use Rattle.xl_program.specs.Playing.{AreMade}
+use Rattle.xl_program.specs.Viewing.{HasViewLines, IsViewed}
+use Rattle.xl_program.specs.Windows.{AreShown, ReadsViewed, WritesViewed}
+use Rattle.xl_program.specs.declared.stopped.Stopped.{Stopped}
+use Rattle.xl_program.specs.declared.stopped.Stopped.TheVariants.{SourceFault, BadLine, ShelfFault, Refused, SaveFault}
+use Rattle.xl_program.specs.declared.stopped.Stopped.TheVariants.{NotFlattened, SinkFault, Memory}
+use Rattle.xl_program.proofs.OfFirst.{first_list_fits}
+use Rattle.xl_program.proofs.Plain.{mine_own}
+use Rattle.xl_program.proofs.Scripts.{same_line}
+use Rattle.xl_program.proofs.Taken.{untouched}
+
+-- the text of all lines
+pub views : {B : Type 0} (state : B → FilterState) (base opened : Document) (lists : List (List Line)) (boxes : List (Vec B Global))
+    (items : List B) (lines : List Line) (es : List Entry) (cols rows : ℕ) (out : List ℕ)
+    → base ≡ opened → lines ≡ list_at lists 0 → items ≡ boxes_at boxes 0
+    → AreShown base es cols rows out → AreMade (map state items) lines es
+    → Views out opened (list_at lists 0) (list_at (states_of state boxes) 0) cols rows
+views state base opened lists boxes items lines es cols rows out same own first shown made =
+    let filters : map state items ≡ list_at (states_of state boxes) 0 = ap (map state) first ∙ sym (states_at state boxes 0) in
+    let made_own : AreMade (list_at (states_of state boxes) 0) (list_at lists 0) es =
+    subst (λ (ls : List Line). AreMade (list_at (states_of state boxes) 0) ls es) own
+    (subst (λ (fs : List FilterState). AreMade fs lines es) filters made) in
+    subst (λ (d : Document). Views out d (list_at lists 0) (list_at (states_of state boxes) 0) cols rows) same (
+      es,
+      record {
+        legal = shown.played.legal;
+        viewed = shown.viewed;
+        calls = ap (λ (l : List Entry). calls_along l) (mine_own es 0 shown.played.own) ∙ made_own.calls;
+        tables = made_own.tables;
+        text = shown.text;
+      },
+    )
+
+-- the first session's lines fit its filters
+pub view_fits : {B : Type 0} (state : B → FilterState) (boxes : List (Vec B Global)) (lists : List (List Line))
+    (items : List B) (lines : List Line) → FitsFilters (length (list_at (states_of state boxes) 0) ∷ []) lists
+    → items ≡ boxes_at boxes 0 → lines ≡ list_at lists 0 → AreFit (length items) [] lines
+view_fits state boxes lists items lines fits first own =
+    let n = length (list_at (states_of state boxes) 0) in
+    subst (λ (ls : List Line). AreFit (length items) [] ls) (sym own)
+    (subst (λ (k : ℕ). AreFit k [] (list_at lists 0)) (ap length (states_at state boxes 0) ∙ lengths ∙ ap length (sym first))
+    (first_list_fits (n ∷ []) lists fits.each))
+  where
+    lengths : length (map state (boxes_at boxes 0)) ≡ length (boxes_at boxes 0)
+    lengths = length-map (boxes_at boxes 0) state
+
+-- ---- what a viewing comes to
+
+-- what was known when the script was taken
+pub record IsViewOpened (left : Option (List ℕ)) (filters : List FilterState) (before mid : Shelved) (name : List ℕ) (d : Document)
+    (lines : List Line) : Type 0 where
+  pub holds : IfSome (before.content name) (λ c. HoldsDocument c d)
+  pub within : IsDocument d
+  pub read : HasViewLines left filters lines
+  pub untouched : IsUntouched before mid
+
+module _ {given : Given} {before mid : Shelved} {name : List ℕ} {d : Document} {lines : List Line}
+    (then : IsViewOpened given.left (first_filters given) before mid name d lines) (after : Shelved) (same : after ≡ mid)
+    (cols rows : ℕ) where
+  is_viewed : (out : List ℕ) → Views out d lines (first_filters given) cols rows
+      → IsViewed given.left (first_filters given) (before.content name) cols rows out
+  is_viewed out text =
+      record { document = d; lines = lines; held = then.holds; within = then.within; read = then.read; text = text }
+
+  left_alone : IsUntouched before after
+  left_alone = subst (IsUntouched before) (sym same) then.untouched
+
+  -- what is written, and the shelf
+  pub viewed_comes : {K : Type 0} (held : K → Option (List ℕ)) (faults : K → ℕ) (old new : K) (text : Result (String Global) AllocError)
+      (result : Result (Unit {0}) Stopped)
+      → IfOk text (λ t. Views (string_bytes t) d lines (first_filters given) cols rows) → WritesViewed held faults old new text result
+      → ComesTo held faults given before after (view name cols rows) old new result
+  viewed_comes held faults old new (Ok text) (Ok x) shows writes =
+      (string_bytes text, (is_viewed (string_bytes text) shows, left_alone, refl), writes)
+  viewed_comes held faults old new (Ok text) (Err SinkFault) shows writes =
+      (string_bytes text, (is_viewed (string_bytes text) shows, left_alone, tt), writes)
+  viewed_comes held faults old new (Ok text) (Err SourceFault) shows writes = absurd writes
+  viewed_comes held faults old new (Ok text) (Err (BadLine number)) shows writes = absurd writes
+  viewed_comes held faults old new (Ok text) (Err ShelfFault) shows writes = absurd writes
+  viewed_comes held faults old new (Ok text) (Err (Refused why)) shows writes = absurd writes
+  viewed_comes held faults old new (Ok text) (Err (NotFlattened why)) shows writes = absurd writes
+  viewed_comes held faults old new (Ok text) (Err SaveFault) shows writes = absurd writes
+  viewed_comes held faults old new (Ok text) (Err Memory) shows writes = absurd writes
+  viewed_comes held faults old new (Err e) result shows writes =
+      subst (λ (r : Result (Unit {0}) Stopped). ComesTo held faults given before after (view name cols rows) old new r) (sym writes.0)
+      ((ap held writes.1, ap faults writes.1), left_alone)
+
+-- ---- why a viewing stops
+
+-- before the file is read
+pub view_stopped : {K : Type 0} (held : K → Option (List ℕ)) (faults : K → ℕ) (given : Given) (s : Shelved) (name : List ℕ)
+    (cols rows : ℕ) (sink : K) (why : Stopped) → ReadsViewed given.left (first_filters given) (Err why)
+    → ComesTo held faults given s s (view name cols rows) sink sink (Err why)
+view_stopped held faults given s name cols rows sink SourceFault reads = ((refl, refl), untouched s)
+view_stopped held faults given s name cols rows sink (BadLine number) reads = ((refl, refl), untouched s)
+view_stopped held faults given s name cols rows sink ShelfFault reads = absurd reads
+view_stopped held faults given s name cols rows sink (Refused why) reads = absurd reads
+view_stopped held faults given s name cols rows sink (NotFlattened why) reads = absurd reads
+view_stopped held faults given s name cols rows sink SaveFault reads = absurd reads
+view_stopped held faults given s name cols rows sink SinkFault reads = absurd reads
+view_stopped held faults given s name cols rows sink Memory reads = ((refl, refl), untouched s)
+
+pub script_stops : (given : Given) (content : Option Content) (why : Stopped) → ReadsViewed given.left (first_filters given) (Err why)
+    → StopsView given content (Err why)
+script_stops given content SourceFault reads = tt
+script_stops given content (BadLine number) reads = reads
+script_stops given content ShelfFault reads = absurd reads
+script_stops given content (Refused why) reads = absurd reads
+script_stops given content (NotFlattened why) reads = absurd reads
+script_stops given content SaveFault reads = absurd reads
+script_stops given content SinkFault reads = absurd reads
+script_stops given content Memory reads = tt
+
+-- by the file
+pub file_stops : (given : Given) (content : Option Content) (lines : List Line) (why : Stopped)
+    → HasViewLines given.left (first_filters given) lines → Loads content (Err why) → StopsView given content (Err why)
+file_stops given content lines SourceFault has loads = absurd loads
+file_stops given content lines (BadLine number) has loads = absurd loads
+file_stops given content lines ShelfFault has loads = (lines, has)
+file_stops given content lines (Refused why) has loads = ((lines, has), loads)
+file_stops given content lines (NotFlattened why) has loads = absurd loads
+file_stops given content lines SaveFault has loads = absurd loads
+file_stops given content lines SinkFault has loads = absurd loads
+file_stops given content lines Memory has loads = tt
+
+-- after the calls were made
+pub text_stops : {K : Type 0} (held : K → Option (List ℕ)) (faults : K → ℕ) (old new : K) (given : Given) (content : Option Content)
+    (text : Result (String Global) AllocError) (result : Result (Unit {0}) Stopped) → WritesViewed held faults old new text result
+    → StopsView given content result
+text_stops held faults old new given content (Ok text) (Ok x) writes = tt
+text_stops held faults old new given content (Ok text) (Err SourceFault) writes = absurd writes
+text_stops held faults old new given content (Ok text) (Err (BadLine number)) writes = absurd writes
+text_stops held faults old new given content (Ok text) (Err ShelfFault) writes = absurd writes
+text_stops held faults old new given content (Ok text) (Err (Refused why)) writes = absurd writes
+text_stops held faults old new given content (Ok text) (Err (NotFlattened why)) writes = absurd writes
+text_stops held faults old new given content (Ok text) (Err SaveFault) writes = absurd writes
+text_stops held faults old new given content (Ok text) (Err SinkFault) writes = tt
+text_stops held faults old new given content (Ok text) (Err Memory) writes = absurd writes
+text_stops held faults old new given content (Err e) result writes = subst (StopsView given content) (sym writes.0) tt
+
+-- where reading the script stops, it need not be at its end
+pub unread_view : (given : Given) (left : Option (List ℕ)) (why : Stopped) → ReadsViewed given.left (first_filters given) (Err why)
+    → ReadsToEnd left (Err why)
+unread_view given left SourceFault reads = tt
+unread_view given left (BadLine number) reads = tt
+unread_view given left ShelfFault reads = absurd reads
+unread_view given left (Refused why) reads = absurd reads
+unread_view given left (NotFlattened why) reads = absurd reads
+unread_view given left SaveFault reads = absurd reads
+unread_view given left SinkFault reads = absurd reads
+unread_view given left Memory reads = tt
+
+-- ---- a script that is read up to one byte more than it may have is read as a whole
+
+abbrev refused_at : (number : ℕ) → Result (List Line) ℕ
+refused_at number = Err number
+
+view_too_long : (text : List ℕ) (filters : ℕ) → 2 ^ 24 + 1 ≤ length text → view_script text filters ≡ Err (line_of_byte text (2 ^ 24))
+view_too_long text filters long =
+    let test : nat_le (length text) (2 ^ 24) ≡ false = grind (arith, nat_tests) in
+    rw test refl
+
+view_front : (front more : List ℕ) (filters : ℕ) → (length front ≡ 2 ^ 24 + 1) ⊎ (more ≡ [])
+    → view_script front filters ≡ view_script (front ++ more) filters
+view_front front more filters (inl full) =
+    view_too_long front filters (omega arith)
+    ∙ ap refused_at (same_line front more full)
+    ∙ sym (view_too_long (front ++ more) filters (omega (arith, length-append front more)))
+view_front front more filters (inr ended) = rw (ended, append-nil front) refl
+
+-- what is read of a source tells what all that it had left comes to
+pub view_read : (before after : Option (List ℕ)) (front text : List ℕ) (filters : ℕ) (r : Result (List Line) ℕ)
+    → before ≡ led_by front after
+    → (length front ≡ 2 ^ 24 + 1) ⊎ IsEnded after → text ≡ front → view_script text filters ≡ r
+    → IfSome before (λ all. view_script all filters ≡ r)
+view_read before None front text filters r led how same reads = rw led tt
+view_read before (Some more) front text filters r led how same reads =
+    rw led (sym (view_front front more filters how) ∙ ap (λ t. view_script t filters) (sym same) ∙ reads)
+
+-- the same with the number of filters as it was counted
+pub view_reads : (before after : Option (List ℕ)) (front text : List ℕ) (count filters : ℕ) (r : Result (List Line) ℕ)
+    → before ≡ led_by front after
+    → (length front ≡ 2 ^ 24 + 1) ⊎ IsEnded after → text ≡ front → count ≡ filters → view_script text count ≡ r
+    → IfSome before (λ all. view_script all filters ≡ r)
+view_reads before after front text count filters r led how same counted reads =
+    subst (λ (n : ℕ). IfSome before (λ all. view_script all n ≡ r)) counted (view_read before after front text count r led how same reads)
+
+-- how many filters the first session has
+pub first_same : {B : Type 0} (state : B → FilterState) (some all : List (Vec B Global)) (count : ℕ) → some ≡ all
+    → count ≡ length (list_at (states_of state some) 0) → count ≡ length (list_at (states_of state all) 0)
+first_same {B} state some all count same are =
+    are ∙ ap (λ (boxes : List (Vec B Global)). length (list_at (states_of state boxes) 0)) same

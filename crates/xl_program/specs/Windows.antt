@@ -1,0 +1,70 @@
+-- The run of a script that is viewed, call by call.
+use Rattle.std.specs.Prelude.{◌≡◌, ℕ, List, [], Option, Some, None, IfSome, Result, Ok, Err, String, string_bytes}
+use Rattle.std.specs.declared.alloc.AllocError.{AllocError}
+use Rattle.std.specs.declared.alloc.Global.{Global}
+use Rattle.std.specs.List.{AllByRecursion}
+use Rattle.spec_grid.specs.declared.TileAt.{TileAt}
+use Rattle.spec_document.specs.Document.{Document}
+use Rattle.spec_history.specs.Machine.{Call, edit, undo, redo, tile, peek, top, Reply, tile_of}
+use Rattle.spec_history.specs.History.{Entry, document_of}
+use Rattle.spec_filters.specs.declared.FilterState.{FilterState}
+use Rattle.spec_script.specs.Script.{list_at}
+use Rattle.spec_text.specs.Text.{digest_of}
+use Rattle.spec_view.specs.Text.{IsViewed, of_tile, view_text}
+use Rattle.spec_window.specs.Window.{window, window_refusal}
+use Rattle.xl_core.specs.History.{History, version, document}
+use Rattle.xl_ports.specs.Sink.{WritesAll, WritesPart}
+use Rattle.xl_program.specs.Playing.{ArePlayed, lines_in}
+use Rattle.xl_program.specs.Viewing.{HasViewLines, IsBadViewLine}
+use Rattle.xl_program.specs.declared.stopped.Stopped.{Stopped}
+use Rattle.xl_program.specs.declared.stopped.Stopped.TheVariants.{SourceFault, BadLine, SinkFault, Memory}
+use Rattle.xl_script.specs.Lines.{lists_of}
+use Rattle.xl_script.specs.declared.script.Line.{Line}
+
+-- a tile of a stack
+abbrev pub Place : Type 0
+Place = ℕ × TileAt
+
+-- the tile that a call asks for
+abbrev pub asks_for : Call → Option Place
+asks_for (edit guard edits) = None
+asks_for (undo named) = None
+asks_for redo = None
+asks_for (tile stack at) = Some (stack, at)
+asks_for (peek stack at) = None
+asks_for top = None
+
+-- the digest of the window from there, where the reply is a tile
+abbrev pub window_digest : History → (cols rows : ℕ) → Option Place → Reply → List ℕ
+window_digest h cols rows None reply = []
+window_digest h cols rows (Some place) reply =
+    of_tile (λ v. digest_of (window (document_of h.base h.entries v) place.0 place.1 cols rows)) reply
+
+-- a tile that was asked for is that of the last version, which shows it
+abbrev pub IsLastTile : History → Option Place → Reply → Type 0
+IsLastTile h place reply =
+    (v : ℕ) → reply ≡ tile_of v → IfSome place (λ p. (v ≡ version h) × (window_refusal (document h) p.0 p.1 ≡ None))
+
+-- the entries are a legal history of calls of session 0 that may be viewed, and the text is their lines with these windows
+pub record AreShown (base : Document) (es : List Entry) (cols rows : ℕ) (out : List ℕ) : Type 0 where
+  pub played : ArePlayed base es (lines_in base es)
+  pub viewed : AllByRecursion IsViewed es
+  pub text : out ≡ view_text base es cols rows
+
+-- ---- before and after it
+
+-- the lines of the script, or the line that is refused
+abbrev pub ReadsViewed : (left : Option (List ℕ)) → (filters : List FilterState) → Result (List (List Line)) Stopped → Type 0
+ReadsViewed left filters (Ok lists) = HasViewLines left filters (list_at (lists_of lists) 0)
+ReadsViewed left filters (Err (BadLine number)) = IsBadViewLine left filters number
+ReadsViewed left filters (Err SourceFault) = Unit {0}
+ReadsViewed left filters (Err Memory) = Unit {0}
+ReadsViewed left filters (Err stopped) = ⊥
+
+module _ {K : Type 0} (held : K → Option (List ℕ)) (faults : K → ℕ) where
+  -- the text was written, or a fault of the sink came; without memory for a text nothing was
+  abbrev pub WritesViewed : (old new : K) → Result (String Global) AllocError → Result (Unit {0}) Stopped → Type 0
+  WritesViewed old new (Ok text) (Ok x) = WritesAll held faults old new (string_bytes text)
+  WritesViewed old new (Ok text) (Err SinkFault) = WritesPart held faults old new (string_bytes text)
+  WritesViewed old new (Ok text) (Err stopped) = ⊥
+  WritesViewed old new (Err e) result = (result ≡ Err Memory) × (new ≡ old)
