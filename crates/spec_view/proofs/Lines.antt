@@ -71,6 +71,9 @@ either number s (Some o) c all is = inside o s c all
 abbrev AreSo : List Session → Type 0
 AreSo ss = AllByRecursion (λ s. AreViewedLines s.lines) ss
 
+abbrev AreSoIn : Parsed → Type 0
+AreSoIn p = AreSo p.sessions
+
 changed : (place : ℕ) (s : Session) (ss : List Session) → AreViewedLines s.lines → AreSo ss → AreSo (changed_at place (λ _. s) ss)
 changed place s [] is all = tt
 changed zero s (x ∷ xs) is all = (is, all.1)
@@ -82,37 +85,37 @@ if-there (s ∷ ss) zero all = all.0
 if-there (s ∷ ss) (suc i) all = if-there ss i all.1
 
 put : (p : Parsed) (session : ℕ) (t : Taken) → AreSo p.sessions → AreViewedLines t.session.lines
-    → IfSome (put_session p session t) (λ q. AreSo q.sessions)
+    → IfSome (put_session p session t) AreSoIn
 put p session t all is = go (nat_le (p.calls + t.begun) most_calls)
   where
     go : (b : Bool) → IfSome (cond b
         (Some (record { sessions = changed_at session (λ _. t.session) p.sessions; calls = p.calls + t.begun })) None)
-        (λ q. AreSo q.sessions)
+        AreSoIn
     go true = changed session t.session p.sessions is all
     go false = tt
 
 by-keeps : (number : ℕ) (asked : Asked) (p : Parsed) → AreSo p.sessions → is_viewed asked.command ≡ true
-    → IfSome (take_by number asked p) (λ q. AreSo q.sessions)
+    → IfSome (take_by number asked p) AreSoIn
 by-keeps number asked p all is =
-    if-then (λ s. AreViewedLines s.lines) (λ q. AreSo q.sessions) (slice_get p.sessions asked.session) _
+    if-then (λ s. AreViewedLines s.lines) AreSoIn (slice_get p.sessions asked.session) _
     (if-there p.sessions asked.session all) (λ s own.
-    if-then (λ t. AreViewedLines t.session.lines) (λ q. AreSo q.sessions) (take_command number s s.open_group asked.command) _
+    if-then (λ t. AreViewedLines t.session.lines) AreSoIn (take_command number s s.open_group asked.command) _
     (either number s s.open_group asked.command own is) (λ t session.
     put p asked.session t all session))
 
 -- a line that is not skipped, by what it asks for
 taken : (number : ℕ) (line : List ℕ) (p : Parsed) → is_skipped line ≡ false → (o : Option Asked) → command_of (words_of line) ≡ o
-    → AreSo p.sessions → IfSome (take_line number (viewed_line line) p) (λ q. AreSo q.sessions)
+    → AreSo p.sessions → IfSome (take_line number (viewed_line line) p) AreSoIn
 taken number line p whole None asks all =
-    subst (λ l. IfSome (take_line number l p) (λ q. AreSo q.sessions)) (sym (asking_line line None whole asks)) tt
+    subst (λ l. IfSome (take_line number l p) AreSoIn) (sym (asking_line line None whole asks)) tt
 taken number line p whole (Some asked) asks all = go (asked.session == 0 && is_viewed asked.command) refl
   where
     IsSo : List ℕ → Type 0
-    IsSo l = IfSome (take_line number l p) (λ q. AreSo q.sessions)
+    IsSo l = IfSome (take_line number l p) AreSoIn
 
     as_it_is : is_viewed asked.command ≡ true → IsSo line
     as_it_is is =
-        subst (λ o. IfSome o (λ q. AreSo q.sessions))
+        subst (λ o. IfSome o AreSoIn)
         (λ i. cond (sym whole i) (Some p) (sym asks i >>= (λ a. take_by number a p))) (by-keeps number asked p all is)
 
     go : (b : Bool) → (asked.session == 0 && is_viewed asked.command) ≡ b → IsSo (viewed_line line)
@@ -122,23 +125,23 @@ taken number line p whole (Some asked) asks all = go (asked.session == 0 && is_v
     go false is = subst IsSo (sym (asking_line line (Some asked) whole asks ∙ ap (λ b. cond b line no_line) is)) tt
 
 line-keeps : (number : ℕ) (line : List ℕ) (p : Parsed) → AreSo p.sessions
-    → IfSome (take_line number (viewed_line line) p) (λ q. AreSo q.sessions)
+    → IfSome (take_line number (viewed_line line) p) AreSoIn
 line-keeps number line p all = go (is_skipped line) refl
   where
-    go : (b : Bool) → is_skipped line ≡ b → IfSome (take_line number (viewed_line line) p) (λ q. AreSo q.sessions)
+    go : (b : Bool) → is_skipped line ≡ b → IfSome (take_line number (viewed_line line) p) AreSoIn
     go true skipped =
-        subst (λ l. IfSome (take_line number l p) (λ q. AreSo q.sessions)) (sym (skipped_line line skipped))
-        (subst (λ b. IfSome (cond b (Some p) (take_asked number (words_of line) p)) (λ q. AreSo q.sessions)) (sym skipped) all)
+        subst (λ l. IfSome (take_line number l p) AreSoIn) (sym (skipped_line line skipped))
+        (subst (λ b. IfSome (cond b (Some p) (take_asked number (words_of line) p)) AreSoIn) (sym skipped) all)
     go false whole = taken number line p whole (command_of (words_of line)) refl all
 
-or-refused : (number : ℕ) (o : Option Parsed) (rest : Parsed → Result Parsed ℕ) → IfSome o (λ q. AreSo q.sessions)
-    → ((q : Parsed) → AreSo q.sessions → IfOk (rest q) (λ q. AreSo q.sessions))
-    → IfOk (or_refused number o rest) (λ q. AreSo q.sessions)
+or-refused : (number : ℕ) (o : Option Parsed) (rest : Parsed → Result Parsed ℕ) → IfSome o AreSoIn
+    → ((q : Parsed) → AreSo q.sessions → IfOk (rest q) AreSoIn)
+    → IfOk (or_refused number o rest) AreSoIn
 or-refused number None rest h f = tt
 or-refused number (Some p) rest h f = f p h
 
 lines-keep : (number : ℕ) (lines : List (List ℕ)) (p : Parsed) → AreSo p.sessions
-    → IfOk (take_lines number (map viewed_line lines) p) (λ q. AreSo q.sessions)
+    → IfOk (take_lines number (map viewed_line lines) p) AreSoIn
 lines-keep number [] p all = all
 lines-keep number (line ∷ lines) p all =
     or-refused number (take_line number (viewed_line line) p) (λ q. take_lines (suc number) (map viewed_line lines) q)
@@ -156,7 +159,7 @@ ended-keeps : (o : Option ℕ) (ss : List Session) → AreSo ss → IfOk (ended 
 ended-keeps None ss all = each-list ss all
 ended-keeps (Some line) ss all = tt
 
-closed-keeps : (r : Result Parsed ℕ) → IfOk r (λ q. AreSo q.sessions) → IfOk (closed r) (AllByRecursion AreViewedLines)
+closed-keeps : (r : Result Parsed ℕ) → IfOk r AreSoIn → IfOk (closed r) (AllByRecursion AreViewedLines)
 closed-keeps (Err line) h = tt
 closed-keeps (Ok p) h = ended-keeps (never_ended p.sessions) p.sessions h
 

@@ -1,5 +1,5 @@
 -- What the call that makes a document flat leaves, where nothing was called before.
-use Rattle.std.proofs.Common.{◌≡◌, ℕ, List, [], ◌∷◌, ◌++◌, Some, ap, refl, ◌∙◌, map}
+use Rattle.std.proofs.Common.{◌≡◌, ℕ, List, [], ◌∷◌, ◌++◌, Some, ap, refl, ◌∙◌, map, subst}
 use Rattle.std.specs.Prelude.{Option, Result}
 use Rattle.spec_document.specs.Document.{Document}
 use Rattle.spec_document.specs.Ids.{next_id}
@@ -15,11 +15,13 @@ use Rattle.spec_history.specs.History.{asked, replay}
 use Rattle.spec_history.specs.Kept.{IsLegal}
 use Rattle.spec_history.proofs.Versions.{latest_of-legal}
 use Rattle.spec_tables.specs.Tables.{expected_tables, tables_for}
+use Rattle.spec_tables.proofs.Chests.{some_list}
 use Rattle.spec_world.specs.World.{World}
 use Rattle.spec_world.specs.Events.{submit}
 use Rattle.xl_core.specs.Editing.{Editing, world, IsSubmitted}
 use Rattle.xl_core.specs.History.{document}
 use Rattle.xl_core.specs.Now.{world_of}
+use Rattle.xl_program.proofs.Submitted.{AnswersBy}
 
 -- no edit asks a filter
 deleted_tables : (filters : List FilterState) (d : Document) (next : ℕ) (ids : List ℕ)
@@ -64,3 +66,19 @@ module _ {D : Type 0} where
       ap (document_at new.history.base (replay new.history.base new.history.entries))
       (latest_of-legal new.history.base new.history.entries legal)
       ∙ whole ∙ flat_state d becomes
+
+  -- so it is by the answer for each list of filters with which a chest agrees
+  pub flat_answered : (chest : List (Option FilterState)) (old new : Editing D) (guard : Option ℕ) (es : List Edit) (seen : ℕ)
+      (reply : Reply)
+      → old.history.entries ≡ [] → guard ≡ Some 0 → es ≡ flat_edits old.history.base (next_id old.history.base)
+      → BecomesFlat old.history.base (next_id old.history.base) → AnswersBy chest old 0 (edit guard es) seen reply new
+      → IsLegal new.history.base new.history.entries
+      → document new.history ≡ flat_document old.history.base (next_id old.history.base)
+  flat_answered chest old new guard es seen reply fresh guarded edits becomes answers legal =
+      let some = some_list chest in
+      let d = old.history.base in
+      let tables : expected_tables some.0 (asked (edit guard es) []) reply ≡ [] =
+      ap (λ (es : List Edit). expected_tables some.0 (asked (edit guard es) []) reply) edits
+      ∙ no_expected some.0 guard d (next_id d) reply in
+      flat_called old new guard es seen reply fresh guarded edits becomes
+      (subst (λ (t : List (List ℕ)). IsSubmitted old 0 (edit guard es) seen t reply new) tables (answers some.0 some.1)) legal

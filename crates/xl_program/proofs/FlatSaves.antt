@@ -5,18 +5,21 @@ use Rattle.spec_command.specs.Arguments.{flatten}
 use Rattle.spec_document.specs.Document.{Document}
 use Rattle.spec_document.specs.Ids.{next_id}
 use Rattle.spec_document.specs.Limits.{IsDocument}
-use Rattle.spec_flat.specs.declared.FlatRefused.{FlatRefused}
 use Rattle.spec_flat.specs.Flat.{flat_refusal}
 use Rattle.spec_flat.specs.Flattened.{BecomesFlat}
+use Rattle.spec_layout.specs.Layout.{Written}
 use Rattle.spec_saves.specs.Shelf.{Known, file_name}
 use Rattle.spec_world.specs.declared.SaveEnd.TheVariants.{Done, Fault}
+use Rattle.xl_core.specs.Editing.{known}
+use Rattle.xl_edit.specs.declared.call.Group.{Group}
 use Rattle.xl_layout.proofs.Short.{read}
 use Rattle.xl_ports.specs.Disk.{Disk, Between}
 use Rattle.xl_ports.specs.Shelf.{Content}
-use Rattle.xl_program.specs.Files.{CannotBeFlat, HasFault, HoldsDocument}
-use Rattle.xl_program.specs.Flattening.{made_flat, flattened_line, HasFlat, IsFlatSave, IsFlattened, SavesAndTells}
-use Rattle.xl_program.specs.Outcome.{AnyFailed, ComesTo, Given, IsUntouched, NoneFailed, opened, ShelfCauseOf, Shelved}
-use Rattle.xl_program.specs.Parts.{Loads, StopsFlatten}
+use Rattle.xl_program.specs.Files.{HoldsDocument}
+use Rattle.xl_program.specs.Flattening.{made_flat, flattened_line, HasFlat, IsFlatGroup, IsFlatSave, IsFlattened}
+use Rattle.xl_program.specs.Flattening.{SavesAndTells}
+use Rattle.xl_program.specs.Outcome.{ComesTo, Given, IsUntouched, opened, ShelfCauseOf, Shelved, shelved}
+use Rattle.xl_program.specs.Parts.{StopsFlatten}
 use Rattle.xl_program.specs.declared.stopped.Stopped.{Stopped}
 use Rattle.xl_program.specs.declared.stopped.Stopped.TheVariants.{SourceFault, BadLine, ShelfFault, Refused, SaveFault}
 use Rattle.xl_program.specs.declared.stopped.Stopped.TheVariants.{NotFlattened, SinkFault, Memory}
@@ -111,6 +114,44 @@ module _ {before mid : Shelved} {name : List ℕ} {d : Document} (known_then : I
   flat_cause held faults old new (Err (NotFlattened why)) saves = absurd saves
   flat_cause held faults old new (Err SaveFault) saves = absurd saves
   flat_cause held faults old new (Err Memory) saves = absurd saves
+
+-- ---- of the shelves of a run
+
+module _ {D : Type 0} (content : D → List ℕ → Option Content) (selected : D → Option (List ℕ)) (disk : D → Option Disk)
+    (reading saving : D → ℕ) where
+  pub flat_read : (shelf mid : D) (name : List ℕ) (d : Document) (group : Group)
+      → IfSome (content shelf name) (λ c. HoldsDocument c d) → IsDocument d
+      → IsUntouched (shelved content selected disk reading saving shelf) (shelved content selected disk reading saving mid)
+      → selected mid ≡ Some name → reading mid ≡ reading shelf → IsFlatGroup d group
+      → IsFlatRead (shelved content selected disk reading saving shelf) (shelved content selected disk reading saving mid) name d
+  flat_read shelf mid name d group holds within untouched named reads flat = record {
+    holds = holds;
+    within = within;
+    untouched = untouched;
+    named = named;
+    reading = reads;
+    allowed = flat.allowed;
+    becomes = flat.becomes;
+  }
+
+  -- the shelf that a core gives back is the one that it was handed
+  pub handed_back : (inside : Option D) (after : Option D) (mid back : D) → inside ≡ Some mid → after ≡ inside → after ≡ Some back
+      → back ≡ mid
+  handed_back inside after mid back first then last =
+      ap (λ (o : Option D). unwrap_or o mid) (sym last ∙ (then ∙ first))
+
+  pub saved_there : {K : Type 0} (held : K → Option (List ℕ)) (faults : K → ℕ) (mid back new : D) (base d : Document)
+      (file bytes : List ℕ) (old told : K) (result : Result (Unit {0}) Stopped)
+      → ((d : Document) → Written bytes d
+      → SavesAndTells held faults d (known selected disk reading saving back) (known selected disk reading saving new) old told result)
+      → back ≡ mid → bytes ≡ file → Written file (made_flat base) → base ≡ d
+      → SavesAndTells held faults (made_flat d) (known selected disk reading saving mid) (known selected disk reading saving new) old
+      told result
+  saved_there held faults mid back new base d file bytes old told result saves same is written base_is =
+      subst (λ (k : D). SavesAndTells held faults (made_flat d) (known selected disk reading saving k)
+      (known selected disk reading saving new) old told result) same
+      (saves (made_flat d) (subst (λ (b : List ℕ). Written b (made_flat d)) (sym is)
+      (subst (λ (x : Document). Written file (made_flat x)) base_is written)))
 
 -- ---- why it stops
 

@@ -13,7 +13,7 @@ use Rattle.spec_filters.specs.declared.FilterState.{FilterState}
 use Rattle.spec_script.specs.Script.{Line, call, save, forget}
 use Rattle.spec_tables.specs.Tables.{HaveTables, expected_tables}
 use Rattle.spec_tables.specs.Agrees.{Agrees, IsAfter}
-use Rattle.spec_text.specs.Text.{AreAlone, calls_of, digest_of, entry_line, is_save_memory, made_by}
+use Rattle.spec_text.specs.Text.{AreAlone, calls_along, calls_of, digest_of, entry_line, is_save_memory}
 use Rattle.xl_core.specs.Editing.{Editing, start_of, world}
 use Rattle.xl_core.specs.History.{History, with_call}
 
