@@ -31,8 +31,8 @@ from xcf_writing import Drawable, Pixels, flat, image, word_property
 NAME = "f.xcf"
 FIVE_CALLS = b"0 visible 1 0\n0 tile 0 0 0\n0 undo\n0 undo\n0 top\n"
 IN_A_GROUP = b"0 fill 2 60 60 8 8 01020304\n0 tile 0 0 0\n0 tile 1 1 1\n0 opacity 1 100\n0 tile 0 1 0\n0 undo\n0 tile 0 0 1\n0 save\n"
-# A run may take so long.
-SECONDS = 60
+# A run may take so long; the status of one that takes longer.
+SECONDS, ENDLESS = 20, 256
 
 
 def four_tiles():
@@ -67,25 +67,32 @@ class Program:
         work = tempfile.mkdtemp(dir=self.folder)
         put_file(work, NAME, data)
         count = os.path.join(work, "count")
+        put_file(count, bytes(8))
         env = {"LD_PRELOAD": self.library, "REFUSE_COUNT": count}
         if refuse is not None:
             env["REFUSE"] = "%d%s" % (refuse, ".." if self.refuse_all else "")
-        ended = subprocess.run([self.binary, "edit", NAME] + words, input=script, stdout=subprocess.PIPE,
-                               stderr=subprocess.DEVNULL, cwd=work, env=env, timeout=SECONDS)
+        try:
+            ended = subprocess.run([self.binary, "edit", NAME] + words, input=script, stdout=subprocess.PIPE,
+                                   stderr=subprocess.DEVNULL, cwd=work, env=env, timeout=SECONDS)
+            status, text = ended.returncode, ended.stdout
+        except subprocess.TimeoutExpired:
+            status, text = ENDLESS, b""
         with open(os.path.join(work, NAME), "rb") as file:
             left = file.read()
-        with open(count) as file:
-            made = int(file.read())
+        with open(count, "rb") as file:
+            made = int.from_bytes(file.read(), sys.byteorder)
         for name in os.listdir(work):
             os.remove(os.path.join(work, name))
         os.rmdir(work)
-        return ended.returncode, ended.stdout, left, made
+        return status, text, left, made
 
 
 def wrong(data, script, status, text, left):
     """Why a run may not end so, or none."""
     _, wanted, saved = model(data, script)
     wanted, files = wanted.encode(), [data] + ([] if saved is None else [saved])
+    if status == ENDLESS:
+        return "it does not end"
     if left not in files:
         return "another file is left"
     if status == 0:

@@ -14,7 +14,7 @@ use Rattle.xl_program.proofs.Earlier.{quiet_left}
 
 -- ---- a save behind a quiet call
 
-saves_earlier : (name bytes : List ℕ) (a b c : Disk) → IsQuiet a b → SavesOnly name bytes b c → SavesOnly name bytes a c
+pub saves_earlier : (name bytes : List ℕ) (a b c : Disk) → IsQuiet a b → SavesOnly name bytes b c → SavesOnly name bytes a c
 saves_earlier name bytes a b c quiet save =
     let first = quiet.time.later in
     let then = save.later in

@@ -15,6 +15,7 @@ mod FlatSaves
 mod MadeFiles
 mod MadeRuns
 mod MadeScripts
+mod PackSaves
 mod Plain
 mod Played
 mod Quiet

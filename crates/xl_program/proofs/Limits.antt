@@ -13,7 +13,7 @@ use Rattle.spec_file.specs.Header.{header_of}
 use Rattle.spec_file.specs.Holds.{Holds}
 use Rattle.spec_file.specs.Reading.{reading, fault_in}
 use Rattle.xl_ports.specs.Shelf.{Content, absent, file, GivesFront}
-use Rattle.xl_program.specs.Files.{HoldsDocument, HasFault}
+use Rattle.xl_program.specs.Files.{HoldsDocument, HasFault, HasLength}
 
 -- a file as long as the limit is refused, whatever is in it
 too_long : (bytes : List ℕ) → 2 ^ 31 ≤ length bytes → reading bytes ≡ Err (fault TooLarge (2 ^ 31 - 1))
@@ -40,6 +40,15 @@ front_holds (Some (file all)) bytes d front holds =
     let short : length bytes < 2 ^ 31 = holds.short in
     let whole : bytes ≡ all = front ∙ take_all (2 ^ 31) all (omega (arith, ap length front, length-take (2 ^ 31) all)) in
     subst (λ (l : List ℕ). Holds l d) whole holds
+
+-- and how many bytes the file has
+pub front_length : (content : Option Content) (bytes : List ℕ) (n : ℕ) (d : Document)
+    → IfSome content (λ c. GivesFront c (2 ^ 31) bytes) → Holds bytes d → n ≡ length bytes → IfSome content (λ c. HasLength c n)
+front_length None bytes n d front holds size = tt
+front_length (Some absent) bytes n d front holds size = absurd front
+front_length (Some (file all)) bytes n d front holds size =
+    let short : length bytes < 2 ^ 31 = holds.short in
+    size ∙ ap length (front ∙ take_all (2 ^ 31) all (omega (arith, ap length front, length-take (2 ^ 31) all)))
 
 -- the first fault of the front of a file
 pub front_faults : (content : Option Content) (bytes : List ℕ) (refused : ReadRefused)

@@ -14,10 +14,11 @@ use Rattle.spec_text.specs.Text.{IsTextOf, Alone}
 use Rattle.xl_ports.specs.Shelf.{Content}
 use Rattle.xl_ports.specs.Sink.{WritesAll, WritesPart}
 use Rattle.xl_program.specs.Making.{IsRunOf}
-use Rattle.xl_program.specs.Files.{CannotBeFlat, HasFault, HoldsDocument}
+use Rattle.xl_program.specs.Files.{CannotBeFlat, HasFault, HasLength, HoldsDocument}
 use Rattle.xl_program.specs.Outcome.{first_filters, Given, HasLines, IsScript, IsBadLine, NoneFailed, SomeFailed}
 use Rattle.xl_program.specs.Playing.{AreOfFirst}
 use Rattle.xl_program.specs.Viewing.{IsBadViewLine, IsViewScript}
+use Rattle.xl_program.specs.declared.loading.Loaded.{Loaded}
 use Rattle.xl_program.specs.declared.playing.Replies.{Replies}
 use Rattle.xl_program.specs.declared.stopped.Stopped.{Stopped}
 use Rattle.xl_program.specs.declared.stopped.Stopped.TheVariants.{SourceFault, BadLine, ShelfFault, Refused, SaveFault}
@@ -32,6 +33,11 @@ Loads content (Err (Refused refused)) = IfSome content (λ c. HasFault c refused
 Loads content (Err ShelfFault) = Unit {0}
 Loads content (Err Memory) = Unit {0}
 Loads content (Err stopped) = ⊥
+
+-- the same, with the length of the file
+abbrev pub LoadsMeasured : Option Content → Result Loaded Stopped → Type 0
+LoadsMeasured content (Ok loaded) = Loads content (Ok loaded.document) × IfSome content (λ c. HasLength c loaded.length)
+LoadsMeasured content (Err stopped) = Loads content (Err stopped)
 
 -- the lines of the script, or the line that is refused
 abbrev pub ReadsScript : Given → Result (List (List Line)) Stopped → Type 0

@@ -2,7 +2,7 @@ ghost use Rattle.std.specs.Prelude.{◌≡◌, ◌⊎◌, Some, IfOk, OnOk};
 ghost use Rattle.spec_document.specs.Limits.{IsDocument};
 ghost use Rattle.xl_doc.specs.Numbered.{AreNumbered};
 ghost use Rattle.xl_program.specs.Outcome.{ShelfCause, IsUntouched, shelved};
-ghost use Rattle.xl_program.specs.Parts.{Loads};
+ghost use Rattle.xl_program.specs.Parts.{Loads, LoadsMeasured};
 
 use crate::stopped::Stopped;
 use std::alloc::Global;
@@ -14,6 +14,13 @@ use xl_read::decode;
 
 /// How much of a file is read. One of so many bytes or more is refused.
 const MOST_BYTES: usize = 1 << 31;
+
+/// A document, and how many bytes its file has.
+#[derive(Drop)]
+pub struct Loaded {
+    pub document: Document,
+    pub length: usize,
+}
 
 /// The document of a file.
 pub fn read_document<D: Shelf>(
@@ -30,6 +37,21 @@ pub fn read_document<D: Shelf>(
     ensures named { OnOk result (D.selected shelf.new ≡ Some name.now) }
     ensures selected { (D.selected shelf.new ≡ D.selected shelf.old) ⊎ (D.selected shelf.new ≡ Some name.now) }
 {
+    let loaded = load_document(alloc, name, shelf)?;
+    Ok(loaded.document)
+}
+
+/// The document of a file, and the file's length.
+pub fn load_document<D: Shelf>(alloc: Global, name: &str, shelf: &mut D) -> Result<Loaded, Stopped>
+    ensures loads { LoadsMeasured (D.content shelf.old name.now) result }
+    ensures limits { IfOk result (λ loaded. IsDocument loaded.document) }
+    ensures numbered { IfOk result (λ loaded. AreNumbered loaded.document.nodes) }
+    ensures cause { ShelfCause (D.reading_faults shelf.old) (D.reading_faults shelf.new) result }
+    ensures untouched { IsUntouched (shelved D.content D.selected D.disk D.reading_faults D.saving_faults shelf.old)
+        (shelved D.content D.selected D.disk D.reading_faults D.saving_faults shelf.new) }
+    ensures named { OnOk result (D.selected shelf.new ≡ Some name.now) }
+    ensures selected { (D.selected shelf.new ≡ D.selected shelf.old) ⊎ (D.selected shelf.new ≡ Some name.now) }
+{
     match shelf.select(name) {
         Ok(()) => {}
         Err(Failed) => return Err(Stopped::ShelfFault),
@@ -39,11 +61,12 @@ pub fn read_document<D: Shelf>(
         Err(FailedOrMemory::Failed) => return Err(Stopped::ShelfFault),
         Err(FailedOrMemory::Memory) => return Err(Stopped::Memory),
     };
+    let length = bytes.len();
     let Ok(file) = Arc::new(alloc, bytes) else {
         return Err(Stopped::Memory);
     };
     match decode(alloc, &file) {
-        Ok(document) => Ok(document),
+        Ok(document) => Ok(Loaded { document, length }),
         Err(ReadRefusedOrMemory::Refused(refused)) => Err(Stopped::Refused(refused)),
         Err(ReadRefusedOrMemory::Memory) => Err(Stopped::Memory),
     }

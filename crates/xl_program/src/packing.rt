@@ -4,9 +4,11 @@ ghost use Rattle.xl_core.specs.Editing.{known};
 ghost use Rattle.xl_program.specs.Outcome.{Given, ComesTo, ShelfCauseOf, shelved};
 ghost use Rattle.xl_program.specs.Parts.{StopsReport};
 
+use crate::loading::load_document;
 use crate::stopped::Stopped;
 use std::alloc::Global;
-use xl_ports::{Shelf, Sink};
+use xl_pack::save_smallest;
+use xl_ports::{Shelf, Sink, write_all};
 
 /// Saves the document of a file in the smallest file that has its tiles run-length coded, and writes the lengths before and after
 /// with the number of planes; before that, where it is asked for, a line for the plan of each plane.
@@ -28,5 +30,15 @@ pub fn pack<K: Sink, D: Shelf>(
         (known D.selected D.disk D.reading_faults D.saving_faults shelf.new) (pack_of name.now with_plans) result }
     ensures selected { (D.selected shelf.new ≡ D.selected shelf.old) ⊎ (D.selected shelf.new ≡ Some name.now) }
 {
-    Err(Stopped::Memory)
+    let loaded = load_document(alloc, name, shelf)?;
+    let Ok(packed) = xl_pack::pack(alloc, loaded.document, loaded.length, with_plans) else {
+        return Err(Stopped::Memory);
+    };
+    if save_smallest(&packed.file, shelf).is_err() {
+        return Err(Stopped::ShelfFault);
+    }
+    if write_all(sink, &packed.text).is_err() {
+        return Err(Stopped::SinkFault);
+    }
+    Ok(())
 }

@@ -139,7 +139,7 @@ fn work_all<R: Threads + Wait + Sync, D: Shelf, G: Gate>(
 }
 
 /// Lets the sessions play and the workers work beside each other. Where no thread can be made the sessions come first, and the
-/// workers find that no more jobs are given out.
+/// workers find that no more jobs are given out: `join_mut` calls its first closure last then.
 pub(crate) fn run<'a, R: Threads + Wait + Sync, D: Shelf, G: Gate>(
     rt: &'a R,
     alloc: Global,
@@ -161,15 +161,15 @@ pub(crate) fn run<'a, R: Threads + Wait + Sync, D: Shelf, G: Gate>(
     join_mut(
         rt,
         &mut ||
+            requires { IsSync R.row × IsSync G.row × AllByRecursion (IsFree studio.now) workers.now }
+            ensures { AllByRecursion (HasWorked studio.entry.now) workers.exit.now }
+        { work_all(rt, alloc, studio, gate, workers) },
+        &mut ||
             requires { IsSync R.row × IsSync G.row × IsSeatOf studio.now own.now
                 × AllByRecursion (CanPlay (in_slots state) studio.now) players.now }
             ensures { IsSeatOf studio.entry.now own.exit.now × (weight_of own.exit.now ≡ weight_of own.entry.now)
                 × HasHeard (known_by own.entry.now) (known_by own.exit.now)
                 × AllZip (Plays (in_slots state) studio.entry.now) players.entry.now players.exit.now }
         { play_all(rt, alloc, studio, gate, own, players) },
-        &mut ||
-            requires { IsSync R.row × IsSync G.row × AllByRecursion (IsFree studio.now) workers.now }
-            ensures { AllByRecursion (HasWorked studio.entry.now) workers.exit.now }
-        { work_all(rt, alloc, studio, gate, workers) },
     );
 }

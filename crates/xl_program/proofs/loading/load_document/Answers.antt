@@ -1,12 +1,12 @@
-use Rattle.std.proofs.Common.{◌≡◌, ℕ, ◌^◌, List, Option, Some, ap, subst, sym, ◌∙◌}
+use Rattle.std.proofs.Common.{◌≡◌, ℕ, ◌^◌, List, Option, Some, ap, subst, sym, ◌∙◌, arith}
 use Rattle.std.specs.Prelude.{IfSome}
 use Rattle.spec_file.specs.Holds.{Holds}
 use Rattle.spec_file.specs.Reading.{reading}
 use Rattle.xl_ports.specs.Shelf.{Content, selected_content, GivesFront}
 use Rattle.xl_ports.proofs.Fronts.{same_content}
-use Rattle.xl_program.proofs.Limits.{front_holds, front_faults}
+use Rattle.xl_program.proofs.Limits.{front_holds, front_length, front_faults}
 use Rattle.xl_program.proofs.Quiet.{two_quiet}
-use Rattle.xl_program.proofs.loading.read_document.Goals as goal
+use Rattle.xl_program.proofs.loading.load_document.Goals as goal
 
 -- what was loaded is the front of the named file
 of_name : (s : Option (List ℕ)) (name : List ℕ) (c d : List ℕ → Option Content) (bytes : List ℕ) → s ≡ Some name → c ≡ d
@@ -21,8 +21,11 @@ returns-in-Ok-decode-clause-loads g c =
     let bytes : List ℕ = c.in-Ok-load_all.bytes.items in
     let front = of_name _ _ _ _ bytes selected.selected selected.contents loaded.front in
     let file = ap (λ v. v.items) c.in-Ok-new.ensures.ok in
-    front_holds _ bytes c.in-Ok-decode.document front
-    (subst (λ (l : List ℕ). Holds l c.in-Ok-decode.document) file c.in-Ok-decode.ensures.held)
+    let holds = subst (λ (l : List ℕ). Holds l c.in-Ok-decode.document) file c.in-Ok-decode.ensures.held in (
+      front_holds _ bytes c.in-Ok-decode.document front holds,
+      front_length _ bytes c.len-length.result c.in-Ok-decode.document front holds
+          (omega (arith, c.len-length.ensures, c.in-Ok-load_all.bytes.ok.0)),
+    )
 
 pub returns-in-Err-Refused-clause-loads : goal.returns-in-Err-Refused-clause-loads
 returns-in-Err-Refused-clause-loads g c =

@@ -1,20 +1,28 @@
-use denote.Param.{param}
-use denote.Param.Object.{Vt, ghosts_of}
-use denote.Param.Send.{shr_send, mut_send, mut_slice_send}
-use denote.Param.Sent.{code_send}
+use mathlib.Core.List.{[], ◌∷◌}
+use Prim.Native.Nat.{ℕ}
+use mir.Syntax.{Ty, Sym}
+use denote.Exit.{no}
+use denote.Param.{param, arg}
+use denote.Param.Send.{IsSend, param_send, arg_send, shr_send, mut_slice_send}
+use denote.RattleType.{RattleType}
+use denote.Struct.Tuple.{TupleAt, type_at}
 use Rattle.std.proofs.Crossing.{sync}
-use Rattle.xl_sessions.specs.contracts.threads.run.dyn-1.{slots}
-use Rattle.xl_studio.proofs.Sent.{captures_send, seat_row, seat_send, studio_sync}
-use Rattle.xl_sessions.proofs.Sent.{player_send}
+use Rattle.xl_studio.proofs.Sent.{parts_send, seat_row, seat_send, studio_sync}
+use Rattle.xl_sessions.proofs.Sent.{worker_send}
 use Rattle.xl_sessions.proofs.threads.run.Goals as goal
+
+-- a closure, by its five captures
+five_send : (i : ℕ) (δ : Ty) (ν : Sym) (A B C D E : RattleType)
+    → IsSend A → IsSend B → IsSend C → IsSend D → IsSend E
+    → IsSend (param i (arg δ no (TupleAt ν (A ∷ B ∷ C ∷ D ∷ E ∷ []))))
+five_send i δ ν A B C D E a b c d e =
+    param_send i _ (arg_send δ no _ (parts_send (type_at ν (A ∷ B ∷ C ∷ D ∷ E ∷ [])) (a, (b, (c, (d, (e, tt)))))))
 
 pub join_mut-requires-send-F : goal.join_mut-requires-send-F
 join_mut-requires-send-F g c κs within =
     let D = param 1 g.row.D in
     let own = seat_send D g.D.Shelf c.type_bounds.send-D in
     let studio = studio_sync D g.D.Shelf c.type_bounds.send-D in
-    let boxes = slots g.row.R g.row.D g.row.G in
-    let player = player_send (seat_row D g.D.Shelf) (Vt boxes g.dyn-1.0) (ghosts_of boxes g.dyn-1.0 g.dyn-1.1) g.dyn-1.2
-    (code_send _ _ _) own in
-    captures_send _ _ _ _ _ _ _ _ _ (shr_send _ _ _ c.type_bounds.sync-R) (shr_send _ _ _ sync) (shr_send _ _ _ studio)
-    (shr_send _ _ _ c.type_bounds.sync-G) (mut_send _ _ _ own) (mut_slice_send _ _ _ player)
+    let worker = worker_send (seat_row D g.D.Shelf) own in
+    five_send _ _ _ _ _ _ _ _ (shr_send _ _ _ c.type_bounds.sync-R) (shr_send _ _ _ sync) (shr_send _ _ _ studio)
+    (shr_send _ _ _ c.type_bounds.sync-G) (mut_slice_send _ _ _ worker)

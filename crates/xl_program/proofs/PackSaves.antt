@@ -1,0 +1,108 @@
+-- What a run comes to that packs a file.
+use Rattle.std.proofs.Common.{◌≡◌, inr, ℕ, Bool, true, false, List, length, Some, sym, ◌∙◌, subst}
+use Rattle.std.specs.Prelude.{Option, IfSome, Result, Ok, Err, is_err}
+use Rattle.spec_command.specs.Arguments.{pack}
+use Rattle.spec_document.specs.Document.{Document}
+use Rattle.spec_document.specs.Limits.{IsDocument}
+use Rattle.spec_shortest.specs.Files.{IsSmallestFile}
+use Rattle.spec_shortest.specs.Lines.{IsPackText}
+use Rattle.xl_pack.specs.Saving.{HasSmallest, MayHaveSmallest}
+use Rattle.xl_ports.proofs.Moments.{one_then}
+use Rattle.xl_ports.specs.Disk.{Disk, Between, IsQuiet}
+use Rattle.xl_ports.specs.Faults.{HasCause, Rose}
+use Rattle.xl_program.specs.Files.{HoldsDocument, HasLength}
+use Rattle.xl_program.specs.Outcome.{FailsAtShelf, FaultsRose, IsUntouched, Shelved, opened}
+use Rattle.xl_program.specs.Packing.{IsPacked, MayBePacked}
+use Rattle.xl_program.proofs.FirstSaves.{saves_earlier}
+use Rattle.xl_save.specs.Save.{SavesOnly}
+
+-- ---- a save behind a quiet call
+
+has_earlier : (name : List ℕ) (d : Document) (size : ℕ) (a b c : Option Disk) → Between a b IsQuiet → HasSmallest name d size b c
+    → HasSmallest name d size a c
+has_earlier name d size a b c quiet save = record {
+  file = save.file;
+  smallest = save.smallest;
+  size_is = save.size_is;
+  moments = one_then IsQuiet (SavesOnly name save.file) (SavesOnly name save.file) (saves_earlier name save.file) a b c quiet
+      save.moments;
+  saved = save.saved;
+}
+
+may_earlier : (name : List ℕ) (d : Document) (a b c : Option Disk) → Between a b IsQuiet → MayHaveSmallest name d b c
+    → MayHaveSmallest name d a c
+may_earlier name d a b c quiet save = record {
+  file = save.file;
+  smallest = save.smallest;
+  moments = one_then IsQuiet (SavesOnly name save.file) (SavesOnly name save.file) (saves_earlier name save.file) a b c quiet
+      save.moments;
+}
+
+-- ---- what was known when the file was read
+
+pub record IsPackRead (before mid : Shelved) (name : List ℕ) (d : Document) (size : ℕ) : Type 0 where
+  pub holds : IfSome (before.content name) (λ c. HoldsDocument c d)
+  pub size_is : IfSome (before.content name) (λ c. HasLength c size)
+  pub within : IsDocument d
+  pub untouched : IsUntouched before mid
+  pub named : mid.known.selected ≡ Some name
+  pub reading : mid.known.reading ≡ before.known.reading
+
+module _ {before mid : Shelved} {name : List ℕ} {d : Document} {size : ℕ} (read : IsPackRead before mid name d size)
+    (after : Shelved) where
+  -- the save is done
+  pub is_packed : (with_plans : Bool) (file out : List ℕ)
+      → IfSome mid.known.selected (λ n. HasSmallest n d (length file) mid.known.disk after.known.disk)
+      → after.known.saving ≡ mid.known.saving → IsPackText d with_plans size (length file) out
+      → IsPacked (before.content name) (opened before name) after.known with_plans out
+  is_packed with_plans file out saved saving text =
+      let named : HasSmallest name d (length file) mid.known.disk after.known.disk =
+      subst (λ (o : Option (List ℕ)). IfSome o (λ n. HasSmallest n d (length file) mid.known.disk after.known.disk)) read.named
+      saved in
+      record {
+        document = d;
+        held = read.holds;
+        within = read.within;
+        before = size;
+        length_before = read.size_is;
+        after = length file;
+        saved = has_earlier name d (length file) before.known.disk mid.known.disk after.known.disk read.untouched.quiet named;
+        counts = saving ∙ read.untouched.saving;
+        text = text;
+      }
+
+  -- a fault stopped it
+  pub may_be_packed : (with_plans : Bool) → IfSome mid.known.selected (λ n. MayHaveSmallest n d mid.known.disk after.known.disk)
+      → FailsAtShelf before after (pack name with_plans)
+  may_be_packed with_plans saved =
+      let named : MayHaveSmallest name d mid.known.disk after.known.disk =
+      subst (λ (o : Option (List ℕ)). IfSome o (λ n. MayHaveSmallest n d mid.known.disk after.known.disk)) read.named saved in
+      inr (record {
+        document = d;
+        held = read.holds;
+        within = read.within;
+        saved = may_earlier name d before.known.disk mid.known.disk after.known.disk read.untouched.quiet named;
+      })
+
+  pub save_rose : (with_plans : Bool) → Rose mid.known.saving after.known.saving
+      → FaultsRose before.known after.known (pack name with_plans)
+  save_rose with_plans rose = inr (subst (λ (n : ℕ). Rose n after.known.saving) read.untouched.saving rose)
+
+-- the same text of the same file
+pub text_moved : (d : Document) (with_plans : Bool) (before : ℕ) (file bytes text out : List ℕ) → bytes ≡ file → out ≡ text
+    → IsPackText d with_plans before (length file) text → IsPackText d with_plans before (length bytes) out
+text_moved d with_plans before file bytes text out same told is =
+    subst (λ (xs : List ℕ). IsPackText d with_plans before (length xs) out) (sym same)
+    (subst (λ (xs : List ℕ). IsPackText d with_plans before (length file) xs) (sym told) is)
+
+pub smallest_moved : (d : Document) (file bytes : List ℕ) → bytes ≡ file → IsSmallestFile file d → IsSmallestFile bytes d
+smallest_moved d file bytes same is = subst (λ (xs : List ℕ). IsSmallestFile xs d) (sym same) is
+
+module _ {A E : Type 0} (old new : ℕ) where
+  pub rose_at : (r : Result A E) → is_err r ≡ true → HasCause old new r → Rose old new
+  rose_at (Ok x) failed cause = cc
+  rose_at (Err e) failed cause = cause
+
+  pub stays_at : (r : Result A E) → is_err r ≡ false → HasCause old new r → new ≡ old
+  stays_at (Ok x) failed cause = cause
+  stays_at (Err e) failed cause = cc
