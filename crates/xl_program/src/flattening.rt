@@ -50,7 +50,7 @@ pub fn flatten<K: Sink, D: Shelf>(alloc: Global, name: &str, sink: &mut K, mut s
             shelf,
         },
     };
-    let group = match group_of(alloc, &document) {
+    let group = match group_of::<Brand>(alloc, &document, Blank::new(1)) {
         Ok(group) => group,
         Err(stopped) => return Done {
             result: Err(stopped),
@@ -64,7 +64,7 @@ pub fn flatten<K: Sink, D: Shelf>(alloc: Global, name: &str, sink: &mut K, mut s
             shelf,
         },
     };
-    let file = flat_file(alloc, &mut core, group);
+    let file = flat_file::<Brand, D>(alloc, &mut core, group, Blank::new(1));
     let mut shelf = core.into_shelf();
     let Ok(file) = file else {
         return Done {
@@ -86,14 +86,7 @@ fn next_id_of(document: &Document) -> u32
 }
 
 // The group that makes a document flat.
-fn group_of(alloc: Global, document: &Document) -> Result<Group, Stopped>
-    requires numbered { AreNumbered document.now.nodes }
-    ensures { GivesGroup document.now result }
-{
-    group_by::<Brand>(alloc, document, Blank::new(1))
-}
-
-fn group_by<L: Ledger>(alloc: Global, document: &Document, blank: Blank) -> Result<Group, Stopped>
+fn group_of<L: Ledger>(alloc: Global, document: &Document, blank: Blank) -> Result<Group, Stopped>
     requires name { blank.name ≡ L.name }
     requires parts { blank.parts ≡ L.parts }
     requires some { 0 < blank.parts }
@@ -109,20 +102,7 @@ fn group_by<L: Ledger>(alloc: Global, document: &Document, blank: Blank) -> Resu
 }
 
 // The file of the document that the group makes. The shelf is not touched.
-fn flat_file<D: Shelf>(
-    alloc: Global,
-    core: &mut Core<D>,
-    group: Group,
-) -> Result<Vec<u8>, AllocError>
-    requires fresh { core.old.history.entries ≡ [] }
-    requires group { IsFlatGroup core.old.history.base group }
-    ensures file { IfOk result (λ file. Written file.items (made_flat core.old.history.base)) }
-    ensures shelf { core.new.shelf ≡ core.old.shelf }
-{
-    file_by::<Brand, D>(alloc, core, group, Blank::new(1))
-}
-
-fn file_by<L: Ledger, D: Shelf>(
+fn flat_file<L: Ledger, D: Shelf>(
     alloc: Global,
     core: &mut Core<D>,
     group: Group,

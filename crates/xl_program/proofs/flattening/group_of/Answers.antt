@@ -5,7 +5,7 @@ use Rattle.spec_damage.proofs.NewEdits.{next_above}
 use Rattle.spec_flat.specs.Flat.{layer_edit}
 use Rattle.spec_forest.specs.Forest.{ids}
 use Rattle.xl_edit.specs.Built.{HasNext}
-use Rattle.xl_program.proofs.flattening.group_by.Goals as goal
+use Rattle.xl_program.proofs.flattening.group_of.Goals as goal
 
 pub flatten-requires : goal.flatten-requires
 flatten-requires g c κs within =

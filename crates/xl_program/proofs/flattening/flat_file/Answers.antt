@@ -4,7 +4,7 @@ use Rattle.spec_layout.specs.Layout.{Written}
 use Rattle.xl_edit.specs.Edits.{edits_of}
 use Rattle.xl_edit.specs.Replies.{reply_of}
 use Rattle.xl_program.proofs.FlatGroup.{flat_answered}
-use Rattle.xl_program.proofs.flattening.file_by.Goals as goal
+use Rattle.xl_program.proofs.flattening.flat_file.Goals as goal
 
 pub submit-requires-clause-there : goal.submit-requires-clause-there
 submit-requires-clause-there g c κs within = c.requires.group.plain _
