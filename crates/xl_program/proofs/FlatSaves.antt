@@ -73,6 +73,7 @@ module _ {before mid : Shelved} {name : List ℕ} {d : Document} (known_then : I
 
   flattened : IsSavedOn mid.known (made_flat d) Done after.known
       → IsFlattened (before.content name) (opened before name) after.known flattened_line
+  unfolding done_save
   flattened saved =
       let flat = done_save saved in
       let puts = flat.saved.contents in
