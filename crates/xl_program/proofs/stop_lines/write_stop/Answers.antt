@@ -1,4 +1,4 @@
-use Rattle.spec_command.specs.Ends.{bad_line, refused}
+use Rattle.spec_command.specs.Ends.{bad_line, flat_refused, refused}
 use Rattle.xl_program.proofs.StopLines.{text_written}
 use Rattle.xl_program.proofs.stop_lines.write_stop.Goals as goal
 
@@ -11,3 +11,8 @@ pub returns-in-Refused : goal.returns-in-Refused
 returns-in-Refused g c =
     rw c.in-Refused.is (text_written g.K.Sink.held g.K.Sink.faults c.refusal_text.result (refused c.in-Refused.refused) _ _ _
     c.refusal_text.ensures c.write_text-in-Refused.ensures)
+
+pub returns-in-NotFlattened : goal.returns-in-NotFlattened
+returns-in-NotFlattened g c =
+    rw c.in-NotFlattened.is (text_written g.K.Sink.held g.K.Sink.faults c.flat_refusal_text.result (flat_refused c.in-NotFlattened.why)
+    _ _ _ c.flat_refusal_text.ensures c.write_text-in-NotFlattened.ensures)
