@@ -21,7 +21,6 @@ pub fn open_core<D: Shelf>(alloc: Global, document: Document, shelf: D) -> Resul
     ensures opening { IfOk result (λ core. core.opening ≡ shelf) }
     ensures handed { IfOk result (λ core. core.handed ≡ []) }
     ensures inside { IfOk result (λ core. IsSome core.shelf) }
-    ensures shelf { IfOk result (λ core. core.shelf ≡ Some shelf) }
     ensures selected { IfOk result (λ core. IsSome (D.selected core.opening)) }
     ensures right { IfOk result (λ core. IsRight core.history.base (world core)) }
     ensures kept { IfOk result (λ core. KeepsExactly core) }
