@@ -31,7 +31,7 @@ use Rattle.xl_program.proofs.Submitted.{AnswersBy, HasRoom, chest_printed, chest
 
 -- ---- a tile that is shown
 
-shown_version : Reply → ℕ
+abbrev shown_version : Reply → ℕ
 shown_version (tile_of v) = v
 shown_version reply = 0
 
