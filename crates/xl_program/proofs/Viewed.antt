@@ -1,7 +1,7 @@
 -- What a script that is viewed comes to.
 use Rattle.std.proofs.Common.{◌≡◌, inl, inr, ◌⊎◌, ℕ, ◌+◌, ◌^◌, ◌≤◌, false, List, [], ◌∷◌, ◌++◌, ◌∙◌, length, map, ap, sym, subst, refl}
 use Rattle.std.proofs.Common.{arith, length-append, append-nil}
-use Rattle.std.specs.Prelude.{Vec, Option, Some, None, IfSome, IfOk, Result, Ok, Err, String, string_bytes, nat_le}
+use Rattle.std.specs.Prelude.{Vec, Option, Some, None, IfSome, IfOk, OnOk, Result, Ok, Err, String, string_bytes, nat_le}
 use Rattle.std.specs.declared.alloc.AllocError.{AllocError}
 use Rattle.std.specs.declared.alloc.Global.{Global}
 use Rattle.std.proofs.lemmas.Bool.Decides.{nat_tests}
@@ -58,6 +58,17 @@ views state base opened lists boxes items lines es cols rows out same own first 
         text = shown.text;
       },
     )
+
+-- the text of a run, where there is one
+pub script_views : {B : Type 0} (state : B → FilterState) (base opened : Document) (lists : List (List Line))
+    (boxes : List (Vec B Global)) (items : List B) (lines : List Line) (es : List Entry) (cols rows : ℕ)
+    (r : Result (String Global) AllocError)
+    → base ≡ opened → lines ≡ list_at lists 0 → items ≡ boxes_at boxes 0
+    → IfOk r (λ text. AreShown base es cols rows (string_bytes text)) → OnOk r (AreMade (map state items) lines es)
+    → IfOk r (λ text. Views (string_bytes text) opened (list_at lists 0) (list_at (states_of state boxes) 0) cols rows)
+script_views state base opened lists boxes items lines es cols rows (Ok text) same own first shown made =
+    views state base opened lists boxes items lines es cols rows (string_bytes text) same own first shown made
+script_views state base opened lists boxes items lines es cols rows (Err e) same own first shown made = tt
 
 -- the first session's lines fit its filters
 pub view_fits : {B : Type 0} (state : B → FilterState) (boxes : List (Vec B Global)) (lists : List (List Line))
