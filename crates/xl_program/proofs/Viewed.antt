@@ -1,7 +1,7 @@
 -- What a script that is viewed comes to.
 use Rattle.std.proofs.Common.{◌≡◌, inl, inr, ◌⊎◌, ℕ, ◌+◌, ◌^◌, ◌≤◌, false, List, [], ◌∷◌, ◌++◌, ◌∙◌, length, map, ap, sym, subst, refl}
 use Rattle.std.proofs.Common.{arith, length-append, append-nil}
-use Rattle.std.specs.Prelude.{Vec, Option, Some, None, IfSome, IfOk, Result, Ok, Err, String, string_bytes, nat_le}
+use Rattle.std.specs.Prelude.{Vec, Option, Some, None, IfSome, IfOk, OnOk, Result, Ok, Err, String, string_bytes, nat_le}
 use Rattle.std.specs.declared.alloc.AllocError.{AllocError}
 use Rattle.std.specs.declared.alloc.Global.{Global}
 use Rattle.std.proofs.lemmas.Bool.Decides.{nat_tests}
@@ -18,6 +18,8 @@ use Rattle.spec_view.specs.Script.{view_script}
 use Rattle.spec_view.specs.Text.{Views}
 use Rattle.xl_ports.specs.Shelf.{Content}
 use Rattle.xl_ports.specs.Source.{led_by, IsEnded}
+use Rattle.xl_script.specs.Lines.{lists_of}
+use Rattle.xl_script.specs.declared.script.Line as code
 use Rattle.xl_sessions.specs.Outcomes.{states_of}
 use Rattle.xl_sessions.specs.Players.{boxes_at}
 use Rattle.xl_sessions.proofs.Brought.{states_at}
@@ -25,7 +27,7 @@ use Rattle.xl_program.specs.Files.{HoldsDocument}
 use Rattle.xl_program.specs.Outcome.{Given, Shelved, first_filters, ComesTo, IsUntouched, ReadsToEnd}
 use Rattle.xl_program.specs.Parts.{Loads, StopsView}
 use Rattle.xl_program.specs.Playing.{AreMade}
-use Rattle.xl_program.specs.Viewing.{HasViewLines, IsViewed}
+use Rattle.xl_program.specs.Viewing.{IsViewed}
 use Rattle.xl_program.specs.Windows.{AreShown, ReadsViewed, WritesViewed}
 use Rattle.xl_program.specs.declared.stopped.Stopped.{Stopped}
 use Rattle.xl_program.specs.declared.stopped.Stopped.TheVariants.{SourceFault, BadLine, ShelfFault, Refused, SaveFault}
@@ -57,6 +59,17 @@ views state base opened lists boxes items lines es cols rows out same own first 
       },
     )
 
+-- the text of a run, where there is one
+pub script_views : {B : Type 0} (state : B → FilterState) (base opened : Document) (lists : List (List Line))
+    (boxes : List (Vec B Global)) (items : List B) (lines : List Line) (es : List Entry) (cols rows : ℕ)
+    (r : Result (String Global) AllocError)
+    → base ≡ opened → lines ≡ list_at lists 0 → items ≡ boxes_at boxes 0
+    → IfOk r (λ text. AreShown base es cols rows (string_bytes text)) → OnOk r (AreMade (map state items) lines es)
+    → IfOk r (λ text. Views (string_bytes text) opened (list_at lists 0) (list_at (states_of state boxes) 0) cols rows)
+script_views state base opened lists boxes items lines es cols rows (Ok text) same own first shown made =
+    views state base opened lists boxes items lines es cols rows (string_bytes text) same own first shown made
+script_views state base opened lists boxes items lines es cols rows (Err e) same own first shown made = tt
+
 -- the first session's lines fit its filters
 pub view_fits : {B : Type 0} (state : B → FilterState) (boxes : List (Vec B Global)) (lists : List (List Line))
     (items : List B) (lines : List Line) → FitsFilters (length (list_at (states_of state boxes) 0) ∷ []) lists
@@ -73,20 +86,20 @@ view_fits state boxes lists items lines fits first own =
 -- ---- what a viewing comes to
 
 -- what was known when the script was taken
-pub record IsViewOpened (left : Option (List ℕ)) (filters : List FilterState) (before mid : Shelved) (name : List ℕ) (d : Document)
-    (lines : List Line) : Type 0 where
+pub record IsViewOpened (given : Given) (before mid : Shelved) (name : List ℕ) (d : Document) (lists : List (List code.Line))
+    : Type 0 where
   pub holds : IfSome (before.content name) (λ c. HoldsDocument c d)
   pub within : IsDocument d
-  pub read : HasViewLines left filters lines
+  pub read : ReadsViewed given (Ok lists)
   pub untouched : IsUntouched before mid
 
-module _ {given : Given} {before mid : Shelved} {name : List ℕ} {d : Document} {lines : List Line}
-    (then : IsViewOpened given.left (first_filters given) before mid name d lines) (after : Shelved) (same : after ≡ mid)
+module _ (given : Given) {before mid : Shelved} {name : List ℕ} {d : Document} {lists : List (List code.Line)}
+    (then : IsViewOpened given before mid name d lists) (after : Shelved) (same : after ≡ mid)
     (cols rows : ℕ) where
-  is_viewed : (out : List ℕ) → Views out d lines (first_filters given) cols rows
+  is_viewed : (out : List ℕ) → Views out d (list_at (lists_of lists) 0) (first_filters given) cols rows
       → IsViewed given.left (first_filters given) (before.content name) cols rows out
   is_viewed out text =
-      record { document = d; lines = lines; held = then.holds; within = then.within; read = then.read; text = text }
+      record { document = d; lines = list_at (lists_of lists) 0; held = then.holds; within = then.within; read = then.read; text = text }
 
   left_alone : IsUntouched before after
   left_alone = subst (IsUntouched before) (sym same) then.untouched
@@ -94,7 +107,7 @@ module _ {given : Given} {before mid : Shelved} {name : List ℕ} {d : Document}
   -- what is written, and the shelf
   pub viewed_comes : {K : Type 0} (held : K → Option (List ℕ)) (faults : K → ℕ) (old new : K) (text : Result (String Global) AllocError)
       (result : Result (Unit {0}) Stopped)
-      → IfOk text (λ t. Views (string_bytes t) d lines (first_filters given) cols rows) → WritesViewed held faults old new text result
+      → IfOk text (λ t. Views (string_bytes t) d (list_at (lists_of lists) 0) (first_filters given) cols rows) → WritesViewed held faults old new text result
       → ComesTo held faults given before after (view name cols rows) old new result
   viewed_comes held faults old new (Ok text) (Ok x) shows writes =
       (string_bytes text, (is_viewed (string_bytes text) shows, left_alone, refl), writes)
@@ -115,7 +128,7 @@ module _ {given : Given} {before mid : Shelved} {name : List ℕ} {d : Document}
 
 -- before the file is read
 pub view_stopped : {K : Type 0} (held : K → Option (List ℕ)) (faults : K → ℕ) (given : Given) (s : Shelved) (name : List ℕ)
-    (cols rows : ℕ) (sink : K) (why : Stopped) → ReadsViewed given.left (first_filters given) (Err why)
+    (cols rows : ℕ) (sink : K) (why : Stopped) → ReadsViewed given (Err why)
     → ComesTo held faults given s s (view name cols rows) sink sink (Err why)
 view_stopped held faults given s name cols rows sink SourceFault reads = ((refl, refl), untouched s)
 view_stopped held faults given s name cols rows sink (BadLine number) reads = ((refl, refl), untouched s)
@@ -126,7 +139,7 @@ view_stopped held faults given s name cols rows sink SaveFault reads = absurd re
 view_stopped held faults given s name cols rows sink SinkFault reads = absurd reads
 view_stopped held faults given s name cols rows sink Memory reads = ((refl, refl), untouched s)
 
-pub script_stops : (given : Given) (content : Option Content) (why : Stopped) → ReadsViewed given.left (first_filters given) (Err why)
+pub script_stops : (given : Given) (content : Option Content) (why : Stopped) → ReadsViewed given (Err why)
     → StopsView given content (Err why)
 script_stops given content SourceFault reads = tt
 script_stops given content (BadLine number) reads = reads
@@ -138,34 +151,34 @@ script_stops given content SinkFault reads = absurd reads
 script_stops given content Memory reads = tt
 
 -- by the file
-pub file_stops : (given : Given) (content : Option Content) (lines : List Line) (why : Stopped)
-    → HasViewLines given.left (first_filters given) lines → Loads content (Err why) → StopsView given content (Err why)
-file_stops given content lines SourceFault has loads = absurd loads
-file_stops given content lines (BadLine number) has loads = absurd loads
-file_stops given content lines ShelfFault has loads = (lines, has)
-file_stops given content lines (Refused why) has loads = ((lines, has), loads)
-file_stops given content lines (NotFlattened why) has loads = absurd loads
-file_stops given content lines SaveFault has loads = absurd loads
-file_stops given content lines SinkFault has loads = absurd loads
-file_stops given content lines Memory has loads = tt
+pub file_stops : (given : Given) (content : Option Content) (lists : List (List code.Line)) (why : Stopped)
+    → ReadsViewed given (Ok lists) → Loads content (Err why) → StopsView given content (Err why)
+file_stops given content lists SourceFault has loads = absurd loads
+file_stops given content lists (BadLine number) has loads = absurd loads
+file_stops given content lists ShelfFault has loads = (list_at (lists_of lists) 0, has)
+file_stops given content lists (Refused why) has loads = ((list_at (lists_of lists) 0, has), loads)
+file_stops given content lists (NotFlattened why) has loads = absurd loads
+file_stops given content lists SaveFault has loads = absurd loads
+file_stops given content lists SinkFault has loads = absurd loads
+file_stops given content lists Memory has loads = tt
 
 -- after the calls were made
 pub text_stops : {K : Type 0} (held : K → Option (List ℕ)) (faults : K → ℕ) (old new : K) (given : Given) (content : Option Content)
-    (text : Result (String Global) AllocError) (result : Result (Unit {0}) Stopped) → WritesViewed held faults old new text result
-    → StopsView given content result
-text_stops held faults old new given content (Ok text) (Ok x) writes = tt
-text_stops held faults old new given content (Ok text) (Err SourceFault) writes = absurd writes
-text_stops held faults old new given content (Ok text) (Err (BadLine number)) writes = absurd writes
-text_stops held faults old new given content (Ok text) (Err ShelfFault) writes = absurd writes
-text_stops held faults old new given content (Ok text) (Err (Refused why)) writes = absurd writes
-text_stops held faults old new given content (Ok text) (Err (NotFlattened why)) writes = absurd writes
-text_stops held faults old new given content (Ok text) (Err SaveFault) writes = absurd writes
-text_stops held faults old new given content (Ok text) (Err SinkFault) writes = tt
-text_stops held faults old new given content (Ok text) (Err Memory) writes = absurd writes
-text_stops held faults old new given content (Err e) result writes = subst (StopsView given content) (sym writes.0) tt
+    (lists : List (List code.Line)) (text : Result (String Global) AllocError) (result : Result (Unit {0}) Stopped)
+    → ReadsViewed given (Ok lists) → WritesViewed held faults old new text result → StopsView given content result
+text_stops held faults old new given content lists (Ok text) (Ok x) reads writes = tt
+text_stops held faults old new given content lists (Ok text) (Err SourceFault) reads writes = absurd writes
+text_stops held faults old new given content lists (Ok text) (Err (BadLine number)) reads writes = absurd writes
+text_stops held faults old new given content lists (Ok text) (Err ShelfFault) reads writes = absurd writes
+text_stops held faults old new given content lists (Ok text) (Err (Refused why)) reads writes = absurd writes
+text_stops held faults old new given content lists (Ok text) (Err (NotFlattened why)) reads writes = absurd writes
+text_stops held faults old new given content lists (Ok text) (Err SaveFault) reads writes = absurd writes
+text_stops held faults old new given content lists (Ok text) (Err SinkFault) reads writes = tt
+text_stops held faults old new given content lists (Ok text) (Err Memory) reads writes = absurd writes
+text_stops held faults old new given content lists (Err e) result reads writes = subst (StopsView given content) (sym writes.0) tt
 
 -- where reading the script stops, it need not be at its end
-pub unread_view : (given : Given) (left : Option (List ℕ)) (why : Stopped) → ReadsViewed given.left (first_filters given) (Err why)
+pub unread_view : (given : Given) (left : Option (List ℕ)) (why : Stopped) → ReadsViewed given (Err why)
     → ReadsToEnd left (Err why)
 unread_view given left SourceFault reads = tt
 unread_view given left (BadLine number) reads = tt

@@ -1,7 +1,9 @@
 -- The text of a script that is viewed, and how it grows by a call.
 use Rattle.std.proofs.Common.{◌≡◌, ℕ, ◌+◌, ◌≤◌, Bool, true, false, cond, List, [], ◌∷◌, ◌++◌, None, Some, refl, ap, sym, ◌∙◌, subst, arith}
 use Rattle.std.proofs.Common.{append-nil, flat_map}
-use Rattle.std.specs.Prelude.{not, Option, IfSome, IsTrue}
+use Rattle.std.specs.Prelude.{not, Option, IfSome, IsTrue, IfOk, Result, String, string_bytes}
+use Rattle.std.specs.declared.alloc.AllocError.{AllocError}
+use Rattle.std.specs.declared.alloc.Global.{Global}
 use Rattle.std.specs.List.{AllByRecursion}
 use Rattle.std.proofs.lemmas.List.Concat.{flat_map-append, flat_map-cons}
 use Rattle.spec_grid.specs.declared.TileAt.{TileAt}
@@ -31,7 +33,7 @@ use Rattle.xl_program.proofs.Submitted.{AnswersBy, HasRoom, chest_printed, chest
 
 -- ---- a tile that is shown
 
-shown_version : Reply → ℕ
+abbrev shown_version : Reply → ℕ
 shown_version (tile_of v) = v
 shown_version reply = 0
 
@@ -71,6 +73,17 @@ module _ {D : Type 0} where
   last_tile chest old new redo seen reply room legal answers = λ v is. tt
   last_tile chest old new (peek stack at) seen reply room legal answers = λ v is. tt
   last_tile chest old new top seen reply room legal answers = λ v is. tt
+
+-- the digest of a window of the last version is that of the tile that was shown
+pub window_shown : (h : History) (cols rows : ℕ) (p : Place) (v : ℕ) (r : Result (String Global) AllocError)
+    → IsLastTile h (Some p) (tile_of v)
+    → (window_refusal (document h) p.0 p.1 ≡ None
+    → IfOk r (λ text. string_bytes text ≡ digest_of (window (document h) p.0 p.1 cols rows)))
+    → IfOk r (λ text. string_bytes text ≡ window_digest h cols rows (Some p) (tile_of v))
+window_shown h cols rows p v r last digest =
+    let is = last v refl in
+    subst (λ (n : ℕ). IfOk r (λ text. string_bytes text ≡ digest_of (window (document_of h.base h.entries n) p.0 p.1 cols rows)))
+    (sym is.0) (digest is.1)
 
 -- ---- the lines so far stay
 

@@ -7,13 +7,13 @@ use Rattle.spec_grid.specs.declared.TileAt.{TileAt}
 use Rattle.spec_document.specs.Document.{Document}
 use Rattle.spec_history.specs.Machine.{Call, edit, undo, redo, tile, peek, top, Reply, tile_of}
 use Rattle.spec_history.specs.History.{Entry, document_of}
-use Rattle.spec_filters.specs.declared.FilterState.{FilterState}
 use Rattle.spec_script.specs.Script.{list_at}
 use Rattle.spec_text.specs.Text.{digest_of}
 use Rattle.spec_view.specs.Text.{IsViewed, of_tile, view_text}
 use Rattle.spec_window.specs.Window.{window, window_refusal}
 use Rattle.xl_core.specs.History.{History, version, document}
 use Rattle.xl_ports.specs.Sink.{WritesAll, WritesPart}
+use Rattle.xl_program.specs.Outcome.{Given, first_filters}
 use Rattle.xl_program.specs.Playing.{ArePlayed, lines_in}
 use Rattle.xl_program.specs.Viewing.{HasViewLines, IsBadViewLine}
 use Rattle.xl_program.specs.declared.stopped.Stopped.{Stopped}
@@ -54,12 +54,12 @@ pub record AreShown (base : Document) (es : List Entry) (cols rows : ℕ) (out :
 -- ---- before and after it
 
 -- the lines of the script, or the line that is refused
-abbrev pub ReadsViewed : (left : Option (List ℕ)) → (filters : List FilterState) → Result (List (List Line)) Stopped → Type 0
-ReadsViewed left filters (Ok lists) = HasViewLines left filters (list_at (lists_of lists) 0)
-ReadsViewed left filters (Err (BadLine number)) = IsBadViewLine left filters number
-ReadsViewed left filters (Err SourceFault) = Unit {0}
-ReadsViewed left filters (Err Memory) = Unit {0}
-ReadsViewed left filters (Err stopped) = ⊥
+abbrev pub ReadsViewed : Given → Result (List (List Line)) Stopped → Type 0
+ReadsViewed given (Ok lists) = HasViewLines given.left (first_filters given) (list_at (lists_of lists) 0)
+ReadsViewed given (Err (BadLine number)) = IsBadViewLine given.left (first_filters given) number
+ReadsViewed given (Err SourceFault) = Unit {0}
+ReadsViewed given (Err Memory) = Unit {0}
+ReadsViewed given (Err stopped) = ⊥
 
 module _ {K : Type 0} (held : K → Option (List ℕ)) (faults : K → ℕ) where
   -- the text was written, or a fault of the sink came; without memory for a text nothing was

@@ -94,7 +94,7 @@ fn read_script<S: Source>(
     chest: &Vec<Vec<Box<dyn PointFilter + Send>>>,
 ) -> Result<Script, Stopped>
     requires { AllByRecursion (λ boxes. length boxes.items < 2 ^ 32) chest.now.items }
-    ensures reads { ReadsViewed (S.left source.old) (list_at (states_of (λ b. state b) chest.now.items) 0) result }
+    ensures reads { ReadsViewed (given_of (S.left source.old) (λ b. state b) chest.now.items) result }
     ensures fits { IfOk result (λ script.
         FitsFilters (length (list_at (states_of (λ b. state b) chest.now.items) 0) ∷ []) (lists_of script)) }
     ensures viewed { IfOk result (λ script. AllByRecursion IsViewedLine (list_at (lists_of script) 0)) }

@@ -1,5 +1,5 @@
 //! The run of a script that is viewed.
-ghost use Rattle.std.specs.Prelude.{◌≡◌, ◌+◌, ◌*◌, ◌<◌, ◌≤◌, ◌^◌, [], ◌∷◌, None, length, map, option_map, IfOk, OnOk, IsSome};
+ghost use Rattle.std.specs.Prelude.{◌≡◌, ◌+◌, ◌*◌, ◌<◌, ◌≤◌, ◌^◌, true, [], ◌∷◌, None, length, map, option_map, IfOk, OnOk, IsSome};
 ghost use Rattle.std.specs.Prelude.{string_bytes};
 ghost use Rattle.std.specs.List.{AllByRecursion};
 ghost use Rattle.spec_history.specs.Calls.{IsCall, most_entries};

@@ -1,50 +1,69 @@
 use Rattle.std.proofs.Common.{ap}
 use Rattle.std.specs.Prelude.{Err}
-use Rattle.spec_script.specs.Script.{list_at}
-use Rattle.xl_script.specs.Lines.{lists_of}
-use Rattle.xl_program.specs.Outcome.{Shelved, shelved}
+use Rattle.xl_program.specs.Outcome.{Given, given_of, Shelved, shelved}
 use Rattle.xl_program.proofs.ScriptEnded.{ended_anyhow}
 use Rattle.xl_program.proofs.Viewed.{IsViewOpened, viewed_comes, view_stopped, script_stops, file_stops, text_stops, unread_view}
 use Rattle.xl_program.proofs.viewing.view.Goals as goal
 
 pub returns-clause-comes : goal.returns-clause-comes
 returns-clause-comes g c =
+    let given : Given =
+    given_of (g.S.Source.left c.args.source.now) (λ b. (goal.PointFilter-dyn g (b.vtable, b.value)).state b.value)
+    c.args.chest.items in
     let see =
     shelved g.D.Shelf.content g.D.Shelf.selected g.D.Shelf.disk g.D.Shelf.reading_faults g.D.Shelf.saving_faults in
     let loaded = c.in-Ok-read_document.ensures in
-    let then : IsViewOpened _ _ (see c.args.shelf) (see c.read_document.new.shelf) c.args.name.now c.in-Ok-read_document.document
-    (list_at (lists_of c.in-Ok.script) 0) = record {
+    let then : IsViewOpened given (see c.args.shelf) (see c.read_document.new.shelf) c.args.name.now c.in-Ok-read_document.document
+    c.in-Ok.script = record {
       holds = loaded.loads;
       within = loaded.limits;
       read = c.in-Ok.ensures.reads;
       untouched = loaded.untouched;
     } in
-    viewed_comes then (see c.view_document-viewed.result.shelf) (ap see c.view_document-viewed.ensures.shelf) c.args.cols c.args.rows
+    viewed_comes given then (see c.view_document-viewed.result.shelf) (ap see c.view_document-viewed.ensures.shelf) c.args.cols c.args.rows
     g.K.Sink.held g.K.Sink.faults c.args.sink.now c.write_text.new.sink c.view_document-viewed.result.text c.write_text.result
     c.view_document-viewed.ensures.views c.write_text.ensures
 
 pub returns-in-Err-clause-comes : goal.returns-in-Err-clause-comes
 returns-in-Err-clause-comes g c =
+    let given : Given =
+    given_of (g.S.Source.left c.args.source.now) (λ b. (goal.PointFilter-dyn g (b.vtable, b.value)).state b.value)
+    c.args.chest.items in
     let before : Shelved =
     shelved g.D.Shelf.content g.D.Shelf.selected g.D.Shelf.disk g.D.Shelf.reading_faults g.D.Shelf.saving_faults c.args.shelf in
-    view_stopped g.K.Sink.held g.K.Sink.faults _ before c.args.name.now c.args.cols c.args.rows c.args.sink.now c.in-Err.stopped
+    view_stopped g.K.Sink.held g.K.Sink.faults given before c.args.name.now c.args.cols c.args.rows c.args.sink.now c.in-Err.stopped
     c.in-Err.ensures.reads
 
 pub returns-in-Err-clause-stops : goal.returns-in-Err-clause-stops
-returns-in-Err-clause-stops g c = script_stops _ (g.D.Shelf.content c.args.shelf c.args.name.now) c.in-Err.stopped c.in-Err.ensures.reads
+returns-in-Err-clause-stops g c =
+    let given : Given =
+    given_of (g.S.Source.left c.args.source.now) (λ b. (goal.PointFilter-dyn g (b.vtable, b.value)).state b.value)
+    c.args.chest.items in
+    script_stops given (g.D.Shelf.content c.args.shelf c.args.name.now) c.in-Err.stopped c.in-Err.ensures.reads
 
 pub returns-in-Err-read_document-clause-stops : goal.returns-in-Err-read_document-clause-stops
 returns-in-Err-read_document-clause-stops g c =
-    file_stops _ (g.D.Shelf.content c.args.shelf c.args.name.now) (list_at (lists_of c.in-Ok.script) 0)
+    let given : Given =
+    given_of (g.S.Source.left c.args.source.now) (λ b. (goal.PointFilter-dyn g (b.vtable, b.value)).state b.value)
+    c.args.chest.items in
+    file_stops given (g.D.Shelf.content c.args.shelf c.args.name.now) c.in-Ok.script
     c.in-Err-read_document.stopped c.in-Ok.ensures.reads c.in-Err-read_document.ensures.loads
 
 pub returns-clause-stops : goal.returns-clause-stops
 returns-clause-stops g c =
-    text_stops g.K.Sink.held g.K.Sink.faults c.args.sink.now c.write_text.new.sink _
-    (g.D.Shelf.content c.args.shelf c.args.name.now) c.view_document-viewed.result.text c.write_text.result c.write_text.ensures
+    let given : Given =
+    given_of (g.S.Source.left c.args.source.now) (λ b. (goal.PointFilter-dyn g (b.vtable, b.value)).state b.value)
+    c.args.chest.items in
+    text_stops g.K.Sink.held g.K.Sink.faults c.args.sink.now c.write_text.new.sink given
+    (g.D.Shelf.content c.args.shelf c.args.name.now) c.in-Ok.script c.view_document-viewed.result.text c.write_text.result c.in-Ok.ensures.reads
+    c.write_text.ensures
 
 pub returns-in-Err-clause-ended : goal.returns-in-Err-clause-ended
-returns-in-Err-clause-ended g c = unread_view _ (g.S.Source.left c.read_script.new.source) c.in-Err.stopped c.in-Err.ensures.reads
+returns-in-Err-clause-ended g c =
+    let given : Given =
+    given_of (g.S.Source.left c.args.source.now) (λ b. (goal.PointFilter-dyn g (b.vtable, b.value)).state b.value)
+    c.args.chest.items in
+    unread_view given (g.S.Source.left c.read_script.new.source) c.in-Err.stopped c.in-Err.ensures.reads
 
 pub returns-in-Err-read_document-clause-ended : goal.returns-in-Err-read_document-clause-ended
 returns-in-Err-read_document-clause-ended g c =

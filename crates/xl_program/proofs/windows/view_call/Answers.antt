@@ -25,14 +25,14 @@ returns-in_err-digest-clause-between g c =
     c.in_ok-reply.ensures.legal
 
 pub reply_digest-requires-clause-history : goal.reply_digest-requires-clause-history
-reply_digest-requires-clause-history g c =
+reply_digest-requires-clause-history g c κs within =
     let some = some_list _ in
     goes_further c.args.viewer.now.seen c.args.core.now.history c.submit.new.self.history c.requires.history
     (goes_submitted c.args.core.now c.submit.new.self 0 (call_of c.args.call) c.version-seen.result _ (reply_of c.in_ok-reply.reply)
     (c.in_ok-reply.ensures.answered some.0 some.1))
 
 pub reply_digest-requires-clause-last : goal.reply_digest-requires-clause-last
-reply_digest-requires-clause-last g c =
+reply_digest-requires-clause-last g c κs within =
     let room : HasRoom c.args.core.now.history = record { free = c.requires.few; ended = c.requires.shown.played.ended } in
     subst (λ place. IsLastTile c.submit.new.self.history place (reply_of c.in_ok-reply.reply)) (sym c.asked_tile-tile.ensures)
     (last_tile _ c.args.core.now c.submit.new.self (call_of c.args.call) c.version-seen.result (reply_of c.in_ok-reply.reply) room
