@@ -1,5 +1,5 @@
 //! A coder that passes a gate in each plane.
-ghost use Rattle.std.specs.Prelude.{◌≡◌, Unit};
+ghost use Rattle.std.specs.Prelude.{◌≡◌};
 ghost use Rattle.spec_rle.specs.Greedy as spelling;
 
 use crate::gates::WORKER;
