@@ -35,7 +35,7 @@ fn lanes_for(threads: usize, width: u32, height: u32) -> usize
     ensures few { result ≤ 32 }
 {
     let by_room = MOST_PIXELS / width.max(1);
-    let bands = height.div_ceil(64);
+    let bands = height / 64 + 1;
     threads.min(by_room.min(bands) as usize).clamp(1, 32)
 }
 
