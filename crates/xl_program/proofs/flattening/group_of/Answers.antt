@@ -8,7 +8,7 @@ use Rattle.xl_edit.specs.Built.{HasNext}
 use Rattle.xl_program.proofs.flattening.group_of.Goals as goal
 
 pub flatten-requires : goal.flatten-requires
-flatten-requires g c κs within =
+flatten-requires g c =
     let d = c.args.document.now in
     let is = c.next_id_of.ensures.next in
     let next : HasNext d c.next_id_of.result (layer_edit d) = record {
