@@ -10,7 +10,6 @@ use Rattle.clap.specs.Simple.{App, new_rule, new_app, with_rule, matches_of}
 use Rattle.clap.specs.Faults.{fault_of}
 use Rattle.clap.specs.declared.builder.action.ArgAction.TheVariants as action
 use Rattle.clap.specs.declared.builder.value_parser.ValueParser.TheVariants as parser
-use Rattle.spec_window.specs.declared.TheConstants.{MAX_WINDOW}
 use Rattle.spec_command.specs.Arguments.{Argument, Asked, edit, render, info, make, pack, flatten, view}
 
 -- an argument without an option's name, which has to be there
@@ -40,8 +39,7 @@ pack_app = with_rule (plain_app (codes "pack")) (flag_rule (codes "plan"))
 
 abbrev pub view_app : App
 view_app =
-    with_rule (with_rule (plain_app (codes "view")) (number_rule (codes "cols") 1 MAX_WINDOW true))
-    (number_rule (codes "rows") 1 MAX_WINDOW true)
+    with_rule (with_rule (plain_app (codes "view")) (number_rule (codes "cols") 1 16 true)) (number_rule (codes "rows") 1 16 true)
 
 -- the number of an option, or another where it is not given
 abbrev pub number_of : List Row → (name : Argument) → (default : ℕ) → ℕ
