@@ -8,7 +8,8 @@
 #
 # The allocation with one number fails, and the runs take more and more memory ahead of it. So the line of a call tells at which of
 # its steps that one came: so often before the call, so often within it, and so often where memory was taken right behind it. Where
-# the call takes none it is never within, and just once behind.
+# the call takes none it is never within, and just once behind. A run takes about a second; FROM, TO and STEP leave some out, so that
+# the place of the call is found first, and then looked at closely.
 set -eu
 
 number=400
@@ -33,11 +34,11 @@ cases=$copy/cases
 rm -rf "$cases"
 mkdir "$cases"
 for call in undo redo; do
-    count=0
-    while [ $count -lt $number ]; do
+    count=${FROM:-0}
+    while [ $count -lt ${TO:-$number} ]; do
         printf '%s\n%d\n' $call $count > "$cases/$call-$count.args"
         : > "$cases/$call-$count"
-        count=$((count + 1))
+        count=$((count + ${STEP:-1}))
     done
 done
 cd "$memory"
