@@ -109,7 +109,7 @@ pub(crate) fn seat_players<D: Shelf>(
             part,
             seat,
             digests: Vec::new(alloc),
-            done: false,
+            stopped: None,
         });
     }
 }

@@ -1,10 +1,11 @@
-ghost use Rattle.std.specs.Prelude.{◌≡◌, ℕ, ◌<◌, [], ◌++◌, map, IfOk, OnOk, List, string_bytes};
+ghost use Rattle.std.specs.Prelude.{◌≡◌, ℕ, ◌<◌, true, false, [], ◌∷◌, ◌++◌, map, IfOk, IfErr, OnOk, OnErr, List, string_bytes};
 ghost use mathlib.Core.List.{IsPrefix};
 ghost use Rattle.spec_filters.specs.declared.FilterState.{FilterState};
 ghost use Rattle.spec_history.specs.Calls.{IsCall};
 ghost use Rattle.spec_history.specs.History.{asked, latest_of};
 ghost use Rattle.spec_history.specs.Kept.{IsFreshReply};
 ghost use Rattle.spec_history.specs.Limited.{edits_of};
+ghost use Rattle.spec_history.specs.Machine.{history_full};
 ghost use Rattle.spec_tables.specs.Agrees.{Agrees, AreThere, IsAfter};
 ghost use Rattle.spec_tables.specs.Tables.{expected_tables};
 ghost use Rattle.xl_core.specs.Editing.{known};
@@ -18,9 +19,12 @@ ghost use Rattle.xl_studio.specs.Moments.{entries_in};
 ghost use Rattle.xl_studio.specs.Seats.{base_of, opening_shelf, history_of, front_of, made_of, weight_of, known_by, IsSeatOf};
 ghost use Rattle.spec_seats.specs.Made.{IsOf};
 ghost use Rattle.xl_studio.specs.Saving.{IsSaved};
+ghost use Rattle.xl_sessions.specs.Full.{most_made, MakesAtMost, FindsFull};
 ghost use Rattle.xl_sessions.specs.Playing.{FitsChest, IsCallMade, IsSaveMade, IsLineMade, is_unprinted, said};
+ghost use Rattle.xl_sessions.specs.declared.unplayed.Unplayed.TheVariants.{HistoryFull};
 
 use crate::printing::asks_tile;
+use crate::unplayed::Unplayed;
 use std::alloc::{AllocError, Global};
 use std::sync::Wait;
 use std::sync::ledger::Ledger;
@@ -34,11 +38,17 @@ use xl_rle::Greedy;
 use xl_script::Line;
 use xl_studio::{Seat, Studio};
 
-// Whether a run with this reply prints nothing.
-fn is_unprinted(reply: &Reply) -> bool
-    ensures { result ≡ is_unprinted (reply_of reply.now) }
+// Why a run with this reply prints nothing, where it prints nothing.
+fn check_printed(reply: &Reply) -> Result<(), Unplayed>
+    ensures printed { OnOk result (is_unprinted (reply_of reply.now) ≡ false) }
+    ensures unprinted { OnErr result (is_unprinted (reply_of reply.now) ≡ true) }
+    ensures full { IfErr result (λ why. why ≡ HistoryFull → reply_of reply.now ≡ history_full) }
 {
-    matches!(reply, Reply::SaveMemory { .. } | Reply::HistoryFull)
+    match reply {
+        Reply::SaveMemory { .. } => Err(Unplayed::Memory),
+        Reply::HistoryFull => Err(Unplayed::HistoryFull),
+        _ => Ok(()),
+    }
 }
 
 // Appends the digest of the tile in the desk, where a tile was asked for and is the reply.
@@ -93,6 +103,8 @@ fn make_call<W: Wait, L: Ledger, D: Shelf, G: Gate>(
         Shows (history_of (base_of studio.now) (front_of seat.new)) (call_of call) (reply_of reply) desk.new.out) }
     ensures chest { IfOk result (λ reply.
         IsAfter (states_in state desk.old.chest) (states_in state desk.new.chest) (call_of call) (reply_of reply)) }
+    ensures count { MakesAtMost 1 (known_by seat.old) (known_by seat.new) }
+    ensures full { IfOk result (λ reply. reply_of reply ≡ history_full → FindsFull (known_by seat.old) (known_by seat.new)) }
 {
     gate.pass(Actor::Session(session), Place::BeforeCall);
     let reply = studio.call(rt, alloc, seat, session, call, desk, steps);
@@ -112,7 +124,7 @@ fn play_call<W: Wait, L: Ledger, D: Shelf, G: Gate>(
     seat: &mut Seat<D>,
     steps: &mut Steps<L>,
     digests: &mut Vec<String>,
-) -> Result<(), AllocError>
+) -> Result<(), Unplayed>
     requires seat { IsSeatOf studio.now seat.old }
     requires session { session < 8 }
     requires call { IsCall (call_of call) }
@@ -128,13 +140,14 @@ fn play_call<W: Wait, L: Ledger, D: Shelf, G: Gate>(
         × (map string_bytes digests.new.items ≡ map string_bytes digests.old.items ++ told)
         × IsCallMade (base_of studio.now) session (call_of call) (states_in state desk.old.chest) (states_in state desk.new.chest)
         (known_by seat.old) (known_by seat.new) told) }
+    ensures count { MakesAtMost 2 (known_by seat.old) (known_by seat.new) }
+    ensures full { IfErr result (λ why. why ≡ HistoryFull → FindsFull (known_by seat.old) (known_by seat.new)) }
 {
     let asks = asks_tile(&call);
     let reply = make_call(rt, alloc, studio, gate, session, call, desk, seat, steps)?;
-    if is_unprinted(&reply) {
-        return Err(AllocError);
-    }
-    say(alloc, asks, &reply, desk, digests)
+    check_printed(&reply)?;
+    say(alloc, asks, &reply, desk, digests)?;
+    Ok(())
 }
 
 // Makes a save of a session, and passes the gate before it and after it.
@@ -157,6 +170,8 @@ fn make_save<W: Wait, D: Shelf, G: Gate>(
     ensures saved { IfOk result (λ reply.
         IsSaved (known D.selected D.disk D.reading_faults D.saving_faults) (opening_shelf studio.now) (base_of studio.now) session
         (reply_of reply) (known_by seat.old) (known_by seat.new)) }
+    ensures count { MakesAtMost 2 (known_by seat.old) (known_by seat.new) }
+    ensures full { IfOk result (λ reply. reply_of reply ≡ history_full → FindsFull (known_by seat.old) (known_by seat.new)) }
 {
     gate.pass(Actor::Session(session), Place::BeforeCall);
     let mut coder = Greedy;
@@ -165,7 +180,7 @@ fn make_save<W: Wait, D: Shelf, G: Gate>(
     reply
 }
 
-// Makes a save of a session, which fails as out of memory where its reply has no text.
+// Makes a save of a session, which ends the session where its reply has no text.
 fn play_save<W: Wait, D: Shelf, G: Gate>(
     rt: &W,
     alloc: Global,
@@ -173,7 +188,7 @@ fn play_save<W: Wait, D: Shelf, G: Gate>(
     gate: &G,
     session: u8,
     seat: &mut Seat<D>,
-) -> Result<(), AllocError>
+) -> Result<(), Unplayed>
     requires seat { IsSeatOf studio.now seat.old }
     requires session { session < 8 }
     requires of { IsOf session (made_of seat.old) (entries_in (front_of seat.old)) }
@@ -185,12 +200,11 @@ fn play_save<W: Wait, D: Shelf, G: Gate>(
     ensures made { OnOk result (
         IsSaveMade (known D.selected D.disk D.reading_faults D.saving_faults) (opening_shelf studio.now) (base_of studio.now)
         session (known_by seat.old) (known_by seat.new)) }
+    ensures count { MakesAtMost 2 (known_by seat.old) (known_by seat.new) }
+    ensures full { IfErr result (λ why. why ≡ HistoryFull → FindsFull (known_by seat.old) (known_by seat.new)) }
 {
     let reply = make_save(rt, alloc, studio, gate, session, seat)?;
-    if is_unprinted(&reply) {
-        return Err(AllocError);
-    }
-    Ok(())
+    check_printed(&reply)
 }
 
 // Makes what a line of a session says.
@@ -205,7 +219,7 @@ pub(crate) fn play_line<W: Wait, L: Ledger, D: Shelf, G: Gate>(
     seat: &mut Seat<D>,
     steps: &mut Steps<L>,
     digests: &mut Vec<String>,
-) -> Result<(), AllocError>
+) -> Result<(), Unplayed>
     requires seat { IsSeatOf studio.now seat.old }
     requires session { session < 8 }
     requires fit { FitsChest (states_in state desk.old.chest) (line_of line) }
@@ -221,6 +235,9 @@ pub(crate) fn play_line<W: Wait, L: Ledger, D: Shelf, G: Gate>(
         × IsLineMade (known D.selected D.disk D.reading_faults D.saving_faults) (opening_shelf studio.now) (base_of studio.now)
         session (line_of line) (states_in state desk.old.chest) (states_in state desk.new.chest)
         (known_by seat.old) (known_by seat.new) told) }
+    ensures count { MakesAtMost (most_made (line_of line ∷ [])) (known_by seat.old) (known_by seat.new) }
+    ensures full { IfErr result (λ why. why ≡ HistoryFull
+        → (most_made (line_of line ∷ []) ≡ 2) × FindsFull (known_by seat.old) (known_by seat.new)) }
 {
     match line {
         Line::Call(call) => play_call(

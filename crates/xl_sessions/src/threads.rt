@@ -42,7 +42,7 @@ fn play<W: Wait, D: Shelf, G: Gate>(
         &mut player.seat,
         &mut player.digests,
     );
-    player.done = played.is_ok();
+    player.stopped = played.err();
 }
 
 // Works with steps of its own.

@@ -1,7 +1,9 @@
-use Rattle.std.proofs.Common.{refl, ap, ◌∙◌, map, string_bytes}
+use Rattle.std.proofs.Common.{refl, ap, ◌∙◌, length, map, string_bytes, arith}
 use Rattle.xl_core.specs.Editing.{known}
 use Rattle.xl_script.specs.Lines.{line_of, lines_of}
-use Rattle.xl_studio.specs.Seats.{base_of, opening_shelf, known_by}
+use Rattle.xl_sessions.specs.Full.{most_made}
+use Rattle.xl_studio.specs.Seats.{base_of, opening_shelf, known_by, made_of}
+use Rattle.xl_sessions.proofs.Counts.{made_more}
 use Rattle.xl_sessions.proofs.UnderWay.{under_way_none, under_way_of, under_way_fit, under_way_more}
 use Rattle.xl_sessions.proofs.played.play_lines.Goals as goal
 
@@ -13,26 +15,32 @@ loop-line-init g c = (
       (lines_of c.into_iter-line-iterator.result.rest.items) (known_by c.args.seat.now) (map string_bytes c.args.digests.now.items)
       (ap lines_of c.into_iter-line-iterator.ensures.into_iter_gives.0)
       c.requires.none c.requires.unchanged c.requires.silent c.requires.filters c.requires.fit,
+  let none = ap length c.requires.none in
+  let whole = ap (λ ls. most_made (lines_of ls)) c.into_iter-line-iterator.ensures.into_iter_gives.0 in
+      omega (arith, none, whole),
 )
 
 pub play_line-requires-clause-fit : goal.play_line-requires-clause-fit
 play_line-requires-clause-fit g c κs within =
-    under_way_fit c.loop-line.invariant.2 (line_of c.in-Some.line) (lines_of c.next.new.self.rest.items)
+    under_way_fit c.loop-line.invariant.2.0 (line_of c.in-Some.line) (lines_of c.next.new.self.rest.items)
     (ap lines_of c.in-Some.ensures.steps.0)
 
 pub play_line-requires-clause-of : goal.play_line-requires-clause-of
-play_line-requires-clause-of g c κs within = under_way_of c.loop-line.invariant.2
+play_line-requires-clause-of g c κs within = under_way_of c.loop-line.invariant.2.0
 
 pub loop-line-preserved : goal.loop-line-preserved
 loop-line-preserved g c = (
   c.play_line.ensures.seat,
   c.play_line.ensures.weight ∙ c.loop-line.invariant.1,
-  under_way_more c.loop-line.invariant.2 (known g.D.Shelf.selected g.D.Shelf.disk g.D.Shelf.reading_faults g.D.Shelf.saving_faults)
+  under_way_more c.loop-line.invariant.2.0 (known g.D.Shelf.selected g.D.Shelf.disk g.D.Shelf.reading_faults g.D.Shelf.saving_faults)
       (opening_shelf c.args.studio.now) (line_of c.in-Some.line) (lines_of c.next.new.self.rest.items)
       (ap lines_of c.in-Some.ensures.steps.0)
       _ (known_by c.play_line.new.seat) _ c.loop-line.invariant.0.front.legal c.play_line.ensures.begins
       c.in_ok-play_line.ensures.made,
+  made_more (length (made_of c.loop-line.seat)) (length (made_of c.play_line.new.seat)) (lines_of c.args.lines.items)
+      (lines_of c.loop-line.line-iterator.rest.items) (lines_of c.next.new.self.rest.items) (line_of c.in-Some.line)
+      (ap lines_of c.in-Some.ensures.steps.0) c.loop-line.invariant.2.1 c.play_line.ensures.count,
 )
 
 pub returns-clause-of : goal.returns-clause-of
-returns-clause-of g c = under_way_of c.loop-line.invariant.2
+returns-clause-of g c = under_way_of c.loop-line.invariant.2.0
