@@ -18,6 +18,7 @@ use Rattle.xl_sessions.specs.declared.unplayed.Unplayed.{Unplayed}
 use Rattle.xl_studio.specs.declared.moment.Moment.{Moment}
 use Rattle.xl_studio.specs.declared.seat.Seat.{Seat}
 use Rattle.xl_studio.specs.declared.seat.Studio.{Studio}
+use Rattle.xl_studio.specs.Jobs.{job_out}
 use Rattle.xl_studio.specs.Seats.{front_of, made_of, weight_of, IsSeatOf}
 use Rattle.xl_studio.specs.State.{State}
 use Rattle.xl_turn.specs.declared.view.Chronicle.{Ghosts}
@@ -38,6 +39,7 @@ module _ {K : Type 0} {C : Ghosts (State K) (Moment K)} {X : Type 0} {H : X → 
       (texts : List (Vec (String Global) Global)) (stopped : Option Unplayed) : Type 0 where
     pub seat : IsSeatOf studio own
     pub seats : AreSeats studio left
+    pub job : job_out own ≡ job_out before
     pub made : made_of own ++ flat_map places_of left ≡ made_of before ++ flat_map places_of all
     pub weight : weight_of own + total weight_in left ≡ weight_of before + total weight_in all
     pub known : (front : List (Moment K)) → IsPrefix (front_of own) front → AreKnown front left
@@ -56,6 +58,7 @@ module _ {K : Type 0} {C : Ghosts (State K) (Moment K)} {X : Type 0} {H : X → 
       (subst (λ ts. IsJoining studio own all all own ts None) (sym none) (record {
         seat = seat;
         seats = seats;
+        job = refl;
         made = refl;
         weight = refl;
         known = λ front begins known. (begins, known);
@@ -72,18 +75,23 @@ module _ {K : Type 0} {C : Ghosts (State K) (Moment K)} {X : Type 0} {H : X → 
     now = subst (λ (ps : List (Player (Seat K C) X H)). IsJoining studio before all ps own texts stopped) turn up
 
     pub joining_seat : IsSeatOf studio p.seat
-    joining_seat = now.seats.0
+    joining_seat = now.seats.0.0
+
+    pub joining_free : job_out p.seat ≡ None
+    joining_free = now.seats.0.1
 
     pub joining_more : (new : Seat K C) (more : List (Vec (String Global) Global)) (still : Option Unplayed) → IsSeatOf studio new
+        → job_out new ≡ job_out own
         → made_of new ≡ made_of own ++ made_of p.seat → weight_of new ≡ weight_of own + weight_of p.seat
         → IsPrefix (front_of own) (front_of new) → IsPrefix (front_of p.seat) (front_of new) → more ≡ texts ++ p.digests ∷ []
         → is_none still ≡ (is_none stopped && is_none p.stopped) → (still ≡ stopped) ⊎ (still ≡ p.stopped)
         → IsJoining studio before all rest new more still
-    joining_more new more still seat made weight begins other longer still_is either =
+    joining_more new more still seat job made weight begins other longer still_is either =
         let was = now.weight in
         record {
           seat = seat;
           seats = now.seats.1;
+          job = job ∙ now.job;
           made = ap (λ (ps : List ℕ). ps ++ flat_map places_of rest) made
               ∙ append_assoc (made_of own) (made_of p.seat) (flat_map places_of rest)
               ∙ ap (λ (ps : List ℕ). made_of own ++ ps) (sym (flat_map-cons places_of p rest)) ∙ now.made;
@@ -110,6 +118,9 @@ module _ {K : Type 0} {C : Ghosts (State K) (Moment K)} {X : Type 0} {H : X → 
     pub joined_made : made_of own ≡ made_of before ++ flat_map places_of all
     joined_made = sym (append-nil (made_of own)) ∙ end.made
 
+    pub joined_job : job_out own ≡ job_out before
+    joined_job = end.job
+
     pub joined_weight : weight_of own ≡ weight_of before + total weight_in all
     joined_weight = let was = end.weight in omega (arith, was)
 
@@ -134,6 +145,7 @@ module _ {K : Type 0} {C : Ghosts (State K) (Moment K)} where
       (own : Seat K C) : Type 0 where
     pub seat : IsSeatOf studio own
     pub worked : AllByRecursion (HasWorked studio) left
+    pub job : job_out own ≡ job_out before
     pub made : made_of own ≡ made_of before
     pub weight : weight_of own + length left ≡ weight_of before + count
     pub begins : IsPrefix (front_of before) (front_of own)
@@ -143,6 +155,7 @@ module _ {K : Type 0} {C : Ghosts (State K) (Moment K)} where
   workers_none studio own all left whole seat worked = record {
     seat = seat;
     worked = subst (AllByRecursion (HasWorked studio)) (sym whole) worked;
+    job = refl;
     made = refl;
     weight = ap (λ n. weight_of own + n) (ap length whole);
     begins = prefix_self (front_of own);
@@ -156,16 +169,20 @@ module _ {K : Type 0} {C : Ghosts (State K) (Moment K)} where
     pub worker_seat : IsSeatOf studio w.seat
     worker_seat = first_worked.0.seat
 
-    pub workers_more : (new : Seat K C) → IsSeatOf studio new → made_of new ≡ made_of own ++ made_of w.seat
+    pub worker_free : job_out w.seat ≡ None
+    worker_free = first_worked.0.job
+
+    pub workers_more : (new : Seat K C) → IsSeatOf studio new → job_out new ≡ job_out own → made_of new ≡ made_of own ++ made_of w.seat
         → weight_of new ≡ weight_of own + weight_of w.seat → IsPrefix (front_of own) (front_of new)
         → AreJoiningWorkers studio before count rest new
-    workers_more new seat made weight begins =
+    workers_more new seat job made weight begins =
         let was = up.weight in
         let longer = ap length turn in
         let one = first_worked.0.light in
         record {
           seat = seat;
           worked = first_worked.1;
+          job = job ∙ up.job;
           made = made ∙ ap (λ (ps : List ℕ). made_of own ++ ps) first_worked.0.none ∙ append-nil (made_of own) ∙ up.made;
           weight = omega (arith, was, longer, one, weight);
           begins = prefix_trans (front_of before) (front_of own) (front_of new) up.begins begins;

@@ -1,5 +1,5 @@
 -- The players of a run, from their parts to what they have made.
-use Rattle.std.proofs.Common.{◌≡◌, ℕ, suc, ◌<◌, List, [], ◌∷◌, ◌++◌, length, map, take, drop, refl, sym, ap, ◌∙◌, subst, arith}
+use Rattle.std.proofs.Common.{◌≡◌, ℕ, suc, ◌<◌, List, [], ◌∷◌, ◌++◌, length, map, take, drop, None, refl, sym, ap, ◌∙◌, subst, arith}
 use Rattle.std.proofs.Math.Seq.{take-append_seam}
 use Rattle.std.specs.Prelude.{is_none, string_bytes}
 use Rattle.std.specs.List.{AllByRecursion, AllZip}
@@ -24,6 +24,7 @@ use Rattle.xl_sessions.proofs.Zips.{zip_length, zip_through, zip_from, from_firs
 use Rattle.xl_studio.specs.declared.moment.Moment.{Moment}
 use Rattle.xl_studio.specs.declared.seat.Seat.{Seat}
 use Rattle.xl_studio.specs.declared.seat.Studio.{Studio}
+use Rattle.xl_studio.specs.Jobs.{job_out}
 use Rattle.xl_studio.specs.Moments.{entries_in}
 use Rattle.xl_studio.specs.Seats.{base_of, front_of, made_of, weight_of, IsSeatOf}
 use Rattle.xl_studio.specs.State.{State}
@@ -50,6 +51,7 @@ module _ {K : Type 0} {C : Ghosts (State K) (Moment K)} {X : Type 0} {H : X → 
         below = omega (arith, below, number);
         seat = seated.seat;
         none = seated.none;
+        free = seated.free;
         unchanged = ap (λ (ms : List (Moment K)). latest_of (entries_in ms)) seated.front_is ∙ unchanged;
         all = own.all;
         fit = own.fit;
@@ -105,6 +107,7 @@ module _ {K : Type 0} {C : Ghosts (State K) (Moment K)} {X : Type 0} {H : X → 
       (λ session part p is has. record {
         seat = has.seat;
         light = has.weight_is;
+        free = has.free;
         of = subst (λ (n : ℕ). IsOf n (made_of p.seat) (entries_in (front_of p.seat))) is.session_is has.of;
       }) fit played
 
@@ -141,8 +144,9 @@ module _ {K : Type 0} {C : Ghosts (State K) (Moment K)} {X : Type 0} {H : X → 
 
   pub all_seats : (studio : Studio K) (players : List (Player (Seat K C) X H)) → AreOfSessions studio players
       → AreSeats studio players
-  all_seats studio players of = from_first_each (IsOfSession studio) (λ p. IsSeatOf studio p.seat) 0 players
-      (λ session p is. is.seat) of
+  all_seats studio players of =
+      from_first_each (IsOfSession studio) (λ p. IsSeatOf studio p.seat × (job_out p.seat ≡ None)) 0 players
+      (λ session p is. (is.seat, is.free)) of
 
   weights_from : (studio : Studio K) (first : ℕ) (players : List (Player (Seat K C) X H))
       → FromFirst (IsOfSession studio) first players → total weight_in players ≡ length players
@@ -184,4 +188,5 @@ module _ {K : Type 0} {C : Ghosts (State K) (Moment K)} {X : Type 0} {H : X → 
         (λ session p is at. outcome_grows (base_of studio) session (list_at chests session) (list_at lists session)
         (entries_in (front_of p.seat)) (entries_in front) (made_of p.seat) (shown_of p) (is_none p.stopped)
         is.1.front.legal (entries_begin p at) is.0)
-        (from_first_with Q (λ p. IsSeatOf studio p.seat) Seated 0 players (λ session p out seat. (out, seat)) outs seats) known
+        (from_first_with Q (λ p. IsSeatOf studio p.seat × (job_out p.seat ≡ None)) Seated 0 players (λ session p out seat. (out, seat.0))
+        outs seats) known

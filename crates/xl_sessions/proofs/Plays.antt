@@ -1,5 +1,5 @@
 -- What a player has played, by whether all its lines were.
-use Rattle.std.proofs.Common.{◌≡◌, ℕ, ◌≤◌, true, false, List, length, Option, Some, refl, sym, ap, ◌∙◌, subst, true≢false}
+use Rattle.std.proofs.Common.{◌≡◌, ℕ, ◌≤◌, true, false, List, length, Option, Some, None, refl, sym, ap, ◌∙◌, subst, true≢false}
 use Rattle.std.specs.Prelude.{Result, Ok, Err, OnOk, IfErr, is_ok, is_none, unwrap_or, Vec}
 use Rattle.std.specs.Result.{result_err}
 use Rattle.std.specs.declared.alloc.Global.{Global}
@@ -21,6 +21,7 @@ use Rattle.xl_sessions.specs.declared.unplayed.Unplayed.TheVariants.{HistoryFull
 use Rattle.xl_studio.specs.declared.moment.Moment.{Moment}
 use Rattle.xl_studio.specs.declared.seat.Seat.{Seat}
 use Rattle.xl_studio.specs.declared.seat.Studio.{Studio}
+use Rattle.xl_studio.specs.Jobs.{job_out}
 use Rattle.xl_studio.specs.Moments.{entries_in}
 use Rattle.xl_studio.specs.Seats.{base_of, front_of, known_by, made_of, weight_of, IsSeatOf}
 use Rattle.xl_studio.specs.State.{State}
@@ -47,7 +48,8 @@ module _ {K : Type 0} {C : Ghosts (State K) (Moment K)} {X : Type 0} {H : X → 
   -- the lines that were played are those of the part
   pub has_played : (state : Slot X H → FilterState) (studio : Studio K) (part : Part X H) (weight : ℕ) (p : Player (Seat K C) X H)
       (lines : Vec Line Global) (result : Result (Unit {0}) Unplayed) → lines ≡ part.lines → p.stopped ≡ result_err result
-      → IsSeatOf studio p.seat → weight_of p.seat ≡ weight → IsOf part.session (made_of p.seat) (entries_in (front_of p.seat))
+      → IsSeatOf studio p.seat → weight_of p.seat ≡ weight → job_out p.seat ≡ None
+      → IsOf part.session (made_of p.seat) (entries_in (front_of p.seat))
       → OnOk result ((filters : List FilterState) → Agrees (states state part.desk.chest) filters
       → HasMade part.session filters (lines_of lines.items) (made_of p.seat) (entries_in (front_of p.seat)))
       → OnOk result
@@ -56,11 +58,12 @@ module _ {K : Type 0} {C : Ghosts (State K) (Moment K)} {X : Type 0} {H : X → 
       → length (made_of p.seat) ≤ most_made (lines_of lines.items)
       → IfErr result (λ why. why ≡ HistoryFull → IsStoppedAtFull (lines_of lines.items) (known_by p.seat))
       → HasPlayed state studio part weight p
-  has_played state studio part weight p lines result lines_are stopped seat weight_is of made told count full =
+  has_played state studio part weight p lines result lines_are stopped seat weight_is free of made told count full =
       let es = entries_in (front_of p.seat) in
       record {
         seat = seat;
         weight_is = weight_is;
+        free = free;
         of = of;
         count = subst (λ ls. length (made_of p.seat) ≤ most_made (lines_of ls.items)) lines_are count;
         full = λ is. subst (λ ls. IsStoppedAtFull (lines_of ls.items) (known_by p.seat)) lines_are

@@ -93,13 +93,14 @@ module _ {K : Type 0} {C : Ghosts (State K) (Moment K)} {X : Type 0} {H : X → 
   abbrev pub weight_in : Player (Seat K C) X H → ℕ
   weight_in p = weight_of p.seat
 
-  -- the part with a seat that knows this front and has made nothing
+  -- the part with a seat that knows this front, has made nothing and has no job out
   pub record IsSeated (studio : Studio K) (front : List (Moment K)) (part : Part X H) (p : Player (Seat K C) X H) : Type 0 where
     pub part_is : p.part ≡ part
     pub seat : IsSeatOf studio p.seat
     pub front_is : front_of p.seat ≡ front
     pub none : made_of p.seat ≡ []
     pub light : weight_of p.seat ≡ 1
+    pub free : job_out p.seat ≡ None
     pub blank : p.digests.items ≡ []
 
   abbrev pub AreSeated : Studio K → (front : List (Moment K)) → List (Part X H) → List (Player (Seat K C) X H) → Type 0
@@ -110,6 +111,7 @@ module _ {K : Type 0} {C : Ghosts (State K) (Moment K)} {X : Type 0} {H : X → 
     pub below : p.part.session < 8
     pub seat : IsSeatOf studio p.seat
     pub none : made_of p.seat ≡ []
+    pub free : job_out p.seat ≡ None
     pub unchanged : latest_of (entries_in (front_of p.seat)) ≡ 0
     pub all : HasAll (states state p.part.desk.chest)
     pub fit : AreFit (length (states state p.part.desk.chest)) [] (lines_of p.part.lines.items)
@@ -121,6 +123,7 @@ module _ {K : Type 0} {C : Ghosts (State K) (Moment K)} {X : Type 0} {H : X → 
       (p : Player (Seat K C) X H) : Type 0 where
     pub seat : IsSeatOf studio p.seat
     pub weight_is : weight_of p.seat ≡ weight
+    pub free : job_out p.seat ≡ None
     pub of : IsOf part.session (made_of p.seat) (entries_in (front_of p.seat))
     pub count : length (made_of p.seat) ≤ most_of part
     pub full : p.stopped ≡ Some HistoryFull → IsStoppedAtFull (lines_of part.lines.items) (known_by p.seat)
@@ -143,6 +146,7 @@ module _ {K : Type 0} {C : Ghosts (State K) (Moment K)} {X : Type 0} {H : X → 
   pub record IsOfSession (studio : Studio K) (session : ℕ) (p : Player (Seat K C) X H) : Type 0 where
     pub seat : IsSeatOf studio p.seat
     pub light : weight_of p.seat ≡ 1
+    pub free : job_out p.seat ≡ None
     pub of : IsOf session (made_of p.seat) (entries_in (front_of p.seat))
 
   abbrev pub AreOfSessions : Studio K → List (Player (Seat K C) X H) → Type 0
@@ -173,8 +177,9 @@ module _ {K : Type 0} {C : Ghosts (State K) (Moment K)} {X : Type 0} {H : X → 
 
   -- ---- joined
 
+  -- seats of the studio, none of which has a job out
   abbrev pub AreSeats : Studio K → List (Player (Seat K C) X H) → Type 0
-  AreSeats studio players = AllByRecursion (λ p. IsSeatOf studio p.seat) players
+  AreSeats studio players = AllByRecursion (λ p. IsSeatOf studio p.seat × (job_out p.seat ≡ None)) players
 
   -- what each seat knows begins this front
   abbrev pub AreKnown : (front : List (Moment K)) → List (Player (Seat K C) X H) → Type 0

@@ -10,7 +10,7 @@ ghost use Rattle.spec_seats.specs.Ended.{AreEnded};
 ghost use Rattle.spec_text.specs.Text.{IsTextOf, printed};
 ghost use Rattle.spec_world.specs.Right.{IsRight};
 ghost use Rattle.std.specs.List.{AllByRecursion};
-ghost use Rattle.std.specs.Prelude.{◌≡◌, ℕ, true, ◌+◌, ◌<◌, ◌≤◌, ◌^◌, List, [], length, map, is_none, IfOk, IsSome};
+ghost use Rattle.std.specs.Prelude.{◌≡◌, ℕ, true, ◌+◌, ◌<◌, ◌≤◌, ◌^◌, List, [], length, map, None, is_none, IfOk, IsSome};
 ghost use Rattle.std.specs.Prelude.{string_bytes, vec_capacity};
 ghost use Rattle.xl_core.specs.Editing.{world};
 ghost use Rattle.xl_script.specs.Lines.{lists_of};
@@ -21,6 +21,7 @@ ghost use Rattle.xl_sessions.specs.Players.{in_slots, AreBrought, AreOfAScript, 
 ghost use Rattle.xl_sessions.specs.Players.{AreOfSessions, HaveFewCalls, HaveOutcomes, HavePlayed, HasRoom, HasWorked};
 ghost use Rattle.xl_sessions.specs.Players.{LeaveRoom};
 ghost use Rattle.xl_sessions.specs.Printing.{IsPrinted};
+ghost use Rattle.xl_studio.specs.Jobs.{job_out};
 ghost use Rattle.xl_studio.specs.Moments.{entries_in};
 ghost use Rattle.xl_studio.specs.Seats.{base_of, opening_shelf, front_of, made_of, weight_of, IsSeatOf};
 
@@ -70,6 +71,7 @@ fn play_seated<R: Threads + Wait + Sync, D: Shelf, G: Gate>(
     requires room_for_workers { number ≤ vec_capacity workers.old }
     ensures own { IsSeatOf studio.now own.new }
     ensures made { made_of own.new ≡ made_of own.old }
+    ensures job { job_out own.new ≡ job_out own.old }
     ensures weight { weight_of own.new + 8 + number ≡ weight_of own.old }
     ensures played { HavePlayed (in_slots state) studio.now parts.items players.new.items }
     ensures worked { AllByRecursion (HasWorked studio.now) workers.new.items }
@@ -122,6 +124,7 @@ fn finish<D: Shelf>(
 ) -> PlayedBeside<D>
     requires own { IsSeatOf studio own }
     requires none { made_of own ≡ [] }
+    requires free { job_out own ≡ None }
     requires weight { weight_of own + 8 + length workers.items ≡ 2 ^ 32 }
     requires eight { length players.items ≡ 8 }
     requires players { AreOfSessions studio players.items }
@@ -158,6 +161,7 @@ fn play_opened<R: Threads + Wait + Sync, D: Shelf, G: Gate>(
 ) -> PlayedBeside<D>
     requires own { IsSeatOf studio own }
     requires none { made_of own ≡ [] }
+    requires free { job_out own ≡ None }
     requires weight { weight_of own ≡ 2 ^ 32 }
     requires unchanged { latest_of (entries_in (front_of own)) ≡ 0 }
     requires few { number ≤ 8 }

@@ -5,6 +5,7 @@ ghost use mathlib.Core.List.{IsPrefix};
 ghost use Rattle.xl_sessions.specs.Full.{IsNotFull};
 ghost use Rattle.xl_sessions.specs.Players.{places_of, shown_of, weight_in, AreKnown, AreSeats, HasWorked};
 ghost use Rattle.xl_sessions.specs.Outcomes.{texts_of};
+ghost use Rattle.xl_studio.specs.Jobs.{job_out};
 ghost use Rattle.xl_studio.specs.Seats.{front_of, made_of, weight_of, IsSeatOf};
 ghost use Rattle.xl_turn.specs.Sums.{total};
 
@@ -37,6 +38,7 @@ pub(crate) fn join_players<D: Shelf>(
     requires none { digests.old.items ≡ [] }
     requires capacity { length players.items ≤ vec_capacity digests.old }
     ensures own { IsSeatOf studio.now own.new }
+    ensures job { job_out own.new ≡ job_out own.old }
     ensures made { made_of own.new ≡ made_of own.old ++ flat_map places_of players.items }
     ensures weight { weight_of own.new ≡ weight_of own.old + total weight_in players.items }
     ensures begins { IsPrefix (front_of own.old) (front_of own.new) }
@@ -69,6 +71,7 @@ pub(crate) fn join_workers<D: Shelf>(
     requires own { IsSeatOf studio.now own.old }
     requires worked { AllByRecursion (HasWorked studio.now) workers.items }
     ensures own { IsSeatOf studio.now own.new }
+    ensures job { job_out own.new ≡ job_out own.old }
     ensures made { made_of own.new ≡ made_of own.old }
     ensures weight { weight_of own.new ≡ weight_of own.old + length workers.items }
     ensures begins { IsPrefix (front_of own.old) (front_of own.new) }

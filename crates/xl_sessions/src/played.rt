@@ -10,6 +10,7 @@ ghost use Rattle.spec_seats.specs.Picked.{picked};
 ghost use Rattle.spec_tables.specs.Agrees.{Agrees};
 ghost use Rattle.xl_filters.specs.Chests.{states_in};
 ghost use Rattle.xl_script.specs.Lines.{lines_of};
+ghost use Rattle.xl_studio.specs.Jobs.{job_out};
 ghost use Rattle.xl_studio.specs.Moments.{entries_in};
 ghost use Rattle.xl_studio.specs.Seats.{base_of, front_of, known_by, made_of, weight_of, IsSeatOf};
 ghost use Rattle.xl_sessions.specs.Full.{most_made, IsStoppedAtFull};
@@ -55,6 +56,7 @@ fn play_lines<W: Wait, L: Ledger, D: Shelf, G: Gate>(
 
     ensures seat { IsSeatOf studio.now seat.new }
     ensures weight { weight_of seat.new ≡ weight_of seat.old }
+    ensures job { job_out seat.new ≡ job_out seat.old }
     ensures begins { IsPrefix (front_of seat.old) (front_of seat.new) }
     ensures of { IsOf session (made_of seat.new) (entries_in (front_of seat.new)) }
 
@@ -104,6 +106,7 @@ pub fn play_session<W: Wait, D: Shelf, G: Gate>(
 
     ensures seat { IsSeatOf studio.now seat.new }
     ensures weight { weight_of seat.new ≡ weight_of seat.old }
+    ensures job { job_out seat.new ≡ job_out seat.old }
     ensures begins { IsPrefix (front_of seat.old) (front_of seat.new) }
     ensures of { IsOf session (made_of seat.new) (entries_in (front_of seat.new)) }
 

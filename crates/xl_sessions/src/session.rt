@@ -8,6 +8,7 @@ ghost use Rattle.spec_history.specs.Limited.{edits_of};
 ghost use Rattle.spec_history.specs.Machine.{history_full};
 ghost use Rattle.spec_tables.specs.Agrees.{Agrees, AreThere, IsAfter};
 ghost use Rattle.spec_tables.specs.Tables.{expected_tables};
+ghost use Rattle.spec_text.specs.Text.{is_save_memory};
 ghost use Rattle.xl_core.specs.Editing.{known};
 ghost use Rattle.xl_core.specs.History.{Shows};
 ghost use Rattle.xl_edit.specs.Calls.{call_of};
@@ -15,13 +16,14 @@ ghost use Rattle.xl_edit.specs.Replies.{reply_of};
 ghost use Rattle.xl_filters.specs.Chests.{states_in};
 ghost use Rattle.xl_script.specs.Lines.{line_of};
 ghost use Rattle.xl_studio.specs.Calling.{IsCalled};
+ghost use Rattle.xl_studio.specs.Jobs.{job_out};
 ghost use Rattle.xl_studio.specs.Moments.{entries_in};
 ghost use Rattle.xl_studio.specs.Seats.{base_of, opening_shelf, history_of, front_of, made_of, weight_of, known_by, IsSeatOf};
 ghost use Rattle.spec_seats.specs.Made.{IsOf};
 ghost use Rattle.xl_studio.specs.Saving.{IsSaved};
 ghost use Rattle.xl_sessions.specs.Full.{most_made, MakesAtMost, FindsFull};
 ghost use Rattle.xl_sessions.specs.Playing.{FitsChest, IsCallMade, IsSaveMade, IsLineMade, is_unprinted, said};
-ghost use Rattle.xl_sessions.specs.declared.unplayed.Unplayed.TheVariants.{HistoryFull};
+ghost use Rattle.xl_sessions.specs.declared.unplayed.Unplayed.TheVariants.{HistoryFull, Memory};
 
 use crate::printing::asks_tile;
 use crate::unplayed::Unplayed;
@@ -43,6 +45,7 @@ fn check_printed(reply: &Reply) -> Result<(), Unplayed>
     ensures printed { OnOk result (is_unprinted (reply_of reply.now) ≡ false) }
     ensures unprinted { OnErr result (is_unprinted (reply_of reply.now) ≡ true) }
     ensures full { IfErr result (λ why. why ≡ HistoryFull → reply_of reply.now ≡ history_full) }
+    ensures memory { IfErr result (λ why. why ≡ Memory → is_save_memory (reply_of reply.now) ≡ true) }
 {
     match reply {
         Reply::SaveMemory { .. } => Err(Unplayed::Memory),
@@ -91,6 +94,7 @@ fn make_call<W: Wait, L: Ledger, D: Shelf, G: Gate>(
 
     ensures seat { IsSeatOf studio.now seat.new }
     ensures weight { weight_of seat.new ≡ weight_of seat.old }
+    ensures job { job_out seat.new ≡ job_out seat.old }
     ensures begins { IsPrefix (front_of seat.old) (front_of seat.new) }
     ensures of { IsOf session (made_of seat.new) (entries_in (front_of seat.new)) }
 
@@ -133,6 +137,7 @@ fn play_call<W: Wait, L: Ledger, D: Shelf, G: Gate>(
 
     ensures seat { IsSeatOf studio.now seat.new }
     ensures weight { weight_of seat.new ≡ weight_of seat.old }
+    ensures job { job_out seat.new ≡ job_out seat.old }
     ensures begins { IsPrefix (front_of seat.old) (front_of seat.new) }
     ensures of { IsOf session (made_of seat.new) (entries_in (front_of seat.new)) }
 
@@ -165,6 +170,7 @@ fn make_save<W: Wait, D: Shelf, G: Gate>(
 
     ensures seat { IsSeatOf studio.now seat.new }
     ensures weight { weight_of seat.new ≡ weight_of seat.old }
+    ensures job { job_out seat.new ≡ job_out seat.old }
     ensures begins { IsPrefix (front_of seat.old) (front_of seat.new) }
     ensures of { IsOf session (made_of seat.new) (entries_in (front_of seat.new)) }
     ensures saved { IfOk result (λ reply.
@@ -195,6 +201,7 @@ fn play_save<W: Wait, D: Shelf, G: Gate>(
 
     ensures seat { IsSeatOf studio.now seat.new }
     ensures weight { weight_of seat.new ≡ weight_of seat.old }
+    ensures job { job_out seat.new ≡ job_out seat.old }
     ensures begins { IsPrefix (front_of seat.old) (front_of seat.new) }
     ensures of { IsOf session (made_of seat.new) (entries_in (front_of seat.new)) }
     ensures made { OnOk result (
@@ -227,6 +234,7 @@ pub(crate) fn play_line<W: Wait, L: Ledger, D: Shelf, G: Gate>(
 
     ensures seat { IsSeatOf studio.now seat.new }
     ensures weight { weight_of seat.new ≡ weight_of seat.old }
+    ensures job { job_out seat.new ≡ job_out seat.old }
     ensures begins { IsPrefix (front_of seat.old) (front_of seat.new) }
     ensures of { IsOf session (made_of seat.new) (entries_in (front_of seat.new)) }
 

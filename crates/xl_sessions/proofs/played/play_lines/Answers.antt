@@ -18,29 +18,31 @@ loop-line-init g c = (
   let none = ap length c.requires.none in
   let whole = ap (λ ls. most_made (lines_of ls)) c.into_iter-line-iterator.ensures.into_iter_gives.0 in
       omega (arith, none, whole),
+  refl,
 )
 
 pub play_line-requires-clause-fit : goal.play_line-requires-clause-fit
 play_line-requires-clause-fit g c κs within =
-    under_way_fit c.loop-line.invariant.2.0 (line_of c.in-Some.line) (lines_of c.next.new.self.rest.items)
+    under_way_fit c.loop-line.invariant.2 (line_of c.in-Some.line) (lines_of c.next.new.self.rest.items)
     (ap lines_of c.in-Some.ensures.steps.0)
 
 pub play_line-requires-clause-of : goal.play_line-requires-clause-of
-play_line-requires-clause-of g c κs within = under_way_of c.loop-line.invariant.2.0
+play_line-requires-clause-of g c κs within = under_way_of c.loop-line.invariant.2
 
 pub loop-line-preserved : goal.loop-line-preserved
 loop-line-preserved g c = (
   c.play_line.ensures.seat,
   c.play_line.ensures.weight ∙ c.loop-line.invariant.1,
-  under_way_more c.loop-line.invariant.2.0 (known g.D.Shelf.selected g.D.Shelf.disk g.D.Shelf.reading_faults g.D.Shelf.saving_faults)
+  under_way_more c.loop-line.invariant.2 (known g.D.Shelf.selected g.D.Shelf.disk g.D.Shelf.reading_faults g.D.Shelf.saving_faults)
       (opening_shelf c.args.studio.now) (line_of c.in-Some.line) (lines_of c.next.new.self.rest.items)
       (ap lines_of c.in-Some.ensures.steps.0)
       _ (known_by c.play_line.new.seat) _ c.loop-line.invariant.0.front.legal c.play_line.ensures.begins
       c.in_ok-play_line.ensures.made,
   made_more (length (made_of c.loop-line.seat)) (length (made_of c.play_line.new.seat)) (lines_of c.args.lines.items)
       (lines_of c.loop-line.line-iterator.rest.items) (lines_of c.next.new.self.rest.items) (line_of c.in-Some.line)
-      (ap lines_of c.in-Some.ensures.steps.0) c.loop-line.invariant.2.1 c.play_line.ensures.count,
+      (ap lines_of c.in-Some.ensures.steps.0) c.loop-line.invariant.3 c.play_line.ensures.count,
+  c.play_line.ensures.job ∙ c.loop-line.invariant.4,
 )
 
 pub returns-clause-of : goal.returns-clause-of
-returns-clause-of g c = under_way_of c.loop-line.invariant.2.0
+returns-clause-of g c = under_way_of c.loop-line.invariant.2
