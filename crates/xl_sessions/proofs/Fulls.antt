@@ -18,7 +18,7 @@ use Rattle.spec_world.specs.declared.SaveEnd.TheVariants.{Done, Fault, Memory}
 use Rattle.spec_world.specs.Events.{end_reply}
 use Rattle.xl_core.specs.History.{History, is_full}
 use Rattle.xl_sessions.specs.Full.{MakesAtMost, FindsFull}
-use Rattle.xl_sessions.specs.Printing.{IsPrinted}
+use Rattle.xl_sessions.proofs.CallMore.{full_is_not_printed}
 use Rattle.xl_sessions.proofs.Lined.{last_is_printed}
 use Rattle.xl_studio.specs.declared.moment.Moment.{Moment}
 use Rattle.xl_studio.specs.declared.moment.Moment.TheVariants.{Made}
@@ -39,9 +39,6 @@ no_room base es full =
     leb-true most_entries (length es + entries_owed (replay base es).out) full in
     let owed = owed_le (replay base es).out in
     omega (arith, most, owed)
-
-full_is_not_printed : (reply : Reply) → IsPrinted reply → reply ≡ history_full → ⊥
-full_is_not_printed reply printed is = subst IsPrinted is printed
 
 end_is_not_full : (how : SaveEnd) (version : ℕ) → end_reply how version ≡ history_full → ⊥
 end_is_not_full Done version is = let bad : saved version ≡ history_full = is in cc

@@ -1,4 +1,4 @@
-ghost use Rattle.std.specs.Prelude.{◌≡◌, ℕ, ◌<◌, true, false, [], ◌∷◌, ◌++◌, map, IfOk, IfErr, OnOk, OnErr, List, string_bytes};
+ghost use Rattle.std.specs.Prelude.{◌≡◌, ℕ, ◌<◌, true, [], ◌∷◌, ◌++◌, map, IfOk, IfErr, OnOk, List, string_bytes};
 ghost use mathlib.Core.List.{IsPrefix};
 ghost use Rattle.spec_filters.specs.declared.FilterState.{FilterState};
 ghost use Rattle.spec_history.specs.Calls.{IsCall};
@@ -22,7 +22,8 @@ ghost use Rattle.xl_studio.specs.Seats.{base_of, opening_shelf, history_of, fron
 ghost use Rattle.spec_seats.specs.Made.{IsOf};
 ghost use Rattle.xl_studio.specs.Saving.{IsSaved};
 ghost use Rattle.xl_sessions.specs.Full.{most_made, MakesAtMost, FindsFull};
-ghost use Rattle.xl_sessions.specs.Playing.{FitsChest, IsCallMade, IsSaveMade, IsLineMade, is_unprinted, said};
+ghost use Rattle.xl_sessions.specs.Playing.{FitsChest, IsCallMade, IsSaveMade, IsLineMade, said};
+ghost use Rattle.xl_sessions.specs.Printing.{IsPrinted};
 ghost use Rattle.xl_sessions.specs.declared.unplayed.Unplayed.TheVariants.{HistoryFull, Memory};
 
 use crate::printing::asks_tile;
@@ -42,8 +43,7 @@ use xl_studio::{Seat, Studio};
 
 // Why a run with this reply prints nothing, where it prints nothing.
 fn check_printed(reply: &Reply) -> Result<(), Unplayed>
-    ensures printed { OnOk result (is_unprinted (reply_of reply.now) ≡ false) }
-    ensures unprinted { OnErr result (is_unprinted (reply_of reply.now) ≡ true) }
+    ensures printed { OnOk result (IsPrinted (reply_of reply.now)) }
     ensures full { IfErr result (λ why. why ≡ HistoryFull → reply_of reply.now ≡ history_full) }
     ensures memory { IfErr result (λ why. why ≡ Memory → is_save_memory (reply_of reply.now) ≡ true) }
 {
