@@ -1,5 +1,5 @@
 -- The sessions of a script make no more entries than a history may have, so none of them finds it full.
-use Rattle.std.proofs.Common.{◌≡◌, ◌≢◌, ℕ, zero, suc, ◌+◌, ◌*◌, ◌<◌, ◌≤◌, cond, Bool, List, [], ◌∷◌, ◌++◌, length, drop, flat_map}
+use Rattle.std.proofs.Common.{◌≡◌, ℕ, zero, suc, ◌+◌, ◌*◌, ◌<◌, ◌≤◌, cond, Bool, List, [], ◌∷◌, ◌++◌, length, drop, flat_map}
 use Rattle.std.proofs.Common.{Some, inl, inr, refl, ap, ◌∙◌, arith, length-append}
 use Rattle.std.proofs.lemmas.Bool.{lt-ltb, cases_lt}
 use Rattle.std.proofs.lemmas.List.Concat.{flat_map-cons}
@@ -142,10 +142,10 @@ module _ {K : Type 0} {C : Ghosts (State K) (Moment K)} {X : Type 0} {H : X → 
   room_behind state studio a b whole most (part ∷ parts) [] le made is few played = absurd played
   room_behind state studio a b whole most (part ∷ parts) (p ∷ players) le made is few played =
       let here : count_of p ≤ most_of part = played.0.count in (
-        λ stopped.
+        (λ stopped.
             let fewer : count_of p + 2 ≤ most_of part = (played.0.full stopped).fewer in
             let rest = played_most state studio parts players played.1 in
-            (omega (arith, le, made, is, few, fewer, rest), (played.0.full stopped).full),
+            (omega (arith, le, made, is, few, fewer, rest), (played.0.full stopped).full)),
         room_behind state studio (a + count_of p) (b + most_of part) whole most parts players (omega (arith, le, here))
             (omega (arith, made)) (omega (arith, is)) few played.1,
       )
@@ -170,7 +170,7 @@ module _ {K : Type 0} {C : Ghosts (State K) (Moment K)} {X : Type 0} {H : X → 
       → AllByRecursion (λ (p : Player (Seat K C) X H). IsNotFull p.stopped) players
   not_full_each whole n [] le fronts room = tt
   not_full_each whole n (p ∷ players) le fronts room = (
-    λ stopped. let both = room.0 stopped in let fewer = both.0 in let full = both.1 in let front = fronts.0 in
-        omega (arith, le, fewer, full, front),
+    (λ stopped. let both = room.0 stopped in let fewer = both.0 in let full = both.1 in let front = fronts.0 in
+        omega (arith, le, fewer, full, front)),
     not_full_each whole n players le fronts.1 room.1,
   )

@@ -2,7 +2,7 @@
 use Rattle.std.proofs.Common.{◌≡◌, ℕ, ◌+◌, ◌<◌, ◌≤◌, Bool, true, false, List, [], ◌∷◌, ◌++◌, length, Option, Some, None}
 use Rattle.std.proofs.Common.{refl, sym, ap, ◌∙◌, subst, arith, length-append, inl, inr}
 use Rattle.std.proofs.lemmas.Bool.{leb-true}
-use Rattle.std.specs.Prelude.{MatchBool, Result, Ok, Err, IfOk, OnErr}
+use Rattle.std.specs.Prelude.{MatchBool, Result, Ok, Err, IfOk, IfErr, IsErrAnd, OnErr}
 use Rattle.spec_document.specs.Document.{Document}
 use Rattle.spec_filters.specs.declared.FilterState.{FilterState}
 use Rattle.spec_history.specs.Calls.{most_entries}
@@ -17,8 +17,12 @@ use Rattle.spec_world.specs.declared.SaveEnd.{SaveEnd}
 use Rattle.spec_world.specs.declared.SaveEnd.TheVariants.{Done, Fault, Memory}
 use Rattle.spec_world.specs.Events.{end_reply}
 use Rattle.xl_core.specs.History.{History, is_full}
-use Rattle.xl_sessions.specs.Full.{MakesAtMost, FindsFull}
+use Rattle.spec_script.specs.Script.{Line}
+use Rattle.xl_sessions.specs.Full.{most_made, MakesAtMost, FindsFull, IsStoppedAtFull}
+use Rattle.xl_sessions.specs.declared.unplayed.Unplayed.{Unplayed}
+use Rattle.xl_sessions.specs.declared.unplayed.Unplayed.TheVariants.{HistoryFull}
 use Rattle.xl_sessions.proofs.CallMore.{full_is_not_printed}
+use Rattle.xl_sessions.proofs.Counts.{made_more}
 use Rattle.xl_sessions.proofs.Lined.{last_is_printed}
 use Rattle.xl_studio.specs.declared.moment.Moment.{Moment}
 use Rattle.xl_studio.specs.declared.moment.Moment.TheVariants.{Made}
@@ -44,6 +48,12 @@ end_is_not_full : (how : SaveEnd) (version : ℕ) → end_reply how version ≡ 
 end_is_not_full Done version is = let bad : saved version ≡ history_full = is in cc
 end_is_not_full Fault version is = let bad : save_fault version ≡ history_full = is in cc
 end_is_not_full Memory version is = let bad : save_memory version ≡ history_full = is in cc
+
+-- an error that is handed on
+pub full_stop : {A : Type 0} (r : Result A Unplayed) (why : Unplayed) (P : Type 0) → IsErrAnd r (λ given. given ≡ why)
+    → (why ≡ HistoryFull → P) → IfErr r (λ given. given ≡ HistoryFull → P)
+full_stop (Ok a) why P is full = tt
+full_stop (Err given) why P is full = λ so. full (sym is ∙ so)
 
 module _ {K : Type 0} where
   heard_none : (old new : Known K) → new.made ≡ old.made → (most : ℕ) → MakesAtMost most old new
@@ -104,6 +114,27 @@ module _ {K : Type 0} where
       full_where (is_full (history_of base called.entered)) base session c (tables_of some.0 reply) (reply_of reply) old new
       called.entered refl called.made legal so
   full_after_call R reply_of tables_of (Err e) base session c old new chest answered legal = tt
+
+  -- ---- a line
+
+  pub count_line : (n most : ℕ) (old new : Known K) → n ≡ most → MakesAtMost most old new → MakesAtMost n old new
+  count_line n most old new is made = omega (arith, is, made)
+
+  pub full_line : {A : Type 0} (r : Result A Unplayed) (n : ℕ) (old new : Known K) → n ≡ 2
+      → IfErr r (λ why. why ≡ HistoryFull → FindsFull old new)
+      → IfErr r (λ why. why ≡ HistoryFull → (n ≡ 2) × FindsFull old new)
+  full_line (Ok a) n old new is full = tt
+  full_line (Err why) n old new is full = λ so. (is, full so)
+
+  -- where a line found the history full, the session stops there
+  pub stopped_at : (old new : Known K) (all left rest : List Line) (line : Line) → left ≡ line ∷ rest
+      → length old.made + most_made left ≤ most_made all → (most_made (line ∷ []) ≡ 2) × FindsFull old new
+      → IsStoppedAtFull all new
+  stopped_at old new all left rest line turn up found =
+      let none : length new.made ≤ length old.made + 0 = found.1.none in
+      let more = made_more (length old.made) (length new.made + most_made (line ∷ [])) all left rest line turn up (omega (arith, none)) in
+      let two = found.0 in
+      record { fewer = omega (arith, more, two); full = found.1.full }
 
   -- ---- a save
 

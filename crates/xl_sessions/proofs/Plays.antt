@@ -42,7 +42,7 @@ none_stopped (Err e) stopped is none = absurd (true≢false (sym none ∙ ap is_
 when_full : {A : Type 0} (result : Result A Unplayed) (P : Type 0) → IfErr result (λ why. why ≡ HistoryFull → P)
     → result_err result ≡ Some HistoryFull → P
 when_full (Ok a) P known is = let bad : true ≡ false = ap is_none is in absurd (true≢false bad)
-when_full (Err why) P known is = known (ap (λ o. unwrap_or o why) is)
+when_full (Err why) P known is = known (ap (λ (o : Option Unplayed). unwrap_or o why) is)
 
 module _ {K : Type 0} {C : Ghosts (State K) (Moment K)} {X : Type 0} {H : X → Type 0} where
   -- the lines that were played are those of the part

@@ -44,7 +44,7 @@ impl<D: Shelf> Taking for Shared<D> {
     ghost use Rattle.std.specs.Prelude.{◌≡◌, IfOk, MatchBool};
     ghost use Rattle.spec_cache.specs.Cache.{finish};
     ghost use Rattle.xl_core.specs.History.{version, document};
-    ghost use Rattle.xl_core.specs.Editing.{handed_in, place_done, taken, IsPictureOf};
+    ghost use Rattle.xl_core.specs.Editing.{handed_in, place_done, taken as with_job_taken, IsPictureOf};
     ghost use Rattle.xl_core.specs.Jobs.{finished_by};
     ghost use Rattle.xl_studio.specs.Taking.{GivesOut, HasStayed};
 
@@ -52,7 +52,7 @@ impl<D: Shelf> Taking for Shared<D> {
 
     fn take(&mut self, alloc: Global) -> Result<Taken, AllocError>
         ensures taken { IfOk result (λ taken. GivesOut self.old taken) }
-        ensures after { MatchBool self.old.closing (self.new.core ≡ self.old.core) (self.new.core ≡ taken self.old.core) }
+        ensures after { MatchBool self.old.closing (self.new.core ≡ self.old.core) (self.new.core ≡ with_job_taken self.old.core) }
         ensures stays { HasStayed self.old self.new }
         ensures closing { self.new.closing ≡ self.old.closing }
     {
