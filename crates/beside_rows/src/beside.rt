@@ -56,6 +56,7 @@ fn hear<W: Wait, D: Shelf, G: Gate>(
     requires { IsSeatOf studio.now seat.old }
     ensures seat { IsSeatOf studio.now seat.new }
     ensures weight { weight_of seat.new ≡ weight_of seat.old }
+    ensures job { job_out seat.new ≡ job_out seat.old }
 {
     match part {
         Part::Save => {
@@ -85,6 +86,7 @@ fn carry_out<W: Wait, D: Shelf, G: Gate>(
     requires open { seat.old.closed ≡ false }
     ensures seat { IsSeatOf studio.now seat.new }
     ensures weight { weight_of seat.new ≡ weight_of seat.old }
+    ensures free { job_out seat.new ≡ None }
 {
     match task {
         Task::Edit => {
@@ -116,6 +118,7 @@ fn hear_with<W: Wait, D: Shelf, G: Gate>(
     requires { IsSeatOf studio.now seat }
     ensures seat { IsSeatOf studio.now result.0 }
     ensures weight { weight_of result.0 ≡ weight_of seat }
+    ensures job { job_out result.0 ≡ job_out seat }
 {
     let heard = hear(rt, alloc, studio, &mut seat, gate, part);
     (seat, heard)
@@ -135,6 +138,7 @@ fn carry_out_with<W: Wait, D: Shelf, G: Gate>(
     requires open { seat.closed ≡ false }
     ensures seat { IsSeatOf studio.now result.0 }
     ensures weight { weight_of result.0 ≡ weight_of seat }
+    ensures free { job_out result.0 ≡ None }
 {
     let done = carry_out(rt, alloc, studio, &mut seat, gate, task);
     (seat, done)
@@ -157,18 +161,20 @@ fn thread_both<R: Threads + Wait + Sync, D: Shelf, G: Gate>(
     requires open { other.closed ≡ false }
     ensures seat { IsSeatOf studio.now result.0 }
     ensures weight { weight_of result.0 ≡ weight_of seat }
+    ensures job { job_out result.0 ≡ job_out seat }
     ensures other { IsSeatOf studio.now result.1 }
     ensures other_weight { weight_of result.1 ≡ weight_of other }
+    ensures other_free { job_out result.1 ≡ None }
 {
     let ((seat, heard), (other, done)) = join(
         rt,
         || -> (Seat<D>, Heard)
             requires { IsSync R.row × IsSync G.row × IsSeatOf studio.now seat }
-            ensures { IsSeatOf studio.entry.now result.0 × (weight_of result.0 ≡ weight_of seat) }
+            ensures { IsSeatOf studio.entry.now result.0 × (weight_of result.0 ≡ weight_of seat) × (job_out result.0 ≡ job_out seat) }
         { hear_with(rt, alloc, studio, seat, gate, part) },
         || -> (Seat<D>, Done)
             requires { IsSync R.row × IsSync G.row × IsSeatOf studio.now other × (job_out other ≡ None) × (other.closed ≡ false) }
-            ensures { IsSeatOf studio.entry.now result.0 × (weight_of result.0 ≡ weight_of other) }
+            ensures { IsSeatOf studio.entry.now result.0 × (weight_of result.0 ≡ weight_of other) × (job_out result.0 ≡ None) }
         { carry_out_with(rt, alloc, studio, other, gate, task) },
     );
     (seat, other, heard, done)
@@ -188,6 +194,7 @@ pub(crate) fn play_both<R: Threads + Wait + Sync, D: Shelf, G: Gate>(
     requires weight { 2 ≤ weight_of seat }
     ensures seat { IsSeatOf studio.now result.0 }
     ensures weight { weight_of result.0 ≡ weight_of seat }
+    ensures job { job_out result.0 ≡ job_out seat }
 {
     let other = studio.split(&mut seat);
     let (mut seat, other, heard, done) = thread_both(

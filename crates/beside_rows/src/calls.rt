@@ -1,6 +1,7 @@
 //! The calls of a session.
 ghost use Rattle.std.specs.Prelude.{◌≡◌, ◌<◌, []};
 ghost use Rattle.xl_filters.specs.Chests.{states_in};
+ghost use Rattle.xl_studio.specs.Jobs.{job_out};
 ghost use Rattle.xl_studio.specs.Seats.{weight_of, IsSeatOf};
 
 use crate::edits::{Change, IMAGE, edit_for};
@@ -47,6 +48,7 @@ fn reply_to<W: Wait, D: Shelf, L: Ledger>(
     requires plain { states_in state desk.old.chest ≡ [] }
     ensures seat { IsSeatOf studio.now seat.new }
     ensures weight { weight_of seat.new ≡ weight_of seat.old }
+    ensures job { job_out seat.new ≡ job_out seat.old }
 {
     match ask {
         Ask::Top => studio.top(rt, alloc, seat, session, desk, steps),
@@ -77,6 +79,7 @@ fn ask_with<W: Wait, D: Shelf, L: Ledger>(
     requires session { session < 8 }
     ensures seat { IsSeatOf studio.now seat.new }
     ensures weight { weight_of seat.new ≡ weight_of seat.old }
+    ensures job { job_out seat.new ≡ job_out seat.old }
 {
     let mut desk = plain_desk(alloc)?;
     let mut steps = Steps::<L>::new(blank);
@@ -96,6 +99,7 @@ pub(crate) fn ask_for<W: Wait, D: Shelf>(
     requires session { session < 8 }
     ensures seat { IsSeatOf studio.now seat.new }
     ensures weight { weight_of seat.new ≡ weight_of seat.old }
+    ensures job { job_out seat.new ≡ job_out seat.old }
 {
     ask_with::<W, D, Brand>(rt, alloc, studio, seat, session, ask, Blank::new(1))
 }
@@ -114,6 +118,7 @@ pub(crate) fn make_call<W: Wait, D: Shelf, G: Gate>(
     requires session { session < 8 }
     ensures seat { IsSeatOf studio.now seat.new }
     ensures weight { weight_of seat.new ≡ weight_of seat.old }
+    ensures job { job_out seat.new ≡ job_out seat.old }
 {
     gate.pass(Actor::Session(session), Place::BeforeCall);
     let reply = ask_for(rt, alloc, studio, seat, session, ask);

@@ -1,9 +1,10 @@
 //! A studio with two seats.
-ghost use Rattle.std.specs.Prelude.{◌≡◌, ◌^◌, [], IfOk, IsSome};
+ghost use Rattle.std.specs.Prelude.{◌≡◌, ◌^◌, [], None, IfOk, IsSome};
 ghost use Rattle.spec_world.specs.Right.{IsRight};
 ghost use Rattle.xl_core.specs.Editing.{world};
 ghost use Rattle.xl_doc.specs.Numbered.{AreNumbered};
 ghost use Rattle.xl_filters.specs.Chests.{states_in};
+ghost use Rattle.xl_studio.specs.Jobs.{job_out};
 ghost use Rattle.xl_studio.specs.Seats.{weight_of, IsSeatOf};
 
 use sample_documents::document;
@@ -53,6 +54,7 @@ pub(crate) fn studio_of(
 ) -> Result<(Studio<MemoryShelf>, Seat<MemoryShelf>), AllocError>
     ensures seat { IfOk result (λ r. IsSeatOf r.0 r.1) }
     ensures weight { IfOk result (λ r. weight_of r.1 ≡ 2 ^ 32) }
+    ensures free { IfOk result (λ r. job_out r.1 ≡ None) }
 {
     let document = document(alloc, &ONE_PIXEL)?;
     let shelf = MemoryShelf::new(alloc, Vec::new(alloc), Vec::new(alloc), None)?;

@@ -1,5 +1,6 @@
 //! A part of a session and a task beside it, over a studio of their own.
-ghost use Rattle.std.specs.Prelude.{◌≡◌, ◌^◌};
+ghost use Rattle.std.specs.Prelude.{◌≡◌, ◌^◌, None};
+ghost use Rattle.xl_studio.specs.Jobs.{job_out};
 ghost use Rattle.xl_studio.specs.Seats.{weight_of, IsSeatOf};
 
 use crate::beside::{Done, Heard, Part, Task, play_both};
@@ -43,6 +44,7 @@ fn leaves_opened(
 ) -> Result<bool, AllocError>
     requires seat { IsSeatOf studio seat }
     requires weight { weight_of seat ≡ 2 ^ 32 }
+    requires free { job_out seat ≡ None }
 {
     has_opened(alloc, studio.close(seat))
 }

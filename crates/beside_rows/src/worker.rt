@@ -29,6 +29,7 @@ fn refresh_with<L: Ledger, W: Wait, D: Shelf, G: Gate>(
     requires open { seat.old.closed ≡ false }
     ensures seat { IsSeatOf studio.now seat.new }
     ensures weight { weight_of seat.new ≡ weight_of seat.old }
+    ensures free { job_out seat.new ≡ None }
 {
     let mut steps = Steps::<L>::new(blank);
     work(rt, alloc, studio, seat, gate, 0, &mut steps)
@@ -47,6 +48,7 @@ pub(crate) fn refresh<W: Wait, D: Shelf, G: Gate>(
     requires open { seat.old.closed ≡ false }
     ensures seat { IsSeatOf studio.now seat.new }
     ensures weight { weight_of seat.new ≡ weight_of seat.old }
+    ensures free { job_out seat.new ≡ None }
 {
     refresh_with::<Brand, W, D, G>(rt, alloc, studio, seat, gate, Blank::new(1))
 }

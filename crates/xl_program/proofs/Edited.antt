@@ -1,5 +1,5 @@
 -- What a run of edit comes to whose script was played.
-use Rattle.std.proofs.Common.{◌≡◌, inl, inr, ℕ, List, Some, ap, length, map, refl, sym, subst, false, true}
+use Rattle.std.proofs.Common.{◌≡◌, inl, inr, ℕ, List, Some, ap, refl, sym, subst, false, true}
 use Rattle.std.specs.Prelude.{Option, Bool, IfSome, Result, Ok, Err, string_bytes}
 use Rattle.std.specs.declared.alloc.AllocError.{AllocError}
 use Rattle.spec_command.specs.Arguments.{edit}
@@ -15,21 +15,16 @@ use Rattle.xl_program.specs.declared.playing.Replies.{Replies}
 use Rattle.xl_program.specs.declared.stopped.Stopped.{Stopped}
 use Rattle.xl_program.specs.declared.stopped.Stopped.TheVariants.{SourceFault, BadLine, ShelfFault, Refused, SaveFault}
 use Rattle.xl_program.specs.declared.stopped.Stopped.TheVariants.{NotFlattened, SinkFault, Memory}
-use Rattle.spec_script.specs.Fits.{FitsFilters}
 use Rattle.spec_script.specs.Script.{Line}
-use Rattle.xl_doc.specs.Numbered.{AreNumbered}
 use Rattle.xl_program.proofs.Earlier.{right_earlier}
 use Rattle.xl_program.proofs.LastFile.{has_last}
 use Rattle.xl_program.proofs.Taken.{untouched}
-use Rattle.xl_program.proofs.VersionsWithin.{each_within, small_ids}
 
 -- what was known when the script was played
 pub record IsOpened (given : Given) (before mid : Shelved) (name : List ℕ) (d : Document) (lists : List (List Line)) : Type 0 where
   pub holds : IfSome (before.content name) (λ c. HoldsDocument c d)
   pub within : IsDocument d
-  pub numbered : AreNumbered d.nodes
   pub read : HasLines given lists
-  pub fits : FitsFilters (map length given.chests) lists
   pub untouched : IsUntouched before mid
   pub named : mid.known.selected ≡ Some name
   pub reading : mid.known.reading ≡ before.known.reading
@@ -54,6 +49,7 @@ module _ {given : Given} {before mid : Shelved} {name : List ℕ} {d : Document}
         held = known_then.holds;
         within = known_then.within;
         legal = played.legal;
+        versions = played.versions;
         shelf = right;
         file = λ none. has_last d played.entries name before.known.disk after.known.disk none right.contents;
       }
@@ -68,9 +64,6 @@ module _ {given : Given} {before mid : Shelved} {name : List ℕ} {d : Document}
     entries = played.entries;
     history = history_of (Ok replies) played;
     read = known_then.read;
-    versions =
-        each_within d (map length given.chests) lists given.chests (string_bytes replies.text) played.entries known_then.within
-        (small_ids d known_then.numbered) known_then.fits played.told.text;
     text = played.told.text;
     alone = played.told.alone;
     failed = fails (save_faults played.entries) played.told.failed;

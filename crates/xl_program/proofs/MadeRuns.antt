@@ -20,7 +20,6 @@ use Rattle.spec_saves.proofs.Staying.{opened_right}
 use Rattle.spec_merged.specs.Fills.{EndsWithSave}
 use Rattle.spec_merged.proofs.Ends.{last_is_save_of_seed}
 use Rattle.spec_merged.proofs.Generated.{last_is_outcome_of_seed}
-use Rattle.spec_script.specs.Fits.{FitsFilters}
 use Rattle.spec_script.specs.Script.{Line}
 use Rattle.spec_text.specs.Text.{IsTextOf, made_by, printed}
 use Rattle.spec_world.specs.declared.SaveEnd.TheVariants.{Done}
@@ -33,6 +32,7 @@ use Rattle.xl_program.specs.Outcome.{Comes, NoneFailed, SomeFailed, AnyFailed, S
 use Rattle.xl_core.specs.Editing.{Editing, IsRight}
 use Rattle.xl_standing.specs.History.{document as last_document}
 use Rattle.xl_program.specs.Parts.{IsSummedUp, StopsMaking, SumsUp, WhetherFailed, WritesReplies}
+use Rattle.xl_program.specs.Versions.{AreWithin}
 use Rattle.xl_snapshot.specs.Saving.{IsSavedOn}
 use Rattle.xl_program.specs.declared.playing.Replies.{Replies}
 use Rattle.xl_program.specs.declared.stopped.Stopped.{Stopped}
@@ -40,8 +40,7 @@ use Rattle.xl_program.specs.declared.stopped.Stopped.TheVariants.{SourceFault, B
 use Rattle.xl_program.specs.declared.stopped.Stopped.TheVariants.{NotFlattened, SinkFault, Memory}
 use Rattle.xl_program.proofs.Edited.{none_failed, some_failed}
 use Rattle.xl_program.proofs.MadeFiles.{last_is_saved}
-use Rattle.xl_program.proofs.MadeScripts.{script_fits}
-use Rattle.xl_program.proofs.VersionsWithin.{each_within, small_ids}
+use Rattle.xl_program.proofs.VersionsWithin.{first_within}
 
 -- ---- the document that is made
 
@@ -89,11 +88,8 @@ made_is_numbered seed = record {
 
 -- ---- the run
 
--- What is known of what is made: its nodes are numbered, its lines name no filter, its last document follows from them, and the
--- last of all their calls is a save.
+-- What is known of what is made: its last document follows from its lines, and the last of all their calls is a save.
 pub record IsMade (d : Document) (lists : List (List Line)) : Type 0 where
-  pub numbered : AreNumbered d.nodes
-  pub fits : FitsFilters [] lists
   pub last : (out : List ℕ) (chests : List (List FilterState)) (es : List Entry) → IsTextOf out d lists chests es
       → document_of d es (latest_of es) ≡ outcome d lists
   pub ends : (out : List ℕ) (chests : List (List FilterState)) (es : List Entry) → IsTextOf out d lists chests es
@@ -101,8 +97,6 @@ pub record IsMade (d : Document) (lists : List (List Line)) : Type 0 where
 
 pub seed_is_made : (seed : ℕ) → IsMade (document seed) (script seed)
 seed_is_made seed = record {
-  numbered = made_is_numbered seed;
-  fits = script_fits seed;
   last = last_is_outcome_of_seed seed;
   ends = last_is_save_of_seed seed;
 }
@@ -143,27 +137,34 @@ summed d lists chests es (Err e) (Ok told) made none is played sum failed = let 
 summed d lists chests es text (Err e) made none is played sum failed = tt
 
 -- without memory for a core nothing was played
-pub nothing_summed : (k now : Known) (d : Document) (lists : List (List Line)) (e : AllocError) → now ≡ k
+pub nothing_summed : (k now : Known) (d : Document) (lists : List (List Line)) (e : AllocError) → now ≡ k → IsDocument d
     → IsSummedUp k now d lists (Err e)
-nothing_summed k now d lists e same =
+nothing_summed k now d lists e same within =
     subst (λ (n : Known). IsSummedUp k n d lists (Err e)) (sym same)
-    (record { entries = []; legal = IsLegal-empty d; shelf = opened_right k d; sum = tt })
+    (record {
+      entries = [];
+      legal = IsLegal-empty d;
+      versions = first_within d within;
+      shelf = opened_right k d;
+      sum = tt;
+    })
 
 -- the history of a core that was played on, and the shelf that comes back
 pub summed_on : {D : Type 0} (see : D → Known) (old new : Editing D) (back : D) (lists : List (List Line))
     (chests : List (List FilterState)) (text : Result (String Global) AllocError) (told : Result Replies AllocError)
     → new.history.base ≡ old.history.base → new.opening ≡ old.opening → IsLegal new.history.base new.history.entries
-    → IsRight see new back
+    → AreWithin new.history.base new.history.entries → IsRight see new back
     → IsMade old.history.base lists → chests ≡ []
     → IfOk text (λ t. IsTextOf (string_bytes t) old.history.base lists chests new.history.entries) → OnOk told (IsOk text)
     → IfOk told (λ t. string_bytes t.text ≡ summary_of (last_document new.history))
     → IfOk told (λ t. WhetherFailed t.save_failed (save_faults new.history.entries))
     → IsSummedUp (see old.opening) (see back) old.history.base lists told
-summed_on {D} see old new back lists chests text told base opening legal right made none is played sum failed =
+summed_on {D} see old new back lists chests text told base opening legal versions right made none is played sum failed =
     let es = new.history.entries in
     record {
       entries = es;
       legal = subst (λ (b : Document). IsLegal b es) base legal;
+      versions = subst (λ (b : Document). AreWithin b es) base versions;
       shelf =
           subst (λ (o : D). ShelfIsRight (see o) old.history.base es (see back)) opening
           (subst (λ (b : Document). ShelfIsRight (see new.opening) b es (see back)) base right);
@@ -199,11 +200,17 @@ last_left base es v name (Some old) (Some now) is right =
 
 -- ---- what is written
 
-module _ (d : Document) (lists : List (List Line)) (sessions : IsMade d lists) (within : IsDocument d)
-    (opening first now : Known) (saved : IsSavedOn opening d Done first) where
+module _ (d : Document) (lists : List (List Line)) (sessions : IsMade d lists) (opening first now : Known)
+    (saved : IsSavedOn opening d Done first) where
   made_history : (told : Result Replies AllocError) (summed_up : IsSummedUp first now d lists told)
       → IsMadeHistory opening now d summed_up.entries
-  made_history told summed_up = record { first = first; saved = saved; legal = summed_up.legal; shelf = summed_up.shelf }
+  made_history told summed_up = record {
+    first = first;
+    saved = saved;
+    legal = summed_up.legal;
+    versions = summed_up.versions;
+    shelf = summed_up.shelf;
+  }
 
   summary_is : (told : Replies) (P : ℕ → Type 0) (summed_up : IsSummedUp first now d lists (Ok told))
       → ((n : ℕ) → WhetherFailed told.save_failed n → P n)
@@ -216,7 +223,6 @@ module _ (d : Document) (lists : List (List Line)) (sessions : IsMade d lists) (
         entries = entries;
         history = made_history (Ok told) summed_up;
         run = summed_up.sum.run;
-        versions = each_within d [] lists [] (printed d entries) entries within (small_ids d sessions.numbered) sessions.fits run;
         text = summed_up.sum.text;
         file = λ none.
             let last =

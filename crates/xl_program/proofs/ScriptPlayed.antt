@@ -4,6 +4,7 @@ use Rattle.std.specs.Prelude.{IfOk, Result, Ok, Err, String, string_bytes}
 use Rattle.std.specs.declared.alloc.AllocError.{AllocError}
 use Rattle.std.specs.declared.alloc.Global.{Global}
 use Rattle.spec_document.specs.Document.{Document}
+use Rattle.spec_document.specs.Limits.{IsDocument}
 use Rattle.spec_history.specs.History.{Entry}
 use Rattle.spec_history.specs.Kept.{IsLegal}
 use Rattle.spec_history.proofs.Growing.{IsLegal-empty}
@@ -16,25 +17,34 @@ use Rattle.spec_text.specs.Text.{IsTextOf}
 use Rattle.xl_core.specs.Editing.{Editing, IsRight}
 use Rattle.xl_program.specs.Parts.{IsPlayed, IsToldOf, WhetherFailed}
 use Rattle.xl_program.specs.Playing.{AreOfFirst}
+use Rattle.xl_program.specs.Versions.{AreWithin}
 use Rattle.xl_program.specs.declared.playing.Replies.{Replies}
+use Rattle.xl_program.proofs.VersionsWithin.{first_within}
 
 -- without memory for a core nothing was played
 pub nothing_played : (k now : Known) (d : Document) (lists : List (List Line)) (chests : List (List FilterState)) (workers : ℕ)
-    (e : AllocError) → now ≡ k → IsPlayed k now d lists chests workers (Err e)
-nothing_played k now d lists chests workers e same =
+    (e : AllocError) → now ≡ k → IsDocument d → IsPlayed k now d lists chests workers (Err e)
+nothing_played k now d lists chests workers e same within =
     subst (λ (n : Known). IsPlayed k n d lists chests workers (Err e)) (sym same)
-    (record { entries = []; legal = IsLegal-empty d; shelf = opened_right k d; told = tt })
+    (record {
+      entries = [];
+      legal = IsLegal-empty d;
+      versions = first_within d within;
+      shelf = opened_right k d;
+      told = tt;
+    })
 
 -- the history of a core that was played on, and the shelf that comes back
 pub played_on : {D : Type 0} (see : D → Known) (old new : Editing D) (back : D) (lists : List (List Line))
     (chests : List (List FilterState)) (workers : ℕ) (replies : Result Replies AllocError)
     → new.history.base ≡ old.history.base → new.opening ≡ old.opening → IsLegal new.history.base new.history.entries
-    → IsRight see new back
+    → AreWithin new.history.base new.history.entries → IsRight see new back
     → IfOk replies (IsToldOf old.history.base lists chests workers new.history.entries)
     → IsPlayed (see old.opening) (see back) old.history.base lists chests workers replies
-played_on {D} see old new back lists chests workers replies base opening legal right told = record {
+played_on {D} see old new back lists chests workers replies base opening legal versions right told = record {
   entries = new.history.entries;
   legal = subst (λ (b : Document). IsLegal b new.history.entries) base legal;
+  versions = subst (λ (b : Document). AreWithin b new.history.entries) base versions;
   shelf =
       subst (λ (o : D). ShelfIsRight (see o) old.history.base new.history.entries (see back)) opening
       (subst (λ (b : Document). ShelfIsRight (see new.opening) b new.history.entries (see back)) base right);

@@ -8,5 +8,6 @@ pub mod Outcome
 pub mod Packing
 pub mod Parts
 pub mod Playing
+pub mod Versions
 pub mod Viewing
 pub mod Windows

@@ -12,7 +12,7 @@ use Rattle.spec_report.specs.Pam.{pam}
 use Rattle.spec_filters.specs.declared.FilterState.{FilterState}
 use Rattle.spec_generated.specs.Generated.{document, script as made_script}
 use Rattle.spec_script.specs.Script.{Line, list_at, script}
-use Rattle.spec_history.specs.History.{Entry, document_of}
+use Rattle.spec_history.specs.History.{Entry}
 use Rattle.spec_history.specs.Kept.{IsLegal}
 use Rattle.spec_saves.specs.Names.{save_faults}
 use Rattle.spec_saves.specs.Shelf.{Known, ShelfIsRight}
@@ -31,6 +31,7 @@ use Rattle.xl_program.specs.Lines.{WritesLine}
 use Rattle.xl_program.specs.Playing.{AreOfFirst}
 use Rattle.xl_program.specs.Making.{FailsAtFirst, IsMadeHistory, IsSummary}
 use Rattle.xl_program.specs.Packing.{IsPacked, MayBePacked}
+use Rattle.xl_program.specs.Versions.{AreWithin}
 use Rattle.xl_program.specs.Viewing.{IsBadViewLine, IsViewed, IsViewScript}
 use Rattle.xl_program.specs.declared.stopped.Stopped.{Stopped}
 use Rattle.xl_program.specs.declared.stopped.Stopped.TheVariants.{SourceFault, BadLine, ShelfFault, Refused, SaveFault}
@@ -113,17 +114,18 @@ pub record IsReport (text : Document → List ℕ) (content : Option Content) (o
   pub within : IsDocument document
   pub same : out ≡ text document
 
--- A legal history of a document within the limits, which the file held, where that is told, and the shelf after its saves.
--- Where none of these failed, the file is that of the last one that was acknowledged, or the old one.
+-- A legal history of a document within the limits, as are all its versions, which the file held, where that is told, and the shelf
+-- after its saves. Where none of these failed, the file is that of the last one that was acknowledged, or the old one.
 pub record IsHistory (name : List ℕ) (old new : Shelved) (document : Document) (entries : List Entry) : Type 0 where
   pub held : IfSome (old.content name) (λ c. HoldsDocument c document)
   pub within : IsDocument document
   pub legal : IsLegal document entries
+  pub versions : AreWithin document entries
   pub shelf : ShelfIsRight (opened old name) document entries new.known
   pub file : save_faults entries ≡ 0 → Between old.known.disk new.known.disk (HasLastSaved name document entries)
 
--- The text of such a history whose calls are those of the script, and each version of which is within the limits. Where no worker
--- was asked for, these are all of session 0 and no save failed, it is that of one session alone.
+-- The text of such a history whose calls are those of the script. Where no worker was asked for, these are all of session 0 and no
+-- save failed, it is that of one session alone.
 pub record IsReplies (given : Given) (name : List ℕ) (old new : Shelved) (workers : ℕ) (HaveFailed : ℕ → Type 0) (out : List ℕ)
     : Type 0 where
   pub document : Document
@@ -131,7 +133,6 @@ pub record IsReplies (given : Given) (name : List ℕ) (old new : Shelved) (work
   pub entries : List Entry
   pub history : IsHistory name old new document entries
   pub read : HasLines given lists
-  pub versions : (version : ℕ) → IsDocument (document_of document entries version)
   pub text : IsTextOf out document lists given.chests entries
   pub alone : workers ≡ 0 → AreOfFirst lists → save_faults entries ≡ 0 → Alone out document lists given.chests
   pub failed : HaveFailed (save_faults entries)
@@ -149,7 +150,8 @@ IsOutput given old new (flatten name) HaveFailed out = IsFlattened (old.content 
 IsOutput given old new (view name cols rows) HaveFailed out =
     IsViewed given.left (first_filters given) (old.content name) cols rows out × IsUntouched old new × HaveFailed 0
 
--- the shelf where memory ran out: as before, or after a history
+-- The shelf where memory ran out: as before, or after a history. So each file that a crash might leave is the old one, or holds a
+-- version of that history.
 abbrev pub MayHaveSaved : (old new : Shelved) → Asked → Type 0
 MayHaveSaved old new (render name) = IsUntouched old new
 MayHaveSaved old new (info name) = IsUntouched old new

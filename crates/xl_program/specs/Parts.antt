@@ -17,6 +17,7 @@ use Rattle.xl_program.specs.Making.{IsRunOf}
 use Rattle.xl_program.specs.Files.{CannotBeFlat, HasFault, HasLength, HoldsDocument}
 use Rattle.xl_program.specs.Outcome.{first_filters, Given, HasLines, IsScript, IsBadLine, NoneFailed, SomeFailed}
 use Rattle.xl_program.specs.Playing.{AreOfFirst}
+use Rattle.xl_program.specs.Versions.{AreWithin}
 use Rattle.xl_program.specs.Viewing.{IsBadViewLine, IsViewScript}
 use Rattle.xl_program.specs.declared.loading.Loaded.{Loaded}
 use Rattle.xl_program.specs.declared.playing.Replies.{Replies}
@@ -61,12 +62,13 @@ pub record IsToldOf
   pub alone : workers ≡ 0 → AreOfFirst lists → save_faults entries ≡ 0 → Alone (string_bytes told.text) document lists chests
   pub failed : WhetherFailed told.save_failed (save_faults entries)
 
--- a legal history, the shelf after its saves, and its text unless memory ran out
+-- a legal history, its versions within the limits, the shelf after its saves, and its text unless memory ran out
 pub record IsPlayed
     (opening now : Known) (document : Document) (lists : List (List script.Line)) (chests : List (List FilterState)) (workers : ℕ)
     (replies : Result Replies AllocError) : Type 0 where
   pub entries : List Entry
   pub legal : IsLegal document entries
+  pub versions : AreWithin document entries
   pub shelf : ShelfIsRight opening document entries now
   pub told : IfOk replies (IsToldOf document lists chests workers entries)
 
@@ -76,11 +78,12 @@ pub record SumsUp (document : Document) (lists : List (List script.Line)) (entri
   pub text : string_bytes told.text ≡ summary_of (outcome document lists)
   pub failed : WhetherFailed told.save_failed (save_faults entries)
 
--- a legal history, the shelf after its saves, and the line that sums it up unless memory ran out
+-- a legal history, its versions within the limits, the shelf after its saves, and the line that sums it up unless memory ran out
 pub record IsSummedUp
     (opening now : Known) (document : Document) (lists : List (List script.Line)) (told : Result Replies AllocError) : Type 0 where
   pub entries : List Entry
   pub legal : IsLegal document entries
+  pub versions : AreWithin document entries
   pub shelf : ShelfIsRight opening document entries now
   pub sum : IfOk told (SumsUp document lists entries)
 

@@ -144,6 +144,7 @@ fn run_made<R: Threads + Wait + Sync, D: Shelf, G: Gate>(
         gate,
     );
     let replies = sum_up(alloc, &core, text);
+    core.know_versions();
     Played {
         replies,
         shelf: core.into_shelf(),

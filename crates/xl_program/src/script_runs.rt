@@ -75,6 +75,7 @@ fn play_alone<D: Shelf, G: Gate>(
         core.history.base (lists_of script) (states_of (λ b. state b) chest.items) 0 result.replies }
 {
     let replies = play(alloc, &mut core, gate, script, chest);
+    core.know_versions();
     Played {
         replies,
         shelf: core.into_shelf(),
@@ -121,6 +122,7 @@ fn play_together<R: Threads + Wait + Sync, D: Shelf, G: Gate>(
         core.history.base (lists_of script) (states_of (λ b. state b) chest.items) workers result.replies }
 {
     let PlayedBeside { core, text } = play_beside(rt, alloc, core, script, chest, workers, gate);
+    core.know_versions();
     Played {
         replies: replies_of(&core, text),
         shelf: core.into_shelf(),

@@ -1,5 +1,5 @@
 -- What one call more makes of what a session has made.
-use Rattle.std.proofs.Common.{◌≡◌, ℕ, Bool, true, false, List, [], ◌∷◌, ◌++◌, length, None, refl, sym, ap, ◌∙◌, subst, true≢false}
+use Rattle.std.proofs.Common.{◌≡◌, ℕ, Bool, true, false, List, [], ◌∷◌, ◌++◌, length, None, refl, sym, ap, ◌∙◌, subst}
 use Rattle.std.specs.Prelude.{MatchBool}
 use mathlib.Core.List.{IsPrefix}
 use Rattle.spec_document.specs.Document.{Document}
@@ -26,7 +26,8 @@ use Rattle.xl_studio.specs.declared.moment.Moment.TheVariants.{Made}
 use Rattle.xl_studio.specs.Calling.{called_entry, Known, IsCalled}
 use Rattle.xl_studio.specs.Moments.{entries_in}
 use Rattle.xl_studio.proofs.Grown.{entries-append, entries-prefix}
-use Rattle.xl_sessions.specs.Playing.{is_unprinted, said}
+use Rattle.xl_sessions.specs.Playing.{said}
+use Rattle.xl_sessions.specs.Printing.{IsPrinted}
 
 -- After others had made their entries the call was made, as the next entry. The places of a session have that one more.
 pub record IsCallMore (session : ℕ) (c : Call) (tables : List (List ℕ)) (reply : Reply) (places : List ℕ) (es : List Entry)
@@ -47,14 +48,10 @@ at_both P places places_then es es_then p q is = subst (λ ps. P ps es_then) (sy
 
 -- ---- where it is answered by a reply that is printed
 
-pub unprinted_full : (reply : Reply) → reply ≡ machine.history_full → is_unprinted reply ≡ true
-unprinted_full reply is = ap is_unprinted is
+pub full_is_not_printed : (reply : Reply) → IsPrinted reply → reply ≡ machine.history_full → ⊥
+full_is_not_printed reply printed is = subst IsPrinted is printed
 
-pub never_both : (b : Bool) → b ≡ true → b ≡ false → ⊥
-never_both true yes_so no_so = true≢false no_so
-never_both false yes_so no_so = true≢false (sym yes_so)
-
-pub printed_memory : (reply : Reply) → is_unprinted reply ≡ false → is_save_memory reply ≡ false
+pub printed_memory : (reply : Reply) → IsPrinted reply → is_save_memory reply ≡ false
 printed_memory (machine.changed version group next) is = refl
 printed_memory (machine.refused index cause) is = refl
 printed_memory (machine.moved now) is = refl
@@ -68,18 +65,18 @@ printed_memory machine.outside_tile is = refl
 printed_memory (machine.top_is group version) is = refl
 printed_memory (machine.saved version) is = refl
 printed_memory (machine.save_fault version) is = refl
-printed_memory (machine.save_memory version) is = is
-printed_memory machine.history_full is = refl
+printed_memory (machine.save_memory version) is = absurd is
+printed_memory machine.history_full is = absurd is
 
 module _ {K : Type 0} where
   more_where : (full : Bool) (session : ℕ) (c : Call) (tables : List (List ℕ)) (reply : Reply) (old new : Known K)
-      (entered : List (Moment K)) → IsPrefix old.front entered → is_unprinted reply ≡ false
+      (entered : List (Moment K)) → IsPrefix old.front entered → IsPrinted reply
       → MatchBool full ((reply ≡ machine.history_full) × (new.front ≡ entered) × (new.made ≡ old.made))
       ((new.front ≡ entered ++ Made (called_entry (entries_in entered) session c tables reply) None ∷ [])
       × (new.made ≡ old.made ++ length (entries_in entered) ∷ []))
       → IsCallMore session c tables reply old.made (entries_in old.front) new.made (entries_in new.front)
   more_where true session c tables reply old new entered begins printed is =
-      absurd (never_both (is_unprinted reply) (unprinted_full reply is.0) printed)
+      absurd (full_is_not_printed reply printed is.0)
   more_where false session c tables reply old new entered begins printed is =
       let e : Entry = called_entry (entries_in entered) session c tables reply in
       record {
@@ -91,7 +88,7 @@ module _ {K : Type 0} where
       }
 
   pub call_more : (base : Document) (session : ℕ) (c : Call) (tables : List (List ℕ)) (reply : Reply) (old new : Known K)
-      → IsCalled base session c tables reply old new → is_unprinted reply ≡ false
+      → IsCalled base session c tables reply old new → IsPrinted reply
       → IsCallMore session c tables reply old.made (entries_in old.front) new.made (entries_in new.front)
   call_more base session c tables reply old new called printed =
       more_where _ session c tables reply old new called.entered called.begins printed called.made
@@ -135,7 +132,7 @@ pub call_made : (session : ℕ) (filters : List FilterState) (lines : List Line)
     → HasMade session filters lines places es → IsCaughtUp places es
     → IsCallMore session c (expected_tables (filters_along filters (picked places es)) (asked c []) reply)
     reply places es places_then es_then
-    → is_unprinted reply ≡ false → IsFreshReply (latest_of es) reply
+    → IsPrinted reply → IsFreshReply (latest_of es) reply
     → HasMade session filters (lines ++ call c ∷ []) places_then es_then
 call_made session filters lines c reply places es places_then es_then made up more printed fresh =
     let tables : List (List ℕ) = expected_tables (filters_along filters (picked places es)) (asked c []) reply in

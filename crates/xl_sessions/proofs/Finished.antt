@@ -1,9 +1,11 @@
 -- The end of a run: the seats were joined, and the studio was taken apart.
-use Rattle.std.proofs.Common.{◌≡◌, ℕ, ◌<◌, Bool, true, List, length, map, flat_map, None, sym, ap, ◌∙◌, subst}
-use Rattle.std.specs.Prelude.{Result, Ok, Err, IfOk}
+use Rattle.std.proofs.Common.{◌≡◌, ℕ, ◌<◌, ◌≤◌, Bool, true, List, length, map, flat_map, None, sym, ap, ◌∙◌, subst, arith}
+use Rattle.std.proofs.Common.{length-append}
+use Rattle.std.specs.Prelude.{is_none, Result, Ok, Err, IfOk}
 use Rattle.std.specs.List.{AllByRecursion, list_all}
 use mathlib.Core.List.{IsPrefix}
 use Rattle.spec_document.specs.Document.{Document}
+use Rattle.spec_document.proofs.Elements.{all-each}
 use Rattle.spec_filters.specs.declared.FilterState.{FilterState}
 use Rattle.spec_history.specs.History.{Entry, replay, mine}
 use Rattle.spec_history.specs.Kept.{IsLegal}
@@ -14,20 +16,26 @@ use Rattle.spec_text.specs.Text.{IsTextOf, printed}
 use Rattle.xl_core.specs.Editing.{Editing}
 use Rattle.xl_sessions.specs.Outcomes.{FromFirst}
 use Rattle.spec_script.specs.Script.{list_at}
+use Rattle.xl_sessions.specs.Full.{IsNotFull}
 use Rattle.xl_sessions.specs.Players.{AreOfSessions, HaveOutcomes, HaveSomeOutcomes, AreKnown, places_of, shown_of}
+use Rattle.xl_sessions.specs.Players.{count_of, LeaveRoom}
 use Rattle.xl_sessions.specs.Printing.{IsPrinted}
 use Rattle.xl_sessions.specs.declared.players.Player.{Player}
+use Rattle.xl_sessions.proofs.Counts.{at_most_length, not_full_each, places_count}
 use Rattle.xl_sessions.proofs.Lined.{legal_has_lines}
 use Rattle.xl_sessions.proofs.Outcomes.{HasOutcome, Own, none_is_out, saves_have_ended, digests_are, makes_a_text}
 use Rattle.xl_sessions.proofs.PlayedParts.{all_own, all_outcomes, all_seats}
 use Rattle.xl_studio.specs.declared.moment.Moment.{Moment}
 use Rattle.xl_studio.specs.declared.seat.Seat.{Seat}
 use Rattle.xl_studio.specs.declared.seat.Studio.{Studio}
-use Rattle.xl_studio.specs.Seats.{base_of}
+use Rattle.xl_studio.specs.Moments.{entries_in}
+use Rattle.xl_studio.specs.Seats.{base_of, front_of}
 use Rattle.xl_studio.specs.State.{State, moments_of}
+use Rattle.xl_studio.proofs.Grown.{entries-prefix}
 use Rattle.xl_studio.proofs.Seated.{back}
 use Rattle.xl_turn.specs.declared.view.Chronicle.{Ghosts}
 use Rattle.xl_turn.specs.Seats.{IsEachOnce}
+use Rattle.xl_turn.specs.Sums.{total}
 use Rattle.xl_turn.proofs.Fronts.{prefix_trans}
 
 -- the text of a result, where all lines were played
@@ -56,7 +64,7 @@ module _ {K : Type 0} {C : Ghosts (State K) (Moment K)} {X : Type 0} {H : X → 
   es = c.history.entries
 
   abbrev done_of : Player (Seat K C) X H → Bool
-  done_of p = p.done
+  done_of p = is_none p.stopped
 
   whole : IsPrefix joined (moments_of c)
   whole = prefix_trans joined last (moments_of c) begins ends
@@ -68,6 +76,23 @@ module _ {K : Type 0} {C : Ghosts (State K) (Moment K)} {X : Type 0} {H : X → 
   own =
       subst (λ (all : List Entry). FromFirst (Own places_of shown_of done_of all) 0 players) (back c)
       (all_own studio players joined (moments_of c) known whole of)
+
+  fronts_begin : AllByRecursion (λ (p : Player (Seat K C) X H). length (entries_in (front_of p.seat)) ≤ length es) players
+  fronts_begin = all-each (λ (p : Player (Seat K C) X H). IsPrefix (front_of p.seat) joined)
+      (λ (p : Player (Seat K C) X H). length (entries_in (front_of p.seat)) ≤ length es) players
+      (λ p at.
+      let begun = entries-prefix (front_of p.seat) (moments_of c) (prefix_trans (front_of p.seat) joined (moments_of c) at whole) in
+      let more = length-append (entries_in (front_of p.seat)) begun.0 in
+      let all = ap length begun.1 in
+      let back_is = ap length (back c) in
+      omega (arith, more, all, back_is)) known
+
+  -- no session found the history full
+  pub none_full : LeaveRoom players → AllByRecursion (λ (p : Player (Seat K C) X H). IsNotFull p.stopped) players
+  none_full room =
+      let most = at_most_length (length es) (flat_map places_of players) once in
+      let count = places_count players in
+      not_full_each (total count_of players) (length es) players (omega (arith, most, count)) fronts_begin room
 
   pub out_is_none : (base : Document) → (replay base es).out ≡ None
   out_is_none base = none_is_out places_of shown_of done_of es players eight once own base

@@ -24,6 +24,9 @@ pub mod Brought
 -- what became of their lines
 pub mod Outcomes
 pub mod PlayedParts
+-- a full history, which none of them finds
+pub mod Fulls
+pub mod Counts
 -- their seats joined
 pub mod JoinedSeats
 pub mod Finished

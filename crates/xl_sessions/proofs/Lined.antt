@@ -98,3 +98,20 @@ pub legal_has_lines : (base : Document) (es : List Entry) → IsLegal base es
     → AllByRecursion (λ e. is_save_memory e.reply ≡ false) es
     → AllByRecursion (λ e. IsPrinted e.reply) es
 legal_has_lines base es legal h = run_lined base (initial base) [] es legal.run h
+
+-- a call that is the last entry of a legal history is printed, so that its reply is none of a full history
+asked_lined : (base : Document) (s : State) (earlier : List Entry) (e : Entry) (c : Call) (tables : List (List ℕ))
+    → MayBe base s earlier e (asked c tables) → IsPrinted e.reply
+asked_lined base s earlier e (peek stack at) tables may =
+    peek_lined base s stack (answer base s (peek stack at) tables).reply e.reply (answer_lined base s (peek stack at) tables) may.1
+asked_lined base s earlier e c tables may = subst IsPrinted (sym may.1) (answer_lined base s c tables)
+
+last_lined : (base : Document) (s : State) (earlier es : List Entry) (e : Entry) (c : Call) (tables : List (List ℕ))
+    → e.kind ≡ asked c tables → RunFrom base s earlier (es ++ e ∷ []) → IsPrinted e.reply
+last_lined base s earlier [] e c tables is run = asked_lined base s earlier e c tables (subst (MayBe base s earlier e) is run.0)
+last_lined base s earlier (x ∷ es) e c tables is run =
+    last_lined base (after_entry base s x) (earlier ++ x ∷ []) es e c tables is run.1
+
+pub last_is_printed : (base : Document) (es : List Entry) (e : Entry) (c : Call) (tables : List (List ℕ))
+    → e.kind ≡ asked c tables → IsLegal base (es ++ e ∷ []) → IsPrinted e.reply
+last_is_printed base es e c tables is legal = last_lined base (initial base) [] es e c tables is legal.run

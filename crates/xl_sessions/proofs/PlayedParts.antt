@@ -1,7 +1,7 @@
 -- The players of a run, from their parts to what they have made.
-use Rattle.std.proofs.Common.{◌≡◌, ℕ, suc, ◌<◌, List, [], ◌∷◌, ◌++◌, length, map, take, drop, refl, sym, ap, ◌∙◌, subst, arith}
+use Rattle.std.proofs.Common.{◌≡◌, ℕ, suc, ◌<◌, List, [], ◌∷◌, ◌++◌, length, map, take, drop, None, refl, sym, ap, ◌∙◌, subst, arith}
 use Rattle.std.proofs.Math.Seq.{take-append_seam}
-use Rattle.std.specs.Prelude.{string_bytes}
+use Rattle.std.specs.Prelude.{is_none, string_bytes}
 use Rattle.std.specs.List.{AllByRecursion, AllZip}
 use mathlib.Core.List.{IsPrefix}
 use Rattle.spec_filters.specs.declared.FilterState.{FilterState}
@@ -24,6 +24,7 @@ use Rattle.xl_sessions.proofs.Zips.{zip_length, zip_through, zip_from, from_firs
 use Rattle.xl_studio.specs.declared.moment.Moment.{Moment}
 use Rattle.xl_studio.specs.declared.seat.Seat.{Seat}
 use Rattle.xl_studio.specs.declared.seat.Studio.{Studio}
+use Rattle.xl_studio.specs.Jobs.{job_out}
 use Rattle.xl_studio.specs.Moments.{entries_in}
 use Rattle.xl_studio.specs.Seats.{base_of, front_of, made_of, weight_of, IsSeatOf}
 use Rattle.xl_studio.specs.State.{State}
@@ -50,6 +51,7 @@ module _ {K : Type 0} {C : Ghosts (State K) (Moment K)} {X : Type 0} {H : X → 
         below = omega (arith, below, number);
         seat = seated.seat;
         none = seated.none;
+        free = seated.free;
         unchanged = ap (λ (ms : List (Moment K)). latest_of (entries_in ms)) seated.front_is ∙ unchanged;
         all = own.all;
         fit = own.fit;
@@ -105,17 +107,18 @@ module _ {K : Type 0} {C : Ghosts (State K) (Moment K)} {X : Type 0} {H : X → 
       (λ session part p is has. record {
         seat = has.seat;
         light = has.weight_is;
+        free = has.free;
         of = subst (λ (n : ℕ). IsOf n (made_of p.seat) (entries_in (front_of p.seat))) is.session_is has.of;
       }) fit played
 
   outcome : (state : Slot X H → FilterState) (studio : Studio K) (session : ℕ) (filters : List FilterState) (lines : List Line)
       (part : Part X H) (p : Player (Seat K C) X H)
       → IsBrought state session filters lines part → HasPlayed state studio part 1 p
-      → IsOutcome (base_of studio) session filters lines (entries_in (front_of p.seat)) (made_of p.seat) (shown_of p) p.done
+      → IsOutcome (base_of studio) session filters lines (entries_in (front_of p.seat)) (made_of p.seat) (shown_of p) (is_none p.stopped)
   outcome state studio session filters lines part p brought has =
       let es = entries_in (front_of p.seat) in
-      subst (λ (n : ℕ). IsOutcome (base_of studio) n filters lines es (made_of p.seat) (shown_of p) p.done) brought.session_is
-      (subst (λ (ls : List Line). IsOutcome (base_of studio) part.session filters ls es (made_of p.seat) (shown_of p) p.done)
+      subst (λ (n : ℕ). IsOutcome (base_of studio) n filters lines es (made_of p.seat) (shown_of p) (is_none p.stopped)) brought.session_is
+      (subst (λ (ls : List Line). IsOutcome (base_of studio) part.session filters ls es (made_of p.seat) (shown_of p) (is_none p.stopped))
       brought.lines_are (record {
         of = has.of;
         made = λ done. has.made done filters (subst (λ chest. Agrees chest filters) (sym brought.chest_is) (full_agrees filters));
@@ -129,7 +132,7 @@ module _ {K : Type 0} {C : Ghosts (State K) (Moment K)} {X : Type 0} {H : X → 
       zip_from (λ session part. IsBrought state session (list_at chests session) (list_at lists session) part)
       (λ part p. HasPlayed state studio part 1 p)
       (λ session p. IsOutcome (base_of studio) session (list_at chests session) (list_at lists session)
-      (entries_in (front_of p.seat)) (made_of p.seat) (shown_of p) p.done) 0 parts players
+      (entries_in (front_of p.seat)) (made_of p.seat) (shown_of p) (is_none p.stopped)) 0 parts players
       (λ session part p is has. outcome state studio session (list_at chests session) (list_at lists session) part p is has)
       brought played
 
@@ -141,8 +144,9 @@ module _ {K : Type 0} {C : Ghosts (State K) (Moment K)} {X : Type 0} {H : X → 
 
   pub all_seats : (studio : Studio K) (players : List (Player (Seat K C) X H)) → AreOfSessions studio players
       → AreSeats studio players
-  all_seats studio players of = from_first_each (IsOfSession studio) (λ p. IsSeatOf studio p.seat) 0 players
-      (λ session p is. is.seat) of
+  all_seats studio players of =
+      from_first_each (IsOfSession studio) (λ p. IsSeatOf studio p.seat × (job_out p.seat ≡ None)) 0 players
+      (λ session p is. (is.seat, is.free)) of
 
   weights_from : (studio : Studio K) (first : ℕ) (players : List (Player (Seat K C) X H))
       → FromFirst (IsOfSession studio) first players → total weight_in players ≡ length players
@@ -163,25 +167,26 @@ module _ {K : Type 0} {C : Ghosts (State K) (Moment K)} {X : Type 0} {H : X → 
     entries_begin p at = entries-prefix (front_of p.seat) front (prefix_trans (front_of p.seat) joined front at begins)
 
     -- the entries of each session, in the whole history
-    pub all_own : AreOfSessions studio players → FromFirst (Own places_of shown_of (λ p. p.done) (entries_in front)) 0 players
+    pub all_own : AreOfSessions studio players → FromFirst (Own places_of shown_of (λ p. is_none p.stopped) (entries_in front)) 0 players
     all_own of =
         from_first_with (IsOfSession studio) (λ p. IsPrefix (front_of p.seat) joined)
-        (Own places_of shown_of (λ p. p.done) (entries_in front)) 0 players
+        (Own places_of shown_of (λ p. is_none p.stopped) (entries_in front)) 0 players
         (λ session p is at. of_grows session (made_of p.seat) (entries_in (front_of p.seat)) (entries_in front) (entries_begin p at)
         is.of) of known
 
     -- what became of each session's lines, in the whole history
     pub all_outcomes : (chests : List (List FilterState)) (lists : List (List Line)) → AreSeats studio players
         → HaveOutcomes studio chests lists players
-        → FromFirst (HasOutcome places_of shown_of (λ p. p.done) (entries_in front) (base_of studio) chests lists) 0 players
+        → FromFirst (HasOutcome places_of shown_of (λ p. is_none p.stopped) (entries_in front) (base_of studio) chests lists) 0 players
     all_outcomes chests lists seats outs =
         let Q : ℕ → Player (Seat K C) X H → Type 0 =
         λ session p. IsOutcome (base_of studio) session (list_at chests session) (list_at lists session)
-        (entries_in (front_of p.seat)) (made_of p.seat) (shown_of p) p.done in
+        (entries_in (front_of p.seat)) (made_of p.seat) (shown_of p) (is_none p.stopped) in
         let Seated : ℕ → Player (Seat K C) X H → Type 0 = λ session p. Q session p × IsSeatOf studio p.seat in
         from_first_with Seated (λ p. IsPrefix (front_of p.seat) joined)
-        (HasOutcome places_of shown_of (λ p. p.done) (entries_in front) (base_of studio) chests lists) 0 players
+        (HasOutcome places_of shown_of (λ p. is_none p.stopped) (entries_in front) (base_of studio) chests lists) 0 players
         (λ session p is at. outcome_grows (base_of studio) session (list_at chests session) (list_at lists session)
-        (entries_in (front_of p.seat)) (entries_in front) (made_of p.seat) (shown_of p) p.done
+        (entries_in (front_of p.seat)) (entries_in front) (made_of p.seat) (shown_of p) (is_none p.stopped)
         is.1.front.legal (entries_begin p at) is.0)
-        (from_first_with Q (λ p. IsSeatOf studio p.seat) Seated 0 players (λ session p out seat. (out, seat)) outs seats) known
+        (from_first_with Q (λ p. IsSeatOf studio p.seat × (job_out p.seat ≡ None)) Seated 0 players (λ session p out seat. (out, seat.0))
+        outs seats) known

@@ -24,8 +24,8 @@ use Rattle.xl_studio.specs.Moments.{entries_in}
 use Rattle.xl_studio.specs.Saving.{IsSaved, IsWhole, end_behind}
 use Rattle.xl_studio.specs.Seats.{history_of}
 use Rattle.xl_studio.proofs.Grown.{entries-prefix}
-use Rattle.xl_sessions.specs.Playing.{is_unprinted}
-use Rattle.xl_sessions.proofs.CallMore.{at_both, never_both, printed_memory, unprinted_full}
+use Rattle.xl_sessions.specs.Printing.{IsPrinted}
+use Rattle.xl_sessions.proofs.CallMore.{at_both, full_is_not_printed, printed_memory}
 use Rattle.xl_sessions.proofs.Made.{saved_entries, saved_places}
 
 abbrev pub start_more : (session index version : ℕ) → Entry
@@ -72,10 +72,10 @@ module _ {K : Type 0} where
       }
 
   pub save_more : (see : K → shelves.Known) (opening : K) (base : Document) (session : ℕ) (reply : Reply) (old new : Known K)
-      → IsSaved see opening base session reply old new → is_unprinted reply ≡ false
+      → IsSaved see opening base session reply old new → IsPrinted reply
       → IsSaveMore session reply old.made (entries_in old.front) new.made (entries_in new.front)
   save_more see opening base session reply old new is printed = elim is.is [
-    | inl full ↦ absurd (never_both (is_unprinted reply) (unprinted_full reply full.reply_is) printed)
+    | inl full ↦ absurd (full_is_not_printed reply printed full.reply_is)
     | inr whole ↦ whole_more see opening base session reply old new whole
   ]
 
@@ -112,7 +112,7 @@ module _ {session : ℕ} {reply : Reply} {places : List ℕ} {es : List Entry} {
 -- it has made a save more
 pub save_made : (session : ℕ) (filters : List FilterState) (lines : List Line) (reply : Reply) (places : List ℕ) (es : List Entry)
     (places_then : List ℕ) (es_then : List Entry)
-    → HasMade session filters lines places es → IsSaveMore session reply places es places_then es_then → is_unprinted reply ≡ false
+    → HasMade session filters lines places es → IsSaveMore session reply places es places_then es_then → IsPrinted reply
     → HasMade session filters (lines ++ save ∷ []) places_then es_then
 save_made session filters lines reply places es places_then es_then made more printed =
     let s = start_more session more.index more.version in

@@ -23,6 +23,7 @@ module _ {K : Type 0} {C : Ghosts (State K) (Moment K)} {X : Type 0} {H : X → 
       (players : List (Player (Seat K C) X H)) (own : Seat K C) : Type 0 where
     pub seat : IsSeatOf studio own
     pub stays : known_by own ≡ known_by before
+    pub job : job_out own ≡ job_out before
     pub weight : weight_of own + length all ≡ weight_of before + length left
     pub count : length players + length left ≡ length all
     pub seated : (rest : List (Player (Seat K C) X H)) → AreSeated studio (front_of before) left rest
@@ -35,6 +36,7 @@ module _ {K : Type 0} {C : Ghosts (State K) (Moment K)} {X : Type 0} {H : X → 
       (subst (λ (ps : List (Player (Seat K C) X H)). AreSeating studio own all all ps own) (sym none) (record {
         seat = seat;
         stays = refl;
+        job = refl;
         weight = refl;
         count = omega arith;
         seated = λ rest seated. seated;
@@ -47,10 +49,11 @@ module _ {K : Type 0} {C : Ghosts (State K) (Moment K)} {X : Type 0} {H : X → 
     seating_weight enough = let was = up.weight in let longer = ap length turn in omega (arith, was, longer, enough)
 
     pub seating_more : (new : Seat K C) (p : Player (Seat K C) X H) (more : List (Player (Seat K C) X H))
-        → more ≡ players ++ p ∷ [] → IsSeatOf studio new → known_by new ≡ known_by own → weight_of new + 1 ≡ weight_of own
+        → more ≡ players ++ p ∷ [] → IsSeatOf studio new → known_by new ≡ known_by own → job_out new ≡ job_out own
+        → weight_of new + 1 ≡ weight_of own
         → p.part ≡ part → IsSeatOf studio p.seat → front_of p.seat ≡ front_of own → made_of p.seat ≡ [] → weight_of p.seat ≡ 1
-        → p.digests.items ≡ [] → AreSeating studio before all rest more new
-    seating_more new p more longer seat stays lighter part_is own_seat front none light blank =
+        → job_out p.seat ≡ None → p.digests.items ≡ [] → AreSeating studio before all rest more new
+    seating_more new p more longer seat stays job lighter part_is own_seat front none light free blank =
         let was = up.weight in
         let many = up.count in
         let one = ap length turn in
@@ -61,6 +64,7 @@ module _ {K : Type 0} {C : Ghosts (State K) (Moment K)} {X : Type 0} {H : X → 
           front_is = front ∙ ap (λ (k : Known K). k.front) up.stays;
           none = none;
           light = light;
+          free = free;
           blank = blank;
         } in
         let whole : (others : List (Player (Seat K C) X H)) → AreSeated studio (front_of before) rest others
@@ -70,6 +74,7 @@ module _ {K : Type 0} {C : Ghosts (State K) (Moment K)} {X : Type 0} {H : X → 
         record {
           seat = seat;
           stays = stays ∙ up.stays;
+          job = job ∙ up.job;
           weight = omega (arith, was, one, lighter);
           count = omega (arith, many, one, grown);
           seated = λ others seated. subst (λ (ps : List (Player (Seat K C) X H)). AreSeated studio (front_of before) all ps)

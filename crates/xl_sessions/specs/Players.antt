@@ -1,10 +1,11 @@
 -- The sessions and the workers of a run: what they bring, their seats, and what they have made.
-use Rattle.std.specs.Prelude.{◌≡◌, ℕ, ◌<◌, ◌≤◌, true, false, List, [], length, map, option_map, Some, None, slice_get}
-use Rattle.std.specs.Prelude.{unwrap_or, string_bytes, vec_capacity, Vec}
+use Rattle.std.specs.Prelude.{◌≡◌, ℕ, ◌+◌, ◌<◌, ◌≤◌, true, false, List, [], length, map, option_map, Some, None, slice_get}
+use Rattle.std.specs.Prelude.{unwrap_or, is_none, string_bytes, vec_capacity, Vec}
 use Rattle.std.specs.List.{AllByRecursion, AllZip}
 use Rattle.std.specs.declared.alloc.Global.{Global}
 use mathlib.Core.List.{IsPrefix}
 use Rattle.spec_filters.specs.declared.FilterState.{FilterState}
+use Rattle.spec_history.specs.Calls.{most_entries}
 use Rattle.spec_history.specs.History.{latest_of}
 use Rattle.spec_script.specs.Script.{Line}
 use Rattle.spec_script.specs.Fits.{AreFit}
@@ -15,6 +16,7 @@ use Rattle.spec_tables.specs.Agrees.{Agrees}
 use Rattle.xl_filters.specs.Chests.{states}
 use Rattle.xl_filters.specs.declared.chest.Slot.{Slot}
 use Rattle.xl_script.specs.Lines.{lines_of}
+use Rattle.xl_sessions.specs.Full.{most_made, IsStoppedAtFull}
 use Rattle.xl_sessions.specs.Outcomes.{FromFirst, IsOutcome}
 use Rattle.spec_script.specs.Script.{list_at}
 use Rattle.xl_sessions.specs.Playing.{HasAll}
@@ -22,13 +24,15 @@ use Rattle.xl_sessions.specs.declared.players.Part.{Part}
 use Rattle.xl_sessions.specs.declared.players.Player.{Player}
 use Rattle.xl_sessions.specs.declared.players.Worker.{Worker}
 use Rattle.xl_sessions.specs.declared.players.Room.{Room}
+use Rattle.xl_sessions.specs.declared.unplayed.Unplayed.TheVariants.{HistoryFull}
 use Rattle.xl_studio.specs.declared.moment.Moment.{Moment}
 use Rattle.xl_studio.specs.declared.seat.Seat.{Seat}
 use Rattle.xl_studio.specs.declared.seat.Studio.{Studio}
 use Rattle.xl_studio.specs.Jobs.{job_out}
 use Rattle.xl_studio.specs.Moments.{entries_in}
-use Rattle.xl_studio.specs.Seats.{base_of, front_of, made_of, weight_of, IsSeatOf}
+use Rattle.xl_studio.specs.Seats.{base_of, front_of, known_by, made_of, weight_of, IsSeatOf}
 use Rattle.xl_studio.specs.State.{State}
+use Rattle.xl_turn.specs.Sums.{total}
 use Rattle.xl_turn.specs.declared.view.Chronicle.{Ghosts}
 
 -- the boxes of a session, none past the last list
@@ -65,6 +69,14 @@ module _ {X : Type 0} {H : X → Type 0} where
     pub all : HasAll (states state p.desk.chest)
     pub fit : AreFit (length (states state p.desk.chest)) [] (lines_of p.lines.items)
 
+  -- how many entries the lines of a part make at most
+  abbrev pub most_of : Part X H → ℕ
+  most_of p = most_made (lines_of p.lines.items)
+
+  -- they are no more than a history may have
+  abbrev pub HaveFewCalls : List (Part X H) → Type 0
+  HaveFewCalls ps = total most_of ps ≤ most_entries
+
   abbrev pub AreFitParts : (state : Slot X H → FilterState) → List (Part X H) → Type 0
   AreFitParts state ps = FromFirst (IsFitPart state) 0 ps
 
@@ -81,13 +93,14 @@ module _ {K : Type 0} {C : Ghosts (State K) (Moment K)} {X : Type 0} {H : X → 
   abbrev pub weight_in : Player (Seat K C) X H → ℕ
   weight_in p = weight_of p.seat
 
-  -- the part with a seat that knows this front and has made nothing
+  -- the part with a seat that knows this front, has made nothing and has no job out
   pub record IsSeated (studio : Studio K) (front : List (Moment K)) (part : Part X H) (p : Player (Seat K C) X H) : Type 0 where
     pub part_is : p.part ≡ part
     pub seat : IsSeatOf studio p.seat
     pub front_is : front_of p.seat ≡ front
     pub none : made_of p.seat ≡ []
     pub light : weight_of p.seat ≡ 1
+    pub free : job_out p.seat ≡ None
     pub blank : p.digests.items ≡ []
 
   abbrev pub AreSeated : Studio K → (front : List (Moment K)) → List (Part X H) → List (Player (Seat K C) X H) → Type 0
@@ -98,21 +111,25 @@ module _ {K : Type 0} {C : Ghosts (State K) (Moment K)} {X : Type 0} {H : X → 
     pub below : p.part.session < 8
     pub seat : IsSeatOf studio p.seat
     pub none : made_of p.seat ≡ []
+    pub free : job_out p.seat ≡ None
     pub unchanged : latest_of (entries_in (front_of p.seat)) ≡ 0
     pub all : HasAll (states state p.part.desk.chest)
     pub fit : AreFit (length (states state p.part.desk.chest)) [] (lines_of p.part.lines.items)
     pub blank : map string_bytes p.digests.items ≡ []
 
-  -- What the session has made is its own, and its saves have ended. Where it is done, that is what its part says, and it has the
-  -- digests of what it was shown.
+  -- What the session has made is its own, no more than its lines make, and its saves have ended. Where it did not stop, that is what
+  -- its part says, and it has the digests of what it was shown. Where it found the history full, that is known.
   pub record HasPlayed (state : Slot X H → FilterState) (studio : Studio K) (part : Part X H) (weight : ℕ)
       (p : Player (Seat K C) X H) : Type 0 where
     pub seat : IsSeatOf studio p.seat
     pub weight_is : weight_of p.seat ≡ weight
+    pub free : job_out p.seat ≡ None
     pub of : IsOf part.session (made_of p.seat) (entries_in (front_of p.seat))
-    pub made : p.done ≡ true → (filters : List FilterState) → Agrees (states state part.desk.chest) filters
+    pub count : length (made_of p.seat) ≤ most_of part
+    pub full : p.stopped ≡ Some HistoryFull → IsStoppedAtFull (lines_of part.lines.items) (known_by p.seat)
+    pub made : is_none p.stopped ≡ true → (filters : List FilterState) → Agrees (states state part.desk.chest) filters
         → HasMade part.session filters (lines_of part.lines.items) (made_of p.seat) (entries_in (front_of p.seat))
-    pub told : p.done ≡ true → shown_of p ≡ digests_in (base_of studio) (entries_in (front_of p.seat))
+    pub told : is_none p.stopped ≡ true → shown_of p ≡ digests_in (base_of studio) (entries_in (front_of p.seat))
         (picked (made_of p.seat) (entries_in (front_of p.seat)))
 
   -- a player before and after its lines
@@ -129,6 +146,7 @@ module _ {K : Type 0} {C : Ghosts (State K) (Moment K)} {X : Type 0} {H : X → 
   pub record IsOfSession (studio : Studio K) (session : ℕ) (p : Player (Seat K C) X H) : Type 0 where
     pub seat : IsSeatOf studio p.seat
     pub light : weight_of p.seat ≡ 1
+    pub free : job_out p.seat ≡ None
     pub of : IsOf session (made_of p.seat) (entries_in (front_of p.seat))
 
   abbrev pub AreOfSessions : Studio K → List (Player (Seat K C) X H) → Type 0
@@ -140,16 +158,28 @@ module _ {K : Type 0} {C : Ghosts (State K) (Moment K)} {X : Type 0} {H : X → 
   HaveOutcomes studio chests lists players =
       FromFirst
       (λ session p. IsOutcome (base_of studio) session (list_at chests session) (list_at lists session)
-      (entries_in (front_of p.seat)) (made_of p.seat) (shown_of p) p.done) 0 players
+      (entries_in (front_of p.seat)) (made_of p.seat) (shown_of p) (is_none p.stopped)) 0 players
 
   abbrev pub HaveSomeOutcomes : Studio K → List (Player (Seat K C) X H) → Type 0
   HaveSomeOutcomes studio players =
       (chests : List (List FilterState)) × (lists : List (List Line)) × HaveOutcomes studio chests lists players
 
+  -- how many entries a session has made
+  abbrev pub count_of : Player (Seat K C) X H → ℕ
+  count_of p = length (places_of p)
+
+  -- where a session found no room for two entries, the sessions have made two fewer than a history may have
+  abbrev pub LeaveRoom : List (Player (Seat K C) X H) → Type 0
+  LeaveRoom players =
+      AllByRecursion
+      (λ p. p.stopped ≡ Some HistoryFull
+      → (total count_of players + 2 ≤ most_entries) × (most_entries < length (entries_in (front_of p.seat)) + 2)) players
+
   -- ---- joined
 
+  -- seats of the studio, none of which has a job out
   abbrev pub AreSeats : Studio K → List (Player (Seat K C) X H) → Type 0
-  AreSeats studio players = AllByRecursion (λ p. IsSeatOf studio p.seat) players
+  AreSeats studio players = AllByRecursion (λ p. IsSeatOf studio p.seat × (job_out p.seat ≡ None)) players
 
   -- what each seat knows begins this front
   abbrev pub AreKnown : (front : List (Moment K)) → List (Player (Seat K C) X H) → Type 0

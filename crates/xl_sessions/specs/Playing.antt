@@ -1,9 +1,8 @@
 -- What a line of a session makes.
-use Rattle.std.specs.Prelude.{◌≡◌, ℕ, ◌<◌, Bool, true, false, if◌then◌else◌, List, [], ◌∷◌, length, slice_set, Option, None, IsTrue}
+use Rattle.std.specs.Prelude.{◌≡◌, ℕ, ◌<◌, Bool, true, if◌then◌else◌, List, [], ◌∷◌, length, slice_set, Option, None, IsTrue}
 use Rattle.spec_document.specs.Document.{Document}
 use Rattle.spec_filters.specs.declared.FilterState.{FilterState}
 use Rattle.spec_filters.specs.Slots.{has_slot}
-use Rattle.spec_history.specs.Machine as machine
 use Rattle.spec_history.specs.Machine.{Call, Reply, tile_of}
 use Rattle.spec_history.specs.Calls.{IsCall}
 use Rattle.spec_history.specs.History.{asked, latest_of}
@@ -20,6 +19,7 @@ use Rattle.xl_studio.specs.Moments.{entries_in}
 use Rattle.xl_studio.specs.Seats.{history_of}
 use Rattle.spec_seats.specs.Digests.{asks_tile}
 use Rattle.xl_studio.specs.Saving.{IsSaved}
+use Rattle.xl_sessions.specs.Printing.{IsPrinted}
 
 -- ---- the filters
 
@@ -40,24 +40,6 @@ abbrev pub said : (asks : Bool) → Reply → (bytes : List ℕ) → List (List 
 said asks (tile_of version) bytes = if asks then digest_of bytes ∷ [] else []
 said asks reply bytes = []
 
--- a run with such a reply prints nothing
-abbrev pub is_unprinted : Reply → Bool
-is_unprinted (machine.changed version group next) = false
-is_unprinted (machine.refused index cause) = false
-is_unprinted (machine.moved now) = false
-is_unprinted machine.nothing_to_undo = false
-is_unprinted machine.nothing_to_redo = false
-is_unprinted (machine.not_top top) = false
-is_unprinted (tile_of version) = false
-is_unprinted (machine.stale have seen) = false
-is_unprinted (machine.no_stack node) = false
-is_unprinted machine.outside_tile = false
-is_unprinted (machine.top_is group version) = false
-is_unprinted (machine.saved version) = false
-is_unprinted (machine.save_fault version) = false
-is_unprinted (machine.save_memory version) = true
-is_unprinted machine.history_full = true
-
 -- ---- a line
 
 module _ {K : Type 0} where
@@ -67,7 +49,7 @@ module _ {K : Type 0} where
     pub reply : Reply
     pub called : (filters : List FilterState) → Agrees before filters
         → IsCalled base session c (expected_tables filters (asked c []) reply) reply old new
-    pub printed : is_unprinted reply ≡ false
+    pub printed : IsPrinted reply
     pub fresh : IsFreshReply (latest_of (entries_in old.front)) reply
     pub used : IsAfter before after c reply
     pub bytes : List ℕ
@@ -78,7 +60,7 @@ module _ {K : Type 0} where
   pub record IsSaveMade (see : K → shelves.Known) (opening : K) (base : Document) (session : ℕ) (old new : Known K) : Type 0 where
     pub reply : Reply
     pub saved : IsSaved see opening base session reply old new
-    pub printed : is_unprinted reply ≡ false
+    pub printed : IsPrinted reply
 
   -- what a line of the script makes, and the digests that are said of it
   abbrev pub IsLineMade : (see : K → shelves.Known) → (opening : K) → (base : Document) → (session : ℕ) → Line

@@ -10,15 +10,18 @@ ghost use Rattle.spec_seats.specs.Ended.{AreEnded};
 ghost use Rattle.spec_text.specs.Text.{IsTextOf, printed};
 ghost use Rattle.spec_world.specs.Right.{IsRight};
 ghost use Rattle.std.specs.List.{AllByRecursion};
-ghost use Rattle.std.specs.Prelude.{◌≡◌, ℕ, true, ◌+◌, ◌<◌, ◌≤◌, ◌^◌, List, [], length, map, IfOk, IsSome};
+ghost use Rattle.std.specs.Prelude.{◌≡◌, ℕ, true, ◌+◌, ◌<◌, ◌≤◌, ◌^◌, List, [], length, map, None, is_none, IfOk, IsSome};
 ghost use Rattle.std.specs.Prelude.{string_bytes, vec_capacity};
 ghost use Rattle.xl_core.specs.Editing.{world};
 ghost use Rattle.xl_script.specs.Lines.{lists_of};
+ghost use Rattle.xl_sessions.specs.Full.{IsNotFull};
 ghost use Rattle.xl_sessions.specs.Outcomes.{states_of, texts_of};
 ghost use Rattle.spec_script.specs.Script.{list_at};
 ghost use Rattle.xl_sessions.specs.Players.{in_slots, AreBrought, AreOfAScript, HaveSomeOutcomes, AreFitParts};
-ghost use Rattle.xl_sessions.specs.Players.{AreOfSessions, HaveOutcomes, HavePlayed, HasRoom, HasWorked};
+ghost use Rattle.xl_sessions.specs.Players.{AreOfSessions, HaveFewCalls, HaveOutcomes, HavePlayed, HasRoom, HasWorked};
+ghost use Rattle.xl_sessions.specs.Players.{LeaveRoom};
 ghost use Rattle.xl_sessions.specs.Printing.{IsPrinted};
+ghost use Rattle.xl_studio.specs.Jobs.{job_out};
 ghost use Rattle.xl_studio.specs.Moments.{entries_in};
 ghost use Rattle.xl_studio.specs.Seats.{base_of, opening_shelf, front_of, made_of, weight_of, IsSeatOf};
 
@@ -27,6 +30,7 @@ use crate::players::{Part, Player, Room, Worker};
 use crate::printing::print_history;
 use crate::seating::{room_for, seat_players, seat_workers};
 use crate::threads::run;
+use crate::unplayed::Unplayed;
 use std::alloc::{AllocError, Global};
 use std::sync::Wait;
 use std::thread::Threads;
@@ -36,7 +40,7 @@ use xl_ports::{Gate, Shelf};
 use xl_script::Script;
 use xl_studio::{Seat, Studio};
 
-/// The core after all sessions of a script, and the text that is printed of them, unless memory ran out or the history was full.
+/// The core after all sessions of a script, and the text that is printed of them, unless memory ran out.
 #[derive(Drop)]
 pub struct PlayedBeside<D: Shelf> {
     pub core: Core<D>,
@@ -67,6 +71,7 @@ fn play_seated<R: Threads + Wait + Sync, D: Shelf, G: Gate>(
     requires room_for_workers { number ≤ vec_capacity workers.old }
     ensures own { IsSeatOf studio.now own.new }
     ensures made { made_of own.new ≡ made_of own.old }
+    ensures job { job_out own.new ≡ job_out own.old }
     ensures weight { weight_of own.new + 8 + number ≡ weight_of own.old }
     ensures played { HavePlayed (in_slots state) studio.now parts.items players.new.items }
     ensures worked { AllByRecursion (HasWorked studio.now) workers.new.items }
@@ -85,25 +90,27 @@ fn play_seated<R: Threads + Wait + Sync, D: Shelf, G: Gate>(
     );
 }
 
-// The text of a history, where all lines were played.
+// The text of a history, where all lines were played: no session may have found the history full.
 fn text_of(
     alloc: Global,
-    all: bool,
+    stopped: Option<Unplayed>,
     entries: &[Entry],
     digests: &[Vec<String>],
 ) -> Result<String, AllocError>
-    requires { all ≡ true → AllByRecursion (λ e. IsPrinted e.reply) entries.now }
-    ensures all { IfOk result (λ text. all ≡ true) }
-    ensures text { (base : Document) → all ≡ true → IsLegal base entries.now
+    requires not_full { IsNotFull stopped }
+    requires printed { is_none stopped ≡ true → AllByRecursion (λ e. IsPrinted e.reply) entries.now }
+    ensures all { IfOk result (λ text. is_none stopped ≡ true) }
+    ensures text { (base : Document) → is_none stopped ≡ true → IsLegal base entries.now
         → ((session : ℕ) → session < 8 → AreEnded (mine entries.now session))
         → ((session : ℕ) → session < 8
         → list_at (texts_of digests.now) session ≡ digests_in base entries.now (mine entries.now session))
         → IfOk result (λ text. string_bytes text ≡ printed base entries.now) }
 {
-    if !all {
-        return Err(AllocError);
+    match stopped {
+        None => print_history(alloc, entries, digests),
+        Some(Unplayed::Memory) => Err(AllocError),
+        Some(Unplayed::HistoryFull) => unreachable!(),
     }
-    print_history(alloc, entries, digests)
 }
 
 // Joins the seats, and takes the studio apart.
@@ -117,10 +124,12 @@ fn finish<D: Shelf>(
 ) -> PlayedBeside<D>
     requires own { IsSeatOf studio own }
     requires none { made_of own ≡ [] }
+    requires free { job_out own ≡ None }
     requires weight { weight_of own + 8 + length workers.items ≡ 2 ^ 32 }
     requires eight { length players.items ≡ 8 }
     requires players { AreOfSessions studio players.items }
     requires outcomes { HaveSomeOutcomes studio players.items }
+    requires room { LeaveRoom players.items }
     requires workers { AllByRecursion (HasWorked studio) workers.items }
     requires none_shown { digests.items ≡ [] }
     requires capacity { 8 ≤ vec_capacity digests }
@@ -132,11 +141,11 @@ fn finish<D: Shelf>(
         → HaveOutcomes studio chests lists players.items
         → IfOk result.text (λ text. IsTextOf (string_bytes text) (base_of studio) lists chests result.core.history.entries) }
 {
-    let all = join_players(&studio, &mut own, players, &mut digests);
+    let stopped = join_players(&studio, &mut own, players, &mut digests);
     join_workers(&studio, &mut own, workers);
     let core = studio.close(own);
     core.know_shelf();
-    let text = text_of(alloc, all, core.entries(), digests.as_slice());
+    let text = text_of(alloc, stopped, core.entries(), digests.as_slice());
     PlayedBeside { core, text }
 }
 
@@ -152,11 +161,13 @@ fn play_opened<R: Threads + Wait + Sync, D: Shelf, G: Gate>(
 ) -> PlayedBeside<D>
     requires own { IsSeatOf studio own }
     requires none { made_of own ≡ [] }
+    requires free { job_out own ≡ None }
     requires weight { weight_of own ≡ 2 ^ 32 }
     requires unchanged { latest_of (entries_in (front_of own)) ≡ 0 }
     requires few { number ≤ 8 }
     requires fit { AreFitParts (in_slots state) room.parts.items }
     requires script { AreOfAScript (in_slots state) room.parts.items }
+    requires calls { HaveFewCalls room.parts.items }
     requires room { HasRoom number room }
     ensures base { result.core.history.base ≡ base_of studio }
     ensures opening { result.core.opening ≡ opening_shelf studio }
@@ -203,6 +214,7 @@ fn play_in<R: Threads + Wait + Sync, D: Shelf, G: Gate>(
     requires few { number ≤ 8 }
     requires fit { AreFitParts (in_slots state) room.parts.items }
     requires script { AreOfAScript (in_slots state) room.parts.items }
+    requires calls { HaveFewCalls room.parts.items }
     requires room { HasRoom number room }
     ensures base { result.core.history.base ≡ core.history.base }
     ensures opening { result.core.opening ≡ core.opening }
@@ -225,8 +237,9 @@ fn play_in<R: Threads + Wait + Sync, D: Shelf, G: Gate>(
 /// marked tiles up to date. Answers the printed text: the lines of each session, and the order line.
 ///
 /// `chest` holds the filters of each session, those of session 0 first. Where a thread cannot be made the sessions are played one
-/// after another. A session ends early where memory runs out for it, or the history is full, and then there is no text; a worker
-/// ends where memory runs out for it. All saves that were started have ended in any case, and the shelf is in.
+/// after another. A session ends early where memory runs out for it, and then there is no text; a worker ends where memory runs out
+/// for it. No session finds the history full, since a script has at most half as many calls and saves as a history may have entries.
+/// All saves that were started have ended in any case, and the shelf is in.
 pub fn play_beside<R: Threads + Wait + Sync, D: Shelf, G: Gate>(
     rt: &R,
     alloc: Global,

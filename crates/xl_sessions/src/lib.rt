@@ -10,9 +10,11 @@ mod printing;
 mod seating;
 mod session;
 mod threads;
+mod unplayed;
 
 pub use beside::{PlayedBeside, play_beside};
 pub use desk::desk_of;
 pub use played::play_session;
 pub use printing::{each_entry_is_printed, order_words, print_history};
 pub use seating::first_boxes;
+pub use unplayed::Unplayed;

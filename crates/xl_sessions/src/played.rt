@@ -1,5 +1,5 @@
 //! The lines of one session over a studio.
-ghost use Rattle.std.specs.Prelude.{◌≡◌, ◌<◌, List, [], length, map, OnOk, string_bytes};
+ghost use Rattle.std.specs.Prelude.{◌≡◌, ◌<◌, ◌≤◌, List, [], length, map, IfErr, OnOk, string_bytes};
 ghost use mathlib.Core.List.{IsPrefix};
 ghost use Rattle.spec_filters.specs.declared.FilterState.{FilterState};
 ghost use Rattle.spec_history.specs.History.{latest_of};
@@ -10,12 +10,16 @@ ghost use Rattle.spec_seats.specs.Picked.{picked};
 ghost use Rattle.spec_tables.specs.Agrees.{Agrees};
 ghost use Rattle.xl_filters.specs.Chests.{states_in};
 ghost use Rattle.xl_script.specs.Lines.{lines_of};
+ghost use Rattle.xl_studio.specs.Jobs.{job_out};
 ghost use Rattle.xl_studio.specs.Moments.{entries_in};
-ghost use Rattle.xl_studio.specs.Seats.{base_of, front_of, made_of, weight_of, IsSeatOf};
+ghost use Rattle.xl_studio.specs.Seats.{base_of, front_of, known_by, made_of, weight_of, IsSeatOf};
+ghost use Rattle.xl_sessions.specs.Full.{most_made, IsStoppedAtFull};
 ghost use Rattle.xl_sessions.specs.Playing.{HasAll};
+ghost use Rattle.xl_sessions.specs.declared.unplayed.Unplayed.TheVariants.{HistoryFull};
 
 use crate::session::play_line;
-use std::alloc::{AllocError, Global};
+use crate::unplayed::Unplayed;
+use std::alloc::Global;
 use std::marker::Brand;
 use std::sync::Wait;
 use std::sync::ledger::{Blank, Ledger};
@@ -38,7 +42,7 @@ fn play_lines<W: Wait, L: Ledger, D: Shelf, G: Gate>(
     seat: &mut Seat<D>,
     digests: &mut Vec<String>,
     blank: Blank,
-) -> Result<(), AllocError>
+) -> Result<(), Unplayed>
     requires name { blank.name ≡ L.name }
     requires parts { blank.parts ≡ L.parts }
     requires some { 0 < blank.parts }
@@ -52,6 +56,7 @@ fn play_lines<W: Wait, L: Ledger, D: Shelf, G: Gate>(
 
     ensures seat { IsSeatOf studio.now seat.new }
     ensures weight { weight_of seat.new ≡ weight_of seat.old }
+    ensures job { job_out seat.new ≡ job_out seat.old }
     ensures begins { IsPrefix (front_of seat.old) (front_of seat.new) }
     ensures of { IsOf session (made_of seat.new) (entries_in (front_of seat.new)) }
 
@@ -60,6 +65,8 @@ fn play_lines<W: Wait, L: Ledger, D: Shelf, G: Gate>(
     ensures told { OnOk result (map string_bytes digests.new.items
         ≡ digests_in (base_of studio.now) (entries_in (front_of seat.new))
         (picked (made_of seat.new) (entries_in (front_of seat.new)))) }
+    ensures count { length (made_of seat.new) ≤ most_made (lines_of lines.items) }
+    ensures full { IfErr result (λ why. why ≡ HistoryFull → IsStoppedAtFull (lines_of lines.items) (known_by seat.new)) }
 {
     let mut steps = Steps::<L>::new(blank);
     for line in lines {
@@ -73,7 +80,8 @@ fn play_lines<W: Wait, L: Ledger, D: Shelf, G: Gate>(
 /// Makes what the lines of a session say, one after another, and passes the gate before and after each call.
 ///
 /// `digests` becomes the list of the digests of the tiles that the session was shown, in order. It stops where memory runs out, for
-/// a line or for the file of a save, and where the history is full; each save that it started has ended then too.
+/// a line or for the file of a save, and where the history has no room for a call or a save; each save that it started has ended
+/// then too. It makes at most two entries for each call or save of its lines.
 ///
 /// What the seat knows may name no change yet: a session is never shown less than what its seat knows, and has seen nothing before
 /// its first call.
@@ -87,7 +95,7 @@ pub fn play_session<W: Wait, D: Shelf, G: Gate>(
     desk: &mut Desk,
     seat: &mut Seat<D>,
     digests: &mut Vec<String>,
-) -> Result<(), AllocError>
+) -> Result<(), Unplayed>
     requires seat { IsSeatOf studio.now seat.old }
     requires session { session < 8 }
     requires none { made_of seat.old ≡ [] }
@@ -98,6 +106,7 @@ pub fn play_session<W: Wait, D: Shelf, G: Gate>(
 
     ensures seat { IsSeatOf studio.now seat.new }
     ensures weight { weight_of seat.new ≡ weight_of seat.old }
+    ensures job { job_out seat.new ≡ job_out seat.old }
     ensures begins { IsPrefix (front_of seat.old) (front_of seat.new) }
     ensures of { IsOf session (made_of seat.new) (entries_in (front_of seat.new)) }
 
@@ -106,6 +115,8 @@ pub fn play_session<W: Wait, D: Shelf, G: Gate>(
     ensures told { OnOk result (map string_bytes digests.new.items
         ≡ digests_in (base_of studio.now) (entries_in (front_of seat.new))
         (picked (made_of seat.new) (entries_in (front_of seat.new)))) }
+    ensures count { length (made_of seat.new) ≤ most_made (lines_of lines.items) }
+    ensures full { IfErr result (λ why. why ≡ HistoryFull → IsStoppedAtFull (lines_of lines.items) (known_by seat.new)) }
 {
     play_lines::<W, Brand, D, G>(
         rt,

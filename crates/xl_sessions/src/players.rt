@@ -1,4 +1,5 @@
 //! What each session and each worker of a run has for itself.
+use crate::unplayed::Unplayed;
 use xl_core::Desk;
 use xl_script::Line;
 
@@ -17,8 +18,8 @@ pub(crate) struct Player<S> {
     pub(crate) seat: S,
     // The digests of the tiles that it was shown.
     pub(crate) digests: Vec<String>,
-    // Whether all its lines were played.
-    pub(crate) done: bool,
+    // Why it ended before its last line.
+    pub(crate) stopped: Option<Unplayed>,
 }
 
 /// A worker with its seat, of the type `S`.

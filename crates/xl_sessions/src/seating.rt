@@ -5,6 +5,7 @@ ghost use Rattle.std.specs.Prelude.{◌≡◌, ◌+◌, ◌<◌, ◌≤◌, ◌^
 ghost use Rattle.xl_script.specs.Lines.{lists_of};
 ghost use Rattle.xl_sessions.specs.Players.{boxes_at, AreBrought, AreFitParts, AreSeated, AreFree, AreNumbered, HasRoom};
 ghost use Rattle.xl_sessions.specs.Outcomes.{states_of};
+ghost use Rattle.xl_studio.specs.Jobs.{job_out};
 ghost use Rattle.xl_studio.specs.Seats.{front_of, known_by, weight_of, IsSeatOf};
 
 use crate::desk::desk_of;
@@ -100,6 +101,7 @@ pub(crate) fn seat_players<D: Shelf>(
     requires capacity { length parts.items ≤ vec_capacity players.old }
     ensures own { IsSeatOf studio.now own.new }
     ensures stays { known_by own.new ≡ known_by own.old }
+    ensures job { job_out own.new ≡ job_out own.old }
     ensures lighter { weight_of own.new + length parts.items ≡ weight_of own.old }
     ensures seated { AreSeated studio.now (front_of own.old) parts.items players.new.items }
 {
@@ -109,7 +111,7 @@ pub(crate) fn seat_players<D: Shelf>(
             part,
             seat,
             digests: Vec::new(alloc),
-            done: false,
+            stopped: None,
         });
     }
 }
@@ -127,6 +129,7 @@ pub(crate) fn seat_workers<D: Shelf>(
     requires capacity { number ≤ vec_capacity workers.old }
     ensures own { IsSeatOf studio.now own.new }
     ensures stays { known_by own.new ≡ known_by own.old }
+    ensures job { job_out own.new ≡ job_out own.old }
     ensures lighter { weight_of own.new + number ≡ weight_of own.old }
     ensures free { AreFree studio.now workers.new.items }
     ensures numbers { AreNumbered workers.new.items }

@@ -1,12 +1,14 @@
-ghost use Rattle.std.specs.Prelude.{◌≡◌, ℕ, ◌<◌, [], ◌++◌, map, IfOk, OnOk, List, string_bytes};
+ghost use Rattle.std.specs.Prelude.{◌≡◌, ℕ, ◌<◌, true, [], ◌∷◌, ◌++◌, map, IfOk, IfErr, OnOk, List, string_bytes};
 ghost use mathlib.Core.List.{IsPrefix};
 ghost use Rattle.spec_filters.specs.declared.FilterState.{FilterState};
 ghost use Rattle.spec_history.specs.Calls.{IsCall};
 ghost use Rattle.spec_history.specs.History.{asked, latest_of};
 ghost use Rattle.spec_history.specs.Kept.{IsFreshReply};
 ghost use Rattle.spec_history.specs.Limited.{edits_of};
+ghost use Rattle.spec_history.specs.Machine.{history_full};
 ghost use Rattle.spec_tables.specs.Agrees.{Agrees, AreThere, IsAfter};
 ghost use Rattle.spec_tables.specs.Tables.{expected_tables};
+ghost use Rattle.spec_text.specs.Text.{is_save_memory};
 ghost use Rattle.xl_core.specs.Editing.{known};
 ghost use Rattle.xl_standing.specs.History.{Shows};
 ghost use Rattle.xl_edit.specs.Calls.{call_of};
@@ -14,13 +16,18 @@ ghost use Rattle.xl_edit.specs.Replies.{reply_of};
 ghost use Rattle.xl_filters.specs.Chests.{states_in};
 ghost use Rattle.xl_script.specs.Lines.{line_of};
 ghost use Rattle.xl_studio.specs.Calling.{IsCalled};
+ghost use Rattle.xl_studio.specs.Jobs.{job_out};
 ghost use Rattle.xl_studio.specs.Moments.{entries_in};
 ghost use Rattle.xl_studio.specs.Seats.{base_of, opening_shelf, history_of, front_of, made_of, weight_of, known_by, IsSeatOf};
 ghost use Rattle.spec_seats.specs.Made.{IsOf};
 ghost use Rattle.xl_studio.specs.Saving.{IsSaved};
-ghost use Rattle.xl_sessions.specs.Playing.{FitsChest, IsCallMade, IsSaveMade, IsLineMade, is_unprinted, said};
+ghost use Rattle.xl_sessions.specs.Full.{most_made, MakesAtMost, FindsFull};
+ghost use Rattle.xl_sessions.specs.Playing.{FitsChest, IsCallMade, IsSaveMade, IsLineMade, said};
+ghost use Rattle.xl_sessions.specs.Printing.{IsPrinted};
+ghost use Rattle.xl_sessions.specs.declared.unplayed.Unplayed.TheVariants.{HistoryFull, Memory};
 
 use crate::printing::asks_tile;
+use crate::unplayed::Unplayed;
 use std::alloc::{AllocError, Global};
 use std::sync::Wait;
 use std::sync::ledger::Ledger;
@@ -34,11 +41,17 @@ use xl_rle::Greedy;
 use xl_script::Line;
 use xl_studio::{Seat, Studio};
 
-// Whether a run with this reply prints nothing.
-fn is_unprinted(reply: &Reply) -> bool
-    ensures { result ≡ is_unprinted (reply_of reply.now) }
+// Why a run with this reply prints nothing, where it prints nothing.
+fn check_printed(reply: &Reply) -> Result<(), Unplayed>
+    ensures printed { OnOk result (IsPrinted (reply_of reply.now)) }
+    ensures full { IfErr result (λ why. why ≡ HistoryFull → reply_of reply.now ≡ history_full) }
+    ensures memory { IfErr result (λ why. why ≡ Memory → is_save_memory (reply_of reply.now) ≡ true) }
 {
-    matches!(reply, Reply::SaveMemory { .. } | Reply::HistoryFull)
+    match reply {
+        Reply::SaveMemory { .. } => Err(Unplayed::Memory),
+        Reply::HistoryFull => Err(Unplayed::HistoryFull),
+        _ => Ok(()),
+    }
 }
 
 // Appends the digest of the tile in the desk, where a tile was asked for and is the reply.
@@ -81,6 +94,7 @@ fn make_call<W: Wait, L: Ledger, D: Shelf, G: Gate>(
 
     ensures seat { IsSeatOf studio.now seat.new }
     ensures weight { weight_of seat.new ≡ weight_of seat.old }
+    ensures job { job_out seat.new ≡ job_out seat.old }
     ensures begins { IsPrefix (front_of seat.old) (front_of seat.new) }
     ensures of { IsOf session (made_of seat.new) (entries_in (front_of seat.new)) }
 
@@ -93,6 +107,8 @@ fn make_call<W: Wait, L: Ledger, D: Shelf, G: Gate>(
         Shows (history_of (base_of studio.now) (front_of seat.new)) (call_of call) (reply_of reply) desk.new.out) }
     ensures chest { IfOk result (λ reply.
         IsAfter (states_in state desk.old.chest) (states_in state desk.new.chest) (call_of call) (reply_of reply)) }
+    ensures count { MakesAtMost 1 (known_by seat.old) (known_by seat.new) }
+    ensures full { IfOk result (λ reply. reply_of reply ≡ history_full → FindsFull (known_by seat.old) (known_by seat.new)) }
 {
     gate.pass(Actor::Session(session), Place::BeforeCall);
     let reply = studio.call(rt, alloc, seat, session, call, desk, steps);
@@ -112,7 +128,7 @@ fn play_call<W: Wait, L: Ledger, D: Shelf, G: Gate>(
     seat: &mut Seat<D>,
     steps: &mut Steps<L>,
     digests: &mut Vec<String>,
-) -> Result<(), AllocError>
+) -> Result<(), Unplayed>
     requires seat { IsSeatOf studio.now seat.old }
     requires session { session < 8 }
     requires call { IsCall (call_of call) }
@@ -121,6 +137,7 @@ fn play_call<W: Wait, L: Ledger, D: Shelf, G: Gate>(
 
     ensures seat { IsSeatOf studio.now seat.new }
     ensures weight { weight_of seat.new ≡ weight_of seat.old }
+    ensures job { job_out seat.new ≡ job_out seat.old }
     ensures begins { IsPrefix (front_of seat.old) (front_of seat.new) }
     ensures of { IsOf session (made_of seat.new) (entries_in (front_of seat.new)) }
 
@@ -128,13 +145,14 @@ fn play_call<W: Wait, L: Ledger, D: Shelf, G: Gate>(
         × (map string_bytes digests.new.items ≡ map string_bytes digests.old.items ++ told)
         × IsCallMade (base_of studio.now) session (call_of call) (states_in state desk.old.chest) (states_in state desk.new.chest)
         (known_by seat.old) (known_by seat.new) told) }
+    ensures count { MakesAtMost 2 (known_by seat.old) (known_by seat.new) }
+    ensures full { IfErr result (λ why. why ≡ HistoryFull → FindsFull (known_by seat.old) (known_by seat.new)) }
 {
     let asks = asks_tile(&call);
     let reply = make_call(rt, alloc, studio, gate, session, call, desk, seat, steps)?;
-    if is_unprinted(&reply) {
-        return Err(AllocError);
-    }
-    say(alloc, asks, &reply, desk, digests)
+    check_printed(&reply)?;
+    say(alloc, asks, &reply, desk, digests)?;
+    Ok(())
 }
 
 // Makes a save of a session, and passes the gate before it and after it.
@@ -152,11 +170,14 @@ fn make_save<W: Wait, D: Shelf, G: Gate>(
 
     ensures seat { IsSeatOf studio.now seat.new }
     ensures weight { weight_of seat.new ≡ weight_of seat.old }
+    ensures job { job_out seat.new ≡ job_out seat.old }
     ensures begins { IsPrefix (front_of seat.old) (front_of seat.new) }
     ensures of { IsOf session (made_of seat.new) (entries_in (front_of seat.new)) }
     ensures saved { IfOk result (λ reply.
         IsSaved (known D.selected D.disk D.reading_faults D.saving_faults) (opening_shelf studio.now) (base_of studio.now) session
         (reply_of reply) (known_by seat.old) (known_by seat.new)) }
+    ensures count { MakesAtMost 2 (known_by seat.old) (known_by seat.new) }
+    ensures full { IfOk result (λ reply. reply_of reply ≡ history_full → FindsFull (known_by seat.old) (known_by seat.new)) }
 {
     gate.pass(Actor::Session(session), Place::BeforeCall);
     let mut coder = Greedy;
@@ -165,7 +186,7 @@ fn make_save<W: Wait, D: Shelf, G: Gate>(
     reply
 }
 
-// Makes a save of a session, which fails as out of memory where its reply has no text.
+// Makes a save of a session, which ends the session where its reply has no text.
 fn play_save<W: Wait, D: Shelf, G: Gate>(
     rt: &W,
     alloc: Global,
@@ -173,24 +194,24 @@ fn play_save<W: Wait, D: Shelf, G: Gate>(
     gate: &G,
     session: u8,
     seat: &mut Seat<D>,
-) -> Result<(), AllocError>
+) -> Result<(), Unplayed>
     requires seat { IsSeatOf studio.now seat.old }
     requires session { session < 8 }
     requires of { IsOf session (made_of seat.old) (entries_in (front_of seat.old)) }
 
     ensures seat { IsSeatOf studio.now seat.new }
     ensures weight { weight_of seat.new ≡ weight_of seat.old }
+    ensures job { job_out seat.new ≡ job_out seat.old }
     ensures begins { IsPrefix (front_of seat.old) (front_of seat.new) }
     ensures of { IsOf session (made_of seat.new) (entries_in (front_of seat.new)) }
     ensures made { OnOk result (
         IsSaveMade (known D.selected D.disk D.reading_faults D.saving_faults) (opening_shelf studio.now) (base_of studio.now)
         session (known_by seat.old) (known_by seat.new)) }
+    ensures count { MakesAtMost 2 (known_by seat.old) (known_by seat.new) }
+    ensures full { IfErr result (λ why. why ≡ HistoryFull → FindsFull (known_by seat.old) (known_by seat.new)) }
 {
     let reply = make_save(rt, alloc, studio, gate, session, seat)?;
-    if is_unprinted(&reply) {
-        return Err(AllocError);
-    }
-    Ok(())
+    check_printed(&reply)
 }
 
 // Makes what a line of a session says.
@@ -205,7 +226,7 @@ pub(crate) fn play_line<W: Wait, L: Ledger, D: Shelf, G: Gate>(
     seat: &mut Seat<D>,
     steps: &mut Steps<L>,
     digests: &mut Vec<String>,
-) -> Result<(), AllocError>
+) -> Result<(), Unplayed>
     requires seat { IsSeatOf studio.now seat.old }
     requires session { session < 8 }
     requires fit { FitsChest (states_in state desk.old.chest) (line_of line) }
@@ -213,6 +234,7 @@ pub(crate) fn play_line<W: Wait, L: Ledger, D: Shelf, G: Gate>(
 
     ensures seat { IsSeatOf studio.now seat.new }
     ensures weight { weight_of seat.new ≡ weight_of seat.old }
+    ensures job { job_out seat.new ≡ job_out seat.old }
     ensures begins { IsPrefix (front_of seat.old) (front_of seat.new) }
     ensures of { IsOf session (made_of seat.new) (entries_in (front_of seat.new)) }
 
@@ -221,6 +243,9 @@ pub(crate) fn play_line<W: Wait, L: Ledger, D: Shelf, G: Gate>(
         × IsLineMade (known D.selected D.disk D.reading_faults D.saving_faults) (opening_shelf studio.now) (base_of studio.now)
         session (line_of line) (states_in state desk.old.chest) (states_in state desk.new.chest)
         (known_by seat.old) (known_by seat.new) told) }
+    ensures count { MakesAtMost (most_made (line_of line ∷ [])) (known_by seat.old) (known_by seat.new) }
+    ensures full { IfErr result (λ why. why ≡ HistoryFull
+        → (most_made (line_of line ∷ []) ≡ 2) × FindsFull (known_by seat.old) (known_by seat.new)) }
 {
     match line {
         Line::Call(call) => play_call(

@@ -4,6 +4,7 @@ ghost use Rattle.std.specs.Prelude.{◌≡◌, ◌<◌};
 ghost use Rattle.std.specs.Thread.{IsSync};
 ghost use Rattle.xl_sessions.specs.Players.{in_slots, CanPlay, Plays, IsFree, HasWorked};
 ghost use Rattle.xl_studio.specs.Calling.{HasHeard};
+ghost use Rattle.xl_studio.specs.Jobs.{job_out};
 ghost use Rattle.xl_studio.specs.Seats.{known_by, weight_of, IsSeatOf};
 
 use crate::played::play_session;
@@ -42,7 +43,7 @@ fn play<W: Wait, D: Shelf, G: Gate>(
         &mut player.seat,
         &mut player.digests,
     );
-    player.done = played.is_ok();
+    player.stopped = played.err();
 }
 
 // Works with steps of its own.
@@ -99,6 +100,7 @@ fn play_all<R: Threads + Wait + Sync, D: Shelf, G: Gate>(
     requires players { AllByRecursion (CanPlay (in_slots state) studio.now) players.old }
     ensures own { IsSeatOf studio.now own.new }
     ensures weight { weight_of own.new ≡ weight_of own.old }
+    ensures job { job_out own.new ≡ job_out own.old }
     ensures heard { HasHeard (known_by own.old) (known_by own.new) }
     ensures played { AllZip (Plays (in_slots state) studio.now) players.old players.new }
 {
@@ -154,6 +156,7 @@ pub(crate) fn run<'a, R: Threads + Wait + Sync, D: Shelf, G: Gate>(
     requires workers { AllByRecursion (IsFree studio.now) workers.old }
     ensures own { IsSeatOf studio.now own.new }
     ensures weight { weight_of own.new ≡ weight_of own.old }
+    ensures job { job_out own.new ≡ job_out own.old }
     ensures heard { HasHeard (known_by own.old) (known_by own.new) }
     ensures played { AllZip (Plays (in_slots state) studio.now) players.old players.new }
     ensures worked { AllByRecursion (HasWorked studio.now) workers.new }
@@ -168,6 +171,7 @@ pub(crate) fn run<'a, R: Threads + Wait + Sync, D: Shelf, G: Gate>(
             requires { IsSync R.row × IsSync G.row × IsSeatOf studio.now own.now
                 × AllByRecursion (CanPlay (in_slots state) studio.now) players.now }
             ensures { IsSeatOf studio.entry.now own.exit.now × (weight_of own.exit.now ≡ weight_of own.entry.now)
+                × (job_out own.exit.now ≡ job_out own.entry.now)
                 × HasHeard (known_by own.entry.now) (known_by own.exit.now)
                 × AllZip (Plays (in_slots state) studio.entry.now) players.entry.now players.exit.now }
         { play_all(rt, alloc, studio, gate, own, players) },

@@ -15,6 +15,7 @@ ghost use Rattle.xl_edit.specs.Edits.{edits_of as edits_meant};
 ghost use Rattle.xl_edit.specs.Replies.{reply_of};
 ghost use Rattle.xl_filters.specs.Chests.{states_in};
 ghost use Rattle.xl_studio.specs.Calling.{IsCalled, HasHeard, IsNoTile, before_last};
+ghost use Rattle.xl_studio.specs.Jobs.{job_out};
 ghost use Rattle.xl_studio.specs.Moments.{entries_in};
 ghost use Rattle.xl_studio.specs.Seats.{base_of, history_of, front_of, weight_of, known_by, IsSeatOf};
 
@@ -50,6 +51,7 @@ impl<D: Shelf> Studio<D> {
 
         ensures seat { IsSeatOf self.now seat.new }
         ensures weight { weight_of seat.new ≡ weight_of seat.old }
+        ensures job { job_out seat.new ≡ job_out seat.old }
         ensures answered { (filters : List FilterState) → Agrees (states_in state desk.old.chest) filters
             → IfOk result (λ reply. IsCalled (base_of self.now) session (call_of call)
             (expected_tables filters (asked (call_of call) []) (reply_of reply)) (reply_of reply) (known_by seat.old)
@@ -100,6 +102,7 @@ impl<D: Shelf> Studio<D> {
 
         ensures seat { IsSeatOf self.now seat.new }
         ensures weight { weight_of seat.new ≡ weight_of seat.old }
+        ensures job { job_out seat.new ≡ job_out seat.old }
         ensures answered { (filters : List FilterState) → Agrees (states_in state desk.old.chest) filters
             → IfOk result (λ reply. IsCalled (base_of self.now) session (machine.edit group.guard (edits_meant group.edits))
             (expected_tables filters (asked (machine.edit group.guard (edits_meant group.edits)) []) (reply_of reply))
@@ -134,6 +137,7 @@ impl<D: Shelf> Studio<D> {
 
         ensures seat { IsSeatOf self.now seat.new }
         ensures weight { weight_of seat.new ≡ weight_of seat.old }
+        ensures job { job_out seat.new ≡ job_out seat.old }
         ensures made { IfOk result (λ reply.
             IsCalled (base_of self.now) session (machine.undo which) [] (reply_of reply) (known_by seat.old) (known_by seat.new)) }
         ensures begins { IsPrefix (front_of seat.old) (front_of seat.new) }
@@ -164,6 +168,7 @@ impl<D: Shelf> Studio<D> {
 
         ensures seat { IsSeatOf self.now seat.new }
         ensures weight { weight_of seat.new ≡ weight_of seat.old }
+        ensures job { job_out seat.new ≡ job_out seat.old }
         ensures made { IfOk result (λ reply.
             IsCalled (base_of self.now) session (machine.redo) [] (reply_of reply) (known_by seat.old) (known_by seat.new)) }
         ensures begins { IsPrefix (front_of seat.old) (front_of seat.new) }
@@ -193,6 +198,7 @@ impl<D: Shelf> Studio<D> {
 
         ensures seat { IsSeatOf self.now seat.new }
         ensures weight { weight_of seat.new ≡ weight_of seat.old }
+        ensures job { job_out seat.new ≡ job_out seat.old }
         ensures made { IfOk result (λ reply.
             IsCalled (base_of self.now) session (machine.top) [] (reply_of reply) (known_by seat.old) (known_by seat.new)) }
         ensures begins { IsPrefix (front_of seat.old) (front_of seat.new) }
@@ -226,6 +232,7 @@ impl<D: Shelf> Studio<D> {
 
         ensures seat { IsSeatOf self.now seat.new }
         ensures weight { weight_of seat.new ≡ weight_of seat.old }
+        ensures job { job_out seat.new ≡ job_out seat.old }
         ensures made { IfOk result (λ reply.
             IsCalled (base_of self.now) session (machine.tile node.0 at) [] (reply_of reply) (known_by seat.old)
             (known_by seat.new)) }
@@ -267,6 +274,7 @@ impl<D: Shelf> Studio<D> {
 
         ensures seat { IsSeatOf self.now seat.new }
         ensures weight { weight_of seat.new ≡ weight_of seat.old }
+        ensures job { job_out seat.new ≡ job_out seat.old }
         ensures made { IfOk result (λ reply.
             IsCalled (base_of self.now) session (machine.peek node.0 at) [] (reply_of reply) (known_by seat.old)
             (known_by seat.new)) }

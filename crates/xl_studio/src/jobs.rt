@@ -1,7 +1,7 @@
 ghost use Rattle.std.specs.Prelude.{◌≡◌, option_map};
 ghost use Rattle.xl_core.specs.Jobs.{says_closing};
 ghost use Rattle.xl_studio.specs.Calling.{HasHeard};
-ghost use Rattle.xl_studio.specs.Jobs.{out_of, out_after};
+ghost use Rattle.xl_studio.specs.Jobs.{job_out, out_of, out_after};
 ghost use Rattle.xl_studio.specs.Seats.{weight_of, known_by, IsSeatOf};
 
 use crate::seat::{Away, Seat, Studio};
@@ -130,6 +130,7 @@ impl<D: Shelf> Studio<D> {
         requires seat { IsSeatOf self.now seat.old }
         ensures seat { IsSeatOf self.now seat.new }
         ensures weight { weight_of seat.new ≡ weight_of seat.old }
+        ensures job { job_out seat.new ≡ job_out seat.old }
         ensures heard { HasHeard (known_by seat.old) (known_by seat.new) }
     {
         let mut held = self.lock.enter(rt, &mut seat.seat);

@@ -77,10 +77,11 @@ impl<D: Shelf> Studio<D> {
     }
 
     /// Joins two seats. The joined one knows the longer front, which both old ones begin, and made what both made. No
-    /// entry is of both. Its tally stays its own.
+    /// entry is of both. Its tally and its job stay its own; the other has no job out, so that none is lost.
     pub fn join(&self, seat: &mut Seat<D>, other: Seat<D>)
         requires seat { IsSeatOf self.now seat.old }
         requires other { IsSeatOf self.now other }
+        requires free { job_out other ≡ None }
         ensures seat { IsSeatOf self.now seat.new }
         ensures front { front_of seat.new ≡ longer (front_of seat.old) (front_of other) }
         ensures begins { IsPrefix (front_of seat.old) (front_of seat.new) }
@@ -88,6 +89,7 @@ impl<D: Shelf> Studio<D> {
         ensures made { made_of seat.new ≡ made_of seat.old ++ made_of other }
         ensures apart { IsApart (made_of seat.old) (made_of other) }
         ensures weight { weight_of seat.new ≡ weight_of seat.old + weight_of other }
+        ensures job { job_out seat.new ≡ job_out seat.old }
         ensures tally { tally_of seat.new ≡ tally_of seat.old }
     {
         let Seat {
@@ -101,10 +103,12 @@ impl<D: Shelf> Studio<D> {
         seat.seen = seat.seen.max(seen);
     }
 
-    /// Takes the studio apart once all other seats were joined. The seat made each entry of the one history, each once.
+    /// Takes the studio apart once all other seats were joined, and no job is out. The seat made each entry of the one history,
+    /// each once.
     pub fn close(self, seat: Seat<D>) -> Core<D>
         requires seat { IsSeatOf self seat }
         requires weight { weight_of seat ≡ 2 ^ 32 }
+        requires free { job_out seat ≡ None }
         ensures base { result.history.base ≡ base_of self }
         ensures opening { result.opening ≡ opening_shelf self }
         ensures front { IsPrefix (front_of seat) (moments_of result) }

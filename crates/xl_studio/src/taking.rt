@@ -15,6 +15,7 @@ pub trait Taking {
     ghost may_finish: { Self → Done → Type 0 };
 
     /// Takes a job. It is closing exactly where it was shut, and there is no job exactly where it is not and no slot is marked.
+    /// After out of memory the slot counts as taken.
     fn take(&mut self, alloc: Global) -> Result<Taken, AllocError>;
 
     /// Hands a picture in.
@@ -40,10 +41,10 @@ fn answer_of(job: Result<Option<Job>, AllocError>) -> Result<Taken, AllocError>
 }
 
 impl<D: Shelf> Taking for Shared<D> {
-    ghost use Rattle.std.specs.Prelude.{◌≡◌, IfOk};
+    ghost use Rattle.std.specs.Prelude.{◌≡◌, IfOk, MatchBool};
     ghost use Rattle.spec_cache.specs.Cache.{finish};
     ghost use Rattle.xl_standing.specs.History.{version, document};
-    ghost use Rattle.xl_core.specs.Editing.{IsPictureOf};
+    ghost use Rattle.xl_core.specs.Editing.{handed_in, taken as with_job_taken, IsPictureOf};
     ghost use Rattle.xl_standing.specs.Places.{place_done};
     ghost use Rattle.xl_core.specs.Jobs.{finished_by};
     ghost use Rattle.xl_studio.specs.Taking.{GivesOut, HasStayed};
@@ -52,6 +53,7 @@ impl<D: Shelf> Taking for Shared<D> {
 
     fn take(&mut self, alloc: Global) -> Result<Taken, AllocError>
         ensures taken { IfOk result (λ taken. GivesOut self.old taken) }
+        ensures after { MatchBool self.old.closing (self.new.core ≡ self.old.core) (self.new.core ≡ with_job_taken self.old.core) }
         ensures stays { HasStayed self.old self.new }
         ensures closing { self.new.closing ≡ self.old.closing }
     {
@@ -66,6 +68,7 @@ impl<D: Shelf> Taking for Shared<D> {
         ensures finished { result ≡ finish self.old.core.cache (place_done done) done.version }
         ensures by_history { result ≡ finished_by self.old.core.history.base self.old.core.history.entries
             (place_done done) done.version }
+        ensures core { self.new.core ≡ handed_in self.old.core done }
         ensures stays { HasStayed self.old self.new }
         ensures closing { self.new.closing ≡ self.old.closing }
     {

@@ -1,7 +1,6 @@
 use Rattle.std.proofs.Common.{◌≡◌, refl, inl, inr, sym, ◌∙◌, subst}
 use Rattle.std.specs.Prelude.{Option, List, [], ℕ, IsSome}
 use Rattle.spec_document.specs.Document.{Document}
-use Rattle.spec_document.specs.Limits.{IsDocument}
 use Rattle.spec_generated.specs.Generated.{document, script}
 use Rattle.spec_layout.specs.Layout.{Written}
 use Rattle.spec_saves.specs.Shelf.{Known}
@@ -64,9 +63,7 @@ returns-clause-comes g c = λ given.
     let saved =
     ok_at c.save_first.result (sym c.is_err.ensures.value ∙ c.if-is_err.false) c.save_first.ensures.saved c.args.seed
     (written c.deref.result.now _ (document c.args.seed) c.deref.ensures.value c.in-Ok.ensures.file) in
-    let within : IsDocument (document c.args.seed) =
-    subst (λ (d : Document). IsDocument d) c.in-Ok.ensures.document c.in-Ok.ensures.limits in
-    made_comes (document c.args.seed) (script c.args.seed) (seed_is_made c.args.seed) within old first now saved g.K.Sink.held
+    made_comes (document c.args.seed) (script c.args.seed) (seed_is_made c.args.seed) old first now saved g.K.Sink.held
     g.K.Sink.faults _ _ c.args.sink.now c.write_replies.new.sink
     c.run_made-played.result.replies c.write_replies.result
     (c.run_made-played.ensures c.args.seed c.in-Ok.ensures.document c.in-Ok.ensures.script)

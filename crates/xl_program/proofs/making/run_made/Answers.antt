@@ -1,4 +1,6 @@
-use Rattle.std.proofs.Common.{ap, ◌∙◌}
+use Rattle.std.proofs.Common.{ap, ◌∙◌, subst}
+use Rattle.spec_document.specs.Document.{Document}
+use Rattle.spec_document.specs.Limits.{IsDocument}
 use Rattle.spec_generated.specs.Generated.{document, script}
 use Rattle.xl_core.specs.Editing.{known}
 use Rattle.xl_script.specs.Lines.{lists_of}
@@ -9,6 +11,7 @@ pub returns-in-Err : goal.returns-in-Err
 returns-in-Err g c = λ seed same_document same_lists.
     let see = known g.D.Shelf.selected g.D.Shelf.disk g.D.Shelf.reading_faults g.D.Shelf.saving_faults in
     nothing_summed (see c.args.shelf) _ (document seed) (script seed) record {} (ap see c.in-Err.ensures.back)
+    (subst (λ (d : Document). IsDocument d) same_document c.requires.limits)
 
 pub returns : goal.returns
 returns g c = λ seed same_document same_lists.
@@ -22,6 +25,6 @@ returns g c = λ seed same_document same_lists.
     (ap see c.in-Ok.ensures.opening) (c.in-Ok.ensures.base ∙ same_document) same_lists
     (λ made.
     summed_on see core new c.into_shelf.result (lists_of c.args.made.script) _ c.play_beside-core.result.text
-    c.sum_up-replies.result played.base played.opening played.legal c.into_shelf.ensures.right
+    c.sum_up-replies.result played.base played.opening played.legal c.know_versions.ensures c.into_shelf.ensures.right
     made none played.text c.sum_up-replies.ensures.played c.sum_up-replies.ensures.text c.sum_up-replies.ensures.failed)
     (seed_is_made seed)

@@ -8,7 +8,7 @@ pub returns-in-Err : goal.returns-in-Err
 returns-in-Err g c =
     let see = known g.D.Shelf.selected g.D.Shelf.disk g.D.Shelf.reading_faults g.D.Shelf.saving_faults in
     nothing_played (see c.args.shelf) _ c.args.document (lists_of c.args.script) _ c.args.workers record {}
-    (ap see c.in-Err.ensures.back)
+    (ap see c.in-Err.ensures.back) c.requires.limits
 
 pub play_alone-requires-clause-first : goal.play_alone-requires-clause-first
 play_alone-requires-clause-first g c κs within = (c.is_alone.ensures.alone c.if-is_alone.true).1

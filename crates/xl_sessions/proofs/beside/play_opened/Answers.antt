@@ -1,3 +1,4 @@
+use Rattle.xl_sessions.proofs.Counts.{leave_room}
 use Rattle.xl_sessions.proofs.PlayedParts.{of_sessions, outcomes, players_count}
 use Rattle.std.proofs.Common.{◌∙◌}
 use Rattle.xl_sessions.proofs.beside.play_opened.Goals as goal
@@ -19,6 +20,10 @@ finish-requires-clause-outcomes g c = λ κs within.
       outcomes _ c.args.studio script.0 script.1 c.args.room.parts.items c.play_seated.new.players.items script.2
           c.play_seated.ensures.played,
     )
+
+pub finish-requires-clause-room : goal.finish-requires-clause-room
+finish-requires-clause-room g c = λ κs within.
+    leave_room _ c.args.studio c.args.room.parts.items c.play_seated.new.players.items c.requires.calls c.play_seated.ensures.played
 
 pub returns-clause-text : goal.returns-clause-text
 returns-clause-text g c = λ chests lists brought.

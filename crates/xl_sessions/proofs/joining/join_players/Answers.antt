@@ -1,7 +1,8 @@
 use Rattle.std.proofs.Common.{ap, ◌∙◌, [], ◌∷◌, length, length-append, arith}
 use Rattle.std.proofs.lemmas.List.{nil_from_length}
-use Rattle.xl_sessions.proofs.JoinedSeats.{joining_none, joining_seat, joining_more, joined_made, joined_weight}
-use Rattle.xl_sessions.proofs.JoinedSeats.{joined_begins, joined_known, joined_shown, joined_done}
+use Rattle.xl_sessions.proofs.JoinedSeats.{joining_none, joining_seat, joining_free, joining_more, joined_made, joined_job}
+use Rattle.xl_sessions.proofs.JoinedSeats.{joined_weight}
+use Rattle.xl_sessions.proofs.JoinedSeats.{joined_begins, joined_known, joined_shown, joined_done, joined_not_full}
 use Rattle.xl_sessions.proofs.joining.join_players.Goals as goal
 
 pub loop-player-init : goal.loop-player-init
@@ -19,6 +20,10 @@ pub join-requires-clause-other : goal.join-requires-clause-other
 join-requires-clause-other g c κs within = joining_seat c.in-Some.player c.next.new.self.rest.items c.loop-player.invariant.0
     c.in-Some.ensures.steps.0
 
+pub join-requires-clause-free : goal.join-requires-clause-free
+join-requires-clause-free g c κs within = joining_free c.in-Some.player c.next.new.self.rest.items c.loop-player.invariant.0
+    c.in-Some.ensures.steps.0
+
 pub push_reserved-requires : goal.push_reserved-requires
 push_reserved-requires g c =
     let one = ap length c.in-Some.ensures.steps.0 in
@@ -33,13 +38,17 @@ loop-player-preserved g c =
     let same = c.push_reserved.ensures.capacity in (
       joining_more c.in-Some.player c.next.new.self.rest.items c.loop-player.invariant.0 c.in-Some.ensures.steps.0 c.join.new.seat
           c.push_reserved.new.self.items _
-          c.join.ensures.seat c.join.ensures.made c.join.ensures.weight c.join.ensures.begins c.join.ensures.other
-          c.push_reserved.ensures.items c.both-all.ensures,
+          c.join.ensures.seat c.join.ensures.job c.join.ensures.made c.join.ensures.weight c.join.ensures.begins c.join.ensures.other
+          c.push_reserved.ensures.items c.first_of-stopped.ensures.none c.first_of-stopped.ensures.either,
       omega (arith, one, room, grown, same),
     )
 
 pub returns-clause-made : goal.returns-clause-made
 returns-clause-made g c = joined_made c.loop-player.invariant.0
+    (nil_from_length _ (omega (arith, c.in-None.ensures.steps.0, c.loop-player.player-iterator.rest.ok)))
+
+pub returns-clause-job : goal.returns-clause-job
+returns-clause-job g c = joined_job c.loop-player.invariant.0
     (nil_from_length _ (omega (arith, c.in-None.ensures.steps.0, c.loop-player.player-iterator.rest.ok)))
 
 pub returns-clause-weight : goal.returns-clause-weight
@@ -60,4 +69,8 @@ returns-clause-digests g c = joined_shown c.loop-player.invariant.0
 
 pub returns-clause-done : goal.returns-clause-done
 returns-clause-done g c = joined_done c.loop-player.invariant.0
+    (nil_from_length _ (omega (arith, c.in-None.ensures.steps.0, c.loop-player.player-iterator.rest.ok)))
+
+pub returns-clause-not_full : goal.returns-clause-not_full
+returns-clause-not_full g c = joined_not_full c.loop-player.invariant.0
     (nil_from_length _ (omega (arith, c.in-None.ensures.steps.0, c.loop-player.player-iterator.rest.ok)))

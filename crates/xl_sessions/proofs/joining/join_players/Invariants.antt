@@ -5,5 +5,5 @@ use Rattle.xl_sessions.proofs.joining.join_players.Given as goal
 
 abbrev pub invariant-loop-player : goal.invariant-loop-player
 invariant-loop-player g l =
-    IsJoining l.studio l.initial.own l.fn.players.items l.player-iterator.rest.items l.own l.digests.items l.all
+    IsJoining l.studio l.initial.own l.fn.players.items l.player-iterator.rest.items l.own l.digests.items l.stopped
     × (length l.digests.items + length l.player-iterator.rest.items ≤ vec_capacity l.digests)

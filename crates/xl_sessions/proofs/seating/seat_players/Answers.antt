@@ -26,8 +26,8 @@ pub loop-part-preserved : goal.loop-part-preserved
 loop-part-preserved g c = (
   seating_more c.in-Some.part c.next.new.self.rest.items c.loop-part.invariant.0 c.in-Some.ensures.steps.0 c.split-seat.new.seat _
       c.push_reserved.new.self.items c.push_reserved.ensures.items
-      c.split-seat.ensures.old c.split-seat.ensures.stays c.split-seat.ensures.lighter refl c.split-seat.ensures.new
-      c.split-seat.ensures.front c.split-seat.ensures.made c.split-seat.ensures.weight c.new.ensures.items,
+      c.split-seat.ensures.old c.split-seat.ensures.stays c.split-seat.ensures.job c.split-seat.ensures.lighter refl c.split-seat.ensures.new
+      c.split-seat.ensures.front c.split-seat.ensures.made c.split-seat.ensures.weight c.split-seat.ensures.free c.new.ensures.items,
   c.push_reserved.ensures.capacity ∙ c.loop-part.invariant.1,
 )
 
@@ -38,3 +38,6 @@ returns-clause-lighter g c = all_lighter c.loop-part.invariant.0
 pub returns-clause-seated : goal.returns-clause-seated
 returns-clause-seated g c = all_seated c.loop-part.invariant.0
     (nil_from_length _ (omega (arith, c.in-None.ensures.steps.0, c.loop-part.part-iterator.rest.ok)))
+
+pub returns-clause-job : goal.returns-clause-job
+returns-clause-job g c = c.loop-part.invariant.0.job

@@ -19,4 +19,5 @@ loop-at-preserved g c =
           (omega (arith, many)),
       omega (arith, grown, many),
       c.push_reserved.ensures.capacity ∙ c.loop-at.invariant.6,
+      c.split-seat.ensures.job ∙ c.loop-at.invariant.7,
     )

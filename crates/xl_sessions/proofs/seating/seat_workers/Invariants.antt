@@ -1,6 +1,7 @@
 use Rattle.std.proofs.Common.{◌≡◌, ◌+◌, length}
 use Rattle.std.specs.Prelude.{vec_capacity}
 use Rattle.xl_sessions.specs.Players.{AreFree, AreNumbered}
+use Rattle.xl_studio.specs.Jobs.{job_out}
 use Rattle.xl_studio.specs.Seats.{known_by, weight_of, IsSeatOf}
 use Rattle.xl_sessions.proofs.seating.seat_workers.Given as goal
 
@@ -13,3 +14,4 @@ invariant-loop-at g l =
     × AreNumbered l.workers.items
     × (length l.workers.items ≡ l.at)
     × (vec_capacity l.workers ≡ vec_capacity l.initial.workers)
+    × (job_out l.own ≡ job_out l.initial.own)

@@ -4,6 +4,7 @@ use Rattle.spec_tables.specs.Tables.{expected_tables}
 use Rattle.xl_edit.specs.Calls.{call_of}
 use Rattle.xl_edit.specs.Replies.{reply_of}
 use Rattle.xl_studio.specs.Seats.{base_of, known_by}
+use Rattle.xl_sessions.proofs.Fulls.{count_after_call, full_after_call}
 use Rattle.xl_sessions.proofs.Made.{of_after_call}
 use Rattle.xl_sessions.proofs.session.make_call.Goals as goal
 
@@ -13,3 +14,17 @@ returns-clause-of g c =
     c.call-reply.result (base_of c.args.studio.now) c.args.session (call_of c.args.call)
     (known_by c.args.seat.now) (known_by c.call-reply.new.seat) _
     (λ filters agrees. c.call-reply.ensures.answered filters agrees) c.call-reply.ensures.failed c.requires.of
+
+pub returns-clause-count : goal.returns-clause-count
+returns-clause-count g c =
+    count_after_call _ reply_of (λ filters reply. expected_tables filters (asked (call_of c.args.call) []) (reply_of reply))
+    c.call-reply.result (base_of c.args.studio.now) c.args.session (call_of c.args.call)
+    (known_by c.args.seat.now) (known_by c.call-reply.new.seat) _
+    (λ filters agrees. c.call-reply.ensures.answered filters agrees) c.call-reply.ensures.failed
+
+pub returns-clause-full : goal.returns-clause-full
+returns-clause-full g c =
+    full_after_call _ reply_of (λ filters reply. expected_tables filters (asked (call_of c.args.call) []) (reply_of reply))
+    c.call-reply.result (base_of c.args.studio.now) c.args.session (call_of c.args.call)
+    (known_by c.args.seat.now) (known_by c.call-reply.new.seat) _
+    (λ filters agrees. c.call-reply.ensures.answered filters agrees) c.call-reply.ensures.seat.front.legal

@@ -1,6 +1,7 @@
 use Rattle.xl_core.specs.Editing.{known}
 use Rattle.xl_edit.specs.Replies.{reply_of}
 use Rattle.xl_studio.specs.Seats.{base_of, opening_shelf, known_by}
+use Rattle.xl_sessions.proofs.Fulls.{count_after_save, full_after_save}
 use Rattle.xl_sessions.proofs.Made.{of_after_save}
 use Rattle.xl_sessions.proofs.session.make_save.Goals as goal
 
@@ -10,3 +11,17 @@ returns-clause-of g c =
     (known g.D.Shelf.selected g.D.Shelf.disk g.D.Shelf.reading_faults g.D.Shelf.saving_faults) (opening_shelf c.args.studio.now)
     (base_of c.args.studio.now) c.args.session (known_by c.args.seat.now) (known_by c.save-reply.new.seat)
     c.save-reply.ensures.saved c.save-reply.ensures.failed c.requires.of
+
+pub returns-clause-count : goal.returns-clause-count
+returns-clause-count g c =
+    count_after_save _ reply_of c.save-reply.result
+    (known g.D.Shelf.selected g.D.Shelf.disk g.D.Shelf.reading_faults g.D.Shelf.saving_faults) (opening_shelf c.args.studio.now)
+    (base_of c.args.studio.now) c.args.session (known_by c.args.seat.now) (known_by c.save-reply.new.seat)
+    c.save-reply.ensures.saved c.save-reply.ensures.failed
+
+pub returns-clause-full : goal.returns-clause-full
+returns-clause-full g c =
+    full_after_save _ reply_of c.save-reply.result
+    (known g.D.Shelf.selected g.D.Shelf.disk g.D.Shelf.reading_faults g.D.Shelf.saving_faults) (opening_shelf c.args.studio.now)
+    (base_of c.args.studio.now) c.args.session (known_by c.args.seat.now) (known_by c.save-reply.new.seat)
+    c.save-reply.ensures.saved

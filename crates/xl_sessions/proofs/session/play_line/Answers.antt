@@ -1,7 +1,11 @@
-use Rattle.std.proofs.Common.{map, string_bytes}
+use Rattle.std.proofs.Common.{[], ◌∷◌, ap, map, string_bytes}
 use Rattle.std.proofs.lemmas.Result.{on_ok_weaker}
 use Rattle.xl_core.specs.Editing.{known}
+use Rattle.xl_script.specs.Lines.{line_of}
+use Rattle.xl_script.specs.declared.script.Line.{Line}
+use Rattle.xl_sessions.specs.Full.{most_made}
 use Rattle.xl_studio.specs.Seats.{base_of, opening_shelf, known_by}
+use Rattle.xl_sessions.proofs.Fulls.{count_line, full_line}
 use Rattle.xl_sessions.proofs.Made.{save_line, forget_line}
 use Rattle.xl_sessions.proofs.session.play_line.Goals as goal
 
@@ -18,3 +22,23 @@ returns-in-Forget-clause-made g c =
     forget_line (known g.D.Shelf.selected g.D.Shelf.disk g.D.Shelf.reading_faults g.D.Shelf.saving_faults)
     (opening_shelf c.args.studio.now) (base_of c.args.studio.now) c.args.session c.args.line c.in-Forget.slot _ _
     (known_by c.args.seat.now) (map string_bytes c.args.digests.now.items) c.in-Forget.is c.forget.ensures
+
+pub returns-in-Call-clause-count : goal.returns-in-Call-clause-count
+returns-in-Call-clause-count g c =
+    count_line _ 2 (known_by c.args.seat.now) (known_by c.play_call.new.seat)
+    (ap (λ (l : Line). most_made (line_of l ∷ [])) c.in-Call.is) c.play_call.ensures.count
+
+pub returns-in-Call-clause-full : goal.returns-in-Call-clause-full
+returns-in-Call-clause-full g c =
+    full_line c.play_call.result _ (known_by c.args.seat.now) (known_by c.play_call.new.seat)
+    (ap (λ (l : Line). most_made (line_of l ∷ [])) c.in-Call.is) c.play_call.ensures.full
+
+pub returns-in-Save-clause-count : goal.returns-in-Save-clause-count
+returns-in-Save-clause-count g c =
+    count_line _ 2 (known_by c.args.seat.now) (known_by c.play_save.new.seat)
+    (ap (λ (l : Line). most_made (line_of l ∷ [])) c.in-Save.is) c.play_save.ensures.count
+
+pub returns-in-Save-clause-full : goal.returns-in-Save-clause-full
+returns-in-Save-clause-full g c =
+    full_line c.play_save.result _ (known_by c.args.seat.now) (known_by c.play_save.new.seat)
+    (ap (λ (l : Line). most_made (line_of l ∷ [])) c.in-Save.is) c.play_save.ensures.full
