@@ -103,12 +103,20 @@ def rows_of_view():
     yield "%s, write 1" % words, (7, "o", cut(nothing, 7, 1))
 
 
-def write_flat(folder):
+def write_saved(folder):
+    """The files that `pack` and `flatten` leave."""
     with open(os.path.join(folder, "data", "one.xcf"), "rb") as file:
         doc = read(file.read())
+    with open(os.path.join(folder, "data", "packed.xcf"), "wb") as file:
+        file.write(written(doc, 1))
     doc.nodes[0].name = b""
     with open(os.path.join(folder, "data", "flat.xcf"), "wb") as file:
         file.write(written(doc, 0))
+
+
+def rows_of_plans():
+    """The save is done before the first line is written."""
+    yield "pack f --plan, write 0", (7, "p", "")
 
 
 def rows_of_loads():
@@ -140,11 +148,12 @@ def main():
     parser = argparse.ArgumentParser(description=__doc__, formatter_class=argparse.RawDescriptionHelpFormatter)
     parser.add_argument("folder", metavar="FOLDER")
     given = parser.parse_args()
-    write_flat(given.folder)
+    write_saved(given.folder)
     with open(os.path.join(given.folder, "stdout"), "w", encoding="ascii") as out:
-        packed = rows_of_one_save("pack f", "?", "packed 193 197 planes 4\n")
+        packed = rows_of_one_save("pack f", "p", "packed 193 197 planes 4\n")
         flat = rows_of_one_save("flatten f", "f", "flattened 1\n")
-        for rows in (rows_of_saves(), rows_of_streams(), rows_of_loads(), flat, packed, rows_of_view()):
+        plans = rows_of_plans()
+        for rows in (rows_of_saves(), rows_of_streams(), rows_of_loads(), flat, packed, plans, rows_of_view()):
             for head, (status, left, text) in rows:
                 out.write("== %s: status %d left %s\n%s\n" % (head, status, left, text))
         for head, told in rows_of_files():

@@ -1,7 +1,8 @@
 //! Runs over devices in memory of which one call fails, or all from one on: what was written, the status, and what a crash may
 //! leave of the file. And renderings of files that are cut or have another word somewhere.
 //!
-//! `data/one.xcf` is the worked file of one pixel, `data/flat.xcf` the same made flat, and `stdout` what each run must give.
+//! `data/one.xcf` is the worked file of one pixel, `data/flat.xcf` the same made flat, `data/packed.xcf` one of its smallest files,
+//! and `stdout` what each run must give.
 #![tactic(auto)]
 
 mod damaged;
@@ -52,7 +53,7 @@ const NONE: Failing = Failing {
     stop: None,
 };
 
-/// The contents that are told by a letter: `o`, `0`, `1` and `f`.
+/// The contents that are told by a letter: `o`, `0`, `1`, `f` and `p`.
 #[derive(Drop)]
 struct Contents {
     /// The worked file, which is not as it is written.
@@ -60,9 +61,16 @@ struct Contents {
     written: Vec<u8>,
     filled: Vec<u8>,
     flat: Vec<u8>,
+    /// One of the smallest files.
+    packed: Vec<u8>,
 }
 
-fn contents_of(alloc: Global, file: &[u8], flat: Vec<u8>) -> Result<Contents, AllocError> {
+fn contents_of(
+    alloc: Global,
+    file: &[u8],
+    flat: Vec<u8>,
+    packed: Vec<u8>,
+) -> Result<Contents, AllocError> {
     let written = file.to_vec(alloc)?;
     let mut old = file.to_vec(alloc)?;
     if let Some(byte) = old.get_mut(END_LENGTH) {
@@ -76,6 +84,7 @@ fn contents_of(alloc: Global, file: &[u8], flat: Vec<u8>) -> Result<Contents, Al
         written,
         filled,
         flat,
+        packed,
     })
 }
 
@@ -113,12 +122,28 @@ fn run_words<R: Threads + Wait + Sync>(
     ))
 }
 
+// Whether it is one of the smallest files of the worked image. They end with the spellings of four planes of one byte, and such a
+// plane has two shortest ones: a run, with the code 0, and a literal byte, with the code 255.
+fn is_packed(file: &[u8], packed: &[u8]) -> bool {
+    if file.len() != packed.len() {
+        return false;
+    }
+    let mut same = true;
+    for i in 0..file.len() {
+        let left = file.len() - i;
+        let is_code = left <= 8 && left % 2 == 0;
+        same = same && (file[i] == packed[i] || is_code && (file[i] == 0 || file[i] == 255));
+    }
+    same
+}
+
 fn letter(content: &Option<Vec<u8>>, known: &Contents) -> char {
     match content {
         Some(bytes) if bytes.as_slice() == known.old.as_slice() => 'o',
         Some(bytes) if bytes.as_slice() == known.written.as_slice() => '0',
         Some(bytes) if bytes.as_slice() == known.filled.as_slice() => '1',
         Some(bytes) if bytes.as_slice() == known.flat.as_slice() => 'f',
+        Some(bytes) if is_packed(bytes.as_slice(), known.packed.as_slice()) => 'p',
         _ => '?',
     }
 }
@@ -187,6 +212,12 @@ const FLATTEN: Asked<'static> = Asked {
 
 const PACK: Asked<'static> = Asked {
     words: &["pack", NAME],
+    script: "",
+    step: 1 << 20,
+};
+
+const PLANS: Asked<'static> = Asked {
+    words: &["pack", NAME, "--plan"],
     script: "",
     step: 1 << 20,
 };
@@ -399,6 +430,15 @@ impl<'a, R: Threads + Wait + Sync> Shown<'a, R> {
         self.show(Asked { step: 7, ..asked }, failing)
     }
 
+    // A file that is packed, of which the plans cannot be written.
+    fn show_plans(&self) -> io::Result<()> {
+        let failing = Failing {
+            write: Some(0),
+            ..NONE
+        };
+        self.show(PLANS, failing)
+    }
+
     // A view of which a read of the script, a load or a write fails.
     fn show_view(&self) -> io::Result<()> {
         self.show(VIEW, NONE)?;
@@ -426,7 +466,8 @@ impl<'a, R: Threads + Wait + Sync> Shown<'a, R> {
 
 fn show_all<R: Threads + Wait + Sync>(rt: &HostRuntime, threads: &R) -> io::Result<()> {
     let flat = fs::read(rt, "flat.xcf")?;
-    let known = contents_of(rt.alloc(), &fs::read(rt, "one.xcf")?, flat)?;
+    let packed = fs::read(rt, "packed.xcf")?;
+    let known = contents_of(rt.alloc(), &fs::read(rt, "one.xcf")?, flat, packed)?;
     let shown = Shown {
         rt,
         threads,
@@ -438,6 +479,7 @@ fn show_all<R: Threads + Wait + Sync>(rt: &HostRuntime, threads: &R) -> io::Resu
     shown.show_loads()?;
     shown.show_one_save(FLATTEN)?;
     shown.show_one_save(PACK)?;
+    shown.show_plans()?;
     shown.show_view()?;
     shown.show_damaged()
 }

@@ -1,5 +1,6 @@
 use crate::tests::{plain_sink, run_on, shelf_with, status_of};
-use sample_files::ONE;
+use repeated_files::{crowded, wide};
+use sample_files::{FOUR, ONE};
 use std::alloc::{AllocError, Global};
 use std::sync::Wait;
 use std::test::Fail;
@@ -64,5 +65,39 @@ fn a_selection_is_in_the_way(rt: HostRuntime) -> Result<(), Fail> {
     )?;
     assert_eq!(rt; statuses, (0, 9));
     assert_eq!(rt; sink.held(), b"flatten refused 1\n".as_slice());
+    Ok(())
+}
+
+// Whether a file is refused by this line, and stays.
+fn is_refused<R: Threads + Wait + Sync>(
+    rt: &R,
+    alloc: Global,
+    file: &[u8],
+    line: &[u8],
+) -> Result<bool, AllocError> {
+    let mut sink = plain_sink(alloc);
+    let shelf = shelf_with(alloc, file)?;
+    let ended = run_on(rt, alloc, &["flatten", "f"], b"", shelf, &mut sink)?;
+    let stays = ended.shelf.file("f").unwrap_or(&[]) == file;
+    Ok(ended.status == 9 && sink.held() == line && stays)
+}
+
+#[test]
+fn an_indexed_image_is_not_made_flat(rt: HostRuntime) -> Result<(), Fail> {
+    assert!(rt; is_refused(&rt, rt.alloc(), &FOUR, b"flatten refused 2\n")?);
+    Ok(())
+}
+
+#[test]
+fn too_many_nodes_are_not_made_flat(rt: HostRuntime) -> Result<(), Fail> {
+    let file = crowded(rt.alloc())?;
+    assert!(rt; is_refused(&rt, rt.alloc(), &file, b"flatten refused 3\n")?);
+    Ok(())
+}
+
+#[test]
+fn too_large_an_area_is_not_made_flat(rt: HostRuntime) -> Result<(), Fail> {
+    let file = wide(rt.alloc())?;
+    assert!(rt; is_refused(&rt, rt.alloc(), &file, b"flatten refused 4\n")?);
     Ok(())
 }

@@ -1,5 +1,5 @@
-//! The worked script on locks: alpha that stays, and a layer that takes no paint.
-use crate::tests::plain_sink;
+//! The worked script on locks: alpha that stays, and a layer that takes no paint. And locks of a wrong length in a file.
+use crate::tests::{plain_sink, status_of};
 use sample_files::ONE;
 use std::alloc::{AllocError, Global};
 use std::sync::Wait;
@@ -49,5 +49,28 @@ fn alpha_stays_and_a_locked_layer_is_not_painted(rt: HostRuntime) -> Result<(), 
     assert_eq!(rt; sink.held(), TEXT);
     assert_eq!(rt; file.len(), 205);
     assert!(rt; file.ends_with(b"\x00\x00\x00\xff"));
+    Ok(())
+}
+
+// The type word of the layer's offsets in the worked file, a property of 8 bytes.
+const OFFSETS: usize = 121;
+
+// Whether a property of this number in the place of the offsets is refused at its type word.
+fn is_refused<R: Threads + Wait + Sync>(
+    rt: &R,
+    alloc: Global,
+    number: u32,
+) -> Result<bool, AllocError> {
+    let mut file = ONE.to_vec(alloc)?;
+    file.as_mut_slice()[OFFSETS..OFFSETS + 4].copy_from_slice(&number.to_be_bytes());
+    let mut sink = plain_sink(alloc);
+    let status = status_of(rt, alloc, &["render", "f"], &file, &mut sink)?;
+    Ok(status == 4 && sink.held() == b"file refused 8 at 121\n".as_slice())
+}
+
+#[test]
+fn a_lock_has_four_bytes(rt: HostRuntime) -> Result<(), Fail> {
+    assert!(rt; is_refused(&rt, rt.alloc(), 10)?);
+    assert!(rt; is_refused(&rt, rt.alloc(), 28)?);
     Ok(())
 }

@@ -1,9 +1,8 @@
 -- What a run of make comes to whose script was played.
-use Rattle.std.proofs.Common.{◌≡◌, true, false, ◌⊎◌, inl, inr, ℕ, List, [], ◌∷◌, filter_map, ap, refl, sym, ◌∙◌, subst, arith}
+use Rattle.std.proofs.Common.{◌≡◌, true, false, ◌⊎◌, inl, inr, ℕ, List, [], ◌∷◌, filter_map, ap, refl, sym, ◌∙◌, subst}
 use Rattle.std.specs.Prelude.{Option, Some, None, IfSome, IfOk, Vec, unwrap_or, Result, Ok, Err, OnOk, IsOk, String, string_bytes}
 use Rattle.std.specs.declared.alloc.AllocError.{AllocError}
 use Rattle.std.specs.declared.alloc.Global.{Global}
-use Rattle.std.specs.List.{IsDistinct}
 use Rattle.spec_command.specs.Arguments.{make}
 use Rattle.spec_document.specs.Document.{Document}
 use Rattle.spec_document.specs.Limits.{IsDocument}
@@ -26,6 +25,7 @@ use Rattle.spec_world.specs.declared.SaveEnd.TheVariants.{Done}
 use Rattle.xl_ports.specs.Shelf.{Content}
 use Rattle.xl_ports.specs.Disk.{Disk, MayLeave, Between}
 use Rattle.xl_doc.specs.Numbered.{AreNumbered}
+use Rattle.xl_report.proofs.MadeNumbered.{made_is_numbered}
 use Rattle.xl_program.specs.Making.{IsMadeHistory, IsRunOf, IsSummary}
 use Rattle.xl_sessions.specs.Outcomes.{states_of}
 use Rattle.xl_program.specs.Outcome.{Comes, NoneFailed, SomeFailed, AnyFailed, ShelfCauseOf}
@@ -41,50 +41,6 @@ use Rattle.xl_program.specs.declared.stopped.Stopped.TheVariants.{NotFlattened, 
 use Rattle.xl_program.proofs.Edited.{none_failed, some_failed}
 use Rattle.xl_program.proofs.MadeFiles.{last_is_saved}
 use Rattle.xl_program.proofs.VersionsWithin.{first_within}
-
--- ---- the document that is made
-
-pub made_is_numbered : (seed : ℕ) → AreNumbered (document seed).nodes
-unfolding IsDistinct
-made_is_numbered seed = record {
-  distinct = (
-    (refl, (refl, (refl, (refl, (refl, (refl, (refl, (refl, (refl, tt))))))))),
-    (
-      (refl, (refl, (refl, (refl, (refl, (refl, (refl, (refl, tt)))))))),
-      (
-        (refl, (refl, (refl, (refl, (refl, (refl, (refl, tt))))))),
-        (
-          (refl, (refl, (refl, (refl, (refl, (refl, tt)))))),
-          (
-            (refl, (refl, (refl, (refl, (refl, tt))))),
-            ((refl, (refl, (refl, (refl, tt)))), ((refl, (refl, (refl, tt))), ((refl, (refl, tt)), ((refl, tt), (tt, tt))))),
-          ),
-        ),
-      ),
-    ),
-  );
-  positive = (
-    omega arith,
-    (
-      omega arith,
-      (
-        omega arith,
-        (omega arith, (omega arith, (omega arith, (omega arith, (omega arith, (omega arith, (omega arith, tt))))))),
-      ),
-    ),
-  );
-  within = (
-    omega arith,
-    (
-      omega arith,
-      (
-        omega arith,
-        (omega arith, (omega arith, (omega arith, (omega arith, (omega arith, (omega arith, (omega arith, tt))))))),
-      ),
-    ),
-  );
-  few = omega arith;
-}
 
 -- ---- the run
 

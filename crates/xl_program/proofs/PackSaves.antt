@@ -53,9 +53,10 @@ module _ {before mid : Shelved} {name : List ℕ} {d : Document} {size : ℕ} (r
   -- the save is done
   pub is_packed : (with_plans : Bool) (file out : List ℕ)
       → IfSome mid.known.selected (λ n. HasSmallest n d (length file) mid.known.disk after.known.disk)
-      → after.known.saving ≡ mid.known.saving → IsPackText d with_plans size (length file) out
+      → after.known.reading ≡ mid.known.reading → after.known.saving ≡ mid.known.saving
+      → IsPackText d with_plans size (length file) out
       → IsPacked (before.content name) (opened before name) after.known with_plans out
-  is_packed with_plans file out saved saving text =
+  is_packed with_plans file out saved reading saving text =
       let named : HasSmallest name d (length file) mid.known.disk after.known.disk =
       subst (λ (o : Option (List ℕ)). IfSome o (λ n. HasSmallest n d (length file) mid.known.disk after.known.disk)) read.named
       saved in
@@ -67,20 +68,24 @@ module _ {before mid : Shelved} {name : List ℕ} {d : Document} {size : ℕ} (r
         length_before = read.size_is;
         after = length file;
         saved = has_earlier name d (length file) before.known.disk mid.known.disk after.known.disk read.untouched.quiet named;
-        counts = saving ∙ read.untouched.saving;
+        reading = reading ∙ read.reading;
+        saving = saving ∙ read.untouched.saving;
         text = text;
       }
 
   -- a fault stopped it
   pub may_be_packed : (with_plans : Bool) → IfSome mid.known.selected (λ n. MayHaveSmallest n d mid.known.disk after.known.disk)
+      → after.known.reading ≡ mid.known.reading → Rose mid.known.saving after.known.saving
       → FailsAtShelf before after (pack name with_plans)
-  may_be_packed with_plans saved =
+  may_be_packed with_plans saved reading rose =
       let named : MayHaveSmallest name d mid.known.disk after.known.disk =
       subst (λ (o : Option (List ℕ)). IfSome o (λ n. MayHaveSmallest n d mid.known.disk after.known.disk)) read.named saved in
       inr (record {
         document = d;
         held = read.holds;
         within = read.within;
+        reading = reading ∙ read.reading;
+        saving = subst (λ (n : ℕ). Rose n after.known.saving) read.untouched.saving rose;
         saved = may_earlier name d before.known.disk mid.known.disk after.known.disk read.untouched.quiet named;
       })
 

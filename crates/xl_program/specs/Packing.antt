@@ -5,6 +5,7 @@ use Rattle.spec_document.specs.Limits.{IsDocument}
 use Rattle.spec_saves.specs.Shelf.{Known, file_name}
 use Rattle.spec_shortest.specs.Lines.{IsPackText}
 use Rattle.xl_pack.specs.Saving.{HasSmallest, MayHaveSmallest}
+use Rattle.xl_ports.specs.Faults.{Rose}
 use Rattle.xl_ports.specs.Shelf.{Content}
 use Rattle.xl_program.specs.Files.{HoldsDocument, HasLength}
 
@@ -18,12 +19,15 @@ pub record IsPacked (content : Option Content) (opening now : Known) (with_plans
   pub length_before : IfSome content (λ c. HasLength c before)
   pub after : ℕ
   pub saved : HasSmallest (file_name opening) document after opening.disk now.disk
-  pub counts : now.saving ≡ opening.saving
+  pub reading : now.reading ≡ opening.reading
+  pub saving : now.saving ≡ opening.saving
   pub text : IsPackText document with_plans before after out
 
--- the save of a smallest file of the document, which the file held where its content is told, was stopped
+-- a fault, which is counted, stopped the save of a smallest file of the document, which the file held where its content is told
 pub record MayBePacked (content : Option Content) (opening now : Known) : Type 0 where
   pub document : Document
   pub held : IfSome content (λ c. HoldsDocument c document)
   pub within : IsDocument document
+  pub reading : now.reading ≡ opening.reading
+  pub saving : Rose opening.saving now.saving
   pub saved : MayHaveSmallest (file_name opening) document opening.disk now.disk

@@ -10,9 +10,10 @@ use Rattle.xl_core.specs.Editing.{known}
 use Rattle.xl_doc.specs.Numbered.{AreNumbered}
 use Rattle.xl_program.specs.Outcome.{opened, shelved}
 use Rattle.xl_program.proofs.FirstSaves.{ok_at, err_at}
-use Rattle.xl_program.proofs.MadeRuns.{made_is_numbered, seed_is_made, made_comes, made_stops, made_cause}
+use Rattle.xl_program.proofs.MadeRuns.{seed_is_made, made_comes, made_stops, made_cause}
 use Rattle.xl_program.proofs.MadeScripts.{script_fits}
 use Rattle.xl_program.proofs.Taken.{untouched}
+use Rattle.xl_report.proofs.MadeNumbered.{made_is_numbered}
 use Rattle.xl_program.proofs.making.make.Goals as goal
 
 -- the file as it is handed on

@@ -24,7 +24,9 @@ returns-then-is_err-clause-comes g c = λ given.
       (refl, refl),
       may_be_packed read after c.args.with_plans
           (err_at c.save_smallest.result (sym c.is_err.ensures.value ∙ c.if-is_err.true) c.save_smallest.ensures.stopped
-          loaded.document (smallest_moved loaded.document _ _ c.deref.ensures.value c.in-Ok.ensures.smallest)),
+          loaded.document (smallest_moved loaded.document _ _ c.deref.ensures.value c.in-Ok.ensures.smallest))
+          c.save_smallest.ensures.reading
+          (rose_at _ _ c.save_smallest.result (sym c.is_err.ensures.value ∙ c.if-is_err.true) c.save_smallest.ensures.cause),
     )
 
 pub returns-then-is_err-clause-cause : goal.returns-then-is_err-clause-cause
@@ -66,6 +68,7 @@ returns-then-is_err-2-clause-comes g c = λ given.
         is_packed read after c.args.with_plans c.deref.result.now c.deref-2.result.now
             (ok_at c.save_smallest.result well c.save_smallest.ensures.saved
             loaded.document (smallest_moved loaded.document _ _ c.deref.ensures.value c.in-Ok.ensures.smallest))
+            c.save_smallest.ensures.reading
             (stays_at _ _ c.save_smallest.result well c.save_smallest.ensures.cause)
             (text_moved loaded.document c.args.with_plans loaded.length _ _ _ _ c.deref.ensures.value c.deref-2.ensures.value
             c.in-Ok.ensures.text),
@@ -96,6 +99,7 @@ returns-clause-comes g c = λ given.
         is_packed read after c.args.with_plans c.deref.result.now c.deref-2.result.now
             (ok_at c.save_smallest.result well c.save_smallest.ensures.saved
             loaded.document (smallest_moved loaded.document _ _ c.deref.ensures.value c.in-Ok.ensures.smallest))
+            c.save_smallest.ensures.reading
             (stays_at _ _ c.save_smallest.result well c.save_smallest.ensures.cause)
             (text_moved loaded.document c.args.with_plans loaded.length _ _ _ _ c.deref.ensures.value c.deref-2.ensures.value
             c.in-Ok.ensures.text),
