@@ -1,1 +1,1 @@
-mod Twice
+mod ShownTwice

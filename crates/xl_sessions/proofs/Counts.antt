@@ -29,12 +29,12 @@ use Rattle.xl_turn.proofs.Totals.{same_le, same_false}
 
 -- ---- a list in which each number below n stands once
 
-sum_below : (f : ℕ → ℕ) → ℕ → ℕ
+abbrev sum_below : (f : ℕ → ℕ) → ℕ → ℕ
 sum_below f zero = 0
 sum_below f (suc n) = sum_below f n + f n
 
 sum_both : (f g h : ℕ → ℕ) (n : ℕ) → ((x : ℕ) → f x ≡ g x + h x) → sum_below f n ≡ sum_below g n + sum_below h n
-sum_both f g h zero each = refl
+sum_both f g h zero each = omega arith
 sum_both f g h (suc n) each = let rest = sum_both f g h n each in let here = each n in omega (arith, rest, here)
 
 sum_zero : (n : ℕ) → sum_below (λ x. 0) n ≡ 0
@@ -153,7 +153,8 @@ module _ {K : Type 0} {C : Ghosts (State K) (Moment K)} {X : Type 0} {H : X → 
   pub leave_room : (state : Slot X H → FilterState) (studio : Studio K) (parts : List (Part X H))
       (players : List (Player (Seat K C) X H)) → HaveFewCalls parts → HavePlayed state studio parts players → LeaveRoom players
   leave_room state studio parts players few played =
-      room_behind state studio 0 0 (total count_of players) (total most_of parts) parts players (omega arith) refl refl few played
+      room_behind state studio 0 0 (total count_of players) (total most_of parts) parts players (omega arith) (omega arith)
+      (omega arith) few played
 
   pub places_count : (players : List (Player (Seat K C) X H)) → length (flat_map places_of players) ≡ total count_of players
   places_count [] = refl

@@ -1,4 +1,4 @@
-use Rattle.flat_rows.proofs.Twice.{bytes_are}
+use Rattle.flat_rows.proofs.ShownTwice.{bytes_are}
 use Rattle.flat_rows.proofs.twice.look_again.Goals as goal
 
 pub returns-clause-bytes : goal.returns-clause-bytes

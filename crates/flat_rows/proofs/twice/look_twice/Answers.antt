@@ -1,9 +1,9 @@
 use Rattle.std.proofs.Common.{sym, ◌∙◌}
-use Rattle.flat_rows.proofs.Twice.{all_kept, bytes_are}
+use Rattle.flat_rows.proofs.ShownTwice.{all_kept, bytes_are}
 use Rattle.flat_rows.proofs.twice.look_twice.Goals as goal
 
-pub look_again-again-requires-clause-kept : goal.look_again-again-requires-clause-kept
-look_again-again-requires-clause-kept g c κs within =
+pub look_again-requires-clause-kept : goal.look_again-requires-clause-kept
+look_again-requires-clause-kept g c κs within =
     all_kept c.args.core.now.history c.args.node.0 c.args.at _ c.window.new.self _ c.window.new.out.items c.window.result _
     c.window_is_kept.ensures c.in_ok-window.was c.window.ensures.answered
 

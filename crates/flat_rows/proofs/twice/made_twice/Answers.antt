@@ -4,6 +4,6 @@ use Rattle.xl_doc.specs.Numbered.{AreNumbered}
 use Rattle.xl_report.proofs.MadeNumbered.{made_is_numbered}
 use Rattle.flat_rows.proofs.twice.made_twice.Goals as goal
 
-pub core_over-core-requires : goal.core_over-core-requires
-core_over-core-requires c κs within =
+pub core_over-requires-after_bounds : goal.core_over-requires-after_bounds
+core_over-requires-after_bounds c κs within =
     subst (λ (d : Document). AreNumbered d.nodes) (sym c.in_ok-made.ensures.document) (made_is_numbered c.args.seed)

@@ -21,7 +21,7 @@ close-core-requires-clause-weight g c = λ κs within.
     omega (arith, total, first, then_all, was, eight)
 
 pub text_of-text-requires-clause-not_full : goal.text_of-text-requires-clause-not_full
-text_of-text-requires-clause-not_full g c = λ κs within.
+text_of-text-requires-clause-not_full g c =
     let core = c.close-core.result in
     let joined = c.join_players-stopped in
     let last = c.join_workers in
@@ -33,7 +33,7 @@ text_of-text-requires-clause-not_full g c = λ κs within.
     (last.ensures.made ∙ joined.ensures.made ∙ none_made) closed.made c.requires.room)
 
 pub text_of-text-requires-clause-printed : goal.text_of-text-requires-clause-printed
-text_of-text-requires-clause-printed g c = λ κs within.
+text_of-text-requires-clause-printed g c =
     let core = c.close-core.result in
     let joined = c.join_players-stopped in
     let last = c.join_workers in
