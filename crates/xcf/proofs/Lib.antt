@@ -1,0 +1,4 @@
+mod Checking
+mod Making
+mod Numbers
+mod Asking
