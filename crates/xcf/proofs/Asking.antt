@@ -17,7 +17,7 @@ use Rattle.xl_core.proofs.Submitted.{submitted_answers}
 use Rattle.xl_edit.specs.Built.{IsBuilt}
 use Rattle.xcf.specs.Asked.{IsPlainCall}
 use Rattle.xcf.specs.Plain.{is_plain, unplain_from}
-use Rattle.xcf.proofs.Making.{plain_view, first_plain}
+use Rattle.xcf.proofs.UnderWay.{plain_view, first_plain}
 
 -- a plain edit asks no chest
 there_plain : (e : Edit) (rest : List Edit) → is_plain e ≡ true → AreThere [] rest → AreThere [] (e ∷ rest)

@@ -1,4 +1,5 @@
 mod Checking
-mod Making
+mod UnderWay
 mod Numbers
 mod Asking
+mod Outcomes

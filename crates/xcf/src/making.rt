@@ -33,7 +33,7 @@ pub(crate) fn first_table(kind: FilterKind, amount: u8) -> Table
 /// Makes plain edits in turn. `next_id` is the id that the next new node gets.
 ///
 /// A refusal and out of memory leave what the edits before have made, which the caller drops.
-#[tactic(auto, using(crate::proofs::Making::begins, crate::proofs::Making::next_is_plain, crate::proofs::Making::next_has_id, crate::proofs::Making::stops, crate::proofs::Making::is_done, crate::proofs::Making::is_left))]
+#[tactic(auto, using(crate::proofs::UnderWay::begins, crate::proofs::UnderWay::next_is_plain, crate::proofs::UnderWay::next_has_id, crate::proofs::UnderWay::stops, crate::proofs::UnderWay::is_done, crate::proofs::UnderWay::is_left))]
 pub(crate) fn make_all(
     alloc: Global,
     document: &mut Document,

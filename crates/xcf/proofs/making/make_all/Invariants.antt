@@ -1,4 +1,4 @@
-use Rattle.xcf.proofs.Making.{IsMaking}
+use Rattle.xcf.proofs.UnderWay.{IsMaking}
 use Rattle.xcf.proofs.making.make_all.Given as goal
 use Rattle.xl_edit.specs.Applied.{at}
 
