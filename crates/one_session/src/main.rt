@@ -5,12 +5,13 @@ use anyhow::Result;
 use sha2::{Digest, Sha256};
 use std::alloc::{AllocError, Global};
 use std::fs;
-use xcf::{Bytes, Edit, Edits, Editor, NodeId, Rect, TileAt, save, tile};
+use xcf::{Bytes, Edit, Editor, Edits, NodeId, Rect, TileAt, save, tile};
 use xl_fakes::MemoryShelf;
 use xl_ports::Shelf;
 
 /// The image, and its one layer, which has one pixel.
 const IMAGE: NodeId = NodeId(0);
+
 const LAYER: NodeId = NodeId(1);
 
 // The layer is half opaque, and its pixel another.

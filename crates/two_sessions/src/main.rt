@@ -20,7 +20,9 @@ use xl_studio::{Seat, Studio};
 
 /// The image, its layer, and the layer that session 1 makes.
 const IMAGE: NodeId = NodeId(0);
+
 const LAYER: NodeId = NodeId(1);
+
 const ABOVE: NodeId = NodeId(2);
 
 // The one pixel of a layer becomes another.
@@ -70,10 +72,20 @@ fn play(
     };
     let group = group_of(alloc, fade, fill(alloc, LAYER, &[10, 20, 30, 255])?)?;
     ask(rt, studio, first, 0, Call::Edit(group))?;
-    let group = group_of(alloc, new_layer(alloc)?, fill(alloc, ABOVE, &[0, 0, 255, 255])?)?;
+    let group = group_of(
+        alloc,
+        new_layer(alloc)?,
+        fill(alloc, ABOVE, &[0, 0, 255, 255])?,
+    )?;
     ask(rt, studio, second, 1, Call::Edit(group))?;
     ask(rt, studio, second, 1, Call::Undo(None))?;
-    ask(rt, studio, second, 1, Call::Tile(IMAGE, TileAt { col: 0, row: 0 }))?;
+    ask(
+        rt,
+        studio,
+        second,
+        1,
+        Call::Tile(IMAGE, TileAt { col: 0, row: 0 }),
+    )?;
     let saved = studio.save(rt, alloc, second, 1, &mut Greedy)?;
     println!(rt; "1 {saved:?}")?;
     Ok(())

@@ -1,3 +1,4 @@
+mod Colours
 mod Checking
 mod UnderWay
 mod Numbers

@@ -7,7 +7,7 @@ use Rattle.spec_edit.specs.Edit.{set_visible, set_lock_alpha, set_lock_content, 
 use Rattle.spec_edit.specs.Edit.{drop_mask, new_layer, new_group, delete, restack, select, select_none, add_channel, drop_channel}
 use Rattle.spec_edit.specs.Edit.{set_colours}
 use Rattle.spec_script.specs.Commands.{are_colours}
-use Rattle.spec_history.specs.Calls.{most_edits, IsGroupOfEdits}
+use Rattle.spec_history.specs.Calls.{most_edits}
 use Rattle.xcf.specs.declared.errors.NotGroup.{NotGroup}
 use Rattle.xcf.specs.declared.errors.NotGroup.TheVariants.{Count, NotPlain}
 
@@ -50,8 +50,8 @@ unplain_from place (edit ∷ edits) = if is_plain edit then unplain_from (suc pl
 abbrev pub first_unplain : List Edit → Option ℕ
 first_unplain edits = unplain_from 0 edits
 
--- a group of 1 to 1024 plain edits, or what is wrong with it
+-- all edits of the group are plain, or what is wrong with it
 abbrev pub IsChecked : List Edit → Result (Unit {0}) NotGroup → Type 0
-IsChecked edits (Ok done) = IsGroupOfEdits edits × (first_unplain edits ≡ None)
+IsChecked edits (Ok done) = first_unplain edits ≡ None
 IsChecked edits (Err Count) = (edits ≡ []) ⊎ (most_edits < length edits)
 IsChecked edits (Err (NotPlain place)) = first_unplain edits ≡ Some place

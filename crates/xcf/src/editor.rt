@@ -82,7 +82,7 @@ impl Editor {
         ensures first { IfOk result (λ editor. editor ≡ history_of editor.base) }
     {
         let document = open(alloc, file)?;
-        match Core::open(alloc, document, NoShelf) {
+        match Core::open(alloc, document, NoShelf::new()) {
             Ok(core) => Ok(Editor { core }),
             Err(_) => Err(NotOpened::Memory),
         }

@@ -1,8 +1,10 @@
 //! Groups of edits that need nothing beside them.
-ghost use Rattle.std.specs.Prelude.{◌≡◌, ◌&&◌, true, None, [], OnOk};
+ghost use Rattle.std.specs.Prelude.{◌≡◌, ◌&&◌, ◌<◌, ◌≤◌, true, None, [], length, OnOk, IfSome};
 ghost use Rattle.std.specs.List.{AllByRecursion};
 ghost use Rattle.spec_document.specs.Limits.{AreBytes};
+ghost use Rattle.spec_edit.specs.Edit as edits;
 ghost use Rattle.spec_edit.specs.Edit.{IsEdit};
+ghost use Rattle.spec_history.specs.Calls.{IsGroupOfEdits};
 ghost use Rattle.spec_script.specs.Commands.{are_colours};
 ghost use Rattle.spec_tables.specs.Agrees.{AreThere};
 ghost use Rattle.xcf.specs.Plain.{is_side, is_plain, first_unplain, IsChecked};
@@ -81,6 +83,18 @@ pub(crate) fn know_slice(bytes: &[u8])
     let _len = bytes.len();
 }
 
+fn know_byte(value: u8)
+    ensures { value ≤ 255 }
+{}
+
+// Tells contracts that so many bytes are 1 to 256 colours.
+fn know_colours(bytes: &Bytes)
+    requires { are_colours bytes.now ≡ true }
+    ensures { IsEdit (edits.set_colours bytes.now) }
+{
+    know(bytes);
+}
+
 /// Tells contracts that a plain edit is within the limits of its type.
 pub(crate) fn know_edit(edit: &Edit)
     requires { is_plain (edit_of edit.now) ≡ true }
@@ -93,12 +107,13 @@ pub(crate) fn know_edit(edit: &Edit)
         Edit::NewLayer { name, .. } => know(name),
         Edit::NewGroup { name, .. } => know(name),
         Edit::AddChannel { name } => know(name),
-        Edit::SetColours { bytes } => know(bytes),
+        Edit::SetColours { bytes } => know_colours(bytes),
+        Edit::FillMask { value, .. } => know_byte(*value),
+        Edit::FillChannel { value, .. } => know_byte(*value),
+        Edit::SetOpacity { value, .. } => know_byte(*value),
+        Edit::Select { value, .. } => know_byte(*value),
         Edit::Filter { .. }
         | Edit::CopyRect { .. }
-        | Edit::FillMask { .. }
-        | Edit::FillChannel { .. }
-        | Edit::SetOpacity { .. }
         | Edit::SetMode { .. }
         | Edit::SetVisible { .. }
         | Edit::SetLockAlpha { .. }
@@ -109,16 +124,17 @@ pub(crate) fn know_edit(edit: &Edit)
         | Edit::DropMask { .. }
         | Edit::Delete { .. }
         | Edit::Restack { .. }
-        | Edit::Select { .. }
         | Edit::SelectNone
         | Edit::DropChannel { .. } => {}
     }
 }
 
 // The place of the first edit that is not plain. Where there is none, all are within the limits of their types.
+#[tactic(auto, using(crate::proofs::Checking::begins, crate::proofs::Checking::stops, crate::proofs::Checking::all_seen, crate::proofs::Checking::all_within))]
 fn first_unplain(edits: &[Edit]) -> Option<usize>
     ensures value { result ≡ first_unplain (edits_of edits.now) }
     ensures within { result ≡ None → AllByRecursion IsEdit (edits_of edits.now) }
+    ensures inside { IfSome result (λ place. place < length edits.now) }
 {
     for (index, edit) in edits.iter().enumerate() {
         if !is_plain(edit) {
@@ -135,6 +151,7 @@ fn first_unplain(edits: &[Edit]) -> Option<usize>
 /// Errors: `Count`, or `NotPlain` with the first edit that is a filter or past its limits, counted from 0.
 pub fn check_group(edits: &[Edit]) -> Result<(), NotGroup>
     ensures checked { IsChecked (edits_of edits.now) result }
+    ensures group { OnOk result (IsGroupOfEdits (edits_of edits.now)) }
     ensures there { OnOk result (AreThere [] (edits_of edits.now)) }
 {
     if edits.is_empty() || edits.len() > MAX_EDITS as usize {

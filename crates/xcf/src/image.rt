@@ -72,6 +72,7 @@ impl Image {
     /// Errors, after each of which the image is as before: `Refused` with the first edit that is refused and why, `NotGroup` for no
     /// edits, too many, a filter among them, or one that is past the limits of its type, `NoIds` where fewer than 1024 ids for new
     /// nodes are left, `Memory`.
+    #[tactic(auto, using(crate::proofs::Outcomes::not_made))]
     pub fn edit(&mut self, alloc: Global, edits: &[Edit]) -> Result<(), NotEdited>
         ensures { Edits self.old self.new (edits_of edits.now) result }
     {

@@ -26,8 +26,15 @@ pub(crate) fn first_table(kind: FilterKind, amount: u8) -> Table
         amount,
         uses: 0,
     });
-    know_slice(table.as_slice());
+    know_table(&table);
     table
+}
+
+// Tells contracts that a table has bytes.
+fn know_table(table: &Table)
+    ensures { AreBytes table.now }
+{
+    know_slice(table.as_slice());
 }
 
 /// Makes plain edits in turn. `next_id` is the id that the next new node gets.
@@ -50,6 +57,7 @@ pub(crate) fn make_all(
     let table = first_table(FilterKind::Invert, 0);
     for (index, edit) in edits.iter().enumerate() {
         know_edit(edit);
+        know_table(&table);
         match apply(alloc, document, next_id, edit, &table) {
             Ok(()) => {}
             Err(EditRefusedOrMemory::Refused(cause)) => {

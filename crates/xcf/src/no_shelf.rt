@@ -1,16 +1,24 @@
-ghost use Rattle.std.specs.Prelude.{◌≡◌, None, Some, [], false, refl};
+ghost use Rattle.std.specs.Prelude.{◌≡◌, None, Some, [], refl};
 ghost use Rattle.xl_ports.specs.Faults.{last_count};
 
 use xl_ports::{Failed, Shelf};
 
-/// A shelf on which nothing stands and each call fails, for who keeps an image in memory alone.
+/// A shelf on which nothing stands and each call fails, for who keeps an image in memory alone. No draft is ever open.
 #[derive(Drop)]
-pub(crate) struct NoShelf;
+pub(crate) struct NoShelf {
+    open: bool,
+}
+
+impl NoShelf {
+    pub(crate) fn new() -> NoShelf {
+        NoShelf { open: false }
+    }
+}
 
 impl Shelf for NoShelf {
     ghost selected = { λ s. Some [] };
 
-    ghost is_open = { λ s. false };
+    ghost is_open = { λ s. s.open };
 
     ghost content = { λ s name. None };
 
@@ -29,6 +37,7 @@ impl Shelf for NoShelf {
     }
 
     fn draft_new(&mut self) -> Result<(), Failed> {
+        self.open = false;
         Err(Failed)
     }
 
@@ -41,6 +50,7 @@ impl Shelf for NoShelf {
     }
 
     fn swap_in(&mut self) -> Result<(), Failed> {
+        self.open = false;
         Err(Failed)
     }
 

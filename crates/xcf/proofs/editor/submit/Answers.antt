@@ -5,14 +5,11 @@ use Rattle.spec_tables.specs.Agrees.{Agrees, AreThere}
 use Rattle.spec_history.specs.Limited.{edits_of}
 use Rattle.xl_edit.specs.Calls.{call_of}
 use Rattle.xl_edit.specs.Replies.{reply_of}
-use Rattle.xcf.proofs.Asking.{answered, call_is_there, plain_is_call}
+use Rattle.xcf.proofs.Asking.{answered, call_is_there}
 use Rattle.xcf.proofs.editor.submit.Goals as goal
 
-pub submit-requires-built : goal.submit-requires-built
-submit-requires-built g c = plain_is_call (call_of c.args.call) c.requires.plain
-
-pub submit-requires-there : goal.submit-requires-there
-submit-requires-there g c =
+pub submit-requires-clause-there : goal.submit-requires-clause-there
+submit-requires-clause-there g c =
     subst (λ slots. AreThere slots (edits_of (call_of c.args.call))) (sym c.requires.desk)
     (call_is_there (call_of c.args.call) c.requires.plain)
 
