@@ -1,0 +1,6 @@
+mod Colours
+mod Checking
+mod UnderWay
+mod Numbers
+mod Asking
+mod Outcomes

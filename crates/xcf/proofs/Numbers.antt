@@ -1,0 +1,29 @@
+-- The ids and the stacks of a document are those of its tree.
+use Rattle.std.proofs.Common.{◌≡◌, ℕ, ◌∷◌, ◌++◌, refl, ◌∙◌, ap, arith}
+use Rattle.std.specs.Prelude.{Option, Some, None, option_map, is_some}
+use Rattle.spec_forest.specs.Forest.{Forest, none, leaf, group, ids, stack_at}
+use Rattle.spec_damage.proofs.NewEdits.{next_above}
+use Rattle.spec_document.specs.Document.{Document}
+use Rattle.spec_document.specs.Limits.{IsDocument}
+use Rattle.spec_edit.specs.Limited.{IsAt}
+use Rattle.xcf.specs.Opened.{image_of}
+use Rattle.xl_doc.specs.declared.node.Node.{Node}
+use Rattle.xl_doc.specs.Nodes.{nodes_of}
+use Rattle.xl_doc.proofs.NodesOf.{stack-nodes_of}
+
+pub ids-nodes_of : (f : Forest Node Node) → ids (nodes_of f) ≡ ids f
+ids-nodes_of none = refl
+ids-nodes_of (leaf id n under) = ap (λ is. id ∷ is) (ids-nodes_of under)
+ids-nodes_of (group id n children under) = λ i. id ∷ (ids-nodes_of children i ++ ids-nodes_of under i)
+
+mapped_is_some : {A B : Type 0} (f : A → B) (o : Option A) → is_some (option_map f o) ≡ is_some o
+mapped_is_some f None = refl
+mapped_is_some f (Some x) = refl
+
+-- a document has a stack where its tree has it
+pub some-stack : (stack : ℕ) (f : Forest Node Node) → is_some (stack_at stack (nodes_of f)) ≡ is_some (stack_at stack f)
+some-stack stack f = ap is_some (stack-nodes_of stack f) ∙ mapped_is_some nodes_of (stack_at stack f)
+
+-- a numbered document with the id one above its greatest
+pub first_is : (d : Document) → IsDocument d → IsAt (image_of d)
+first_is d within = record { document = within; positive = omega arith; below = next_above d }

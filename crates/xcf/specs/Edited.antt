@@ -1,0 +1,35 @@
+-- What comes of a group of edits.
+use Rattle.std.specs.Prelude.{◌≡◌, ℕ, ◌+◌, ◌^◌, ◌≤◌, List, [], Result, Ok, Err}
+use Rattle.spec_edit.specs.Apply.{At, apply, apply_group}
+use Rattle.spec_edit.specs.Edit.{Edit}
+use Rattle.spec_history.specs.Calls.{most_edits}
+use Rattle.xcf.specs.Plain.{IsChecked}
+use Rattle.xcf.specs.declared.errors.NotEdited.{NotEdited}
+use Rattle.xcf.specs.declared.errors.NotEdited.TheVariants.{Memory, NotGroup, NoIds, Refused}
+
+-- The edits of a group are made in turn, or the first that is refused is named, or memory ran out. Only where all are made is it
+-- said what is left.
+abbrev pub MakesAll : (old new : At) → List Edit → Result (Unit {0}) NotEdited → Type 0
+MakesAll old new edits (Ok done) = apply_group old edits [] ≡ Ok new
+MakesAll old new edits (Err (Refused index cause)) = apply_group old edits [] ≡ Err (record { index = index; cause = cause })
+MakesAll old new edits (Err (NotGroup flaw)) = ⊥
+MakesAll old new edits (Err NoIds) = ⊥
+MakesAll old new edits (Err Memory) = Unit {0}
+
+-- The whole group is made. Or the image is as before: the first edit that is refused is named, or what is wrong with the group, or
+-- not so many ids are left as a group may take, or memory ran out.
+abbrev pub Edits : (old new : At) → List Edit → Result (Unit {0}) NotEdited → Type 0
+Edits old new edits (Ok done) = apply_group old edits [] ≡ Ok new
+Edits old new edits (Err (Refused index cause)) =
+    (apply_group old edits [] ≡ Err (record { index = index; cause = cause })) × (new ≡ old)
+Edits old new edits (Err (NotGroup flaw)) = IsChecked edits (Err flaw) × (new ≡ old)
+Edits old new edits (Err NoIds) = (2 ^ 32 ≤ old.next + most_edits + 1) × (new ≡ old)
+Edits old new edits (Err Memory) = new ≡ old
+
+-- the same of one edit that takes a table
+abbrev pub EditsBy : (table : List ℕ) → (old new : At) → Edit → Result (Unit {0}) NotEdited → Type 0
+EditsBy table old new edit (Ok done) = apply old edit table ≡ Ok new
+EditsBy table old new edit (Err (Refused index cause)) = (index ≡ 0) × (apply old edit table ≡ Err cause) × (new ≡ old)
+EditsBy table old new edit (Err (NotGroup flaw)) = ⊥
+EditsBy table old new edit (Err NoIds) = ⊥
+EditsBy table old new edit (Err Memory) = new ≡ old

@@ -1,0 +1,100 @@
+ghost use Rattle.std.specs.Prelude.{◌≡◌};
+ghost use Rattle.xcf.specs.declared.errors.NotAsked.TheVariants as asked;
+ghost use Rattle.xcf.specs.declared.errors.NotEdited.TheVariants as edited;
+
+use std::alloc::AllocError;
+use thiserror::Error;
+use xl_edit::EditRefused;
+use xl_fields::ReadRefused;
+
+/// Why no image was opened.
+#[derive(Debug, Drop, Error)]
+pub enum NotOpened {
+    #[error("out of memory")]
+    Memory,
+    #[error("the file has more than 2^31 bytes")]
+    TooLong,
+    /// The first rule that the file breaks, and the offset of the byte.
+    #[error("refused: {0}")]
+    Refused(ReadRefused),
+}
+
+/// Why edits are no group. No document was looked at.
+#[derive(Clone, Copy, Debug, PartialEq, Eq, Error)]
+pub enum NotGroup {
+    /// A group has 1 to 1024 edits.
+    #[error("a group has 1 to 1024 edits")]
+    Count,
+    /// The first edit, counted from 0, that is a filter, makes a layer with a side of 0 or above `MAX_SIDE`, or sets colours that
+    /// are not 1 to 256 of three bytes.
+    #[error("edit {0} is a filter or past the limits of its type")]
+    NotPlain(u32),
+}
+
+/// Why an image was not edited. It is as before then.
+#[derive(Debug, Drop, Error)]
+pub enum NotEdited {
+    #[error("out of memory")]
+    Memory,
+    #[error("no group: {0}")]
+    NotGroup(NotGroup),
+    /// The image has used up the ids of 32 bits that new nodes get.
+    #[error("the ids of new nodes are used up")]
+    NoIds,
+    /// The first edit that is refused, counted from 0, and why.
+    #[error("edit {index} is refused: {cause}")]
+    Refused { index: u32, cause: EditRefused },
+}
+
+impl From<AllocError> for NotEdited {
+    ghost from_gives = { λ _ e. e ≡ edited.Memory };
+
+    fn from(_: AllocError) -> Self {
+        NotEdited::Memory
+    }
+}
+
+impl From<NotGroup> for NotEdited {
+    ghost from_gives = { λ flaw e. e ≡ edited.NotGroup flaw };
+
+    fn from(flaw: NotGroup) -> Self {
+        NotEdited::NotGroup(flaw)
+    }
+}
+
+/// Why an editor was not asked. Its history is as before then.
+#[derive(Clone, Copy, Debug, PartialEq, Eq, Error)]
+pub enum NotAsked {
+    #[error("out of memory")]
+    Memory,
+    #[error("no group: {0}")]
+    NotGroup(NotGroup),
+}
+
+impl From<AllocError> for NotAsked {
+    ghost from_gives = { λ _ e. e ≡ asked.Memory };
+
+    fn from(_: AllocError) -> Self {
+        NotAsked::Memory
+    }
+}
+
+impl From<NotGroup> for NotAsked {
+    ghost from_gives = { λ flaw e. e ≡ asked.NotGroup flaw };
+
+    fn from(flaw: NotGroup) -> Self {
+        NotAsked::NotGroup(flaw)
+    }
+}
+
+/// Why a tile was not shown.
+#[derive(Clone, Copy, Debug, PartialEq, Eq, Error)]
+pub enum NotShown {
+    #[error("out of memory")]
+    Memory,
+    /// The node is neither 0, the image, nor a group.
+    #[error("node {0} is no stack")]
+    NoStack(u32),
+    #[error("the canvas has no such tile")]
+    OutsideTile,
+}
