@@ -2,7 +2,7 @@ ghost use Rattle.std.specs.Prelude.{◌≡◌, ◌<◌, [], None, IfOk, IfErr, O
 ghost use Rattle.spec_history.specs.Machine as machine;
 ghost use Rattle.xcf.specs.Asked.{IsPlainCall, Fails};
 ghost use Rattle.xcf.specs.Opened.{Opens, history_of};
-ghost use Rattle.xl_core.specs.History.{Answers, document, version};
+ghost use Rattle.xl_standing.specs.History.{Answers, document, version};
 ghost use Rattle.xl_edit.specs.Calls.{call_of};
 ghost use Rattle.xl_edit.specs.Edits.{edits_of};
 ghost use Rattle.xl_edit.specs.Replies.{reply_of};
@@ -30,7 +30,7 @@ pub struct Editor {
 impl Model for Editor {
     ghost use Rattle.std.specs.Coded.{codes};
     ghost use Rattle.spec_document.specs.Code.{coded_document};
-    ghost use Rattle.xl_core.specs.History.{History};
+    ghost use Rattle.xl_standing.specs.History.{History};
 
     ghost Value = { History };
 
