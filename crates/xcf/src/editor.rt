@@ -39,19 +39,6 @@ impl Model for Editor {
     ghost view = { λ e. e.core.history };
 }
 
-// A desk without filters.
-fn plain_desk(alloc: Global) -> Result<Desk, AllocError>
-    ensures { IfOk result (λ desk. states_in state desk.chest ≡ []) }
-{
-    let Ok(chest) = Chest::new(alloc, Vec::new(alloc)) else {
-        return Err(AllocError);
-    };
-    match Desk::new(alloc, chest) {
-        Ok(desk) => Ok(desk),
-        Err(_) => Err(AllocError),
-    }
-}
-
 // Makes a call as session 0, which has seen all versions, at a desk without filters.
 fn submit<L: Ledger>(
     alloc: Global,
@@ -94,7 +81,12 @@ impl Editor {
         ensures answered { IfOk result (λ reply. Answers self.old 0 (call_of call) [] (reply_of reply) self.new) }
         ensures as_before { OnErr result (self.new ≡ self.old) }
     {
-        let mut desk = plain_desk(alloc)?;
+        let Ok(chest) = Chest::new(alloc, Vec::new(alloc)) else {
+            return Err(AllocError);
+        };
+        let Ok(mut desk) = Desk::new(alloc, chest) else {
+            return Err(AllocError);
+        };
         submit::<Brand>(alloc, &mut self.core, call, &mut desk, Blank::new(1))
     }
 

@@ -9,7 +9,7 @@ use Rattle.xcf.proofs.Asking.{answered, call_is_there}
 use Rattle.xcf.proofs.editor.submit.Goals as goal
 
 pub submit-requires-clause-there : goal.submit-requires-clause-there
-submit-requires-clause-there g c =
+submit-requires-clause-there g c κs within =
     subst (λ slots. AreThere slots (edits_of (call_of c.args.call))) (sym c.requires.desk)
     (call_is_there (call_of c.args.call) c.requires.plain)
 
