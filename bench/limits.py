@@ -4,7 +4,8 @@
     limits.py --binary BIN [--before OLD] [--folder FOLDER] [--runs N]
 
 FOLDER takes the files, 2 MB, and keeps them; without it a temporary one is used. Each number is the median of N runs (5), which take
-turns with those beside which it is read. OLD is another build of the program, whose times of painting stand beside.
+turns with those beside which it is read; times are those of all processors. OLD is another build of the program, whose times of
+painting stand beside.
 """
 
 import argparse
@@ -14,7 +15,6 @@ import statistics
 import subprocess
 import sys
 import tempfile
-import time
 
 import make_flat
 from xcf_writing import image
@@ -33,8 +33,7 @@ def made(folder, name, sides):
 
 
 def measured(words, script=b""):
-    """The seconds of a run, and its peak memory in MB."""
-    begun = time.monotonic()
+    """The seconds of a run on all processors together, which other work beside it does not change much, and its peak memory in MB."""
     process = subprocess.Popen(words, stdin=subprocess.PIPE, stdout=subprocess.DEVNULL)
     try:
         process.stdin.write(script)
@@ -44,7 +43,7 @@ def measured(words, script=b""):
     process.returncode = os.waitstatus_to_exitcode(status)
     if process.returncode != 0:
         sys.exit("%s: status %d" % (" ".join(words), process.returncode))
-    return time.monotonic() - begun, used.ru_maxrss / 1024
+    return used.ru_utime + used.ru_stime, used.ru_maxrss / 1024
 
 
 def medians(runs, cases):
