@@ -1,2 +1,1 @@
 mod Outs
-mod Stacks

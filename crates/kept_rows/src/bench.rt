@@ -1,7 +1,5 @@
 //! A core with its jobs.
 ghost use Rattle.std.specs.Prelude.{◌≡◌, ◌<◌, ◌≤◌, [], IfOk, IfSome};
-ghost use Rattle.spec_grid.specs.Grid.{is_on_grid};
-ghost use Rattle.spec_history.specs.Machine.{has_stack as document_has_stack};
 ghost use Rattle.kept_rows.specs.Asked.{IsPlain, PicturesStay, IsOfLast};
 ghost use Rattle.xl_core.specs.Editing.{IsPictureOf};
 ghost use Rattle.xl_doc.specs.Numbered.{AreNumbered};
@@ -20,8 +18,8 @@ use xl_doc::{Document, NodeId, TileAt};
 use xl_edit::{Call, Reply};
 use xl_fakes::MemoryShelf;
 use xl_filters::Chest;
-use xl_grid::grid;
 use xl_ports::Shelf;
+use xl_standing::{has_stack, has_tile};
 
 /// For how many more calls room is taken at most.
 const MOST_CALLS: u32 = 100;
@@ -120,21 +118,6 @@ fn compose_next<L: Ledger, D: Shelf>(
         None => Ok(None),
         Some(job) => Ok(Some(compose(job, &mut steps))),
     }
-}
-
-// Whether the document has this stack.
-fn has_stack(document: &Document, node: NodeId) -> bool
-    ensures { result ≡ document_has_stack document.now node.0 }
-{
-    document.tree.stack(node).is_some()
-}
-
-// Whether the canvas has this tile.
-fn has_tile(document: &Document, at: TileAt) -> bool
-    ensures { result ≡ is_on_grid document.now.width document.now.height at }
-{
-    let (columns, rows) = grid(document.width, document.height);
-    at.col < columns && at.row < rows
 }
 
 // Takes a job and composes it, where it is of a tile that is there.

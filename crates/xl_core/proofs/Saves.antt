@@ -1,14 +1,12 @@
--- A history goes on by a save's start and its end, and the shelf stays right.
-use Rattle.std.proofs.Common.{◌≡◌, ℕ, ◌+◌, ◌<◌, ◌≤◌, Bool, true, false, cond, List, [], ◌∷◌, ◌++◌, length, refl, sym}
+-- A save's start and its end leave the shelf right.
+use Rattle.std.proofs.Common.{◌≡◌, ℕ, ◌+◌, ◌≤◌, List, [], ◌∷◌, ◌++◌, length, refl, sym}
 use Rattle.std.proofs.Common.{◌∙◌, ap, subst, arith, length-append, add-zero}
-use Rattle.std.specs.Prelude.{◌==◌, ◌&&◌, not, slice_index, slice_set, Option, Some, None, IsSome}
+use Rattle.std.specs.Prelude.{Option, Some, None, IsSome}
 use Rattle.std.specs.declared.snapshot.Snapshot.{Snapshot}
 use Rattle.spec_document.specs.Document.{Document}
-use Rattle.spec_history.specs.Machine.{Call, Reply, saved, State, Saving, latest, document_at}
-use Rattle.spec_history.specs.History.{Entry, asked, starts, ends, replay, next_index, is_end_kind, is_changed}
-use Rattle.spec_history.specs.History.{latest_of, document_of, EndsWith, MayEnd}
-use Rattle.spec_history.proofs.Growing.{replay-snoc, next_index-snoc}
-use Rattle.spec_history.proofs.Versions.{latest_of-legal}
+use Rattle.spec_history.specs.Machine.{Call, Reply, saved, State, Saving, latest}
+use Rattle.spec_history.specs.History.{Entry, asked, starts, replay, EndsWith, MayEnd}
+use Rattle.spec_history.proofs.Growing.{replay-snoc}
 use Rattle.spec_world.specs.declared.SaveEnd.{SaveEnd}
 use Rattle.spec_world.specs.declared.SaveEnd.TheVariants.{Done, Fault, Memory}
 use Rattle.spec_world.specs.World.{entries_owed}
@@ -18,51 +16,16 @@ use Rattle.spec_saves.specs.Shelf.{Known, ShelfIsRight}
 use Rattle.spec_saves.specs.Returns.{Returns, end_entry}
 use Rattle.spec_saves.proofs.Staying.{saves_started-snoc, stays_right}
 use Rattle.spec_saves.proofs.Ending.{comes_back_right}
-use Rattle.spec_history.specs.Calls.{most_entries}
 use Rattle.xl_core.specs.Editing.{last_of, index_out}
 use Rattle.xl_core.specs.Holding.{all_seen, IsPlace, at_hand, Holds}
-use Rattle.xl_core.specs.Now.{Now, now_of, Stands}
 use Rattle.xl_core.specs.Room.{owed_in}
 use Rattle.xl_core.specs.declared.saving.Place.{Place}
 use Rattle.xl_core.specs.declared.saving.Place.TheVariants.{In, Out}
-use Rattle.xl_core.proofs.WithinTypes.{calls-snoc}
-use Rattle.xl_core.proofs.GoesOn.{counted, out-call}
-use Rattle.xl_core.proofs.Pictures.{pictures-entry}
+use Rattle.xl_standing.specs.Now.{Now, Stands}
+use Rattle.xl_standing.proofs.GoesOn.{out-call}
+use Rattle.xl_standing.proofs.SaveEntries.{stands_ended as ended}
 
 -- ---- what stands
-
--- a save starts with the last version
-pub stands_started : (base : Document) (entries : List Entry) (now : Now) (made : List ℕ) (session : ℕ)
-    → Stands base entries now made → length made ≡ 8 → session < 8
-    → (replay base entries).out ≡ None → length entries + 2 ≤ most_entries
-    → Stands base (entries ++ record {
-      session = session;
-      index = slice_index made session;
-      kind = starts;
-      reply =
-          saved now.version;
-    } ∷ []) now
-    (slice_set made session (slice_index made session + 1))
-stands_started base entries now made session stands eight within none few =
-    let s = replay base entries in
-    let e : Entry = record { session = session; index = slice_index made session; kind = starts; reply = saved now.version } in
-    let last : saved now.version ≡ saved (latest s) = ap (λ n. saved n.version) stands.is_now in
-    let index : slice_index made session ≡ next_index entries session = stands.indices session within in
-    let more : length (entries ++ e ∷ []) ≡ length entries + 1 = length-append entries (e ∷ []) in
-    let owed : entries_owed (replay base (entries ++ e ∷ [])).out ≡ 1 = ap (λ t. entries_owed t.out) (replay-snoc base entries e) in
-    let groups = stands.groups in
-    let pictures = pictures-entry base entries now made e stands (index, none, last) tt refl (λ stack at. refl) in
-    record {
-      within = stands.within;
-      small = stands.small;
-      calls = calls-snoc entries e stands.calls tt;
-      legal = pictures.legal;
-      few = omega (arith, more, few, owed);
-      is_now = stands.is_now ∙ ap (λ t. now_of base t now.cache) (sym (replay-snoc base entries e));
-      groups = omega (arith, more, groups);
-      indices = counted made entries e eight within refl stands.indices;
-      pictures = pictures;
-    }
 
 ends_with : (how : SaveEnd) (version : ℕ) → EndsWith version (end_reply how version)
 ends_with Done version = refl
@@ -74,29 +37,9 @@ may_end : (out : Option Saving) (session : ℕ) (how : SaveEnd) → IsOutOf out 
 may_end None session how is = absurd is
 may_end (Some out) session how is = (is, refl, ends_with how out.version)
 
-end_unchanged : (how : SaveEnd) (version : ℕ) → is_changed (end_reply how version) ≡ false
-end_unchanged Done version = refl
-end_unchanged Fault version = refl
-end_unchanged Memory version = refl
-
 owed_out : (out : Option Saving) (session : ℕ) → IsOutOf out session → entries_owed out ≡ 1
 owed_out None session is = absurd is
 owed_out (Some out) session is = refl
-
-abbrev one_where : Bool → ℕ
-one_where b = cond b 1 0
-
-never : (b : Bool) → one_where (b && false) ≡ 0
-never true = refl
-never false = refl
-
--- an end is not counted
-not_counted : (entries : List Entry) (e : Entry) → e.kind ≡ ends → (s : ℕ) → next_index (entries ++ e ∷ []) s ≡ next_index entries s
-not_counted entries e kind s =
-    let test : one_where (e.session == s && not (is_end_kind e.kind)) ≡ one_where (e.session == s && false) =
-    ap (λ k. one_where (e.session == s && not (is_end_kind k))) kind in
-    next_index-snoc entries e s ∙ (ap (λ n. next_index entries s + n) (test ∙ never (e.session == s))
-    ∙ add-zero (next_index entries s))
 
 -- the save that is out ends with its version
 pub stands_ended : (base : Document) (entries : List Entry) (now : Now) (made : List ℕ) (session : ℕ) (how : SaveEnd)
@@ -104,37 +47,8 @@ pub stands_ended : (base : Document) (entries : List Entry) (now : Now) (made : 
     → IsOutOf (replay base entries).out session
     → Stands base (entries ++ end_entry base entries session (index_out (replay base entries).out) how ∷ []) now made
 stands_ended base entries now made session how stands out =
-    let s = replay base entries in
-    let e = end_entry base entries session (index_out s.out) how in
-    let more : length (entries ++ e ∷ []) ≡ length entries + 1 = length-append entries (e ∷ []) in
-    let owed : entries_owed (replay base (entries ++ e ∷ [])).out ≡ 0 = ap (λ t. entries_owed t.out) (replay-snoc base entries e) in
-    let before = owed_out s.out session out in
-    let few = stands.few in
-    let groups = stands.groups in
-    let pictures = pictures-entry base entries now made e stands (may_end s.out session how out) tt
-    (end_unchanged how (version_out s.out)) (λ stack at. refl) in
-    record {
-      within = stands.within;
-      small = stands.small;
-      calls = calls-snoc entries e stands.calls tt;
-      legal = pictures.legal;
-      few = omega (arith, more, few, owed, before);
-      is_now = stands.is_now ∙ ap (λ t. now_of base t now.cache) (sym (replay-snoc base entries e));
-      groups = omega (arith, more, groups);
-      indices = λ s here. stands.indices s here ∙ sym (not_counted entries e refl s);
-      pictures = pictures;
-    }
-
--- the last version and its document are those of the history
-pub version_is : (base : Document) (entries : List Entry) (now : Now) (made : List ℕ) → Stands base entries now made
-    → now.version ≡ latest_of entries
-version_is base entries now made stands = ap (λ n. n.version) stands.is_now ∙ sym (latest_of-legal base entries stands.legal)
-
-pub document_is : (base : Document) (entries : List Entry) (now : Now) (made : List ℕ) → Stands base entries now made
-    → now.document ≡ document_of base entries (latest_of entries)
-document_is base entries now made stands =
-    ap (λ n. n.document) stands.is_now
-    ∙ ap (document_at base (replay base entries)) (sym (latest_of-legal base entries stands.legal))
+    let o = (replay base entries).out in
+    ended base entries now made session (index_out o) (end_reply how (version_out o)) stands (may_end o session how out)
 
 -- ---- where the shelf is
 

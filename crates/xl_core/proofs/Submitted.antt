@@ -17,10 +17,11 @@ use Rattle.spec_history.proofs.Versions.{latest_of-legal}
 use Rattle.spec_world.specs.Right as worlds
 use Rattle.xl_compose.specs.Job.{Job, StandsFor}
 use Rattle.xl_compose.specs.declared.clean.Done.{Done}
-use Rattle.xl_core.specs.Editing.{Editing, world, IsSubmitted, place_done, IsPictureOf}
-use Rattle.xl_core.specs.History.{History, Answers, reply_to, with_call}
-use Rattle.xl_core.specs.Now.{Now, with_cache, Stands}
-use Rattle.xl_core.proofs.Pictures.{stands-finished}
+use Rattle.xl_core.specs.Editing.{Editing, world, IsSubmitted, IsPictureOf}
+use Rattle.xl_standing.specs.Places.{place_done}
+use Rattle.xl_standing.specs.History.{History, Answers, reply_to, with_call}
+use Rattle.xl_standing.specs.Now.{Now, with_cache, Stands}
+use Rattle.xl_standing.proofs.Pictures.{stands-finished}
 
 -- the history and the pictures are what a call makes of those of a core
 abbrev pub IsMadeOf : {K : Type 0} → Editing K → (base : Document) (new : World) (session : ℕ) → Call → (seen : ℕ)

@@ -2,8 +2,7 @@
 use Rattle.std.specs.Prelude.{◌≡◌, ℕ, ◌+◌, ◌<◌, ◌≤◌, true, List, [], ◌∷◌, ◌++◌, length, Option, Some, None, IsSome}
 use Rattle.spec_grid.specs.Grid.{is_on_grid}
 use Rattle.spec_picture.specs.Picture.{project}
-use Rattle.spec_cache.specs.Cache.{Cache, Place, after_take, install, is_clean}
-use Rattle.spec_history.specs.Machine as machine
+use Rattle.spec_cache.specs.Cache.{Cache, after_take, install}
 use Rattle.spec_history.specs.Machine.{Call, Reply, saved, Saving, has_stack}
 use Rattle.spec_history.specs.History.{Entry, starts, ends, replay, next_index, document_of}
 use Rattle.spec_world.specs.World.{World}
@@ -15,9 +14,9 @@ use Rattle.spec_saves.specs.Names.{version_out}
 use Rattle.spec_saves.specs.Shelf.{Known, ShelfIsRight}
 use Rattle.spec_saves.specs.Returns.{Returns}
 use Rattle.spec_history.specs.Calls.{most_entries}
-use Rattle.xl_core.specs.History.{History, version, document}
-use Rattle.xl_core.specs.Now.{world_of}
-use Rattle.xl_compose.specs.Job.{Job}
+use Rattle.xl_standing.specs.History.{History, version, document}
+use Rattle.xl_standing.specs.Now.{world_of}
+use Rattle.xl_standing.specs.Places.{place_done}
 use Rattle.xl_compose.specs.declared.clean.Done.{Done}
 use Rattle.xl_core.specs.declared.saving.Begun.{Begun}
 use Rattle.xl_core.specs.declared.saving.Begun.TheVariants.{Snapshot, Out, Full}
@@ -46,28 +45,11 @@ IsSubmitted old session call seen tables reply new =
     let o = submit old.history.base (world old) session call seen tables in
     (new.history.base ≡ old.history.base) × (reply ≡ o.reply) × (world new ≡ o.world)
 
--- every call but a tile, and the tile whose slot is clean
-abbrev pub TakesNoStep : Cache → Call → Type 0
-TakesNoStep cache (machine.tile stack at) = is_clean cache stack at ≡ true
-TakesNoStep cache (machine.edit guard edits) = Unit {0}
-TakesNoStep cache (machine.undo named) = Unit {0}
-TakesNoStep cache machine.redo = Unit {0}
-TakesNoStep cache (machine.peek stack at) = Unit {0}
-TakesNoStep cache machine.top = Unit {0}
-
 -- ---- jobs
 
 -- the next marked slot is taken
 abbrev pub taken : {K : Type 0} → Editing K → Editing K
 taken c = record c { cache = after_take c.cache }
-
--- the tile that a job composes
-abbrev pub place_of_job : Job → Place
-place_of_job job = record { stack = job.stack; at = job.at }
-
--- the tile that a picture is of
-abbrev pub place_done : Done → Place
-place_done done = record { stack = done.node.0; at = done.at }
 
 -- the picture is that of its version, which is there, of a stack that was there then and a tile of the canvas
 pub record IsPictureOf (h : History) (done : Done) : Type 0 where

@@ -1,10 +1,6 @@
 pub mod Editing
 pub mod Entries
-pub mod History
 pub mod Holding
-pub mod Now
-pub mod Group
 pub mod Room
-pub mod Steps
 pub mod Jobs
 pub mod Tally

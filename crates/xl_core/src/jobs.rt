@@ -1,5 +1,5 @@
 ghost use Rattle.std.specs.Prelude.{◌≡◌, ℕ, List, Bool, Option, None, IfOk, OnErr};
-ghost use Rattle.xl_core.specs.Editing.{place_done};
+ghost use Rattle.xl_standing.specs.Places.{place_done};
 ghost use Rattle.xl_core.specs.Jobs.{IsTaken, says_closing, IsOutcomeOf, finished_by};
 
 use crate::tally::Tally;

@@ -19,8 +19,8 @@ use Rattle.spec_tables.proofs.Chests.{some_list}
 use Rattle.spec_world.specs.World.{World}
 use Rattle.spec_world.specs.Events.{submit}
 use Rattle.xl_core.specs.Editing.{Editing, world, IsSubmitted}
-use Rattle.xl_core.specs.History.{document}
-use Rattle.xl_core.specs.Now.{world_of}
+use Rattle.xl_standing.specs.History.{document}
+use Rattle.xl_standing.specs.Now.{world_of}
 use Rattle.xl_program.proofs.Submitted.{AnswersBy}
 
 -- no edit asks a filter

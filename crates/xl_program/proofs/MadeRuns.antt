@@ -31,7 +31,7 @@ use Rattle.xl_program.specs.Making.{IsMadeHistory, IsRunOf, IsSummary}
 use Rattle.xl_sessions.specs.Outcomes.{states_of}
 use Rattle.xl_program.specs.Outcome.{Comes, NoneFailed, SomeFailed, AnyFailed, ShelfCauseOf}
 use Rattle.xl_core.specs.Editing.{Editing, IsRight}
-use Rattle.xl_core.specs.History.{document as last_document}
+use Rattle.xl_standing.specs.History.{document as last_document}
 use Rattle.xl_program.specs.Parts.{IsSummedUp, StopsMaking, SumsUp, WhetherFailed, WritesReplies}
 use Rattle.xl_snapshot.specs.Saving.{IsSavedOn}
 use Rattle.xl_program.specs.declared.playing.Replies.{Replies}

@@ -11,7 +11,7 @@ use Rattle.spec_script.specs.Script.{list_at}
 use Rattle.spec_text.specs.Text.{digest_of}
 use Rattle.spec_view.specs.Text.{IsViewed, of_tile, view_text}
 use Rattle.spec_window.specs.Window.{window, window_refusal}
-use Rattle.xl_core.specs.History.{History, version, document}
+use Rattle.xl_standing.specs.History.{History, version, document}
 use Rattle.xl_ports.specs.Sink.{WritesAll, WritesPart}
 use Rattle.xl_program.specs.Outcome.{Given, first_filters}
 use Rattle.xl_program.specs.Playing.{ArePlayed, lines_in}

@@ -10,7 +10,7 @@ ghost use Rattle.spec_script.specs.Fits.{FitsFilters};
 ghost use Rattle.spec_text.specs.Text.{digest_of};
 ghost use Rattle.spec_world.specs.declared.SaveEnd.TheVariants as save_end;
 ghost use Rattle.xl_core.specs.Editing.{known};
-ghost use Rattle.xl_core.specs.History.{document as last_document};
+ghost use Rattle.xl_standing.specs.History.{document as last_document};
 ghost use Rattle.xl_doc.specs.Numbered.{AreNumbered};
 ghost use Rattle.xl_program.specs.Outcome.{Given, ComesTo, FailsAtShelf, FaultsRose, ShelfCauseOf, opened, shelved};
 ghost use Rattle.xl_program.specs.Parts.{IsSummedUp, StopsMaking, WhetherFailed};

@@ -8,7 +8,7 @@ ghost use Rattle.spec_history.specs.Limited.{edits_of};
 ghost use Rattle.spec_tables.specs.Agrees.{Agrees, AreThere, IsAfter};
 ghost use Rattle.spec_tables.specs.Tables.{expected_tables};
 ghost use Rattle.xl_core.specs.Editing.{known};
-ghost use Rattle.xl_core.specs.History.{Shows};
+ghost use Rattle.xl_standing.specs.History.{Shows};
 ghost use Rattle.xl_edit.specs.Calls.{call_of};
 ghost use Rattle.xl_edit.specs.Replies.{reply_of};
 ghost use Rattle.xl_filters.specs.Chests.{states_in};

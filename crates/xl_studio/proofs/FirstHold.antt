@@ -15,7 +15,7 @@ use Rattle.xl_turn.specs.Turns.{Closes, IsWithin}
 use Rattle.xl_turn.specs.Seats.{MayLeave, made_after}
 use Rattle.xl_turn.proofs.Fronts.{prefix_trans, prefix_self}
 use Rattle.xl_turn.proofs.Totals.{same_self, same_true, times_last}
-use Rattle.xl_core.specs.History.{document}
+use Rattle.xl_standing.specs.History.{document}
 use Rattle.xl_core.specs.Editing.{Editing, start_of, out_of}
 use Rattle.xl_core.specs.declared.saving.Begun.{Begun}
 use Rattle.xl_core.specs.declared.saving.Begun.TheVariants.{Snapshot, Out, Full}

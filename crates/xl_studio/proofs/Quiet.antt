@@ -15,7 +15,7 @@ use Rattle.xl_compose.specs.Job.{Job, StandsFor}
 use Rattle.xl_compose.specs.declared.clean.Done.{Done}
 use Rattle.xl_core.specs.declared.jobs.Taken.{Taken}
 use Rattle.xl_core.specs.declared.jobs.Taken.TheVariants as takes
-use Rattle.xl_core.specs.History.{History, version, document}
+use Rattle.xl_standing.specs.History.{History, version, document}
 use Rattle.xl_core.specs.Editing.{Editing, IsPictureOf}
 use Rattle.xl_core.specs.Jobs.{Out, IsTaken, IsOutcome, IsOutcomeOf}
 use Rattle.xl_turn.specs.Seats.{MayLeave}

@@ -12,7 +12,7 @@ use Rattle.spec_saves.specs.Shelf.{ShelfIsRight}
 use Rattle.spec_saves.specs.Shelf as shelves
 use Rattle.spec_saves.specs.Returns.{Returns}
 use Rattle.xl_turn.specs.Sums.{times}
-use Rattle.xl_core.specs.History.{document}
+use Rattle.xl_standing.specs.History.{document}
 use Rattle.xl_core.specs.Editing.{Editing, IsRight, start_of, end_of, out_of}
 use Rattle.xl_core.specs.declared.saving.Begun.{Begun}
 use Rattle.xl_core.specs.declared.saving.Begun.TheVariants.{Snapshot, Out, Full}

@@ -45,7 +45,7 @@ fn away(taken: &Result<Taken, AllocError>, document: Snapshot<Document>) -> Opti
 impl<D: Shelf> JobDesk for Studio<D> {
     ghost use Rattle.std.specs.Prelude.{◌≡◌, None, IfOk, IfSome, OnErr};
     ghost use mathlib.Core.List.{IsPrefix};
-    ghost use Rattle.xl_core.specs.Editing.{place_done};
+    ghost use Rattle.xl_standing.specs.Places.{place_done};
     ghost use Rattle.xl_core.specs.Jobs.{IsTaken, says_closing, IsOutcomeOf, finished_by};
     ghost use Rattle.xl_core.specs.Tally.{counted};
     ghost use Rattle.xl_studio.specs.Calling.{HasHeard};

@@ -8,8 +8,8 @@ ghost use Rattle.spec_tables.specs.Agrees.{Agrees, AreThere, IsAfter, IsPartAfte
 ghost use Rattle.spec_tables.specs.Tables.{expected_tables};
 ghost use Rattle.spec_world.specs.Events.{IsOutOf};
 ghost use Rattle.xl_core.specs.Editing.{known, out_of, ComesBack};
-ghost use Rattle.xl_core.specs.History.{version, is_full, Shows, NeedsNoStep};
-ghost use Rattle.xl_core.specs.Now.{KeepsDesk};
+ghost use Rattle.xl_standing.specs.History.{version, is_full, Shows, NeedsNoStep};
+ghost use Rattle.xl_standing.specs.Now.{KeepsDesk};
 ghost use Rattle.xl_edit.specs.Calls.{call_of};
 ghost use Rattle.xl_edit.specs.Replies.{reply_of};
 ghost use Rattle.xl_filters.specs.Chests.{states_in};

@@ -42,8 +42,9 @@ fn answer_of(job: Result<Option<Job>, AllocError>) -> Result<Taken, AllocError>
 impl<D: Shelf> Taking for Shared<D> {
     ghost use Rattle.std.specs.Prelude.{◌≡◌, IfOk};
     ghost use Rattle.spec_cache.specs.Cache.{finish};
-    ghost use Rattle.xl_core.specs.History.{version, document};
-    ghost use Rattle.xl_core.specs.Editing.{place_done, IsPictureOf};
+    ghost use Rattle.xl_standing.specs.History.{version, document};
+    ghost use Rattle.xl_core.specs.Editing.{IsPictureOf};
+    ghost use Rattle.xl_standing.specs.Places.{place_done};
     ghost use Rattle.xl_core.specs.Jobs.{finished_by};
     ghost use Rattle.xl_studio.specs.Taking.{GivesOut, HasStayed};
 

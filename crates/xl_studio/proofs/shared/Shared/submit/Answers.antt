@@ -1,6 +1,6 @@
 use Rattle.std.proofs.Common.{◌≡◌, ◌+◌, true, ap, refl, sym, subst, length}
 use Rattle.std.specs.Prelude.{IsSome}
-use Rattle.xl_core.specs.History.{is_full, NeedsNoStep}
+use Rattle.xl_standing.specs.History.{is_full, NeedsNoStep}
 use Rattle.xl_edit.specs.Calls.{call_of}
 use Rattle.xl_edit.specs.Replies.{reply_of}
 use Rattle.xl_studio.specs.State.{State, moments_of, IsKept}

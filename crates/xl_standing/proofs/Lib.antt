@@ -1,0 +1,17 @@
+mod Numbers
+mod OneSlot
+mod CleanTiles
+mod Trails
+mod Simulates
+mod GroupNumbers
+mod WithinTypes
+mod Groups
+mod Asking
+mod Sides
+pub mod Opened
+pub mod Ids
+pub mod Making
+pub mod GoesOn
+pub mod Pictures
+pub mod ByHistory
+pub mod SaveEntries

@@ -1,0 +1,24 @@
+-- The edits of a group are those of its call; so is the tile.
+use Rattle.std.proofs.Common.{rules, ◌≡◌, sym, ◌∙◌, ap, subst}
+use Rattle.spec_history.specs.Machine as machine
+use Rattle.xl_standing.specs.Now.{response, Gives}
+use Rattle.xl_edit.specs.Replies.{reply_of}
+use Rattle.spec_history.specs.Limited as limited
+use Rattle.xl_edit.specs.Calls.{call_of}
+use Rattle.xl_edit.specs.Edits.{edits_of}
+use Rattle.xl_standing.proofs.Making.{part_same}
+use Rattle.xl_standing.proofs.standing.Standing.answer.Goals as goal
+
+pub returns-in-Edit-clause-chest : goal.returns-in-Edit-clause-chest
+returns-in-Edit-clause-chest g c =
+    let same : limited.edits_of (call_of c.args.call.now) ≡ edits_of c.as_slice-edits.result.now = search rules in
+    part_same c.edit.result _ _ (limited.edits_of (call_of c.args.call.now))
+    (edits_of c.as_slice-edits.result.now) same c.edit.ensures.chest
+
+pub returns-in_ok-tile-in-Tile-clause-response : goal.returns-in_ok-tile-in-Tile-clause-response
+returns-in_ok-tile-in-Tile-clause-response g c =
+    let same : call_of c.args.call.now ≡ machine.tile c.in-Tile.node.0 c.in-Tile.at = search rules in
+    let tile = c.in_ok-tile-in-Tile.ensures.response in
+    subst (λ call. Gives (response c.args.self.now call c.args.seen c.without_filters-in-Tile.result.tables)
+    (reply_of c.without_filters-in-Tile.result.reply) c.tile.new.self) (sym same)
+    (ap reply_of c.without_filters-in-Tile.ensures.reply ∙ tile.0, tile.1)

@@ -1,0 +1,318 @@
+//! Edits that are made together.
+ghost use Rattle.std.specs.Prelude.{◌≡◌, ℕ, ◌+◌, ◌-◌, ◌≤◌, ◌++◌, true, cond, List, [], None, Ok, drop, length, IfOk};
+ghost use Rattle.std.specs.Prelude.{IfErr, OnOk, OnErr};
+ghost use Rattle.std.specs.List.{AllByRecursion};
+ghost use Rattle.spec_damage.specs.Damage as pairs;
+ghost use Rattle.spec_document.specs.Limits.{AreBytes};
+ghost use Rattle.spec_edit.specs.Apply.{apply_group, is_filter, first_table};
+ghost use Rattle.spec_edit.specs.Edit.{IsEdit};
+ghost use Rattle.spec_history.specs.Calls.{most_edits};
+ghost use Rattle.spec_tables.specs.Acceptance.{filter_count, refused_in, slot_of};
+ghost use Rattle.spec_tables.specs.Agrees.{AreThere, AreAsked, IsPartUsed};
+ghost use Rattle.xl_standing.specs.Group.{HasIds, IsAppliedOne, AppliesGroup, IsRefusal, LeavesChest};
+ghost use Rattle.xl_standing.specs.declared.group.GroupRefusedOrMemory.TheVariants.{Memory};
+ghost use Rattle.xl_edit.specs.Applied.{at};
+ghost use Rattle.xl_edit.specs.Built.{HasNext};
+ghost use Rattle.xl_edit.specs.Edits.{edit_of, edits_of};
+ghost use Rattle.xl_filters.specs.Chests.{states_in};
+ghost use Rattle.xl_marks.specs.Group.{damage_along};
+
+use std::alloc::{AllocError, Global};
+use xl_doc::Document;
+use xl_edit::{Edit, EditRefused, EditRefusedOrMemory, apply};
+use xl_filters::{Chest, FilterKind, FilterState, PointFilter, Table, Tables};
+use xl_marks::Damage;
+
+/// Why a group was not made: memory ran out, or an edit is refused, which is counted from 0.
+#[derive(Drop)]
+pub(crate) enum GroupRefusedOrMemory {
+    Memory,
+    Refused { index: u32, cause: EditRefused },
+}
+
+impl From<AllocError> for GroupRefusedOrMemory {
+    ghost from_gives = { λ _ e. e ≡ Memory };
+
+    fn from(_: AllocError) -> Self {
+        GroupRefusedOrMemory::Memory
+    }
+}
+
+/// What a group of edits leaves: a document and its next id, the tables that the group's filters answered, and what
+/// of which pictures the group may have changed.
+#[derive(Drop)]
+pub(crate) struct Made {
+    pub document: Document,
+    pub next_id: u32,
+    pub tables: Tables,
+    pub damage: Damage,
+}
+
+/// Makes a group of edits on a share of a document. The filters are asked when it is known that no edit is refused, which no table
+/// decides.
+pub(crate) fn make_group(
+    alloc: Global,
+    document: &Document,
+    next_id: u32,
+    edits: &[Edit],
+    chest: &mut Chest,
+) -> Result<Made, GroupRefusedOrMemory>
+    requires few { length edits.now ≤ most_edits }
+    requires each { AllByRecursion IsEdit (edits_of edits.now) }
+    requires ids { HasIds (at document.now next_id) (length edits.now) }
+    requires there { AreThere (states_in state chest.old) (edits_of edits.now) }
+
+    ensures made { IfOk result (λ made. apply_group (at document.now next_id) (edits_of edits.now) made.tables
+        ≡ Ok (at made.document made.next_id)) }
+    ensures damage { IfOk result (λ made. made.damage ≡ damage_along (at document.now next_id) (edits_of edits.now) made.tables) }
+    ensures bytes { IfOk result (λ made. AllByRecursion AreBytes made.tables) }
+    ensures asked { IfOk result (λ made.
+        AreAsked (states_in state chest.old) (states_in state chest.new) (edits_of edits.now) made.tables) }
+
+    ensures refused { IfErr result (IsRefusal (at document.now next_id) (edits_of edits.now) []) }
+    ensures chest { IfErr result (LeavesChest (states_in state chest.old) (states_in state chest.new) (edits_of edits.now)) }
+{
+    let blank = blank_tables(alloc, edits)?;
+    if blank.as_slice().is_empty() {
+        return try_group(alloc, document, next_id, edits, blank);
+    }
+    check_group(alloc, document, next_id, edits, blank)?;
+    let tables = ask_filters(alloc, edits, chest)?;
+    try_group(alloc, document, next_id, edits, tables)
+}
+
+// Whether a group of edits is refused.
+fn check_group(
+    alloc: Global,
+    document: &Document,
+    next_id: u32,
+    edits: &[Edit],
+    tables: Tables,
+) -> Result<(), GroupRefusedOrMemory>
+    requires few { length edits.now ≤ most_edits }
+    requires each { AllByRecursion IsEdit (edits_of edits.now) }
+    requires ids { HasIds (at document.now next_id) (length edits.now) }
+    requires tables { length tables ≡ filter_count (edits_of edits.now) }
+    ensures allowed { (others : List (List ℕ))
+        → OnOk result (refused_in (apply_group (at document.now next_id) (edits_of edits.now) others) ≡ None) }
+    ensures refused { IfErr result (IsRefusal (at document.now next_id) (edits_of edits.now) []) }
+{
+    match try_group(alloc, document, next_id, edits, tables) {
+        Ok(_) => {}
+        Err(refused) => return Err(refused),
+    }
+    Ok(())
+}
+
+// Makes a group of edits with tables for its filters on a share of a document.
+fn try_group(
+    alloc: Global,
+    document: &Document,
+    next_id: u32,
+    edits: &[Edit],
+    tables: Tables,
+) -> Result<Made, GroupRefusedOrMemory>
+    requires few { length edits.now ≤ most_edits }
+    requires each { AllByRecursion IsEdit (edits_of edits.now) }
+    requires ids { HasIds (at document.now next_id) (length edits.now) }
+    requires tables { length tables ≡ filter_count (edits_of edits.now) }
+    ensures made { IfOk result (λ made. apply_group (at document.now next_id) (edits_of edits.now) tables
+        ≡ Ok (at made.document made.next_id)) }
+    ensures tables { IfOk result (λ made. made.tables ≡ tables) }
+    ensures damage { IfOk result (λ made. made.damage ≡ damage_along (at document.now next_id) (edits_of edits.now) tables) }
+    ensures refused { IfErr result (IsRefusal (at document.now next_id) (edits_of edits.now) tables) }
+{
+    let mut document = document.share(alloc)?;
+    let mut next_id = next_id;
+    let mut damage = Damage::new(alloc);
+    apply_group(
+        alloc,
+        &mut document,
+        &mut next_id,
+        edits,
+        tables.as_slice(),
+        &mut damage,
+    )?;
+    Ok(Made {
+        document,
+        next_id,
+        tables,
+        damage,
+    })
+}
+
+// Applies the edits in turn, each filter with the next table. `next_id` is the id that the next new node gets, and
+// `damage` what the edits so far may have changed.
+//
+// A refusal and out of memory leave what the edits before have made, which the caller drops.
+#[tactic(auto, using(crate::proofs::Groups::begins, crate::proofs::Groups::next_is_edit, crate::proofs::Groups::next_has_id, crate::proofs::Groups::next_has_table, crate::proofs::Groups::stops, crate::proofs::Groups::is_done, crate::proofs::Groups::is_damaged))]
+fn apply_group(
+    alloc: Global,
+    document: &mut Document,
+    next_id: &mut u32,
+    edits: &[Edit],
+    tables: &[Table],
+    damage: &mut Damage,
+) -> Result<(), GroupRefusedOrMemory>
+    requires few { length edits.now ≤ most_edits }
+    requires each { AllByRecursion IsEdit (edits_of edits.now) }
+    requires ids { HasIds (at document.old next_id.old) (length edits.now) }
+    requires tables { length tables.now ≡ filter_count (edits_of edits.now) }
+    requires none { damage.old ≡ [] }
+    ensures applied { AppliesGroup (at document.old next_id.old) (at document.new next_id.new)
+        (edits_of edits.now) tables.now result }
+    ensures damage { OnOk result (damage.new ≡ damage_along (at document.old next_id.old) (edits_of edits.now) tables.now) }
+{
+    let blank = blank_table();
+    let mut taken = 0;
+    for (index, edit) in edits.iter().enumerate() {
+        let table = table_for(edit, tables, taken, &blank);
+        know_bytes(table);
+        taken += filter_count(edit);
+        match apply_one(alloc, document, next_id, edit, table, damage) {
+            Ok(()) => {}
+            Err(EditRefusedOrMemory::Refused(cause)) => {
+                return Err(GroupRefusedOrMemory::Refused {
+                    index: index as u32,
+                    cause,
+                });
+            }
+            Err(EditRefusedOrMemory::Memory) => return Err(GroupRefusedOrMemory::Memory),
+        }
+    }
+    Ok(())
+}
+
+// Applies an edit, and adds what it may have changed.
+#[tactic(auto, using(crate::proofs::Groups::accepts, crate::proofs::Groups::makes))]
+fn apply_one(
+    alloc: Global,
+    document: &mut Document,
+    next_id: &mut u32,
+    edit: &Edit,
+    table: &Table,
+    damage: &mut Damage,
+) -> Result<(), EditRefusedOrMemory>
+    requires edit { IsEdit (edit_of edit.now) }
+    requires next { HasNext document.old next_id.old (edit_of edit.now) }
+    ensures applied { IsAppliedOne (at document.old next_id.old) (at document.new next_id.new) (edit_of edit.now) table.now result }
+    ensures damage { OnOk result (damage.new ≡ damage.old ++ pairs.damage document.old (edit_of edit.now)) }
+{
+    let before = document.share(alloc)?;
+    let id = *next_id;
+    apply(alloc, document, next_id, edit, table)?;
+    damage.add(alloc, &before, document, id, edit)?;
+    Ok(())
+}
+
+// The next table where the edit is a filter, and else any.
+fn table_for<'a>(edit: &Edit, tables: &'a [Table], taken: usize, blank: &'a Table) -> &'a Table
+    requires { taken + cond (is_filter (edit_of edit.now)) 1 0 ≤ length tables.now }
+    ensures { is_filter (edit_of edit.now) ≡ true → result.now ≡ first_table (drop taken tables.now) }
+{
+    if is_filter(edit) {
+        &tables[taken]
+    } else {
+        blank
+    }
+}
+
+fn is_filter(edit: &Edit) -> bool
+    ensures { result ≡ is_filter (edit_of edit.now) }
+{
+    slot_of(edit).is_some()
+}
+
+// The slot of the filter that an edit asks.
+fn slot_of(edit: &Edit) -> Option<u32>
+    ensures { result ≡ slot_of (edit_of edit.now) }
+{
+    match edit {
+        Edit::Filter { slot, .. } => Some(*slot),
+        Edit::Fill { .. }
+        | Edit::Write { .. }
+        | Edit::CopyRect { .. }
+        | Edit::FillMask { .. }
+        | Edit::FillChannel { .. }
+        | Edit::SetOpacity { .. }
+        | Edit::SetMode { .. }
+        | Edit::SetVisible { .. }
+        | Edit::SetLockAlpha { .. }
+        | Edit::SetLockContent { .. }
+        | Edit::SetOffset { .. }
+        | Edit::Rename { .. }
+        | Edit::SetApplyMask { .. }
+        | Edit::AddMask { .. }
+        | Edit::DropMask { .. }
+        | Edit::NewLayer { .. }
+        | Edit::NewGroup { .. }
+        | Edit::Delete { .. }
+        | Edit::Restack { .. }
+        | Edit::Select { .. }
+        | Edit::SelectNone
+        | Edit::AddChannel { .. }
+        | Edit::DropChannel { .. }
+        | Edit::SetColours { .. } => None,
+    }
+}
+
+fn filter_count(edit: &Edit) -> usize
+    ensures { result ≡ cond (is_filter (edit_of edit.now)) 1 0 }
+{
+    if is_filter(edit) { 1 } else { 0 }
+}
+
+// A table that stands for any.
+fn blank_table() -> Table {
+    Table::of(FilterState {
+        kind: FilterKind::Invert,
+        amount: 0,
+        uses: 0,
+    })
+}
+
+// A table for each filter among the edits, no matter which.
+fn blank_tables(alloc: Global, edits: &[Edit]) -> Result<Tables, AllocError>
+    ensures { IfOk result (λ tables. length tables ≡ filter_count (edits_of edits.now)) }
+{
+    let mut tables = Tables::new(alloc);
+    for edit in edits {
+        if is_filter(edit) {
+            tables.push(blank_table())?;
+        }
+    }
+    Ok(tables)
+}
+
+// The tables that the filters of the edits answer, each asked once for each of its edits, in order.
+fn ask_filters(alloc: Global, edits: &[Edit], chest: &mut Chest) -> Result<Tables, AllocError>
+    requires there { AreThere (states_in state chest.old) (edits_of edits.now) }
+    ensures asked { IfOk result (λ tables.
+        AreAsked (states_in state chest.old) (states_in state chest.new) (edits_of edits.now) tables) }
+    ensures count { IfOk result (λ tables. length tables ≡ filter_count (edits_of edits.now)) }
+    ensures bytes { IfOk result (λ tables. AllByRecursion AreBytes tables) }
+    ensures part { OnErr result (IsPartUsed (states_in state chest.old) (states_in state chest.new) (edits_of edits.now)) }
+{
+    let mut tables = Tables::new(alloc);
+    for edit in edits {
+        if let Some(slot) = slot_of(edit) {
+            let table = chest.table(slot);
+            know_bytes(&table);
+            tables.push(table)?;
+        }
+    }
+    Ok(tables)
+}
+
+// Tells contracts that a table has bytes.
+fn know_bytes(table: &Table)
+    ensures { AreBytes table.now }
+{
+    know_slice(table.as_slice());
+}
+
+fn know_slice(bytes: &[u8])
+    ensures { AreBytes bytes.now }
+{
+    let _len = bytes.len();
+}

@@ -1,0 +1,19 @@
+//! What stands after the calls of a run: a document, what can be undone and redone of it, and the pictures of tiles that are
+//! kept.
+//!
+//! A contract sees a [`Standing`] as what stands in the machine of `spec_history` after the calls that were answered, with a
+//! cache of `spec_cache`. It has no list of what was done: who answers calls with it keeps that, or has it printed.
+#![tactic(auto)]
+
+mod answered;
+mod desk;
+mod group;
+mod standing;
+mod step;
+mod tile;
+
+pub use answered::Answered;
+pub use desk::Desk;
+pub use standing::{MOST_ENTRIES, Standing};
+pub use step::Step;
+pub use tile::{has_stack, has_tile};

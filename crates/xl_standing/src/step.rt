@@ -1,0 +1,69 @@
+//! Steps back and forth over groups of edits.
+ghost use Rattle.std.specs.Prelude.{◌≡◌, ◌≤◌};
+ghost use Rattle.spec_document.specs.Limits.{IsDocument};
+ghost use Rattle.xl_standing.specs.Steps.{IsChange, change_of, stepped};
+ghost use Rattle.xl_marks.specs.Change.{IsCacheOf, gone_along};
+
+use std::marker::Model;
+use xl_cache::Cache;
+use xl_doc::Document;
+use xl_marks::Change;
+use xl_undo::Record;
+
+/// A group of edits that was made, or undone: the record that leads back (`lead`), and what that does to the pictures that
+/// are kept.
+#[derive(Drop)]
+pub struct Step {
+    lead: Record,
+    change: Change,
+}
+
+impl Model for Step {
+    ghost use Rattle.std.specs.Coded.{codes};
+    ghost use Rattle.std.specs.Prelude.{◌≡◌};
+    ghost use Rattle.spec_document.specs.Code.{coded_document};
+    ghost use Rattle.xl_standing.specs.Steps as steps;
+    ghost use Rattle.xl_standing.specs.Steps.{IsChange};
+
+    ghost Value = { steps.Step };
+
+    ghost coded = { Prim.hlevel (codes, coded_document) };
+
+    ghost view = { λ s. record { from = s.lead.from; to = s.lead.to; damage = s.change.damage } };
+
+    ghost invariant = { λ s. IsChange s.lead.from s.lead.to s.change };
+}
+
+impl Step {
+    /// The step back over a group of edits that was made: from the document after it to the one before it. It takes no memory.
+    pub(crate) fn back(before: Document, after: &Document, change: Change) -> Step
+        requires change { IsChange after.now before change }
+        ensures { result ≡ record { from = after.now; to = before; damage = change.damage } }
+    {
+        let lead = Record::new(before, after);
+        Step { lead, change }
+    }
+
+    /// Takes the step to a new version: the document and the pictures that are kept are those of where it leads. It leads back from
+    /// then on. It takes no memory.
+    pub(crate) fn take(&mut self, document: &mut Document, cache: &mut Cache, version: u32)
+        requires version { 1 ≤ version }
+        requires from { self.old.from ≡ document.old }
+        requires kept { IsCacheOf document.old cache.old }
+        ensures to { document.new ≡ self.old.to }
+        ensures cache { cache.new ≡ gone_along (change_of self.old) version cache.old }
+        ensures back { self.new ≡ stepped self.old }
+    {
+        limits(document);
+        self.lead.revert(document);
+        limits(document);
+        self.change.go(cache, version);
+    }
+}
+
+/// The limits that a document keeps by its type.
+pub(crate) fn limits(document: &Document)
+    ensures { IsDocument document.now }
+{
+    let _width = document.width;
+}
