@@ -349,6 +349,16 @@ impl Standing {
         look(&self.cache, node, at, self.version, seen, out)
     }
 
+    /// The version whose picture is kept of a tile, if any.
+    pub fn kept_version(&self, node: NodeId, at: TileAt) -> Option<u32>
+        ensures { result ≡ option_map (λ k. k.version) (kept self.now.cache node.0 at self.now.version) }
+    {
+        match self.cache.kept(node, at, self.version) {
+            Some((version, _)) => Some(version),
+            None => None,
+        }
+    }
+
     /// A job for the next marked slot, which counts as taken. None where no slot is marked, which takes no memory.
     pub fn take_job(&mut self, alloc: Global) -> Result<Option<Job>, AllocError>
         requires kept { IsKeptNow self.old }
