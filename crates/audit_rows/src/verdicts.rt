@@ -17,26 +17,36 @@ const FIRST: Option<Verdict> = Some(Verdict::Reply {
     session: 0,
     index: 0,
 });
+
 const SECOND: Option<Verdict> = Some(Verdict::Reply {
     session: 0,
     index: 1,
 });
+
 const THIRD: Option<Verdict> = Some(Verdict::Reply {
     session: 0,
     index: 2,
 });
+
 const OTHER: Option<Verdict> = Some(Verdict::Reply {
     session: 1,
     index: 0,
 });
+
 const ACCEPTED: Option<Verdict> = Some(Verdict::Accepted);
 
 /// Sources, and what is found of each, if it has a head.
 const SOURCES: [(&'static [u8], Option<Verdict>); 15] = [
     (b"script 6\n0 top\n0.0 top none 0\norder 0.0\n", ACCEPTED),
     (b"script 6\n0 top\n0.0 top none 1\norder 0.0\n", FIRST),
-    (b"script 6\n0 top\n0.0 top none 0\norder\n", Some(Verdict::Shape)),
-    (b"script 7\n0 save\n0.0 save fault 0\norder 0.0 0.0e\n", ACCEPTED),
+    (
+        b"script 6\n0 top\n0.0 top none 0\norder\n",
+        Some(Verdict::Shape),
+    ),
+    (
+        b"script 7\n0 save\n0.0 save fault 0\norder 0.0 0.0e\n",
+        ACCEPTED,
+    ),
     (b"script 7\n0 save\n0.0 saved 1\norder 0.0 0.0e\n", FIRST),
     (b"script 99\n0 top\n", None),
     (

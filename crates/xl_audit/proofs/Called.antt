@@ -69,91 +69,91 @@ module _ (s : Start) (o : Output) (earlier : List Entry) (w : OrderWord) (next :
       → (made : IsCalled old w.session c (printed_at o.replies w) before after passed new)
       → IsJudged s o earlier w passed new after
   called old new c before after passed line plain_call is_call has agrees made = go passed made.judged made.counted where
-      printed : Printed
-      printed = printed_at o.replies w
+    printed : Printed
+    printed = printed_at o.replies w
 
-      filters : List FilterState
-      filters = filters_at s earlier w.session
+    filters : List FilterState
+    filters = filters_at s earlier w.session
 
-      -- the entry, with what the walk has made of it
-      e : Entry
-      e = record {
-        session = w.session;
-        index = slice_index old.made w.session;
-        kind = asked c made.tables;
-        reply = made.reply;
-      }
+    -- the entry, with what the walk has made of it
+    e : Entry
+    e = record {
+      session = w.session;
+      index = slice_index old.made w.session;
+      kind = asked c made.tables;
+      reply = made.reply;
+    }
 
-      room : length earlier + entries_owed (replay s.base earlier).out < most_entries
-      room = let few = next.few no_end in omega (arith, few)
+    room : length earlier + entries_owed (replay s.base earlier).out < most_entries
+    room = let few = next.few no_end in omega (arith, few)
 
-      goes : GoesOn s.base earlier old.standing old.made w.session c old.standing.version made.tables made.reply new.standing
-      goes =
-          let version = version_now s.base earlier old.standing old.made has.stands in
-          goes_on leaves-between group-joined s.base earlier old.standing new.standing old.made w.session c old.standing.version
-          made.tables made.reply has.stands has.eight_made next.eight (omega (arith, version)) room is_call made.within made.given
+    goes : GoesOn s.base earlier old.standing old.made w.session c old.standing.version made.tables made.reply new.standing
+    goes =
+        let version = version_now s.base earlier old.standing old.made has.stands in
+        goes_on leaves-between group-joined s.base earlier old.standing new.standing old.made w.session c old.standing.version
+        made.tables made.reply has.stands has.eight_made next.eight (omega (arith, version)) room is_call made.within made.given
 
-      says : made.reply ≡ (answer s.base (replay s.base earlier) c made.tables).reply
-      says = goes.says ∙ plain_says s.base earlier old.standing c old.standing.version made.tables plain_call
+    says : made.reply ≡ (answer s.base (replay s.base earlier) c made.tables).reply
+    says = goes.says ∙ plain_says s.base earlier old.standing c old.standing.version made.tables plain_call
 
-      digest : digest_with made.reply made.bytes ≡ shown_digest s.base earlier (asked c made.tables) made.reply
-      digest =
-          called_digest s.base earlier e c made.tables made.reply made.bytes plain_call says
-          (shows s.base (earlier ++ e ∷ []) old.standing new.standing
-          (slice_set old.made w.session (slice_index old.made w.session + 1)) c old.standing.version made.tables made.reply made.bytes
-          made.given goes.stands made.shown)
+    digest : digest_with made.reply made.bytes ≡ shown_digest s.base earlier (asked c made.tables) made.reply
+    digest =
+        called_digest s.base earlier e c made.tables made.reply made.bytes plain_call says
+        (shows s.base (earlier ++ e ∷ []) old.standing new.standing
+        (slice_set old.made w.session (slice_index old.made w.session + 1)) c old.standing.version made.tables made.reply made.bytes
+        made.given goes.stands made.shown)
 
-      index : w.index ≡ slice_index old.made w.session
-      index = next.index no_end ∙ sym (has.stands.indices w.session next.eight)
+    index : w.index ≡ slice_index old.made w.session
+    index = next.index no_end ∙ sym (has.stands.indices w.session next.eight)
 
-      -- the tables are those of the filters at this place
-      expected : printed.reply ≡ made.reply → expected_tables filters (asked c []) printed.reply ≡ made.tables
-      expected same =
-          tables_made filters c [] printed.reply
-          ∙ (ap (λ (r : Reply). tables_for filters (edits_made c r)) same ∙ sym (made.asked.answers filters agrees))
+    -- the tables are those of the filters at this place
+    expected : printed.reply ≡ made.reply → expected_tables filters (asked c []) printed.reply ≡ made.tables
+    expected same =
+        tables_made filters c [] printed.reply
+        ∙ (ap (λ (r : Reply). tables_for filters (edits_made c r)) same ∙ sym (made.asked.answers filters agrees))
 
-      entry_is : printed.reply ≡ made.reply → entry_at s o earlier w ≡ e
-      entry_is same =
-          going.entry_call s o earlier w c line no_end
-          ∙ (λ i. record { session = w.session; index = index i; kind = asked c (expected same i); reply = same i })
+    entry_is : printed.reply ≡ made.reply → entry_at s o earlier w ≡ e
+    entry_is same =
+        going.entry_call s o earlier w c line no_end
+        ∙ (λ i. record { session = w.session; index = index i; kind = asked c (expected same i); reply = same i })
 
-      go : (b : Bool)
-          → MatchBool b (printed ≡ record { reply = made.reply; digest = digest_with made.reply made.bytes })
-          (printed ≡ record { reply = made.reply; digest = digest_with made.reply made.bytes } → ⊥)
-          → (b ≡ true → IsCounted old new w.session (is_changed made.reply))
-          → IsJudged s o earlier w b new after
-      go true same counts =
-          let reply : printed.reply ≡ made.reply = ap (λ (p : Printed). p.reply) same in
-          let shown : printed.digest ≡ shown_digest s.base earlier (asked c made.tables) made.reply =
-          ap (λ (p : Printed). p.digest) same ∙ digest in
-          let is = entry_is reply in
-          let allowed : IsAllowed s.base earlier e printed.digest =
-          plain_passes s.base earlier w.session (slice_index old.made w.session) c made.tables made.reply printed.digest plain_call
-          has.stands.legal.run (has.stands.indices w.session next.eight) (record { reply_is = says; digest_is = shown }) in
-          let come = come_called s.base earlier old new w.session c made.tables made.reply has next.eight room goes (counts refl) in
-          let F : List Entry → List FilterState = λ es. filters_at s es w.session in
-          let used : Agrees after (F (earlier ++ e ∷ [])) =
-          subst (Agrees after)
-          (sym (going.filters_here (unwrap_or (slice_get s.chests w.session) []) earlier e ∙ filters_made filters c made.tables made.reply))
-          (made.asked.used.states filters agrees) in (
-            subst (λ (x : Entry). IsAllowed s.base earlier x printed.digest) (sym is) allowed,
-            subst (λ (x : Entry). HasCome s.base (earlier ++ x ∷ []) new) (sym is) come,
-            subst (λ (x : Entry). Agrees after (F (earlier ++ x ∷ []))) (sym is) used,
-          )
-      go false other counts = λ pass.
-          let T = expected_tables filters (asked c []) printed.reply in
-          let allowed : IsAllowed s.base earlier (record {
-            session = w.session;
-            index = w.index;
-            kind = asked c T;
-            reply = printed.reply;
-          }) printed.digest =
-          subst (λ (x : Entry). IsAllowed s.base earlier x printed.digest) (going.entry_call s o earlier w c line no_end) pass in
-          let is = passes_plain s.base earlier w.session w.index c T printed.reply printed.digest plain_call allowed in
-          let A : List (List ℕ) → Reply = λ ts. (answer s.base (replay s.base earlier) c ts).reply in
-          let same : printed.reply ≡ made.reply =
-          going.same_reply s.base (replay s.base earlier) c filters made.reply printed.reply plain_call
-          (says ∙ ap A (made.asked.answers filters agrees)) (is.reply_is ∙ ap A (tables_made filters c [] printed.reply)) in
-          let shown : printed.digest ≡ digest_with made.reply made.bytes =
-          is.digest_is ∙ ((λ i. shown_digest s.base earlier (asked c (expected same i)) (same i)) ∙ sym digest) in
-          other (λ i. record { reply = same i; digest = shown i })
+    go : (b : Bool)
+        → MatchBool b (printed ≡ record { reply = made.reply; digest = digest_with made.reply made.bytes })
+        (printed ≡ record { reply = made.reply; digest = digest_with made.reply made.bytes } → ⊥)
+        → (b ≡ true → IsCounted old new w.session (is_changed made.reply))
+        → IsJudged s o earlier w b new after
+    go true same counts =
+        let reply : printed.reply ≡ made.reply = ap (λ (p : Printed). p.reply) same in
+        let shown : printed.digest ≡ shown_digest s.base earlier (asked c made.tables) made.reply =
+        ap (λ (p : Printed). p.digest) same ∙ digest in
+        let is = entry_is reply in
+        let allowed : IsAllowed s.base earlier e printed.digest =
+        plain_passes s.base earlier w.session (slice_index old.made w.session) c made.tables made.reply printed.digest plain_call
+        has.stands.legal.run (has.stands.indices w.session next.eight) (record { reply_is = says; digest_is = shown }) in
+        let come = come_called s.base earlier old new w.session c made.tables made.reply has next.eight room goes (counts refl) in
+        let F : List Entry → List FilterState = λ es. filters_at s es w.session in
+        let used : Agrees after (F (earlier ++ e ∷ [])) =
+        subst (Agrees after)
+        (sym (going.filters_here (unwrap_or (slice_get s.chests w.session) []) earlier e ∙ filters_made filters c made.tables made.reply))
+        (made.asked.used.states filters agrees) in (
+          subst (λ (x : Entry). IsAllowed s.base earlier x printed.digest) (sym is) allowed,
+          subst (λ (x : Entry). HasCome s.base (earlier ++ x ∷ []) new) (sym is) come,
+          subst (λ (x : Entry). Agrees after (F (earlier ++ x ∷ []))) (sym is) used,
+        )
+    go false other counts = λ pass.
+        let T = expected_tables filters (asked c []) printed.reply in
+        let allowed : IsAllowed s.base earlier (record {
+          session = w.session;
+          index = w.index;
+          kind = asked c T;
+          reply = printed.reply;
+        }) printed.digest =
+        subst (λ (x : Entry). IsAllowed s.base earlier x printed.digest) (going.entry_call s o earlier w c line no_end) pass in
+        let is = passes_plain s.base earlier w.session w.index c T printed.reply printed.digest plain_call allowed in
+        let A : List (List ℕ) → Reply = λ ts. (answer s.base (replay s.base earlier) c ts).reply in
+        let same : printed.reply ≡ made.reply =
+        going.same_reply s.base (replay s.base earlier) c filters made.reply printed.reply plain_call
+        (says ∙ ap A (made.asked.answers filters agrees)) (is.reply_is ∙ ap A (tables_made filters c [] printed.reply)) in
+        let shown : printed.digest ≡ digest_with made.reply made.bytes =
+        is.digest_is ∙ ((λ i. shown_digest s.base earlier (asked c (expected same i)) (same i)) ∙ sym digest) in
+        other (λ i. record { reply = same i; digest = shown i })
