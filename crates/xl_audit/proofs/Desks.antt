@@ -36,7 +36,6 @@ padded_more chests lt = go (8 - length chests) refl where
   none n = replicate n []
 
   go : (n : ℕ) → 8 - length chests ≡ n → padded (chests ++ [] ∷ []) ≡ padded chests
-  unfolding none
   go zero is = absurd (omega (arith, is, lt))
   go (suc n) is =
       let long = length-append chests ([] ∷ []) in
