@@ -59,8 +59,8 @@ versions_step base s t wanted shares d has next same is = go (nat_lt (length sha
               ∙ (ap (λ (b : Bool). cond b (Some d) None) here ∙ ap (λ (e : Document). Some e) (is ∙ ap (document_at base t) now)))
         ];
       }
-  go false no =
-      let above = ltb-false (length shares) (length wanted) no in
+  go false past =
+      let above = ltb-false (length shares) (length wanted) past in
       let reach = has.reach in
       record {
         reach = omega (arith, above, reach, next);
@@ -97,8 +97,8 @@ versions_begin base wanted = go (nat_lt 0 (length wanted)) refl where
             let here : is_wanted wanted 0 ≡ true = ap (is_wanted wanted) (sym first) ∙ want in
             subst P (sym first) (ap (λ (b : Bool). cond b (Some base) None) here);
       }
-  go false no =
-      let above = ltb-false 0 (length wanted) no in
+  go false past =
+      let above = ltb-false 0 (length wanted) past in
       record {
         reach = omega (arith, above);
         each = λ v le want. let inside = wanted_within wanted v want in absurd (omega (arith, inside, above));

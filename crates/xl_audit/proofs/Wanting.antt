@@ -23,16 +23,25 @@ words_more calls replies old new ws more all =
     all-each (WantsOfWord calls replies old) (WantsOfWord calls replies new) ws
     (λ w wants. wants_more old new (version_named (line_in calls w) (printed_at replies w).reply) more wants) all
 
+-- the words before a place want no others
+pub record AreWantedTo (calls : List (List Line)) (replies : List (List Printed)) (order : List OrderWord) (place : ℕ) (wanted : List Bool)
+    : Type 0 where
+  pub all : AreWanted calls replies wanted (take place order)
+
+pub wanted_begin : (calls : List (List Line)) (replies : List (List Printed)) (order : List OrderWord) (wanted : List Bool)
+    → AreWantedTo calls replies order 0 wanted
+wanted_begin calls replies order wanted = record { all = tt }
+
 -- one word more
 pub wanted_more : (calls : List (List Line)) (replies : List (List Printed)) (order : List OrderWord) (place : ℕ) (d : OrderWord)
-    (old new : List Bool) → AreWanted calls replies old (take place order) → place < length order → WantsMore old new
-    → WantsIfAny new (version_named (line_in calls (get_or order place d)) (printed_at replies (get_or order place d)).reply)
-    → AreWanted calls replies new (take (place + 1) order)
-wanted_more calls replies order place d old new all lt more here =
-    subst (AreWanted calls replies new) (sym (take_more order place d lt))
-    (all-append (WantsOfWord calls replies new) (take place order) (get_or order place d ∷ [])
-    (words_more calls replies old new (take place order) more all) (here, tt))
+    (old new : List Bool) → AreWantedTo calls replies order place old → place < length order → WantsMore old new
+    → WantsOfWord calls replies new (get_or order place d) → AreWantedTo calls replies order (place + 1) new
+wanted_more calls replies order place d old new before lt more here = record {
+  all = subst (AreWanted calls replies new) (sym (take_more order place d lt))
+      (all-append (WantsOfWord calls replies new) (take place order) (get_or order place d ∷ [])
+      (words_more calls replies old new (take place order) more before.all) (here, tt));
+}
 
 pub wanted_all : (calls : List (List Line)) (replies : List (List Printed)) (order : List OrderWord) (place : ℕ) (wanted : List Bool)
-    → AreWanted calls replies wanted (take place order) → length order ≤ place → AreWanted calls replies wanted order
-wanted_all calls replies order place wanted all le = subst (AreWanted calls replies wanted) (take_all place order le) all
+    → AreWantedTo calls replies order place wanted → length order ≤ place → AreWanted calls replies wanted order
+wanted_all calls replies order place wanted before le = subst (AreWanted calls replies wanted) (take_all place order le) before.all

@@ -2,7 +2,7 @@
 ghost use Rattle.std.specs.Prelude.{◌≡◌, ◌≤◌, true, [], length, OnOk, IfOk, Some, None, MatchOption};
 ghost use Rattle.spec_history.specs.Calls.{most_entries};
 ghost use Rattle.xl_audit.specs.Calls.{line_in};
-ghost use Rattle.xl_audit.specs.Versions.{version_named, is_wanted, WantsMore, AreWanted, share_at, with_share};
+ghost use Rattle.xl_audit.specs.Versions.{version_named, is_wanted, WantsMore, WantsOfWord, AreWanted, share_at, with_share};
 ghost use Rattle.spec_audit.specs.Walk.{printed_at};
 
 use crate::calls::{Calls, call_at};
@@ -43,6 +43,22 @@ fn want(wanted: &mut Vec<bool>, version: u32) -> Result<(), AllocError>
     Ok(())
 }
 
+// What a word wants.
+fn want_of_word(
+    calls: &[Calls],
+    output: &Output,
+    word: OrderWord,
+    wanted: &mut Vec<bool>,
+) -> Result<(), AllocError>
+    ensures this { OnOk result (WantsOfWord calls.now output.now.replies wanted.new.items word) }
+    ensures others { OnOk result (WantsMore wanted.old.items wanted.new.items) }
+{
+    match version_named(calls, output, word) {
+        Some(version) => want(wanted, version),
+        None => Ok(()),
+    }
+}
+
 /// Which versions are shown by the printed replies to peeks.
 pub(crate) fn wanted(
     alloc: Global,
@@ -53,9 +69,7 @@ pub(crate) fn wanted(
 {
     let mut wanted = Vec::new(alloc);
     for word in output.order.as_slice() {
-        if let Some(version) = version_named(calls, output, *word) {
-            want(&mut wanted, version)?;
-        }
+        want_of_word(calls, output, *word, &mut wanted)?;
     }
     Ok(wanted)
 }

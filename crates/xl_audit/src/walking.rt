@@ -1,5 +1,5 @@
 //! A walk along the order of an output, word by word, as far as each passes.
-ghost use Rattle.std.specs.Prelude.{◌≡◌, ◌+◌, ◌<◌, true, false, [], length, IfOk, OnOk, MatchOption, Some, option_map, slice_index, slice_set};
+ghost use Rattle.std.specs.Prelude.{◌≡◌, ◌+◌, ◌^◌, ◌<◌, List, true, false, [], length, IfOk, OnOk, MatchOption, Some, option_map, slice_index, slice_set};
 ghost use Rattle.spec_cache.specs.Cache.{kept};
 ghost use Rattle.spec_history.specs.Calls.{IsCall};
 ghost use Rattle.spec_history.specs.Limited.{edits_of};
