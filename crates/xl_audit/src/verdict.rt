@@ -12,8 +12,6 @@ ghost use Rattle.xl_filters.specs.Chests.{states_in};
 ghost use Rattle.xl_script.specs.Lines.{lists_of};
 
 use crate::calls::script_calls;
-use crate::output::Output;
-use crate::shape::read_shaped;
 use crate::versions::{Versions, wanted};
 use crate::walk::Walk;
 use spec_audit::Verdict;
@@ -23,6 +21,7 @@ use xl_blend::Steps;
 use xl_doc::Document;
 use xl_filters::{Chest, PointFilter};
 use xl_marks::first_cache;
+use xl_printed::{Output, read_shaped};
 use xl_script::{OrderWord, SESSIONS, Script};
 use xl_standing::{Desk, Standing};
 use xl_undo::Trail;

@@ -6,10 +6,10 @@ ghost use Rattle.xl_audit.specs.Versions.{version_named, is_wanted, WantsMore, W
 ghost use Rattle.spec_audit.specs.Walk.{printed_at};
 
 use crate::calls::{Calls, call_at};
-use crate::output::Output;
 use std::alloc::{AllocError, Global};
 use xl_doc::Document;
 use xl_edit::{Call, Reply};
+use xl_printed::Output;
 use xl_script::OrderWord;
 
 /// No history has more entries, and none has a later version.

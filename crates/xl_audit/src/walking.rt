@@ -19,8 +19,6 @@ ghost use Rattle.xl_filters.specs.Chests.{states_in};
 
 use crate::calls::{Calls, call_at};
 use crate::judging::{end_fits, is_plain, is_printed, peek_fits, shows_version};
-use crate::output::Output;
-use crate::printed::Printed;
 use crate::walk::Walk;
 use std::alloc::{AllocError, Global};
 use std::sync::ledger::Ledger;
@@ -29,6 +27,7 @@ use xl_compose::Picture;
 use xl_doc::{NodeId, TileAt};
 use xl_edit::{Call, Reply};
 use xl_filters::PointFilter;
+use xl_printed::{Output, Printed};
 use xl_script::OrderWord;
 use xl_standing::{Desk, has_stack, has_tile};
 
