@@ -44,7 +44,10 @@ fn is_top(group: Option<u32>, version: u32, printed: Reply) -> bool
     ensures found { reply_of printed ≡ machine.top_is group version → result ≡ true }
 {
     match printed {
-        Reply::Top { group: g, version: v } => g == group && v == version,
+        Reply::Top {
+            group: g,
+            version: v,
+        } => g == group && v == version,
         _ => false,
     }
 }
