@@ -1,10 +1,12 @@
 -- A walk along the order of an output, and what is known at a place of it.
 use Rattle.std.specs.Prelude.{◌≡◌, ℕ, ◌+◌, ◌<◌, ◌≤◌, ◌^◌, Bool, true, false, List, [], ◌∷◌, ◌++◌, length}
-use Rattle.std.specs.Prelude.{slice_index, slice_set, Option, Some, None, IfSome, MatchBool, unwrap_or, slice_get}
+use Rattle.std.specs.Prelude.{slice_index, slice_set, Option, Some, None, IfSome, MatchBool, option_map, unwrap_or, slice_get}
 use Rattle.std.specs.List.{AllByRecursion}
+use Rattle.spec_grid.specs.declared.TileAt.{TileAt}
 use Rattle.spec_document.specs.Document.{Document}
 use Rattle.spec_document.specs.Limits.{AreBytes}
 use Rattle.spec_filters.specs.declared.FilterState.{FilterState}
+use Rattle.spec_cache.specs.Cache.{kept}
 use Rattle.spec_history.specs.Calls.{most_edits, most_entries}
 use Rattle.spec_history.specs.Machine.{Call, Reply, Saving, latest}
 use Rattle.spec_history.specs.History.{Entry, replay, next_index, mine, is_changed}
@@ -21,7 +23,7 @@ use Rattle.spec_audit.specs.Walk.{Start, call_at, printed_at, entry_at, seen_by,
 use Rattle.xl_standing.specs.Group.{HasIds}
 use Rattle.xl_standing.specs.Now.{Now, at_now, response, world_of, Gives, ShowsNow, IsKeptNow, Stands}
 use Rattle.xl_audit.specs.Calls.{IsNoCall}
-use Rattle.xl_audit.specs.Judging.{digest_with, Decides}
+use Rattle.xl_audit.specs.Judging.{digest_with, Decides, PeekIsRight}
 use Rattle.xl_audit.specs.Versions.{shares_after, HasVersions, WantsIfAny, version_named}
 use Rattle.xl_audit.specs.declared.walk.Walk.{Walk}
 
@@ -101,3 +103,11 @@ pub record IsCalled (old : Walk) (session : ℕ) (c : Call) (printed : Printed) 
   pub shown : ShowsNow new.standing c reply bytes
   pub judged : Decides passed (record { reply = reply; digest = digest_with reply bytes }) printed
   pub counted : passed ≡ true → IsCounted old new session (is_changed reply)
+
+-- It is told whether what is printed for the peek is right, and what stands stays.
+pub record IsPeeked (old : Walk) (session stack : ℕ) (at : TileAt) (printed : Printed) (passed : Bool) (new : Walk) : Type 0 where
+  pub judged : PeekIsRight old.standing.document old.standing.version (slice_index old.seen session)
+      (option_map (λ k. k.version) (kept old.standing.cache stack at old.standing.version)) old.versions.shares.items stack at printed
+      passed
+  pub standing : new.standing ≡ old.standing
+  pub counted : passed ≡ true → IsCounted old new session false

@@ -12,7 +12,7 @@ ghost use Rattle.spec_audit.specs.Walk.{Start, call_at, printed_at};
 ghost use Rattle.xl_audit.specs.Calls.{calls_in, line_in, FitsChest};
 ghost use Rattle.xl_audit.specs.Judging as judging;
 ghost use Rattle.xl_audit.specs.Versions.{shares_after, version_named, WantsIfAny};
-ghost use Rattle.xl_audit.specs.Walking.{MayGoOn, HasCome, IsNextWord, IsJudged, IsCounted, IsCalled, filters_at};
+ghost use Rattle.xl_audit.specs.Walking.{MayGoOn, HasCome, IsNextWord, IsJudged, IsPeeked, IsCalled, filters_at};
 ghost use Rattle.xl_edit.specs.Calls.{call_of};
 ghost use Rattle.xl_edit.specs.Replies.{reply_of};
 ghost use Rattle.xl_filters.specs.Chests.{states_in};
@@ -178,12 +178,7 @@ impl Walk {
     ) -> Result<bool, AllocError>
         requires session { session < 8 }
         requires few { slice_index self.old.made session < 2 ^ 31 }
-        ensures judged { IfOk result (judging.PeekIsRight self.old.standing.document self.old.standing.version
-            (slice_index self.old.seen session)
-            (option_map (λ k. k.version) (kept self.old.standing.cache node.0 at self.old.standing.version))
-            self.old.versions.shares.items node.0 at printed.now) }
-        ensures standing { self.new.standing ≡ self.old.standing }
-        ensures counted { IfOk result (λ passed. passed ≡ true → IsCounted self.old self.new session false) }
+        ensures { IfOk result (λ passed. IsPeeked self.old session node.0 at printed.now passed self.new) }
     {
         let seen = self.seen[session as usize];
         if !self.peek_is_right(alloc, seen, node, at, printed, picture, steps)? {
