@@ -31,7 +31,7 @@ along_first base scripts o first walk given chests calls wanted full few given_i
     let are : chests ≡ padded first = chests_are ∙ ap padded given_is in
     along_begin (start_of base scripts first) o first walk chests refl full has (ap length are ∙ length_padded first few)
     (λ session lt.
-        ap (λ (cs : List (List (Option FilterState))). get_or cs session []) are ∙ padded_at first (8 - length first) session)
+    ap (λ (cs : List (List (Option FilterState))). get_or cs session []) are ∙ padded_at first (8 - length first) session)
     (subst (λ (t : List Bool). AreWanted (calls_in scripts) o.replies t o.order) (sym same)
     (subst (λ (cs : List (List Line)). AreWanted cs o.replies wanted o.order) calls_are all))
 
