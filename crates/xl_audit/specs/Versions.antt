@@ -77,6 +77,10 @@ with_share wanted d shares =
     let share : Option Document = if is_wanted wanted (length shares) then Some d else None in
     if nat_lt (length shares) (length wanted) then shares ++ share ∷ [] else shares
 
+-- the shares after a call that has made a version or none
+abbrev pub shares_after : (changed : Bool) → (wanted : List Bool) → Document → List (Option Document) → List (Option Document)
+shares_after changed wanted d shares = if changed then with_share wanted d shares else shares
+
 -- of each version that is wanted and was made there is a share
 pub record HasVersions (base : Document) (s : State) (wanted : List Bool) (shares : List (Option Document)) : Type 0 where
   pub reach : length shares ≡ min (length wanted) (latest s + 1)

@@ -1,5 +1,5 @@
 -- A walk along the order of an output, and what is known at a place of it.
-use Rattle.std.specs.Prelude.{◌≡◌, ℕ, ◌+◌, ◌<◌, ◌≤◌, ◌^◌, Bool, true, false, if◌then◌else◌, List, [], ◌∷◌, ◌++◌, length}
+use Rattle.std.specs.Prelude.{◌≡◌, ℕ, ◌+◌, ◌<◌, ◌≤◌, ◌^◌, Bool, true, false, List, [], ◌∷◌, ◌++◌, length}
 use Rattle.std.specs.Prelude.{slice_index, slice_set, Option, Some, None, IfSome, MatchBool, unwrap_or, slice_get}
 use Rattle.std.specs.List.{AllByRecursion}
 use Rattle.spec_document.specs.Document.{Document}
@@ -22,7 +22,7 @@ use Rattle.xl_standing.specs.Group.{HasIds}
 use Rattle.xl_standing.specs.Now.{Now, at_now, response, world_of, Gives, ShowsNow, IsKeptNow, Stands}
 use Rattle.xl_audit.specs.Calls.{IsNoCall}
 use Rattle.xl_audit.specs.Judging.{digest_with, Decides}
-use Rattle.xl_audit.specs.Versions.{with_share, HasVersions, WantsIfAny, version_named}
+use Rattle.xl_audit.specs.Versions.{shares_after, HasVersions, WantsIfAny, version_named}
 use Rattle.xl_audit.specs.declared.walk.Walk.{Walk}
 
 -- ---- what stands at a place
@@ -87,7 +87,7 @@ pub record IsCounted (old new : Walk) (session : ℕ) (changed : Bool) : Type 0 
   pub out : new.out ≡ old.out
   pub wanted : new.versions.wanted.items ≡ old.versions.wanted.items
   pub shares : new.versions.shares.items
-      ≡ (if changed then with_share old.versions.wanted.items new.standing.document old.versions.shares.items else old.versions.shares.items)
+      ≡ shares_after changed old.versions.wanted.items new.standing.document old.versions.shares.items
 
 -- The call was answered by the filters of the chest, as far as the answer asks for them, and it is told whether it is the printed one.
 pub record IsCalled (old : Walk) (session : ℕ) (c : Call) (printed : Printed) (before after : List (Option FilterState)) (passed : Bool)

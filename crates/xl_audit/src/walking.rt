@@ -11,7 +11,7 @@ ghost use Rattle.spec_tables.specs.Agrees.{Agrees, AreThere, SameSlots};
 ghost use Rattle.spec_audit.specs.Walk.{Start, call_at, printed_at};
 ghost use Rattle.xl_audit.specs.Calls.{calls_in, line_in, FitsChest};
 ghost use Rattle.xl_audit.specs.Judging as judging;
-ghost use Rattle.xl_audit.specs.Versions.{with_share, version_named, WantsIfAny};
+ghost use Rattle.xl_audit.specs.Versions.{shares_after, version_named, WantsIfAny};
 ghost use Rattle.xl_audit.specs.Walking.{MayGoOn, HasCome, IsNextWord, IsJudged, IsCounted, IsCalled, filters_at};
 ghost use Rattle.xl_edit.specs.Calls.{call_of};
 ghost use Rattle.xl_edit.specs.Replies.{reply_of};
@@ -82,10 +82,30 @@ impl Walk {
     fn count(&mut self, session: u8)
         requires session { session < 8 }
         requires few { slice_index self.old.made session < 2 ^ 31 }
-        ensures { IsCounted self.old self.new session false }
+        ensures standing { self.new.standing ≡ self.old.standing }
+        ensures versions { self.new.versions ≡ self.old.versions }
+        ensures made { self.new.made ≡ slice_set self.old.made session (slice_index self.old.made session + 1) }
+        ensures seen { self.new.seen ≡ slice_set self.old.seen session self.old.standing.version }
+        ensures out { self.new.out ≡ self.old.out }
     {
         self.made[session as usize] += 1;
         self.see(session);
+    }
+
+    // A share of what stands, where the reply has made a version.
+    fn keep_version(&mut self, alloc: Global, reply: Reply) -> Result<(), AllocError>
+        ensures standing { OnOk result (self.new.standing ≡ self.old.standing) }
+        ensures made { OnOk result (self.new.made ≡ self.old.made) }
+        ensures seen { OnOk result (self.new.seen ≡ self.old.seen) }
+        ensures out { OnOk result (self.new.out ≡ self.old.out) }
+        ensures wanted { OnOk result (self.new.versions.wanted.items ≡ self.old.versions.wanted.items) }
+        ensures shares { OnOk result (self.new.versions.shares.items ≡ shares_after (is_changed (reply_of reply))
+            self.old.versions.wanted.items self.old.standing.document self.old.versions.shares.items) }
+    {
+        if !is_changed(reply) {
+            return Ok(());
+        }
+        self.versions.add(alloc, self.standing.document())
     }
 
     // A call other than a peek. Its reply and its digest are the printed ones, or it fails.
@@ -111,9 +131,7 @@ impl Walk {
         if !is_printed(alloc, answered.reply, &desk.out, printed)? {
             return Ok(false);
         }
-        if is_changed(answered.reply) {
-            self.versions.add(alloc, self.standing.document())?;
-        }
+        self.keep_version(alloc, answered.reply)?;
         self.count(session);
         Ok(true)
     }
@@ -168,11 +186,11 @@ impl Walk {
         ensures counted { IfOk result (λ passed. passed ≡ true → IsCounted self.old self.new session false) }
     {
         let seen = self.seen[session as usize];
-        let passed = self.peek_is_right(alloc, seen, node, at, printed, picture, steps)?;
-        if passed {
-            self.count(session);
+        if !self.peek_is_right(alloc, seen, node, at, printed, picture, steps)? {
+            return Ok(false);
         }
-        Ok(passed)
+        self.count(session);
+        Ok(true)
     }
 
     // A save starts.
