@@ -95,6 +95,11 @@ pub desk_at : {D X : Type 0} (f : D → X) (ds : List D) (i : ℕ) (d : D) (e : 
     → get_or (map f ds) i e ≡ f d
 desk_at f ds i d e lt is = map_at f ds i d e lt ∙ ap f (sym is)
 
+any_default : {D : Type 0} (ds : List D) (i : ℕ) (d e : D) → i < length ds → get_or ds i d ≡ get_or ds i e
+any_default [] i d e lt = absurd (omega (arith, lt))
+any_default (x ∷ ds) zero d e lt = refl
+any_default (x ∷ ds) (suc i) d e lt = any_default ds i d e (omega (arith, lt))
+
 -- ---- desks, as a walk sees them
 
 module _ {X : Type 0} {H : X → Type 0} (state : (x : X) × H x → FilterState) where
@@ -136,3 +141,16 @@ module _ {X : Type 0} {H : X → Type 0} (state : (x : X) × H x → FilterState
   pub chests_whole : (desks : List (Desk X H)) → 8 ≤ length desks → padded (chests_of desks) ≡ chests_of desks
   chests_whole desks le =
       let long = length-map desks chest_of in padded_whole (chests_of desks) (omega (arith, long, le))
+
+  pub few_chests : (chests : List (Chest X H)) → length chests ≤ 8 → length (first_chests chests) ≤ 8
+  few_chests chests le =
+      let long = length-map chests (λ (c : Chest X H). states_in state c) in omega (arith, long, le)
+
+  -- the chest of the desk at a place, and the chests once that desk is written
+  pub chest_at : (desks : List (Desk X H)) (i : ℕ) (d e : Desk X H) → i < length desks → d ≡ get_or desks i e
+      → chest_of d ≡ get_or (chests_of desks) i []
+  chest_at desks i d e lt is = sym (desk_at chest_of desks i d [] lt (is ∙ any_default desks i e d lt))
+
+  pub chest_written : (desks new : List (Desk X H)) (i : ℕ) (d : Desk X H) → new ≡ slice_set desks i d
+      → chests_of new ≡ slice_set (chests_of desks) i (chest_of d)
+  chest_written desks new i d is = desk_written chest_of desks new i d is
