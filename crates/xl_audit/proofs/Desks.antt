@@ -2,8 +2,12 @@
 use Rattle.std.proofs.Common.{◌≡◌, ℕ, zero, suc, ◌+◌, ◌-◌, ◌<◌, ◌≤◌, List, [], ◌∷◌, ◌++◌, length, map, replicate, refl, sym, ◌∙◌, ap, subst, arith, get_or}
 use Rattle.std.proofs.Common.{append_assoc, append-nil, length-append}
 use Rattle.std.specs.Prelude.{Option, slice_get, slice_set, unwrap_or}
+use Rattle.std.proofs.lemmas.List.{length-map}
 use Rattle.std.proofs.lemmas.Option.{unwrap_or-slice_get}
 use Rattle.spec_filters.specs.declared.FilterState.{FilterState}
+use Rattle.xl_filters.specs.declared.chest.Chest.{Chest}
+use Rattle.xl_filters.specs.Chests.{states_in}
+use Rattle.xl_standing.specs.declared.desk.Desk.{Desk}
 use Rattle.xl_audit.specs.Auditing.{padded}
 
 map_more : {D X : Type 0} (f : D → X) (ds : List D) (d : D) → map f (ds ++ d ∷ []) ≡ map f ds ++ f d ∷ []
@@ -90,3 +94,63 @@ map_at f (x ∷ ds) (suc i) d e lt = map_at f ds i d e (omega (arith, lt))
 pub desk_at : {D X : Type 0} (f : D → X) (ds : List D) (i : ℕ) (d : D) (e : X) → i < length ds → d ≡ get_or ds i d
     → get_or (map f ds) i e ≡ f d
 desk_at f ds i d e lt is = map_at f ds i d e lt ∙ ap f (sym is)
+
+any_default : {D : Type 0} (ds : List D) (i : ℕ) (d e : D) → i < length ds → get_or ds i d ≡ get_or ds i e
+any_default [] i d e lt = absurd (omega (arith, lt))
+any_default (x ∷ ds) zero d e lt = refl
+any_default (x ∷ ds) (suc i) d e lt = any_default ds i d e (omega (arith, lt))
+
+-- ---- desks, as a walk sees them
+
+module _ {X : Type 0} {H : X → Type 0} (state : (x : X) × H x → FilterState) where
+  abbrev pub chest_of : Desk X H → List (Option FilterState)
+  chest_of d = states_in state d.chest
+
+  abbrev pub chests_of : List (Desk X H) → List (List (Option FilterState))
+  chests_of desks = map chest_of desks
+
+  abbrev pub first_chests : List (Chest X H) → List (List (Option FilterState))
+  first_chests chests = map (λ (c : Chest X H). states_in state c) chests
+
+  pub chests_begin : (desks : List (Desk X H)) (rest all : List (Chest X H)) → desks ≡ [] → rest ≡ all
+      → chests_of desks ++ first_chests rest ≡ first_chests all
+  chests_begin desks rest all none is =
+      ap (λ (ds : List (Desk X H)). chests_of ds ++ first_chests rest) none ∙ ap first_chests is
+
+  pub chests_more : (desks new : List (Desk X H)) (rest more all : List (Chest X H)) (d : Desk X H) (c : Chest X H)
+      → chests_of desks ++ first_chests rest ≡ first_chests all → rest ≡ c ∷ more → new ≡ desks ++ d ∷ [] → d.chest ≡ c
+      → chests_of new ++ first_chests more ≡ first_chests all
+  chests_more desks new rest more all d c so_far next pushed same =
+      desks_more chest_of (λ (x : Chest X H). states_in state x) desks new rest more all d c so_far next pushed
+      (ap (λ (x : Chest X H). states_in state x) same)
+
+  pub chests_all : (desks : List (Desk X H)) (rest all : List (Chest X H)) → chests_of desks ++ first_chests rest ≡ first_chests all
+      → rest ≡ [] → chests_of desks ≡ first_chests all
+  chests_all desks rest all so_far none =
+      desks_all chest_of (λ (x : Chest X H). states_in state x) desks rest all so_far none
+
+  pub chests_padded : (desks new : List (Desk X H)) (d : Desk X H) → length desks < 8 → new ≡ desks ++ d ∷ [] → chest_of d ≡ []
+      → padded (chests_of new) ≡ padded (chests_of desks)
+  chests_padded desks new d lt pushed none =
+      let long = length-map desks chest_of in
+      ap (λ (ds : List (Desk X H)). padded (chests_of ds)) pushed
+      ∙ (ap padded (map_more chest_of desks d)
+      ∙ (ap (λ (c : List (Option FilterState)). padded (chests_of desks ++ c ∷ [])) none
+      ∙ padded_more (chests_of desks) (omega (arith, long, lt))))
+
+  pub chests_whole : (desks : List (Desk X H)) → 8 ≤ length desks → padded (chests_of desks) ≡ chests_of desks
+  chests_whole desks le =
+      let long = length-map desks chest_of in padded_whole (chests_of desks) (omega (arith, long, le))
+
+  pub few_chests : (chests : List (Chest X H)) → length chests ≤ 8 → length (first_chests chests) ≤ 8
+  few_chests chests le =
+      let long = length-map chests (λ (c : Chest X H). states_in state c) in omega (arith, long, le)
+
+  -- the chest of the desk at a place, and the chests once that desk is written
+  pub chest_at : (desks : List (Desk X H)) (i : ℕ) (d e : Desk X H) → i < length desks → d ≡ get_or desks i e
+      → chest_of d ≡ get_or (chests_of desks) i []
+  chest_at desks i d e lt is = sym (desk_at chest_of desks i d [] lt (is ∙ any_default desks i e d lt))
+
+  pub chest_written : (desks new : List (Desk X H)) (i : ℕ) (d : Desk X H) → new ≡ slice_set desks i d
+      → chests_of new ≡ slice_set (chests_of desks) i (chest_of d)
+  chest_written desks new i d is = desk_written chest_of desks new i d is

@@ -45,3 +45,11 @@ wanted_more calls replies order place d old new before lt more here = record {
 pub wanted_all : (calls : List (List Line)) (replies : List (List Printed)) (order : List OrderWord) (place : ℕ) (wanted : List Bool)
     → AreWantedTo calls replies order place wanted → length order ≤ place → AreWanted calls replies wanted order
 wanted_all calls replies order place wanted before le = subst (AreWanted calls replies wanted) (take_all place order le) before.all
+
+-- the same, where the words are read from a list that is the order
+pub wanted_on : (calls : List (List Line)) (replies : List (List Printed)) (order items : List OrderWord) (place : ℕ) (d : OrderWord)
+    (old new : List Bool) → items ≡ order → AreWantedTo calls replies order place old → place < length items → WantsMore old new
+    → WantsOfWord calls replies new (get_or items place d) → AreWantedTo calls replies order (place + 1) new
+wanted_on calls replies order items place d old new is before lt more here =
+    wanted_more calls replies order place d old new before (subst (λ (ws : List OrderWord). place < length ws) is lt) more
+    (subst (λ (ws : List OrderWord). WantsOfWord calls replies new (get_or ws place d)) is here)

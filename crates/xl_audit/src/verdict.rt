@@ -55,10 +55,15 @@ fn desk_of(alloc: Global, chest: Chest) -> Result<Desk, AllocError>
     }
 }
 
-fn no_filters(alloc: Global) -> Result<Desk, AllocError>
+// A desk without filters; the boxes are none.
+fn desk_without(
+    alloc: Global,
+    boxes: Vec<Box<dyn PointFilter + Send>>,
+) -> Result<Desk, AllocError>
+    requires { boxes.items ≡ [] }
     ensures { IfOk result (λ desk. states_in state desk.chest ≡ []) }
 {
-    match Chest::new(alloc, Vec::new(alloc)) {
+    match Chest::new(alloc, boxes) {
         Ok(chest) => desk_of(alloc, chest),
         Err(_) => Err(AllocError),
     }
@@ -82,7 +87,7 @@ fn add_desks(alloc: Global, desks: &mut Vec<Desk>) -> Result<(), AllocError>
         ≡ padded (map (λ d. states_in state d.chest) desks.old.items)) }
 {
     while desks.len() < usize::from(SESSIONS) {
-        desks.push(no_filters(alloc)?)?;
+        desks.push(desk_without(alloc, Vec::new(alloc))?)?;
     }
     Ok(())
 }
