@@ -56,10 +56,7 @@ fn desk_of(alloc: Global, chest: Chest) -> Result<Desk, AllocError>
 }
 
 // A desk without filters; the boxes are none.
-fn desk_without(
-    alloc: Global,
-    boxes: Vec<Box<dyn PointFilter + Send>>,
-) -> Result<Desk, AllocError>
+fn desk_without(alloc: Global, boxes: Vec<Box<dyn PointFilter + Send>>) -> Result<Desk, AllocError>
     requires { boxes.items ≡ [] }
     ensures { IfOk result (λ desk. states_in state desk.chest ≡ []) }
 {
