@@ -1,0 +1,5 @@
+use Rattle.xl_audit.proofs.Calling.{AreGathered}
+use Rattle.xl_audit.proofs.calls.script_calls.Given as goal
+
+abbrev pub invariant-loop-session : goal.invariant-loop-session
+invariant-loop-session l = AreGathered l.script l.session l.calls.items
