@@ -8,7 +8,7 @@ ghost use Rattle.spec_script.specs.Fits.{FitsFilters};
 ghost use Rattle.xl_audit.specs.Auditing.{ArePrintable, IsFull, padded, start_of};
 ghost use Rattle.xl_audit.specs.Walking.{HasCome};
 ghost use Rattle.xl_doc.specs.Numbered.{AreNumbered};
-ghost use Rattle.xl_filters.specs.Chests.{states_in};
+ghost use Rattle.xl_filters.specs.Chests.{states, states_in};
 ghost use Rattle.xl_script.specs.Lines.{lists_of};
 
 use crate::calls::script_calls;
@@ -46,22 +46,16 @@ fn first_walk(alloc: Global, base: Document, wanted: Vec<bool>) -> Result<Walk, 
     })
 }
 
-fn desk_of(alloc: Global, chest: Chest) -> Result<Desk, AllocError>
-    ensures { IfOk result (λ desk. desk.chest ≡ chest) }
-{
-    match Desk::new(alloc, chest) {
-        Ok(desk) => Ok(desk),
-        Err(_) => Err(AllocError),
-    }
-}
-
 // A desk without filters; the boxes are none.
 fn desk_without(alloc: Global, boxes: Vec<Box<dyn PointFilter + Send>>) -> Result<Desk, AllocError>
     requires { boxes.items ≡ [] }
-    ensures { IfOk result (λ desk. states_in state desk.chest ≡ []) }
+    ensures { IfOk result (λ desk. states (λ s. state s.filter) desk.chest ≡ []) }
 {
-    match Chest::new(alloc, boxes) {
-        Ok(chest) => desk_of(alloc, chest),
+    let Ok(chest) = Chest::new(alloc, boxes) else {
+        return Err(AllocError);
+    };
+    match Desk::new(alloc, chest) {
+        Ok(desk) => Ok(desk),
         Err(_) => Err(AllocError),
     }
 }
@@ -73,7 +67,10 @@ fn desks_of(alloc: Global, chests: Vec<Chest>) -> Result<Vec<Desk>, AllocError>
 {
     let mut desks = Vec::new(alloc);
     for chest in chests {
-        desks.push(desk_of(alloc, chest)?)?;
+        let Ok(desk) = Desk::new(alloc, chest) else {
+            return Err(AllocError);
+        };
+        desks.push(desk)?;
     }
     Ok(desks)
 }
