@@ -18,6 +18,7 @@ use spec_audit::Verdict;
 use std::alloc::{AllocError, Global};
 use std::sync::ledger::Ledger;
 use xl_blend::Steps;
+use xl_compose::Picture;
 use xl_doc::Document;
 use xl_filters::{Chest, PointFilter};
 use xl_marks::first_cache;
@@ -60,6 +61,14 @@ fn desk_without(alloc: Global, boxes: Vec<Box<dyn PointFilter + Send>>) -> Resul
     }
 }
 
+// `Desk::new` gives back the filters where memory runs out; here they go with the rest.
+fn desk_of(alloc: Global, chest: Chest) -> Result<Desk, AllocError>
+    ensures { IfOk result (λ desk. desk.chest ≡ chest) }
+{
+    let out = Picture::blank(alloc)?;
+    Ok(Desk { chest, out })
+}
+
 // Desks with these chests, session by session.
 fn desks_of(alloc: Global, chests: Vec<Chest>) -> Result<Vec<Desk>, AllocError>
     ensures { IfOk result (λ desks.
@@ -67,10 +76,7 @@ fn desks_of(alloc: Global, chests: Vec<Chest>) -> Result<Vec<Desk>, AllocError>
 {
     let mut desks = Vec::new(alloc);
     for chest in chests {
-        let Ok(desk) = Desk::new(alloc, chest) else {
-            return Err(AllocError);
-        };
-        desks.push(desk)?;
+        desks.push(desk_of(alloc, chest)?)?;
     }
     Ok(desks)
 }

@@ -11,8 +11,8 @@ loop-chest-init g c =
 pub loop-chest-preserved : goal.loop-chest-preserved
 loop-chest-preserved g c =
     chests_more (λ b. (goal.PointFilter-dyn g b).state b.1) c.loop-chest.desks.items c.push.new.self.items
-    c.loop-chest.chest-iterator.rest.items c.next.new.self.rest.items c.args.chests.items c.in-Ok.desk c.in-Some.chest c.loop-chest.invariant
-    c.in-Some.ensures.steps.0 c.in_ok-push.ensures.items c.in-Ok.ensures.chest
+    c.loop-chest.chest-iterator.rest.items c.next.new.self.rest.items c.args.chests.items _ c.in-Some.chest c.loop-chest.invariant
+    c.in-Some.ensures.steps.0 c.in_ok-push.ensures.items c.in_ok-desk_of.ensures
 
 pub returns : goal.returns
 returns g c =
