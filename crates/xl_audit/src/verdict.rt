@@ -71,6 +71,7 @@ fn desk_of(alloc: Global, chest: Chest) -> Result<Desk, AllocError>
 
 // Desks with these chests, session by session.
 fn desks_of(alloc: Global, chests: Vec<Chest>) -> Result<Vec<Desk>, AllocError>
+    requires { length chests.items ≤ 8 }
     ensures { IfOk result (λ desks.
         map (λ d. states_in state d.chest) desks.items ≡ map (λ c. states_in state c) chests.items) }
 {
@@ -83,6 +84,7 @@ fn desks_of(alloc: Global, chests: Vec<Chest>) -> Result<Vec<Desk>, AllocError>
 
 // Desks without filters, until there is one for each session.
 fn add_desks(alloc: Global, desks: &mut Vec<Desk>) -> Result<(), AllocError>
+    requires { length desks.old.items ≤ 8 }
     ensures { OnOk result (map (λ d. states_in state d.chest) desks.new.items
         ≡ padded (map (λ d. states_in state d.chest) desks.old.items)) }
 {
