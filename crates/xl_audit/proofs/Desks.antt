@@ -146,6 +146,13 @@ module _ {X : Type 0} {H : X → Type 0} (state : (x : X) × H x → FilterState
   few_chests chests le =
       let long = length-map chests (λ (c : Chest X H). states_in state c) in omega (arith, long, le)
 
+  pub few_desks : (desks : List (Desk X H)) (chests : List (Chest X H)) → chests_of desks ≡ first_chests chests → length chests ≤ 8
+      → length desks ≤ 8
+  few_desks desks chests same le =
+      let d = length-map desks chest_of in
+      let c = length-map chests (λ (x : Chest X H). states_in state x) in
+      let l = ap length same in omega (arith, d, c, l, le)
+
   -- the chest of the desk at a place, and the chests once that desk is written
   pub chest_at : (desks : List (Desk X H)) (i : ℕ) (d e : Desk X H) → i < length desks → d ≡ get_or desks i e
       → chest_of d ≡ get_or (chests_of desks) i []

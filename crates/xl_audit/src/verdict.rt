@@ -8,7 +8,7 @@ ghost use Rattle.spec_script.specs.Fits.{FitsFilters};
 ghost use Rattle.xl_audit.specs.Auditing.{ArePrintable, IsFull, padded, start_of};
 ghost use Rattle.xl_audit.specs.Walking.{HasCome};
 ghost use Rattle.xl_doc.specs.Numbered.{AreNumbered};
-ghost use Rattle.xl_filters.specs.Chests.{states_in};
+ghost use Rattle.xl_filters.specs.Chests.{states, states_in};
 ghost use Rattle.xl_script.specs.Lines.{lists_of};
 
 use crate::calls::script_calls;
@@ -18,6 +18,7 @@ use spec_audit::Verdict;
 use std::alloc::{AllocError, Global};
 use std::sync::ledger::Ledger;
 use xl_blend::Steps;
+use xl_compose::Picture;
 use xl_doc::Document;
 use xl_filters::{Chest, PointFilter};
 use xl_marks::first_cache;
@@ -46,28 +47,31 @@ fn first_walk(alloc: Global, base: Document, wanted: Vec<bool>) -> Result<Walk, 
     })
 }
 
-fn desk_of(alloc: Global, chest: Chest) -> Result<Desk, AllocError>
-    ensures { IfOk result (λ desk. desk.chest ≡ chest) }
+// A desk without filters; the boxes are none.
+fn desk_without(alloc: Global, boxes: Vec<Box<dyn PointFilter + Send>>) -> Result<Desk, AllocError>
+    requires { boxes.items ≡ [] }
+    ensures { IfOk result (λ desk. states (λ s. state s.filter) desk.chest ≡ []) }
 {
+    let Ok(chest) = Chest::new(alloc, boxes) else {
+        return Err(AllocError);
+    };
     match Desk::new(alloc, chest) {
         Ok(desk) => Ok(desk),
         Err(_) => Err(AllocError),
     }
 }
 
-// A desk without filters; the boxes are none.
-fn desk_without(alloc: Global, boxes: Vec<Box<dyn PointFilter + Send>>) -> Result<Desk, AllocError>
-    requires { boxes.items ≡ [] }
-    ensures { IfOk result (λ desk. states_in state desk.chest ≡ []) }
+// `Desk::new` gives back the filters where memory runs out; here they go with the rest.
+fn desk_of(alloc: Global, chest: Chest) -> Result<Desk, AllocError>
+    ensures { IfOk result (λ desk. desk.chest ≡ chest) }
 {
-    match Chest::new(alloc, boxes) {
-        Ok(chest) => desk_of(alloc, chest),
-        Err(_) => Err(AllocError),
-    }
+    let out = Picture::blank(alloc)?;
+    Ok(Desk { chest, out })
 }
 
 // Desks with these chests, session by session.
 fn desks_of(alloc: Global, chests: Vec<Chest>) -> Result<Vec<Desk>, AllocError>
+    requires { length chests.items ≤ 8 }
     ensures { IfOk result (λ desks.
         map (λ d. states_in state d.chest) desks.items ≡ map (λ c. states_in state c) chests.items) }
 {
@@ -80,6 +84,7 @@ fn desks_of(alloc: Global, chests: Vec<Chest>) -> Result<Vec<Desk>, AllocError>
 
 // Desks without filters, until there is one for each session.
 fn add_desks(alloc: Global, desks: &mut Vec<Desk>) -> Result<(), AllocError>
+    requires { length desks.old.items ≤ 8 }
     ensures { OnOk result (map (λ d. states_in state d.chest) desks.new.items
         ≡ padded (map (λ d. states_in state d.chest) desks.old.items)) }
 {

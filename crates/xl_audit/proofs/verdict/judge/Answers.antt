@@ -1,8 +1,7 @@
-use Rattle.std.proofs.Common.{◌≡◌, length, map, sym, ◌∙◌, ap, arith}
-use Rattle.std.proofs.lemmas.List.{length-map}
+use Rattle.std.proofs.Common.{◌∙◌}
 use Rattle.xl_script.specs.Lines.{lists_of}
-use Rattle.xl_audit.proofs.Desks.{chests_of, first_chests}
-use Rattle.xl_audit.proofs.Onward.{along_first, onward_all}
+use Rattle.xl_audit.proofs.Desks.{chests_of, first_chests, few_chests, few_desks}
+use Rattle.xl_audit.proofs.Onward.{along_first}
 use Rattle.xl_audit.proofs.verdict.judge.Goals as goal
 
 pub loop-word-init : goal.loop-word-init
@@ -15,3 +14,7 @@ loop-word-init g c =
     (few_chests (λ b. (goal.PointFilter-dyn g b).state b.1) c.args.chests.items c.requires.few)
     c.in_ok-desks.ensures c.in_ok-add_desks.ensures c.in_ok-walk.ensures.come c.in_ok-walk.ensures.wanted
     (c.as_slice.ensures.value ∙ c.in_ok-calls.ensures) c.in_ok-wanted.ensures
+
+pub add_desks-requires : goal.add_desks-requires
+add_desks-requires g c κs within =
+    few_desks (λ b. (goal.PointFilter-dyn g b).state b.1) c.in_ok-desks.desks.items c.args.chests.items c.in_ok-desks.ensures c.requires.few
