@@ -60,7 +60,7 @@ fn want_of_word(
 }
 
 /// Which versions are shown by the printed replies to peeks.
-pub(crate) fn wanted(
+pub fn wanted(
     alloc: Global,
     calls: &[Calls],
     output: &Output,
@@ -76,7 +76,7 @@ pub(crate) fn wanted(
 
 /// Shares of the versions that are wanted, as far as they were made.
 #[derive(Drop)]
-pub(crate) struct Versions {
+pub struct Versions {
     pub wanted: Vec<bool>,
     pub shares: Vec<Option<Document>>,
 }

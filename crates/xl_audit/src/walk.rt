@@ -3,7 +3,7 @@ use xl_standing::Standing;
 
 /// What stands at a place of the order.
 #[derive(Drop)]
-pub(crate) struct Walk {
+pub struct Walk {
     pub standing: Standing,
     pub versions: Versions,
     // How many calls each session has made, and the version that it has seen.

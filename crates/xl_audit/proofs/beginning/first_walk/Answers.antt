@@ -3,7 +3,7 @@ use Rattle.std.specs.Prelude.{Bool, Option}
 use Rattle.spec_document.specs.Document.{Document}
 use Rattle.xl_audit.specs.Versions.{with_share}
 use Rattle.xl_audit.proofs.Begun.{begun}
-use Rattle.xl_audit.proofs.verdict.first_walk.Goals as goal
+use Rattle.xl_audit.proofs.beginning.first_walk.Goals as goal
 
 pub returns-clause-come : goal.returns-clause-come
 returns-clause-come c =
