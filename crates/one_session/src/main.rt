@@ -1,13 +1,13 @@
 //! One session: a file is opened, edited by a group, looked at, put on a shelf, and taken back to what it was.
 #![tactic(auto)]
 
-use anyhow::Result;
 use sha2::{Digest, Sha256};
 use std::alloc::{AllocError, Global};
-use std::fs;
+use std::process::ExitCode;
+use std::{fs, io};
 use xcf::{Bytes, Edit, Editor, Edits, NodeId, Rect, TileAt, save, tile};
 use xl_fakes::MemoryShelf;
-use xl_ports::Shelf;
+use xl_ports::{Failed, Shelf};
 
 /// The image, and its one layer, which has one pixel.
 const IMAGE: NodeId = NodeId(0);
@@ -36,38 +36,75 @@ fn fade_and_fill(alloc: Global) -> Result<Edits, AllocError> {
     Ok(edits)
 }
 
-// Prints the first tile of the image, RGBA, row by row.
-fn show(rt: &HostRuntime, editor: &Editor) -> Result<()> {
+fn edit(rt: &HostRuntime, editor: &mut Editor) -> io::Result<()> {
+    let edits = fade_and_fill(rt.alloc())?;
+    match editor.edit(rt.alloc(), edits) {
+        Ok(reply) => println!(rt; "{reply:?}"),
+        Err(flaw) => println!(rt; "not asked: {flaw}"),
+    }
+}
+
+fn undo(rt: &HostRuntime, editor: &mut Editor) -> io::Result<()> {
+    let reply = editor.undo(rt.alloc())?;
+    println!(rt; "{reply:?}")
+}
+
+fn show_pixels(rt: &HostRuntime, version: u32, pixels: &[u8]) -> io::Result<()> {
+    let text = hex::encode(rt.alloc(), pixels)?;
+    println!(rt; "version {version} tile {text}")
+}
+
+// Shows the first tile of the image, RGBA, row by row.
+fn show(rt: &HostRuntime, editor: &Editor) -> io::Result<()> {
     let at = TileAt { col: 0, row: 0 };
-    let picture = tile(rt.alloc(), editor.document(), IMAGE, at)?;
-    let pixels = hex::encode(rt.alloc(), picture.bytes())?;
-    let version = editor.version();
-    println!(rt; "version {version} tile {pixels}")?;
-    Ok(())
+    match tile(rt.alloc(), editor.document(), IMAGE, at) {
+        Ok(picture) => show_pixels(rt, editor.version(), picture.bytes()),
+        Err(flaw) => println!(rt; "not shown: {flaw}"),
+    }
 }
 
-// Puts the file of the last version on a shelf in memory, and prints what stands there.
-fn put(rt: &HostRuntime, editor: &Editor) -> Result<()> {
-    let alloc = rt.alloc();
-    let file = save(alloc, editor.document())?;
-    let mut shelf = MemoryShelf::new(alloc, Vec::new(alloc), Vec::new(alloc), None)?;
+// Puts the bytes of a file on a shelf.
+fn put(file: &[u8], shelf: &mut MemoryShelf) -> Result<(), Failed> {
     shelf.select("one.xcf")?;
-    xl_save::save(&file, &mut shelf)?;
-    let kept = shelf.file("one.xcf").unwrap_or(&[]);
-    let digest = hex::encode(alloc, &Sha256::digest(kept))?;
-    let length = kept.len();
-    println!(rt; "file {length} {digest}")?;
-    Ok(())
+    xl_save::save(file, shelf)
 }
 
-fn main(rt: HostRuntime) -> Result<()> {
+fn show_file(rt: &HostRuntime, file: &[u8]) -> io::Result<()> {
+    let length = file.len();
+    let digest = hex::encode(rt.alloc(), &Sha256::digest(file))?;
+    println!(rt; "file {length} {digest}")
+}
+
+// Puts the file of the last version on a shelf in memory, and shows what stands there.
+fn keep(rt: &HostRuntime, editor: &Editor) -> io::Result<()> {
     let alloc = rt.alloc();
-    let mut editor = Editor::open(alloc, fs::read(&rt, "one.xcf")?)?;
-    let changed = editor.edit(alloc, fade_and_fill(alloc)?)?;
-    println!(rt; "{changed:?}")?;
-    show(&rt, &editor)?;
-    put(&rt, &editor)?;
-    let undone = editor.undo(alloc)?;
-    println!(rt; "{undone:?}")?;
-    show(&rt, &editor)
+    let mut shelf = MemoryShelf::new(alloc, Vec::new(alloc), Vec::new(alloc), None)?;
+    let file = save(alloc, editor.document())?;
+    match put(&file, &mut shelf) {
+        Ok(()) => show_file(rt, shelf.file("one.xcf").unwrap_or(&[])),
+        Err(flaw) => println!(rt; "not saved: {flaw}"),
+    }
+}
+
+fn go_on(rt: &HostRuntime, editor: &mut Editor) -> io::Result<()> {
+    edit(rt, editor)?;
+    show(rt, editor)?;
+    keep(rt, editor)?;
+    undo(rt, editor)?;
+    show(rt, editor)
+}
+
+fn try_session(rt: &HostRuntime) -> io::Result<()> {
+    let file = fs::read(rt, "one.xcf")?;
+    match Editor::open(rt.alloc(), file) {
+        Ok(mut editor) => go_on(rt, &mut editor),
+        Err(flaw) => println!(rt; "not opened: {flaw}"),
+    }
+}
+
+fn main(rt: HostRuntime) -> ExitCode {
+    match try_session(&rt) {
+        Ok(()) => ExitCode::SUCCESS,
+        Err(_) => ExitCode::FAILURE,
+    }
 }
