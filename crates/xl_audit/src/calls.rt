@@ -70,10 +70,7 @@ fn session_calls<'a>(alloc: Global, lines: &'a [Line]) -> Result<Calls<'a>, Allo
 }
 
 /// The calls of each of the eight sessions.
-pub fn script_calls<'a>(
-    alloc: Global,
-    script: &'a Script,
-) -> Result<Vec<Calls<'a>>, AllocError>
+pub fn script_calls<'a>(alloc: Global, script: &'a Script) -> Result<Vec<Calls<'a>>, AllocError>
     ensures { IfOk result (λ calls. calls.items ≡ calls_in (lists_of script.now)) }
 {
     let mut calls = Vec::new(alloc);

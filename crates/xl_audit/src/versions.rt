@@ -60,11 +60,7 @@ fn want_of_word(
 }
 
 /// Which versions are shown by the printed replies to peeks.
-pub fn wanted(
-    alloc: Global,
-    calls: &[Calls],
-    output: &Output,
-) -> Result<Vec<bool>, AllocError>
+pub fn wanted(alloc: Global, calls: &[Calls], output: &Output) -> Result<Vec<bool>, AllocError>
     ensures { IfOk result (λ wanted. AreWanted calls.now output.now.replies wanted.items output.now.order) }
 {
     let mut wanted = Vec::new(alloc);
