@@ -22,6 +22,9 @@ const DONE: u8 = 0;
 /// The status where memory ran out before the command began.
 const MEMORY: u8 = 8;
 
+/// The status where the file could not be read, or a save failed.
+const SHELF_FAULT: u8 = 6;
+
 const SESSIONS: usize = 8;
 
 // The words behind the program's name.
@@ -55,6 +58,14 @@ fn run_with_filters<R: Threads + Wait + Sync>(
     ))
 }
 
+// Says why a command stopped, and what the system said of the file. Where it cannot be written there is nothing else to say.
+fn tell(rt: &HostRuntime, text: String, ended: &Ended<FileShelf>) {
+    let _ = match ended.shelf.error() {
+        Some(error) if ended.status == SHELF_FAULT => eprintln!(rt; "{text}: {error}"),
+        _ => rt.eprintln(text),
+    };
+}
+
 fn start<R: Threads + Wait + Sync>(rt: &HostRuntime, threads: &R) -> Result<u8, AllocError> {
     let alloc = rt.alloc();
     let given = match words_given(rt) {
@@ -72,8 +83,7 @@ fn start<R: Threads + Wait + Sync>(rt: &HostRuntime, threads: &R) -> Result<u8, 
     if ended.status != DONE
         && let Ok(text) = message(alloc, &words, ended.status, ended.cause, source.bytes())
     {
-        // Where it cannot be written there is nothing else to say.
-        let _ = rt.eprintln(text);
+        tell(rt, text, &ended);
     }
     Ok(ended.status)
 }

@@ -1,6 +1,6 @@
 ghost use Rattle.std.specs.Prelude.{◌≡◌, ◌≤◌, None, Some, IsSome, is_some, is_ok, false, true, refl, IfOk, OnOk, OnErr};
 ghost use Rattle.std.specs.Prelude.{length, option_map, string_bytes};
-ghost use Rattle.xl_ports.specs.Faults.{HasCause};
+ghost use Rattle.xl_ports.specs.Faults.{HasCause, Rose};
 
 use crate::drafts::{discard_draft, new_draft, rename_draft};
 use crate::places::{folder_of, place_of};
@@ -36,6 +36,8 @@ pub struct FileShelf {
     draft: Option<File>,
     reading_faults: u64,
     saving_faults: u64,
+    // What the system said of the last call that failed.
+    error: Option<io::Error>,
 }
 
 impl FileShelf {
@@ -55,7 +57,25 @@ impl FileShelf {
             draft: None,
             reading_faults: 0,
             saving_faults: 0,
+            error: None,
         }
+    }
+
+    /// What the system said of the last call that failed, for people to be told. No clause speaks of it.
+    pub fn error(&self) -> Option<&io::Error> {
+        self.error.as_ref()
+    }
+
+    // Counts a fault of a call that reads.
+    fn fail_reading(&mut self, error: io::Error) -> Failed
+        ensures name { self.new.name ≡ self.old.name }
+        ensures draft { self.new.draft ≡ self.old.draft }
+        ensures saving { self.new.saving_faults ≡ self.old.saving_faults }
+        ensures cause { Rose self.old.reading_faults self.new.reading_faults }
+    {
+        self.reading_faults = self.reading_faults.saturating_add(1);
+        self.error = Some(error);
+        Failed
     }
 
     // Counts a fault where a call that saves failed.
@@ -66,8 +86,9 @@ impl FileShelf {
         ensures cause { HasCause self.old.saving_faults self.new.saving_faults result }
         ensures ok { is_ok result ≡ is_ok done }
     {
-        if done.is_err() {
+        if let Err(error) = done {
             self.saving_faults = self.saving_faults.saturating_add(1);
+            self.error = Some(error);
             return Err(Failed);
         }
         Ok(())
@@ -102,9 +123,8 @@ impl Shelf for FileShelf {
     ghost saving_faults = { λ s. s.saving_faults };
 
     fn select(&mut self, name: &str) -> Result<(), Failed> {
-        let place = place_of(&self.rt, name);
-        match (place, String::from_str(self.rt.alloc(), name)) {
-            (Ok(place), Ok(name)) => {
+        match find_place(&self.rt, name) {
+            Ok((place, name)) => {
                 if self.draft.take().is_some() {
                     discard_draft(&self.rt, &self.place);
                 }
@@ -113,20 +133,14 @@ impl Shelf for FileShelf {
                 self.file = None;
                 Ok(())
             }
-            _ => {
-                self.reading_faults = self.reading_faults.saturating_add(1);
-                Err(Failed)
-            }
+            Err(error) => Err(self.fail_reading(error)),
         }
     }
 
     fn load(&mut self, at: u64, buf: &mut [u8]) -> Result<usize, Failed> {
         match load_at(&self.rt, &self.place, &mut self.file, at, buf) {
             Ok(given) => Ok(given),
-            Err(_) => {
-                self.reading_faults = self.reading_faults.saturating_add(1);
-                Err(Failed)
-            }
+            Err(error) => Err(self.fail_reading(error)),
         }
     }
 
@@ -168,6 +182,15 @@ impl Shelf for FileShelf {
     }
 
     ghost reads = { λ s name. refl };
+}
+
+// Where the file of a name is, and the name.
+fn find_place(rt: &HostRuntime, name: &str) -> io::Result<(String, String)>
+    ensures { IfOk result (λ found. string_bytes found.1 ≡ name.now) }
+{
+    let place = place_of(rt, name)?;
+    let name = String::from_str(rt.alloc(), name)?;
+    Ok((place, name))
 }
 
 // Reads at an offset of the file, which is opened first where it is not open.
