@@ -5,7 +5,6 @@ ghost use Rattle.spec_history.specs.Limited.{edits_of};
 ghost use Rattle.spec_tables.specs.Agrees.{AreThere};
 ghost use Rattle.xl_edit.specs.Calls.{call_of};
 ghost use Rattle.xl_edit.specs.Edits.{edits_of as edits_meant};
-ghost use Rattle.xl_filters.specs.Chests.{states_in};
 ghost use Rattle.xl_studio.specs.Jobs.{job_out};
 ghost use Rattle.xl_studio.specs.Seats.{IsSeatOf, weight_of};
 
@@ -19,24 +18,11 @@ use xl_blend::Steps;
 use xl_core::Desk;
 use xl_edit::{Call, Group};
 use xl_fakes::MemoryShelf;
-use xl_filters::{Chest, PointFilter};
+use xl_filters::Chest;
 use xl_rle::Greedy;
 use xl_studio::{Seat, Studio};
 
-// A desk without filters.
-fn open_desk(alloc: Global) -> Result<Desk, AllocError>
-    ensures { IfOk result (λ desk. states_in state desk.chest ≡ []) }
-{
-    let Ok(chest) = Chest::new(alloc, Vec::new(alloc)) else {
-        return Err(AllocError);
-    };
-    match Desk::new(alloc, chest) {
-        Ok(desk) => Ok(desk),
-        Err(_) => Err(AllocError),
-    }
-}
-
-// A call at a desk of its own, whose steps are counted by this ledger.
+// A call at a desk of its own, which has no filters and whose steps are counted by this ledger.
 fn call_counted<W: Wait, L: Ledger>(
     rt: &W,
     alloc: Global,
@@ -57,7 +43,12 @@ fn call_counted<W: Wait, L: Ledger>(
     ensures weight { weight_of seat.new ≡ weight_of seat.old }
     ensures job { job_out seat.new ≡ job_out seat.old }
 {
-    let mut desk = open_desk(alloc)?;
+    let Ok(chest) = Chest::new(alloc, Vec::new(alloc)) else {
+        return Err(AllocError);
+    };
+    let Ok(mut desk) = Desk::new(alloc, chest) else {
+        return Err(AllocError);
+    };
     let mut steps = Steps::<L>::new(blank);
     studio.call(rt, alloc, seat, session, call, &mut desk, &mut steps)
 }
