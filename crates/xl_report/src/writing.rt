@@ -15,7 +15,7 @@ use xl_grid::MAX_SIDE;
 use xl_ports::{Failed, Sink, write_all};
 
 /// The pixels that the longest rows of all bands composed beside one another have at most, where these are more than one.
-const MOST_PIXELS: u32 = 65_536;
+const MOST_PIXELS: u32 = 49_152;
 
 fn head(alloc: Global, width: u32, height: u32) -> Result<String, AllocError>
     ensures { IfOk result (λ text. string_bytes text ≡ pam_head width height) }
