@@ -7,11 +7,10 @@ use Rattle.std.proofs.Math.Seq.{take-add}
 use Rattle.std.proofs.lemmas.List.{drop-drop}
 use Rattle.spec_fields.specs.Reading.{Read, ◌>>=◌}
 use Rattle.spec_rle.specs.Reading.{Part, plane_at}
-use Rattle.spec_rle.specs.Standing.{IsSpelledAt}
 use Rattle.spec_rle.proofs.SpelledBack.{spelled_has}
 use Rattle.spec_hierarchy.specs.Reading.{planes_at}
 use Rattle.xl_rle.specs.NextOf.{next_of}
-use Rattle.xl_codes.specs.Codes.{AreCodes, StandTo}
+use Rattle.xl_codes.specs.Codes.{StandTo}
 
 -- a plane that is read, and the offset behind it
 record ReadTo (read : Read Part) (next : ℕ) : Type 0 where

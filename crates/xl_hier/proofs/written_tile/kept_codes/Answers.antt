@@ -2,7 +2,7 @@ use Rattle.std.proofs.Common.{◌≡◌, sym, ◌∙◌, true}
 use Rattle.std.proofs.lemmas.Bool.{OnTrue_at}
 use Rattle.std.proofs.lemmas.Option.{IfSome_then}
 use Rattle.spec_hierarchy.specs.BytePlanes.{tile_planes}
-use Rattle.xl_hier.proofs.Kept.{kept_fit, stays_by}
+use Rattle.xl_hier.proofs.KeptCodes.{kept_fit, stays_by}
 use Rattle.xl_hier.proofs.written_tile.kept_codes.Goals as goal
 
 pub returns-then-keeps-clause-codes : goal.returns-then-keeps-clause-codes

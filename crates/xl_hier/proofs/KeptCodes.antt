@@ -1,5 +1,5 @@
 -- Spellings that a coder keeps as they stand.
-use Rattle.std.proofs.Common.{◌≡◌, ℕ, ◌+◌, ◌≤◌, List, [], ◌∷◌, length, refl}
+use Rattle.std.proofs.Common.{ℕ, ◌+◌, ◌≤◌, List, [], ◌∷◌, length, refl}
 use Rattle.spec_rle.specs.Codes.{Spells}
 use Rattle.spec_hierarchy.specs.Layout.{AreSpelled}
 use Rattle.spec_layout.specs.Layout.{AnySpelling}
