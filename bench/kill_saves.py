@@ -90,7 +90,7 @@ class Versions:
         own = [FIRST if number == 0 else number.to_bytes(4, "big") for number in numbers]
         shared = of_both(last, numbers[FILLERS.index(last)])
         for node, pixel in zip(self.doc.nodes, own + [shared]):
-            node.plane.data[:] = pixel * (node.plane.width * node.plane.height)
+            node.plane.data[:], node.plane.codes = pixel * (node.plane.width * node.plane.height), {}
         return file_of(self.doc)
 
     def numbers(self, data):

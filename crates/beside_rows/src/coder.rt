@@ -1,5 +1,5 @@
 //! A coder that passes a gate in each plane.
-ghost use Rattle.std.specs.Prelude.{◌≡◌};
+ghost use Rattle.std.specs.Prelude.{◌≡◌, false};
 ghost use Rattle.spec_rle.specs.Greedy as spelling;
 
 use crate::gates::WORKER;
@@ -17,6 +17,16 @@ impl<'a, G: Gate> PlaneCoder for GatedCoder<'a, G> {
     ghost fits = { λ plane bytes. bytes ≡ spelling.greedy plane };
 
     ghost follows = { λ before plane after. Unit {0} };
+
+    ghost keeping = { false };
+
+    ghost any_fits = { tt };
+
+    ghost stays = { tt };
+
+    fn keeps(&self) -> bool {
+        false
+    }
 
     fn encode_plane(
         &mut self,

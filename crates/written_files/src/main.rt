@@ -1,6 +1,6 @@
-//! Files read and written again, at the compression that they have and at the other one.
+//! Files read and written again, at the compression that they have and at the other one, and with the codes that they have.
 //!
-//! For each file its name, and for each of the two copies its length and its SHA-256. A copy is shown only where it is read back
+//! For each file its name, and for each of the three copies its length and its SHA-256. A copy is shown only where it is read back
 //! with the same picture, and where a copy of it has the same digest. `data/` has the files, and `stdout` what each must give: the
 //! lengths and digests are those of `bench/xcf_written.py`, which knows nothing of the engine.
 #![tactic(auto)]
@@ -16,7 +16,7 @@ use std::{fs, io};
 use xl_compose::Recompose;
 use xl_doc::{Document, NodeId, Pictures, Rect};
 use xl_read::decode;
-use xl_write::{Greedy, encode};
+use xl_write::{Greedy, Kept, PlaneCoder, encode};
 
 /// No file of more bytes is read.
 const MOST_BYTES: usize = 1 << 31;
@@ -68,10 +68,11 @@ fn document_of(alloc: Global, bytes: Vec<u8>) -> Option<Document>
     decode(alloc, &file).ok()
 }
 
-fn file_of(alloc: Global, document: &Document) -> Option<Vec<u8>>
+fn file_of<C: PlaneCoder + Copy>(alloc: Global, document: &Document, coder: C) -> Option<Vec<u8>>
     requires { IsDocument document.now }
 {
-    encode(alloc, document, &mut Greedy, &mut Recompose::new()).ok()
+    let mut coder = coder;
+    encode(alloc, document, &mut coder, &mut Recompose::new()).ok()
 }
 
 // The picture of the image.
@@ -106,38 +107,48 @@ fn same_picture(alloc: Global, document: &Document, other: &Document) -> bool
 }
 
 // The digest of the file of a document, or none where there is none.
-fn digest_of(alloc: Global, document: &Document) -> Option<String>
+fn digest_of<C: PlaneCoder + Copy>(alloc: Global, document: &Document, coder: C) -> Option<String>
     requires { IsDocument document.now }
 {
-    match file_of(alloc, document) {
+    match file_of(alloc, document, coder) {
         Some(file) => hex::encode(alloc, &Sha256::digest(&file)).ok(),
         None => None,
     }
 }
 
 // Whether a file of a document is read back: with the same picture, and so that it is written with the same digest.
-fn is_read_back(alloc: Global, file: Vec<u8>, document: &Document, digest: &str) -> bool
+fn is_read_back<C: PlaneCoder + Copy>(
+    alloc: Global,
+    file: Vec<u8>,
+    document: &Document,
+    coder: C,
+    digest: &str,
+) -> bool
     requires { IsDocument document.now }
 {
     let Some(other) = document_of(alloc, file) else {
         return false;
     };
-    match digest_of(alloc, &other) {
+    match digest_of(alloc, &other, coder) {
         Some(again) => again.as_str() == digest && same_picture(alloc, document, &other),
         None => false,
     }
 }
 
 // The length and the digest of the file of a document.
-fn copy_text(alloc: Global, document: &Document) -> Result<String, AllocError>
+fn copy_text<C: PlaneCoder + Copy>(
+    alloc: Global,
+    document: &Document,
+    coder: C,
+) -> Result<String, AllocError>
     requires { IsDocument document.now }
 {
-    let Some(file) = file_of(alloc, document) else {
+    let Some(file) = file_of(alloc, document, coder) else {
         return Err(AllocError);
     };
     let digest = hex::encode(alloc, &Sha256::digest(&file))?;
     let length = file.len();
-    if is_read_back(alloc, file, document, digest.as_str()) {
+    if is_read_back(alloc, file, document, coder, digest.as_str()) {
         format!(in alloc; "{length} {digest}")
     } else {
         format!(in alloc; "{length} differs")
@@ -158,9 +169,10 @@ fn line_of(alloc: Global, name: &str, bytes: Vec<u8>) -> Result<String, AllocErr
     let Some(document) = document_of(alloc, bytes) else {
         return format!(in alloc; "{name} is refused");
     };
-    let own = copy_text(alloc, &document)?;
-    let other = copy_text(alloc, &at_other_compression(document))?;
-    format!(in alloc; "{name} {own} {other}")
+    let own = copy_text(alloc, &document, Greedy)?;
+    let kept = copy_text(alloc, &document, Kept)?;
+    let other = copy_text(alloc, &at_other_compression(document), Greedy)?;
+    format!(in alloc; "{name} {own} {other} {kept}")
 }
 
 fn show_all(rt: &HostRuntime) -> io::Result<()> {

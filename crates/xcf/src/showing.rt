@@ -16,7 +16,7 @@ use xl_blend::Steps;
 use xl_compose::{Picture, Recompose, recompose_tile};
 use xl_doc::{Document, NodeId, Pictures, Rect, TileAt};
 use xl_grid::grid;
-use xl_write::{Greedy, encode};
+use xl_write::{Kept, encode};
 
 // Whether the document has this stack.
 fn has_stack(document: &Document, node: NodeId) -> bool
@@ -102,5 +102,5 @@ pub fn save(alloc: Global, document: &Document) -> Result<Vec<u8>, AllocError>
     ensures written { IfOk result (λ file. Written file.items document.now) }
     ensures read { IfOk result (λ file. reading file.items ≡ Ok (renumber document.now)) }
 {
-    encode(alloc, document, &mut Greedy, &mut Recompose::new())
+    encode(alloc, document, &mut Kept, &mut Recompose::new())
 }

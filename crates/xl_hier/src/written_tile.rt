@@ -1,6 +1,7 @@
-ghost use Rattle.std.specs.Prelude.{◌≡◌, ◌<◌, ◌≤◌, length, OnOk};
+ghost use Rattle.std.specs.Prelude.{◌≡◌, ◌<◌, ◌≤◌, ◌++◌, length, IfSome, OnOk};
 ghost use Rattle.spec_grid.specs.Grid as grid;
 ghost use Rattle.spec_hierarchy.specs.BytePlanes.{tile_planes};
+ghost use Rattle.spec_hierarchy.specs.Layout.{AreSpelled};
 ghost use Rattle.xl_fields.specs.Behind.{BeginsWith};
 ghost use Rattle.xl_hier.specs.Appended.{TileAppended};
 ghost use Rattle.xl_rle.specs.Follows.{FollowsEach};
@@ -12,8 +13,8 @@ use xl_grid::TileAt;
 use xl_rle::PlaneCoder;
 use xl_tiles::Plane;
 
-// Appends a spelling for each of the bytes of a pixel.
-fn append_run_length<C: PlaneCoder>(
+// Codes each of the bytes of a pixel, and appends the spellings.
+fn append_spellings<C: PlaneCoder>(
     alloc: Global,
     plane: &Plane,
     spot: TileAt,
@@ -37,6 +38,51 @@ fn append_run_length<C: PlaneCoder>(
         coder.encode_plane(alloc, &scratch[..n], out)?;
     }
     Ok(())
+}
+
+// The codes of a tile as they stand in a file, where the coder keeps them.
+fn kept_codes<'a, C: PlaneCoder>(plane: &'a Plane, spot: TileAt, coder: &C) -> Option<&'a [u8]>
+    requires column { spot.col < grid.tiles_along plane.now.width }
+    requires row { spot.row < grid.tiles_along plane.now.height }
+    ensures codes { IfSome result (λ codes. AreSpelled C.fits codes.now (tile_planes 1 plane.now spot)) }
+    ensures followed { IfSome result (λ codes. FollowsEach C.follows coder.now (tile_planes 1 plane.now spot) coder.now) }
+{
+    if coder.keeps() {
+        plane.tile_codes(spot)
+    } else {
+        None
+    }
+}
+
+fn append_codes(codes: &[u8], out: &mut Vec<u8>) -> Result<(), AllocError>
+    ensures ok { OnOk result (out.new.items ≡ out.old.items ++ codes.now) }
+    ensures front { BeginsWith out.new.items out.old.items }
+{
+    out.extend_from_slice(codes)
+}
+
+// Appends a spelling for each of the bytes of a pixel: the one that stands in a file, where the coder keeps it.
+fn append_run_length<C: PlaneCoder>(
+    alloc: Global,
+    plane: &Plane,
+    spot: TileAt,
+    out: &mut Vec<u8>,
+    scratch: &mut [u8],
+    unpacked: &mut [u8],
+    coder: &mut C,
+) -> Result<(), AllocError>
+    requires column { spot.col < grid.tiles_along plane.now.width }
+    requires row { spot.row < grid.tiles_along plane.now.height }
+    requires scratch { length scratch.old ≡ 4096 }
+    requires unpacked { length unpacked.old ≡ SCRATCH }
+    ensures ok { OnOk result (TileAppended C.fits 1 plane.now spot out.old.items out.new.items) }
+    ensures followed { OnOk result (FollowsEach C.follows coder.old (tile_planes 1 plane.now spot) coder.new) }
+    ensures front { BeginsWith out.new.items out.old.items }
+{
+    if let Some(codes) = kept_codes(plane, spot, coder) {
+        return append_codes(codes, out);
+    }
+    append_spellings(alloc, plane, spot, out, scratch, unpacked, coder)
 }
 
 /// Appends a tile: its pixels as they are, or spelled, and the coder followed the planes that are spelled. The scratch is for

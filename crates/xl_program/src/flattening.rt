@@ -22,7 +22,7 @@ use xl_doc::Document;
 use xl_edit::{Call, Group};
 use xl_flat::{FlatRefusedOrMemory, flatten as flat_group};
 use xl_ports::{Shelf, Sink, write_all};
-use xl_rle::Greedy;
+use xl_rle::Kept;
 use xl_sessions::desk_of;
 use xl_snapshot::{file_of, save_file};
 
@@ -127,7 +127,7 @@ fn flat_file<L: Ledger, D: Shelf>(
         &mut desk,
         &mut steps,
     )?;
-    file_of(alloc, core.document(), &mut Greedy)
+    file_of(alloc, core.document(), &mut Kept)
 }
 
 // Saves a file, and writes the line that tells of it.

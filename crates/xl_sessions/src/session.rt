@@ -37,7 +37,7 @@ use xl_edit::{Call, Reply};
 use xl_filters::PointFilter;
 use xl_ports::{Actor, Gate, Place, Shelf};
 use xl_report::digest;
-use xl_rle::Greedy;
+use xl_rle::Kept;
 use xl_script::Line;
 use xl_studio::{Seat, Studio};
 
@@ -180,7 +180,7 @@ fn make_save<W: Wait, D: Shelf, G: Gate>(
     ensures full { IfOk result (λ reply. reply_of reply ≡ history_full → FindsFull (known_by seat.old) (known_by seat.new)) }
 {
     gate.pass(Actor::Session(session), Place::BeforeCall);
-    let mut coder = Greedy;
+    let mut coder = Kept;
     let reply = studio.save(rt, alloc, seat, session, &mut coder);
     gate.pass(Actor::Session(session), Place::AfterCall);
     reply

@@ -1,8 +1,10 @@
 pub mod AlikeRows
 pub mod Blocks
+pub mod Coded
 pub mod Counts
 pub mod Decoded
 pub mod FreshTiles
+pub mod Gathered
 pub mod JoinedBlocks
 pub mod JoinedTiles
 pub mod OtherTile

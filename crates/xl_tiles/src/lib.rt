@@ -5,6 +5,7 @@ mod alike;
 mod area;
 mod block;
 mod changes;
+mod codes;
 mod fill;
 mod join;
 mod packed;

@@ -1,10 +1,13 @@
 ghost use Rattle.std.specs.Prelude.{◌≡◌, ℕ, ◌+◌, ◌-◌, ◌*◌, ◌<◌, ◌≤◌, [], length, min, slice_index, slice_index_or};
-ghost use Rattle.std.specs.Prelude.{slice_set, IfOk, OnOk, IfErr, OnErr};
+ghost use Rattle.std.specs.Prelude.{slice_set, IfOk, IfSome, OnOk, IfErr, OnErr};
 ghost use Rattle.spec_grid.specs.Grid as grid;
 ghost use Rattle.spec_grid.specs.Rect.{part_above_0};
 ghost use Rattle.spec_document.specs.Limits.{IsSide, AreBytes};
 ghost use Rattle.spec_document.specs.Plane.{byte_at, plane_of};
+ghost use Rattle.spec_hierarchy.specs.BytePlanes.{tile_planes};
+ghost use Rattle.spec_hierarchy.specs.Layout.{AreSpelled};
 ghost use Rattle.spec_hierarchy.specs.Tiles as sheet;
+ghost use Rattle.spec_layout.specs.Layout.{AnySpelling};
 ghost use Rattle.spec_undo.specs.Planes.{changed_tiles};
 ghost use Rattle.xl_tiles.specs.Area.{bytes_in};
 ghost use Rattle.xl_tiles.specs.Sized.{IsSized};
@@ -14,6 +17,7 @@ ghost use Rattle.xl_tiles.specs.Table.{AreTiled};
 use crate::alike::alike_tiles;
 use crate::area::{Area, Sheet, area_of};
 use crate::changes::count_changed;
+use crate::codes::tile_codes;
 use crate::reading::{point_byte, read_area, row_of, tile_bytes};
 use crate::table::Table;
 use crate::tile::{SCRATCH, TileRef};
@@ -249,6 +253,20 @@ impl Plane {
             at.row as usize,
             scratch,
         )
+    }
+
+    /// The codes of a tile's planes, if they stand in a file and a writer may copy them.
+    pub fn tile_codes(&self, at: TileAt) -> Option<&[u8]>
+        requires column { at.col < grid.tiles_along self.now.width }
+        requires row { at.row < grid.tiles_along self.now.height }
+        ensures { IfSome result (λ codes. AreSpelled AnySpelling codes.now (tile_planes 1 self.now at)) }
+    {
+        let sheet = Sheet {
+            width: self.width as usize,
+            height: self.height as usize,
+            bpp: self.bpp as usize,
+        };
+        tile_codes(sheet, &self.tiles, at.col as usize, at.row as usize)
     }
 
     /// How many tiles it has.

@@ -3,7 +3,7 @@ use Rattle.spec_grid.specs.Rect.{count_from}
 use Rattle.spec_hierarchy.specs.Tiles.{tile_plane}
 use Rattle.xl_rle.specs.Follows.{FollowsEach}
 use Rattle.xl_hier.proofs.Spelling.{Spelling}
-use Rattle.xl_hier.proofs.written_tile.append_run_length.Given as goal
+use Rattle.xl_hier.proofs.written_tile.append_spellings.Given as goal
 
 abbrev pub invariant-loop-c : goal.invariant-loop-c
 invariant-loop-c g l = record {

@@ -1,0 +1,51 @@
+//! The codes of a tile as they stand in a file.
+#![tactic(auto)]
+
+ghost use Rattle.std.specs.Prelude.{◌≤◌, length, IfSome};
+ghost use Rattle.spec_document.specs.Limits.{AreBytes};
+ghost use Rattle.xl_codes.specs.Codes.{AreCodes, StandTo};
+
+use xl_rle::check_plane;
+
+/// How many bytes more than the plane a spelling has at most that is kept.
+const MORE: usize = 64;
+
+// Tells contracts that bytes are numbers below 256.
+fn know_bytes(bytes: &[u8])
+    ensures { AreBytes bytes.now }
+{
+    let _len = bytes.len();
+}
+
+// The offset behind the codes of so many planes of n bytes, which stand one after another from an offset on.
+fn end_of_codes(bytes: &[u8], at: usize, n: usize, planes: usize) -> Option<usize>
+    requires some { 1 ≤ n }
+    requires few { n ≤ 4096 }
+    requires inside { at ≤ length bytes.now }
+    ensures { IfSome result (λ end. StandTo bytes.now at n planes end) }
+{
+    know_bytes(bytes);
+    if planes == 0 {
+        return Some(at);
+    }
+    let Ok(next) = check_plane(bytes, at, n) else {
+        return None;
+    };
+    if next.saturating_sub(at) > n + MORE {
+        return None;
+    }
+    end_of_codes(bytes, next, n, planes - 1)
+}
+
+/// The codes of so many planes of n bytes, which stand one after another from an offset on.
+///
+/// `None` where no such planes stand there, or where the spelling of one is longer than a writer's may be.
+pub fn codes_at(bytes: &[u8], at: usize, n: usize, planes: usize) -> Option<&[u8]>
+    requires some { 1 ≤ n }
+    requires few { n ≤ 4096 }
+    requires inside { at ≤ length bytes.now }
+    ensures { IfSome result (λ codes. AreCodes bytes.now at n planes codes.now) }
+{
+    let end = end_of_codes(bytes, at, n, planes)?;
+    Some(&bytes[at..end])
+}

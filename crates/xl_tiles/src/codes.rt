@@ -1,0 +1,23 @@
+ghost use Rattle.std.specs.Prelude.{◌<◌, IfSome};
+ghost use Rattle.spec_grid.specs.Grid as grid;
+ghost use Rattle.spec_hierarchy.specs.BytePlanes.{tile_planes};
+ghost use Rattle.spec_hierarchy.specs.Layout.{AreSpelled};
+ghost use Rattle.spec_layout.specs.Layout.{AnySpelling};
+ghost use Rattle.xl_tiles.specs.Table.{AreTiled, plane_by, tile};
+
+use crate::area::Sheet;
+use crate::reading::tile_in;
+use crate::table::Table;
+use crate::writing::tile_pixels;
+
+/// The codes of the tile of a column and a row, if they stand in a file and a writer may copy them.
+pub fn tile_codes(sheet: Sheet, tiles: &Table, col: usize, row: usize) -> Option<&[u8]>
+    requires tiled { AreTiled sheet.width sheet.height sheet.bpp tiles.now }
+    requires column { col < grid.tiles_along sheet.width }
+    requires row { row < grid.tiles_along sheet.height }
+    ensures { IfSome result (λ codes. AreSpelled AnySpelling codes.now
+        (tile_planes 1 (plane_by sheet.width sheet.height sheet.bpp tiles.now) (tile col row))) }
+{
+    let n = tile_pixels(sheet, col, row);
+    tile_in(sheet, tiles, col, row).codes(n, sheet.bpp)
+}
