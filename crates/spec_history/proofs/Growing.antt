@@ -56,6 +56,10 @@ PeeksMeetKept-snoc base earlier (x ∷ es) e peeks last =
 pub AreCalls-snoc : (es : List Entry) (e : Entry) → AreCalls es → AsksCall e.kind → AreCalls (es ++ e ∷ [])
 AreCalls-snoc es e are is = all-append (λ x. AsksCall x.kind) es (e ∷ []) are (is, tt)
 
+pub AsksCall-last : (es : List Entry) (e : Entry) → AreCalls (es ++ e ∷ []) → AsksCall e.kind
+AsksCall-last [] e are = are.0
+AsksCall-last (x ∷ es) e are = AsksCall-last es e are.1
+
 -- a legal history goes on by a step; where it is a peek, it has to show what is kept
 pub IsLegal-snoc : (base : Document) (es : List Entry) (e : Entry) → IsLegal base es → AsksCall e.kind
     → IsStep base (replay base es) es e → PeekMeetsKept base es e.kind e.reply → IsLegal base (es ++ e ∷ [])
