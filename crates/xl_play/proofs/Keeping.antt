@@ -7,6 +7,7 @@ use Rattle.spec_cache.specs.Cache.{Cache, no_slots}
 use Rattle.spec_history.specs.Machine.{Reply, initial}
 use Rattle.spec_history.specs.History.{Entry, is_changed}
 use Rattle.spec_history.specs.Kept.{IsLegal, PeekMeetsKept, shown_version}
+use Rattle.spec_history.proofs.Growing.{AsksCall-last}
 use Rattle.spec_world.specs.declared.SaveEnd.{SaveEnd}
 use Rattle.spec_world.specs.declared.SaveEnd.TheVariants.{Done, Fault, Memory}
 use Rattle.spec_world.specs.World.{stack_ids, add_stacks}
@@ -53,7 +54,8 @@ module _ {D : Type 0} where
       let es = old.history.entries in
       let whole : IsLegal base (es ++ e ∷ []) = subst (λ (h : History). IsLegal h.base h.entries) grown legal_now in
       let step = (run_behind base (initial base) [] es (e ∷ []) whole.run).0 in
-      let next = next-entry base (world old) e kept.within kept.right kept.exact step peeks in
+      let asks = AsksCall-last es e whole.calls in
+      let next = next-entry base (world old) e kept.within kept.right kept.exact asks step peeks in
       let P : History → Cache → Type 0 = λ h k. SlotsAreExact h.base (record (world old) { entries = h.entries; cache = k }) in
       record {
         within = subst (λ (h : History). IsDocument h.base) (sym grown) kept.within;

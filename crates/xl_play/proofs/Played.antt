@@ -10,8 +10,8 @@ use Rattle.spec_history.specs.History.{Entry, Kind, asked, starts, ends, next_in
 use Rattle.spec_history.specs.History.{replay_from, replay, EndsWith, RunFrom}
 use Rattle.spec_history.specs.Kept.{IsFreshReply, IsFresh, IsLegal}
 use Rattle.spec_text.specs.Printed.{line_text}
-use Rattle.spec_text.specs.Text.{entry_line, end_reply, is_save_memory, shown_digest, made_by, IsAlone}
-use Rattle.xl_play.specs.Playing.{AreOf, IsPrintable, ArePlayed, lines_in}
+use Rattle.spec_text.specs.Text.{IsPrintable, entry_line, end_reply, is_save_memory, shown_digest, made_by, IsAlone}
+use Rattle.xl_play.specs.Playing.{AreOf, ArePlayed, lines_in}
 use Rattle.spec_text.specs.Text.{calls_along}
 use Rattle.spec_history.proofs.Growing.{replay-snoc, replay-append, IsLegal-empty, out-answer}
 use Rattle.xl_play.proofs.Alone.{alone_call, alone_save}

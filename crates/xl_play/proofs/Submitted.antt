@@ -1,6 +1,6 @@
 -- What a call that is submitted leaves: one entry more, with the line that is printed for it.
 use Rattle.spec_history.specs.Calls.{most_entries}
-use Rattle.std.proofs.Common.{◌≡◌, ℕ, ◌+◌, ◌≤◌, Bool, false, cond, List, [], ◌∷◌, ◌++◌, length, None, refl, ap, sym}
+use Rattle.std.proofs.Common.{◌≡◌, ℕ, ◌+◌, ◌≤◌, Bool, true, false, cond, List, [], ◌∷◌, ◌++◌, length, None, refl, ap, sym}
 use Rattle.std.proofs.Common.{◌∙◌, subst, arith, ne_eqb}
 use Rattle.std.specs.Prelude.{◌==◌, Option, Result, Ok, Err}
 use Rattle.spec_grid.specs.declared.TileAt.{TileAt}
@@ -13,7 +13,8 @@ use Rattle.spec_history.specs.Machine.{State, Done, Answer, latest, document_at,
 use Rattle.spec_history.specs.Machine.{redo_answer}
 use Rattle.spec_history.specs.History.{Entry, asked, replay, next_index}
 use Rattle.spec_history.specs.Kept.{IsLegal, kept}
-use Rattle.spec_history.proofs.Growing.{cond_both}
+use Rattle.spec_history.specs.Limited.{AreCalls}
+use Rattle.spec_history.proofs.Growing.{cond_both, AsksCall-last}
 use Rattle.spec_history.proofs.Versions.{latest_of-legal}
 use Rattle.spec_filters.specs.declared.FilterState.{FilterState}
 use Rattle.spec_tables.specs.Tables.{expected_tables}
@@ -22,7 +23,7 @@ use Rattle.spec_tables.proofs.Chests.{some_list}
 use Rattle.spec_text.specs.Printed.{line_text}
 use Rattle.spec_text.specs.Text.{digest_of, shown_digest, IsAlonePeek, IsAlone}
 use Rattle.spec_world.specs.World.{World, entries_owed, free_entries}
-use Rattle.spec_world.specs.Events.{Outcome, reply_to, with_call, submits}
+use Rattle.spec_world.specs.Events.{Outcome, reply_to, with_call, submit, submits}
 use Rattle.spec_world.specs.Right.{IsRight}
 use Rattle.spec_world.specs.Exact.{SlotsAreExact}
 use Rattle.spec_world.proofs.StaysExact.{stays-so}
@@ -145,6 +146,36 @@ module _ {D : Type 0} where
 
   -- ---- what it leaves
 
+  -- the slots stay exact, whether the history takes the call or is full
+  exact_after : (old : Editing D) (session : ℕ) (c : Call) (seen : ℕ) (tables : List (List ℕ)) → KeepsExactly old
+      → seen ≤ latest (world old).state → AreCalls (submit old.history.base (world old) session c seen tables).world.entries
+      → SlotsAreExact old.history.base (submit old.history.base (world old) session c seen tables).world
+  exact_after old session c seen tables exactly le calls = go (free_entries (world old) == 0) refl calls
+    where
+      w : World
+      w = world old
+
+      full : Outcome
+      full = record { reply = history_full; world = w }
+
+      given : Reply
+      given = reply_to old.history.base w c seen tables
+
+      done : Outcome
+      done = record { reply = given; world = with_call old.history.base w session c tables given }
+
+      entry : Entry
+      entry = record { session = session; index = next_index w.entries session; kind = asked c tables; reply = given }
+
+      go : (b : Bool) → (free_entries w == 0) ≡ b → AreCalls (cond b full done).world.entries
+          → SlotsAreExact old.history.base (cond b full done).world
+      go true is calls = exactly.exact
+      go false is calls =
+          let asks = AsksCall-last w.entries entry calls in
+          subst (λ (b : Bool). SlotsAreExact old.history.base (cond b full done).world) is
+          (stays-so old.history.base exactly.within w (submits session c seen tables) exactly.right exactly.exact
+          (le, asks.0, asks.1) tt)
+
   -- the kept pictures are just those that have to be kept still
   keeps : (old : Editing D) (session : ℕ) (c : Call) (seen : ℕ) (tables : List (List ℕ)) (reply : Reply) (new : Editing D)
       → KeepsExactly old → IsLegal old.history.base old.history.entries
@@ -155,8 +186,8 @@ module _ {D : Type 0} where
     right = right;
     exact = subst (λ (b : Document). SlotsAreExact b (world new)) (sym submitted.0)
         (subst (SlotsAreExact old.history.base) (sym submitted.2)
-        (stays-so old.history.base exactly.within (world old) (submits session c seen tables) exactly.right exactly.exact
-        (no_later old seen legal last) tt));
+        (exact_after old session c seen tables exactly (no_later old seen legal last)
+        (subst (λ (v : World). AreCalls v.entries) submitted.2 right.legal.calls)));
   }
 
   -- what a peek of session 0 alone is answered follows from the entries

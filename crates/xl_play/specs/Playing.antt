@@ -1,8 +1,8 @@
 -- A history of the calls and saves of session 0, which is alone, and the lines that are printed for it.
-use Rattle.std.specs.Prelude.{◌≡◌, ℕ, false, drop, List, [], ◌∷◌, ◌++◌, flat_map, slice_set, Option, None, IsSome}
+use Rattle.std.specs.Prelude.{◌≡◌, ℕ, drop, List, [], ◌∷◌, ◌++◌, flat_map, slice_set, Option, None, IsSome, option_map, unwrap_or}
 use Rattle.std.specs.List.{AllByRecursion}
 use Rattle.spec_document.specs.Document.{Document}
-use Rattle.spec_history.specs.Machine.{Call, Reply, tile_of}
+use Rattle.spec_history.specs.Machine.{Call, Reply, version_shown}
 use Rattle.spec_document.specs.Limits.{IsDocument}
 use Rattle.spec_history.specs.History.{Entry, asked, ends, replay, next_index}
 use Rattle.spec_history.specs.Kept.{IsFresh, IsLegal}
@@ -13,7 +13,7 @@ use Rattle.spec_filters.specs.declared.FilterState.{FilterState}
 use Rattle.spec_script.specs.Script.{Line, call, save, forget}
 use Rattle.spec_tables.specs.Tables.{HaveTables, expected_tables}
 use Rattle.spec_tables.specs.Agrees.{Agrees, IsAfter}
-use Rattle.spec_text.specs.Text.{AreAlone, calls_along, calls_of, digest_of, entry_line, is_save_memory}
+use Rattle.spec_text.specs.Text.{IsPrintable, AreAlone, calls_along, calls_of, digest_of, entry_line}
 use Rattle.xl_core.specs.Editing.{Editing, start_of, world}
 use Rattle.xl_standing.specs.History.{History, with_call}
 
@@ -27,9 +27,6 @@ abbrev pub AreOfFirst : List (List Line) → Type 0
 AreOfFirst lists = AllByRecursion (λ lines. lines ≡ []) (drop 1 lists)
 
 -- ---- the printed lines
-
-abbrev pub IsPrintable : Entry → Type 0
-IsPrintable e = is_save_memory e.reply ≡ false
 
 -- the lines of a history, in the order of its entries
 abbrev pub lines_in : Document → List Entry → List ℕ
@@ -48,8 +45,7 @@ pub record ArePlayed (base : Document) (es : List Entry) (out : List ℕ) : Type
 
 -- the digest that the line of a reply has: that of the bytes, where the reply is a tile
 abbrev pub shown_of : Reply → (bytes : List ℕ) → List ℕ
-shown_of (tile_of version) bytes = digest_of bytes
-shown_of reply bytes = []
+shown_of reply bytes = unwrap_or (option_map (λ version. digest_of bytes) (version_shown reply)) []
 
 -- ---- what a line makes
 

@@ -204,15 +204,40 @@ module _ {K : Type 0} (held : K → Option (List ℕ)) (faults : K → ℕ) wher
 
 -- ---- why a command stopped
 
+-- whose fault stopped the command
+pub data FaultOf : Type 0 where
+  of_source : FaultOf
+  of_shelf : FaultOf
+  of_neither : FaultOf
+
+abbrev pub fault_of : {A : Type 0} → Result A Stopped → FaultOf
+fault_of (Ok a) = of_neither
+fault_of (Err SourceFault) = of_source
+fault_of (Err (BadLine number)) = of_neither
+fault_of (Err ShelfFault) = of_shelf
+fault_of (Err (Refused why)) = of_neither
+fault_of (Err (NotFlattened why)) = of_neither
+fault_of (Err SaveFault) = of_neither
+fault_of (Err SinkFault) = of_neither
+fault_of (Err Memory) = of_neither
+
+abbrev pub IfSource : FaultOf → (then_so else_so : Type 0) → Type 0
+IfSource of_source then_so else_so = then_so
+IfSource of_shelf then_so else_so = else_so
+IfSource of_neither then_so else_so = else_so
+
+abbrev pub IfShelf : FaultOf → (then_so else_so : Type 0) → Type 0
+IfShelf of_source then_so else_so = else_so
+IfShelf of_shelf then_so else_so = then_so
+IfShelf of_neither then_so else_so = else_so
+
 -- the source's faults rise only where they stop the command
 abbrev pub SourceCause : {A : Type 0} → (before after : ℕ) → Result A Stopped → Type 0
-SourceCause before after (Err SourceFault) = Rose before after
-SourceCause before after result = after ≡ before
+SourceCause before after result = IfSource (fault_of result) (Rose before after) (after ≡ before)
 
 -- the shelf's reading faults rise only where they stop the command
 abbrev pub ShelfCause : {A : Type 0} → (before after : ℕ) → Result A Stopped → Type 0
-ShelfCause before after (Err ShelfFault) = Rose before after
-ShelfCause before after result = after ≡ before
+ShelfCause before after result = IfShelf (fault_of result) (Rose before after) (after ≡ before)
 
 -- the faults rose that may stop the command: those of reading, and of saving for the one save of a command, or the first of what is
 -- made
@@ -227,8 +252,8 @@ FaultsRose before after (view name cols rows) = Rose before.reading after.readin
 
 -- the same of a command; the reading faults stay where none stops it
 abbrev pub ShelfCauseOf : (before after : Known) → Asked → Result (Unit {0}) Stopped → Type 0
-ShelfCauseOf before after command (Err ShelfFault) = FaultsRose before after command
-ShelfCauseOf before after command result = after.reading ≡ before.reading
+ShelfCauseOf before after command result =
+    IfShelf (fault_of result) (FaultsRose before after command) (after.reading ≡ before.reading)
 
 -- the script of an edit or a view is in its grammar
 abbrev pub InGrammar : Given → Option Asked → Type 0
