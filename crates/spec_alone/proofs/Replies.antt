@@ -9,12 +9,12 @@ use Rattle.spec_history.specs.Machine as machine
 use Rattle.spec_history.specs.Machine.{Call, Reply, State, latest, document_at, names, made, moved, stays, answer}
 use Rattle.spec_history.specs.History.{Entry, asked, is_changed, latest_of, Answers, PeekAnswers, MayPeek}
 use Rattle.spec_history.specs.Kept.{kept}
-use Rattle.spec_tables.specs.Tables.{tables_for, expected_tables}
+use Rattle.spec_history.specs.Slots.{kept_peek}
+use Rattle.spec_tables.specs.Tables.{edits_made, tables_for, expected_tables}
 use Rattle.spec_tables.specs.Acceptance.{refused_in}
-use Rattle.spec_tables.specs.Agrees.{edits_made}
 use Rattle.spec_tables.proofs.Accepted.{same_refused}
 use Rattle.spec_tables.proofs.Made.{tables_made}
-use Rattle.spec_text.specs.Text.{IsAlone, IsAlonePeek, alone_reply}
+use Rattle.spec_text.specs.Text.{IsAlone, IsAlonePeek}
 
 -- ---- tables
 
@@ -67,7 +67,7 @@ same_tables base s filters c tables others r q this that left right =
 -- ---- replies
 
 chosen : (base : Document) (s : State) (stack : ℕ) (k : Option ℕ) (now : ℕ) (r : Reply)
-    → MayPeek base s stack r → IsAlonePeek k now r → r ≡ alone_reply k now
+    → MayPeek base s stack r → IsAlonePeek k now r → r ≡ kept_peek k now
 chosen base s stack k now (machine.tile_of version) may alone = alone
 chosen base s stack k now (machine.stale None seen) may alone = alone
 chosen base s stack k now (machine.stale (Some have) seen) may alone = alone

@@ -18,8 +18,7 @@ use Rattle.spec_history.proofs.Versions.{latest_of-legal}
 use Rattle.spec_script.specs.Script as lines
 use Rattle.spec_script.specs.Script.{Line}
 use Rattle.spec_tables.specs.Acceptance.{refused_in}
-use Rattle.spec_tables.specs.Agrees.{edits_made}
-use Rattle.spec_tables.specs.Tables.{expected_tables, tables_for, filters_after, filters_along}
+use Rattle.spec_tables.specs.Tables.{edits_made, expected_tables, tables_for, filters_after, filters_along}
 use Rattle.spec_tables.proofs.Accepted.{same_refused}
 use Rattle.spec_tables.proofs.Made.{tables_made}
 use Rattle.spec_text.specs.declared.OrderWord.{OrderWord}

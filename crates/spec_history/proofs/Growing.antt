@@ -7,6 +7,7 @@ use Rattle.std.proofs.lemmas.List.Sums.{sum_by_push, sum_by-cons}
 use Rattle.std.proofs.lemmas.List.Elements.{filter-append}
 use Rattle.std.proofs.lemmas.Option.{unwrap_or-slice_get}
 use Rattle.spec_document.specs.Document.{Document}
+use Rattle.spec_document.proofs.Elements.{all-append}
 use Rattle.spec_edit.specs.Edit.{Edit}
 use Rattle.spec_edit.specs.Apply.{At, Refused, apply_group}
 use Rattle.spec_history.specs.Machine.{Call, edit, undo, redo, tile, peek, top, changed, Done, State, latest}
@@ -15,6 +16,7 @@ use Rattle.spec_history.specs.Machine.{redo_answer, answer}
 use Rattle.spec_history.specs.History.{Kind, asked, starts, ends, Entry, is_end_kind, next_index, after_kind}
 use Rattle.spec_history.specs.History.{after_entry, replay_from, replay, IsStep, RunFrom, is_changed, latest_of}
 use Rattle.spec_history.specs.History.{document_of, mine}
+use Rattle.spec_history.specs.Limited.{AsksCall, AreCalls}
 use Rattle.spec_history.specs.Kept.{PeekMeetsKept, PeeksMeetKept, IsLegal}
 
 -- ---- the state after more entries
@@ -51,16 +53,24 @@ PeeksMeetKept-snoc base earlier (x ∷ es) e peeks last =
     let P : List Entry → Type 0 = λ before. PeekMeetsKept base before e.kind e.reply in
     (peeks.0, PeeksMeetKept-snoc base (earlier ++ x ∷ []) es e peeks.1 (subst P (sym (append_assoc earlier (x ∷ []) es)) last))
 
+pub AreCalls-snoc : (es : List Entry) (e : Entry) → AreCalls es → AsksCall e.kind → AreCalls (es ++ e ∷ [])
+AreCalls-snoc es e are is = all-append (λ x. AsksCall x.kind) es (e ∷ []) are (is, tt)
+
+pub AsksCall-last : (es : List Entry) (e : Entry) → AreCalls (es ++ e ∷ []) → AsksCall e.kind
+AsksCall-last [] e are = are.0
+AsksCall-last (x ∷ es) e are = AsksCall-last es e are.1
+
 -- a legal history goes on by a step; where it is a peek, it has to show what is kept
-pub IsLegal-snoc : (base : Document) (es : List Entry) (e : Entry)
-    → IsLegal base es → IsStep base (replay base es) es e → PeekMeetsKept base es e.kind e.reply → IsLegal base (es ++ e ∷ [])
-IsLegal-snoc base es e legal step last = record {
+pub IsLegal-snoc : (base : Document) (es : List Entry) (e : Entry) → IsLegal base es → AsksCall e.kind
+    → IsStep base (replay base es) es e → PeekMeetsKept base es e.kind e.reply → IsLegal base (es ++ e ∷ [])
+IsLegal-snoc base es e legal asks step last = record {
+  calls = AreCalls-snoc es e legal.calls asks;
   run = RunFrom-snoc base (initial base) [] es e legal.run step;
   kept = PeeksMeetKept-snoc base [] es e legal.kept last;
 }
 
 pub IsLegal-empty : (base : Document) → IsLegal base []
-IsLegal-empty base = record { run = tt; kept = tt }
+IsLegal-empty base = record { calls = tt; run = tt; kept = tt }
 
 -- ---- counts
 

@@ -1,9 +1,10 @@
 -- Worked saves.
-use Rattle.std.proofs.Common.{arith, lit<}
-use Rattle.std.specs.Prelude.{◌≡◌, ℕ, List, [], ◌∷◌, None, refl}
+use Rattle.std.proofs.Common.{arith, lit<, lit≤}
+use Rattle.std.specs.Prelude.{◌≡◌, ℕ, false, List, [], ◌∷◌, None, refl}
 use Rattle.std.specs.List.Sorted.{IsStrictlyIncreasing}
 use Rattle.spec_document.specs.Document.{Document}
-use Rattle.spec_document.specs.Ids.{next_id}
+use Rattle.spec_document.proofs.Samples.{one}
+use Rattle.spec_edit.specs.Edit.{set_visible}
 use Rattle.spec_history.specs.Machine.{edit, Reply, changed, saved, save_fault, save_memory}
 use Rattle.spec_history.specs.History.{Entry, Kind, asked, starts, ends}
 use Rattle.spec_history.specs.Kept.{IsLegal}
@@ -41,7 +42,7 @@ no_memory : (base : Document) → files base (entry 0 starts (saved 0) ∷ entry
 no_memory base = refl
 
 -- a save names the version of its start, whatever is called beside it
-beside_calls : names (entry 0 starts (saved 0) ∷ entry 1 (asked (edit None []) []) (changed 1 1 2) ∷ entry 0 ends (saved 0) ∷ [])
+beside_calls : names (entry 0 starts (saved 0) ∷ entry 1 (asked (edit None (set_visible 1 false ∷ [])) []) (changed 1 1 2) ∷ entry 0 ends (saved 0) ∷ [])
     ≡ version 0 ∷ []
 beside_calls = refl
 
@@ -59,24 +60,25 @@ version_out base = refl
 -- ---- acknowledged saves
 
 -- a save, an edit while it is out, and a save after both
-abbrev edited_between : Document → List Entry
-edited_between base =
+abbrev edited_between : List Entry
+edited_between =
     entry 0 starts (saved 0)
-    ∷ entry 1 (asked (edit None []) []) (changed 1 1 (next_id base))
+    ∷ entry 1 (asked (edit None (set_visible 1 false ∷ [])) []) (changed 1 1 2)
     ∷ entry 0 ends (saved 0)
     ∷ entry 2 starts (saved 1)
     ∷ entry 2 ends (saved 1)
     ∷ []
 
-edited_between_is_legal : (base : Document) → IsLegal base (edited_between base)
-edited_between_is_legal base = record {
+edited_between_is_legal : IsLegal one edited_between
+edited_between_is_legal = record {
+  calls = (tt, ((record { some = lit≤ tt; few = lit≤ tt; each = (tt, tt) }, tt), (tt, (tt, (tt, tt)))));
   run = ((refl, refl, refl), ((refl, refl), ((refl, refl, refl), ((refl, refl, refl), ((refl, refl, refl), tt)))));
   kept = (tt, (tt, (tt, (tt, (tt, tt)))));
 }
 
 -- each is acknowledged with the version of its start
-acknowledged_around_edit : (base : Document) → acknowledged_versions (edited_between base) ≡ 0 ∷ 1 ∷ []
-acknowledged_around_edit base = refl
+acknowledged_around_edit : acknowledged_versions edited_between ≡ 0 ∷ 1 ∷ []
+acknowledged_around_edit = refl
 
 -- two saves of one version
 abbrev unchanged_between : List Entry
@@ -84,6 +86,7 @@ unchanged_between = entry 0 starts (saved 0) ∷ entry 0 ends (saved 0) ∷ entr
 
 unchanged_between_is_legal : (base : Document) → IsLegal base unchanged_between
 unchanged_between_is_legal base = record {
+  calls = (tt, (tt, (tt, (tt, tt))));
   run = ((refl, refl, refl), ((refl, refl, refl), ((refl, refl, refl), ((refl, refl, refl), tt))));
   kept = (tt, (tt, (tt, (tt, tt))));
 }

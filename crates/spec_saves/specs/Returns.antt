@@ -21,7 +21,12 @@ end_entry base es session index how =
 abbrev pub Among : (opened handed now : Option Disk) → (Disk → Disk → Disk → Type 0) → Type 0
 Among None None None R = Unit {0}
 Among (Some opened) (Some handed) (Some now) R = R opened handed now
-Among opened handed now R = ⊥
+Among None None (Some now) R = ⊥
+Among None (Some handed) None R = ⊥
+Among None (Some handed) (Some now) R = ⊥
+Among (Some opened) None None R = ⊥
+Among (Some opened) None (Some now) R = ⊥
+Among (Some opened) (Some handed) None R = ⊥
 
 -- a save that is done left its version alone, one that found no memory left the file as it was
 abbrev pub EndsOn : SaveEnd → (name : List ℕ) → Document → List Entry → (opened now : Disk) → Type 0

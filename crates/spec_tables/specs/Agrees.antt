@@ -1,14 +1,12 @@
 -- A chest of filters, from which some were forgotten, beside the list of all filters of its session.
-use Rattle.std.specs.Prelude.{◌≡◌, ℕ, List, [], ◌∷◌, map, take, if◌then◌else◌, Option, Some, None, is_some, IsTrue}
+use Rattle.std.specs.Prelude.{◌≡◌, ℕ, List, [], ◌∷◌, map, take, Option, Some, None, is_some, IsTrue}
 use Rattle.spec_edit.specs.Edit as edits
 use Rattle.spec_edit.specs.Edit.{Edit}
-use Rattle.spec_history.specs.Machine as machine
 use Rattle.spec_history.specs.Machine.{Call, Reply}
-use Rattle.spec_history.specs.History.{is_changed}
 use Rattle.spec_history.specs.Limited.{edits_of}
 use Rattle.spec_filters.specs.declared.FilterState.{FilterState}
 use Rattle.spec_filters.specs.Slots.{has_slot}
-use Rattle.spec_tables.specs.Tables.{tables_for, used_by}
+use Rattle.spec_tables.specs.Tables.{edits_made, tables_for, used_by}
 
 -- the chest has as many slots, and where a filter is in a slot it is in the state of the list
 abbrev pub Agrees : (chest : List (Option FilterState)) → (filters : List FilterState) → Type 0
@@ -37,15 +35,6 @@ pub record IsUsed (old new : List (Option FilterState)) (es : List Edit) : Type 
 pub record AreAsked (old new : List (Option FilterState)) (es : List Edit) (tables : List (List ℕ)) : Type 0 where
   pub used : IsUsed old new es
   pub answers : (filters : List FilterState) → Agrees old filters → tables ≡ tables_for filters es
-
--- the edits that a call has made which got this reply
-abbrev pub edits_made : Call → Reply → List Edit
-edits_made (machine.edit guard es) reply = if is_changed reply then es else []
-edits_made (machine.undo named) reply = []
-edits_made machine.redo reply = []
-edits_made (machine.tile stack at) reply = []
-edits_made (machine.peek stack at) reply = []
-edits_made machine.top reply = []
 
 -- What a call leaves of a chest: the filters of a group that is accepted were asked, and no others.
 abbrev pub IsAfter : (old new : List (Option FilterState)) → Call → Reply → Type 0

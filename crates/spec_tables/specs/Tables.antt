@@ -1,11 +1,11 @@
 -- The tables that the filters of a session answer, and their states along its history.
-use Rattle.std.specs.Prelude.{◌≡◌, ℕ, List, [], ◌∷◌, ◌++◌, slice_get, option_map, option_to_list}
+use Rattle.std.specs.Prelude.{◌≡◌, ℕ, List, [], ◌∷◌, ◌++◌, if◌then◌else◌, slice_get, option_map, option_to_list}
 use Rattle.spec_edit.specs.Edit as edits
 use Rattle.spec_edit.specs.Edit.{Edit}
 use Rattle.spec_edit.specs.Effect.{changed_at}
 use Rattle.spec_history.specs.Machine as machine
-use Rattle.spec_history.specs.Machine.{Reply, changed}
-use Rattle.spec_history.specs.History.{Entry, Kind, asked, starts, ends}
+use Rattle.spec_history.specs.Machine.{Call, Reply}
+use Rattle.spec_history.specs.History.{Entry, Kind, asked, starts, ends, is_changed}
 use Rattle.spec_filters.specs.declared.FilterState.{FilterState}
 use Rattle.spec_filters.specs.Filters.{table_of, after_use}
 
@@ -23,14 +23,26 @@ used_by filters [] = filters
 used_by filters (edits.filter id rect slot ∷ rest) = used_by (changed_at slot after_use filters) rest
 used_by filters (edit ∷ rest) = used_by filters rest
 
+-- the edits that a call has made which got this reply
+abbrev pub edits_made : Call → Reply → List Edit
+edits_made (machine.edit guard es) reply = if is_changed reply then es else []
+edits_made (machine.undo named) reply = []
+edits_made machine.redo reply = []
+edits_made (machine.tile stack at) reply = []
+edits_made (machine.peek stack at) reply = []
+edits_made machine.top reply = []
+
+abbrev pub made_edits : Kind → Reply → List Edit
+made_edits (asked c tables) reply = edits_made c reply
+made_edits starts reply = []
+made_edits ends reply = []
+
 -- an accepted group has the tables of the filters at that place, and no other call has tables
 abbrev pub expected_tables : List FilterState → Kind → Reply → List (List ℕ)
-expected_tables filters (asked (machine.edit guard es) tables) (changed version group next) = tables_for filters es
-expected_tables filters kind reply = []
+expected_tables filters kind reply = tables_for filters (made_edits kind reply)
 
 abbrev pub filters_after : List FilterState → Kind → Reply → List FilterState
-filters_after filters (asked (machine.edit guard es) tables) (changed version group next) = used_by filters es
-filters_after filters kind reply = filters
+filters_after filters kind reply = used_by filters (made_edits kind reply)
 
 abbrev pub tables_in : Kind → List (List ℕ)
 tables_in (asked c tables) = tables

@@ -6,10 +6,7 @@ ghost use Rattle.spec_edit.specs.Edit.{Edit};
 ghost use Rattle.spec_edit.specs.Apply.{At, apply_group};
 ghost use Rattle.spec_filters.specs.declared.FilterState.{FilterState};
 ghost use Rattle.spec_tables.specs.Acceptance.{refused_in};
-ghost use Rattle.spec_history.specs.Machine.{Call, Reply};
-ghost use Rattle.spec_history.specs.History.{asked};
-ghost use Rattle.spec_tables.specs.Agrees.{Agrees, IsUsed, edits_made};
-ghost use Rattle.spec_tables.specs.Tables.{tables_for, used_by, expected_tables, filters_after};
+ghost use Rattle.spec_tables.specs.Agrees.{Agrees, IsUsed};
 
 /// Which edit of a group is refused, and why, is the same with any tables.
 pub fn acceptance_looks_at_no_table()
@@ -25,11 +22,4 @@ pub fn chest_agrees_with_a_list()
 /// A chest of which no edit asked a filter is as before.
 pub fn unused_chest_is_as_before()
     ensures { (old new : List (Option FilterState)) → IsUsed old new [] → new ≡ old }
-{}
-
-/// A call leaves of the list of filters what its edits use, and has the tables of these.
-pub fn edits_that_are_made_use_filters()
-    ensures { (filters : List FilterState) (call : Call) (tables : List (List ℕ)) (reply : Reply)
-        → (expected_tables filters (asked call tables) reply ≡ tables_for filters (edits_made call reply))
-        × (filters_after filters (asked call tables) reply ≡ used_by filters (edits_made call reply)) }
 {}

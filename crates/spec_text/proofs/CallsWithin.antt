@@ -28,7 +28,7 @@ use Rattle.spec_history.proofs.Growing.{out-answer}
 use Rattle.spec_script.specs.Fits.{AreFit, EachFit, FitsFilters, count_calls}
 use Rattle.spec_script.specs.Script.{Line, call, save, forget, is_call, list_at}
 use Rattle.spec_tables.specs.Tables.{HaveTables, expected_tables, filters_after, table_at, tables_for, tables_in}
-use Rattle.spec_text.specs.Text.{IsTextOf, calls_along, calls_of, made_by}
+use Rattle.spec_text.specs.Text.{IsTextOf, calls_along, calls_in, calls_of, made_by}
 
 -- ---- tables have bytes
 
@@ -258,18 +258,26 @@ lists_counted (lines ∷ lists) (suc n) =
 
 -- ---- a whole history
 
-module _ {d : Document} {counts : List ℕ} {lists : List (List Line)} {chests : List (List FilterState)} {out : List ℕ}
-    {es : List Entry} (fits : FitsFilters counts lists) (text : IsTextOf out d lists chests es) where
+-- entries whose calls are those of a script that fits, with the tables of its filters, are calls
+module _ (counts : List ℕ) (lists : List (List Line)) (chests : List (List FilterState)) (es : List Entry)
+    (fits : FitsFilters counts lists) (calls : (session : ℕ) → session < 8 → calls_in es session ≡ calls_of (list_at lists session))
+    (others : (session : ℕ) → 8 ≤ session → mine es session ≡ [])
+    (tables : (session : ℕ) → session < 8 → HaveTables (unwrap_or (slice_get chests session) []) (mine es session)) where
   session_asks : (session : ℕ) → AllByRecursion Asks (mine es session)
   session_asks session = go (ltb session 8) refl where
     go : (b : Bool) → ltb session 8 ≡ b → AllByRecursion Asks (mine es session)
     go true is =
         let low : session < 8 = ltb-true session 8 is in
-        asks_each (mine es session) (subst (AllByRecursion IsCallOf) (sym (text.calls session low))
+        asks_each (mine es session) (subst (AllByRecursion IsCallOf) (sym (calls session low))
         (each_calls counts 0 lists session fits.each))
-        (have_bytes (unwrap_or (slice_get chests session) []) (mine es session) (text.tables session low))
-    go false is = subst (AllByRecursion Asks) (sym (text.others session (ltb-false session 8 is))) tt
+        (have_bytes (unwrap_or (slice_get chests session) []) (mine es session) (tables session low))
+    go false is = subst (AllByRecursion Asks) (sym (others session (ltb-false session 8 is))) tt
 
+  pub are_calls : AreCalls es
+  are_calls = of_sessions Asks es session_asks
+
+module _ {d : Document} {counts : List ℕ} {lists : List (List Line)} {chests : List (List FilterState)} {out : List ℕ}
+    {es : List Entry} (fits : FitsFilters counts lists) (text : IsTextOf out d lists chests es) where
   pub are_few : length es ≤ most_entries
   are_few =
       let run = run_short d (initial d) [] es text.legal.run in
@@ -279,9 +287,6 @@ module _ {d : Document} {counts : List ℕ} {lists : List (List Line)} {chests :
       let listed = lists_counted lists 8 in
       let few = fits.few in
       omega (arith, run, all, same, listed, few)
-
-  pub are_calls : AreCalls es
-  are_calls = of_sessions Asks es (session_asks)
 
 pub session_few : (lists : List (List Line)) (session : ℕ) → calls_at lists session ≤ count_calls lists
 session_few [] session = omega arith

@@ -71,7 +71,7 @@ standing-starts : (base : Document) (w : World) (session : ℕ) (out : Option Sa
 standing-starts base w session (Some out) is e = is
 standing-starts base w session None is e =
     go (nat_lt (free_entries w) 2)
-    (standing-entry base w entry is (enters base w.entries entry w.state is.legal is.replayed (refl, e, refl) tt) refl
+    (standing-entry base w entry is (enters base w.entries entry w.state is.legal is.replayed tt (refl, e, refl) tt) refl
     (λ stack at. refl))
   where
     entry : Entry
@@ -92,22 +92,22 @@ standing-ends : (base : Document) (w : World) (how : SaveEnd) (out : Option Savi
 standing-ends base w how None is e = is
 standing-ends base w Done (Some out) is e =
     let entry : Entry = record { session = out.session; index = out.index; kind = ends; reply = saved out.version } in
-    standing-entry base w entry is (enters base w.entries entry w.state is.legal is.replayed (may-end base w out Done e) tt) refl
+    standing-entry base w entry is (enters base w.entries entry w.state is.legal is.replayed tt (may-end base w out Done e) tt) refl
     (λ stack at. refl)
 standing-ends base w Fault (Some out) is e =
     let entry : Entry = record { session = out.session; index = out.index; kind = ends; reply = save_fault out.version } in
-    standing-entry base w entry is (enters base w.entries entry w.state is.legal is.replayed (may-end base w out Fault e) tt) refl
+    standing-entry base w entry is (enters base w.entries entry w.state is.legal is.replayed tt (may-end base w out Fault e) tt) refl
     (λ stack at. refl)
 standing-ends base w Memory (Some out) is e =
     let entry : Entry = record { session = out.session; index = out.index; kind = ends; reply = save_memory out.version } in
-    standing-entry base w entry is (enters base w.entries entry w.state is.legal is.replayed (may-end base w out Memory e) tt) refl
+    standing-entry base w entry is (enters base w.entries entry w.state is.legal is.replayed tt (may-end base w out Memory e) tt) refl
     (λ stack at. refl)
 
 -- ---- all events
 
 standing-after : (base : Document) (w : World) (event : Event) → IsStanding base w → DamageIsAlwaysSound base → MayHappen w event
     → IsStanding base (after base w event)
-standing-after base w (submits session call seen tables) is sound may = standing-submit base w session call seen tables is sound may
+standing-after base w (submits session call seen tables) is sound may = standing-submit base w session call seen tables is sound may.0 (may.1, may.2)
 standing-after base w takes is sound may = standing-take base w is
 standing-after base w (finishes number) is sound may =
     standing-finish base w number is (subst (DamageIsSound base) (sym is.replayed) (sound w.entries))

@@ -11,6 +11,7 @@ use Rattle.spec_cache.specs.Cache.{slots_of, slot_of}
 use Rattle.spec_cache.proofs.Found.{slot_at-changed, slot_at-blank}
 use Rattle.spec_history.specs.Machine.{State, Cause, latest, document_at, has_stack}
 use Rattle.spec_history.specs.History.{Entry, after_entry, replay, is_changed, IsStep, document_of}
+use Rattle.spec_history.specs.Limited.{AsksCall}
 use Rattle.spec_history.specs.Kept.{shown_version, damaged_at, PeekMeetsKept}
 use Rattle.spec_history.specs.Marks.{came_at, marks}
 use Rattle.spec_history.specs.Slots.{IsExactSlot}
@@ -51,13 +52,13 @@ pub record IsNext (base : Document) (w : World) (e : Entry) : Type 0 where
   pub enters : Enters base w.entries e w.state (after_entry base w.state e)
 
 pub next-entry : (base : Document) (w : World) (e : Entry) → IsDocument base → IsRight base w → SlotsAreExact base w
-    → IsStep base w.state w.entries e → PeekMeetsKept base w.entries e.kind e.reply → IsNext base w e
-next-entry base w e within is exact step peeks = record {
+    → AsksCall e.kind → IsStep base w.state w.entries e → PeekMeetsKept base w.entries e.kind e.reply → IsNext base w e
+next-entry base w e within is exact asks step peeks = record {
   within = within;
   is = is;
   exact = exact;
   step = step;
-  enters = enters base w.entries e w.state is.legal is.replayed step peeks;
+  enters = enters base w.entries e w.state is.legal is.replayed asks step peeks;
 }
 
 pub plain-step : (base : Document) (w : World) (e : Entry) → IsNext base w e → IsStep base (replay base w.entries) w.entries e

@@ -20,7 +20,7 @@ use Rattle.spec_world.specs.Events.{peek_reply, where_tile, reply_to, with_call,
 use Rattle.spec_history.specs.Marks.{came_at, marks}
 use Rattle.spec_world.specs.Right.{slot_after, SlotIsMarked, MarksExactly, CallsMarkExactly, IsRight}
 use Rattle.spec_world.proofs.SlotLaws.{OneMore, before}
-use Rattle.spec_world.proofs.Entered.{enters}
+use Rattle.spec_world.proofs.Entered.{follows-step}
 use Rattle.spec_world.proofs.Changed.{meets, meets-same, or-none, slots_of-between}
 
 pub exact-slot : (base : Document) (w : World) (t : State) (stack : ℕ) (at : TileAt) (slots : Slots) (slot : Slot) → IsRight base w
@@ -112,7 +112,7 @@ exact-call base w session call tables (changed v g n) is step peeks change follo
           changed v g n;
     } in
     let t : State = after_entry base w.state e in
-    let enter = enters base w.entries e w.state is.legal is.replayed step peeks in
+    let enter = follows-step base w.entries e w.state is.legal is.replayed step in
     let next : latest t ≡ suc (latest w.state) = enter.versions
     ∙ (let one_more : latest w.state + 1 ≡ suc (latest w.state) = omega arith in one_more) in
     exact-cache base w t stack at slot is (record { lasts = enter.lasts; next = next })

@@ -16,6 +16,7 @@ use Rattle.spec_history.specs.Machine.{Call, edit, undo, redo, tile, peek, top, 
 use Rattle.spec_history.specs.Machine.{outside_tile, saved, save_fault, save_memory, history_full, tile_reply, State}
 use Rattle.spec_history.specs.Machine.{Saving, latest, document_at, answer, has_stack}
 use Rattle.spec_history.specs.History.{Entry, asked, starts, ends, next_index, after_entry, is_changed, IsStep, PeekAnswers}
+use Rattle.spec_history.specs.Limited.{AsksCall}
 use Rattle.spec_history.specs.Kept as history
 use Rattle.spec_history.specs.Kept.{shown_version, PeekMeetsKept}
 use Rattle.spec_history.specs.Slots.{version_kept, slot_peek, IsExactSlot, kept_peek}
@@ -40,30 +41,30 @@ use Rattle.spec_world.proofs.Exact.{IsNext, next-entry, plain-step, slot-stays, 
 
 -- with a reply that makes no version
 kept-exact : (base : Document) (w : World) (session : ℕ) (call : Call) (tables : List (List ℕ)) (reply : Reply) → IsDocument base
-    → IsRight base w → SlotsAreExact base w
+    → IsRight base w → SlotsAreExact base w → AsksCall (asked call tables)
     → IsStep base w.state w.entries (entry_of w session call tables reply) → PeekMeetsKept base w.entries (asked call tables) reply
     → is_changed reply ≡ false → ((stack : ℕ) (at : TileAt) → shown_version (asked call tables) reply stack at ≡ None)
     → cache_of base w.state (after_entry base w.state (entry_of w session call tables reply)) call reply w.cache ≡ w.cache
     → SlotsAreExact base (with_call base w session call tables reply)
-kept-exact base w session call tables reply within is exact step peeks unchanged silent kept =
+kept-exact base w session call tables reply within is exact asks step peeks unchanged silent kept =
     let e = entry_of w session call tables reply in
     subst (λ c. SlotsAreExact base (record (with_entry base w e) { cache = c })) (sym kept)
-    (stays-exact base w e (next-entry base w e within is exact step peeks) unchanged silent)
+    (stays-exact base w e (next-entry base w e within is exact asks step peeks) unchanged silent)
 
 -- with any reply of the machine
 plain-exact : (base : Document) (w : World) (session : ℕ) (call : Call) (tables : List (List ℕ)) (reply : Reply) → IsDocument base
-    → IsRight base w → SlotsAreExact base w
+    → IsRight base w → SlotsAreExact base w → AsksCall (asked call tables)
     → IsStep base w.state w.entries (entry_of w session call tables reply) → PeekMeetsKept base w.entries (asked call tables) reply
     → ((r : Reply) (stack : ℕ) (at : TileAt) → shown_version (asked call tables) r stack at ≡ None)
     → ((t : State) → Keeps base w.state t call w.cache)
     → ((v g n : ℕ) (t : State) → cache_of base w.state t call (changed v g n) w.cache ≡ cache_after base w.state t w.cache)
     → SlotsAreExact base (with_call base w session call tables reply)
-plain-exact base w session call tables (changed v g n) within is exact step peeks silent keeps follows =
+plain-exact base w session call tables (changed v g n) within is exact asks step peeks silent keeps follows =
     let e = entry_of w session call tables (changed v g n) in
     subst (λ c. SlotsAreExact base (record (with_entry base w e) { cache = c })) (sym (follows v g n (after_entry base w.state e)))
-    (changes-exact base w e (next-entry base w e within is exact step peeks) refl (λ stack at. silent (changed v g n) stack at))
-plain-exact base w session call tables reply within is exact step peeks silent keeps follows =
-    kept-exact base w session call tables reply within is exact step peeks refl (λ stack at. silent reply stack at)
+    (changes-exact base w e (next-entry base w e within is exact asks step peeks) refl (λ stack at. silent (changed v g n) stack at))
+plain-exact base w session call tables reply within is exact asks step peeks silent keeps follows =
+    kept-exact base w session call tables reply within is exact asks step peeks refl (λ stack at. silent reply stack at)
     (keeps (after_entry base w.state (entry_of w session call tables reply)) reply refl)
 
 -- ---- a tile
@@ -124,18 +125,18 @@ tile-exact base w session k place tables n stack at slot found =
     entry x y = tile_entry session (next_index w.entries session) x y tables (latest w.state)
 
 tiles-exact : (base : Document) (w : World) (session k : ℕ) (place : TileAt) (tables : List (List ℕ)) (here on : Bool)
-    → IsDocument base → IsRight base w → SlotsAreExact base w
+    → IsDocument base → IsRight base w → SlotsAreExact base w → AsksCall (asked (tile k place) tables)
     → tile_reply (document_now base w.state) k place (tile_of (latest w.state))
     ≡ cond here (no_stack k) (cond on outside_tile (tile_of (latest w.state)))
     → SlotsAreExact base (with_call base w session (tile k place) tables
     (cond here (no_stack k) (cond on outside_tile (tile_of (latest w.state)))))
-tiles-exact base w session k place tables true on within is exact e =
-    kept-exact base w session (tile k place) tables (no_stack k) within is exact (refl, sym e) tt refl (λ stack at. refl) refl
-tiles-exact base w session k place tables false true within is exact e =
-    kept-exact base w session (tile k place) tables outside_tile within is exact (refl, sym e) tt refl (λ stack at. refl) refl
-tiles-exact base w session k place tables false false within is exact e =
+tiles-exact base w session k place tables true on within is exact asks e =
+    kept-exact base w session (tile k place) tables (no_stack k) within is exact asks (refl, sym e) tt refl (λ stack at. refl) refl
+tiles-exact base w session k place tables false true within is exact asks e =
+    kept-exact base w session (tile k place) tables outside_tile within is exact asks (refl, sym e) tt refl (λ stack at. refl) refl
+tiles-exact base w session k place tables false false within is exact asks e =
     tile-exact base w session k place tables
-    (next-entry base w (entry_of w session (tile k place) tables (tile_of (latest w.state))) within is exact (refl, sym e) tt)
+    (next-entry base w (entry_of w session (tile k place) tables (tile_of (latest w.state))) within is exact asks (refl, sym e) tt)
 
 -- ---- a peek
 
@@ -163,31 +164,31 @@ right-picture base w stack at is = go (slot_of w.cache stack at) refl
     go (Some slot) p = shown slot slot.marked slot.picture p refl refl
 
 peeks-exact : (base : Document) (w : World) (session stack : ℕ) (at : TileAt) (seen : ℕ) (tables : List (List ℕ)) (here on : Bool)
-    → IsDocument base → IsRight base w → SlotsAreExact base w
+    → IsDocument base → IsRight base w → SlotsAreExact base w → AsksCall (asked (peek stack at) tables)
     → seen ≤ latest w.state
     → tile_reply (document_now base w.state) stack at (tile_of (latest w.state))
     ≡ cond here (no_stack stack) (cond on outside_tile (tile_of (latest w.state)))
     → SlotsAreExact base (with_call base w session (peek stack at) tables
     (where_tile (cond here (no_stack stack) (cond on outside_tile (tile_of (latest w.state))))
     (peek_reply (cache.kept w.cache stack at (latest w.state)) seen)))
-peeks-exact base w session stack at seen tables true on within is exact le e =
-    kept-exact base w session (peek stack at) tables (no_stack stack) within is exact (
+peeks-exact base w session stack at seen tables true on within is exact asks le e =
+    kept-exact base w session (peek stack at) tables (no_stack stack) within is exact asks (
       refl,
       subst (λ r. PeekAnswers base w.state stack r (no_stack stack)) (sym e) refl,
     )
     (meets-plain (history.kept base w.entries stack at) stack).0 refl (λ k place. refl) refl
-peeks-exact base w session stack at seen tables false true within is exact le e =
-    kept-exact base w session (peek stack at) tables outside_tile within is exact (
+peeks-exact base w session stack at seen tables false true within is exact asks le e =
+    kept-exact base w session (peek stack at) tables outside_tile within is exact asks (
       refl,
       subst (λ r. PeekAnswers base w.state stack r outside_tile) (sym e) refl,
     )
     (meets-plain (history.kept base w.entries stack at) stack).1 refl (λ k place. refl) refl
-peeks-exact base w session stack at seen tables false false within is exact le e =
+peeks-exact base w session stack at seen tables false false within is exact asks le e =
     let kept = cache.kept w.cache stack at (latest w.state) in
     let allowed = peek-allowed base w.state stack at kept (history.kept base w.entries stack at) seen le
     (right-picture base w stack at is) (is.enough stack at) in
     let reply = peek_reply kept seen in
-    kept-exact base w session (peek stack at) tables reply within is exact (
+    kept-exact base w session (peek stack at) tables reply within is exact asks (
       refl,
       subst (λ r. PeekAnswers base w.state stack r reply) (sym e) allowed.0,
     )
@@ -198,41 +199,41 @@ peeks-exact base w session stack at seen tables false false within is exact le e
 -- ---- any call
 
 call-exact : (base : Document) (w : World) (session : ℕ) (call : Call) (seen : ℕ) (tables : List (List ℕ)) → IsDocument base
-    → IsRight base w → SlotsAreExact base w → seen ≤ latest w.state
+    → IsRight base w → SlotsAreExact base w → seen ≤ latest w.state → AsksCall (asked call tables)
     → SlotsAreExact base (with_call base w session call tables (reply_to base w call seen tables))
-call-exact base w session (edit guard es) seen tables within is exact le =
-    plain-exact base w session (edit guard es) tables (answer base w.state (edit guard es) tables).reply within is exact (
+call-exact base w session (edit guard es) seen tables within is exact le asks =
+    plain-exact base w session (edit guard es) tables (answer base w.state (edit guard es) tables).reply within is exact asks (
       refl,
       refl,
     ) tt (λ r k place. refl)
     (λ t. keeps-edit base w.state t guard es w.cache) (λ v g n t. refl)
-call-exact base w session (undo named) seen tables within is exact le =
-    plain-exact base w session (undo named) tables (answer base w.state (undo named) tables).reply within is exact (
+call-exact base w session (undo named) seen tables within is exact le asks =
+    plain-exact base w session (undo named) tables (answer base w.state (undo named) tables).reply within is exact asks (
       refl,
       refl,
     ) tt (λ r k place. refl)
     (λ t. keeps-undo base w.state t named w.cache) (λ v g n t. refl)
-call-exact base w session redo seen tables within is exact le =
-    plain-exact base w session redo tables (answer base w.state redo tables).reply within is exact (
+call-exact base w session redo seen tables within is exact le asks =
+    plain-exact base w session redo tables (answer base w.state redo tables).reply within is exact asks (
       refl,
       refl,
     ) tt (λ r k place. refl)
     (λ t. keeps-redo base w.state t w.cache) (λ v g n t. refl)
-call-exact base w session top seen tables within is exact le =
-    plain-exact base w session top tables (answer base w.state top tables).reply within is exact (refl, refl) tt (λ r k place. refl)
+call-exact base w session top seen tables within is exact le asks =
+    plain-exact base w session top tables (answer base w.state top tables).reply within is exact asks (refl, refl) tt (λ r k place. refl)
     (λ t. keeps-top base w.state t w.cache) (λ v g n t. refl)
-call-exact base w session (tile k place) seen tables within is exact le =
+call-exact base w session (tile k place) seen tables within is exact le asks =
     tiles-exact base w session k place tables (not (has_stack (document_now base w.state) k))
-    (not (is_on_grid (document_now base w.state).width (document_now base w.state).height place)) within is exact refl
-call-exact base w session (peek stack at) seen tables within is exact le =
+    (not (is_on_grid (document_now base w.state).width (document_now base w.state).height place)) within is exact asks refl
+call-exact base w session (peek stack at) seen tables within is exact le asks =
     peeks-exact base w session stack at seen tables (not (has_stack (document_now base w.state) stack))
-    (not (is_on_grid (document_now base w.state).width (document_now base w.state).height at)) within is exact le refl
+    (not (is_on_grid (document_now base w.state).width (document_now base w.state).height at)) within is exact asks le refl
 
 submit-exact : (base : Document) (w : World) (session : ℕ) (call : Call) (seen : ℕ) (tables : List (List ℕ)) → IsDocument base
-    → IsRight base w → SlotsAreExact base w → seen ≤ latest w.state
+    → IsRight base w → SlotsAreExact base w → seen ≤ latest w.state → AsksCall (asked call tables)
     → SlotsAreExact base (submit base w session call seen tables).world
-submit-exact base w session call seen tables within is exact le =
-    go (free_entries w == 0) (call-exact base w session call seen tables within is exact le)
+submit-exact base w session call seen tables within is exact le asks =
+    go (free_entries w == 0) (call-exact base w session call seen tables within is exact le asks)
   where
     full : Outcome
     full = record { reply = history_full; world = w }
@@ -264,7 +265,7 @@ starts-save-exact : (base : Document) (w : World) (session : ℕ) (out : Option 
     → SlotsAreExact base (start_where base w session out)
 starts-save-exact base w session (Some out) within is exact e = exact
 starts-save-exact base w session None within is exact e =
-    go (nat_lt (free_entries w) 2) (stays-exact base w entry (next-entry base w entry within is exact (refl, e, refl) tt) refl
+    go (nat_lt (free_entries w) 2) (stays-exact base w entry (next-entry base w entry within is exact tt (refl, e, refl) tt) refl
     (λ stack at. refl))
   where
     entry : Entry
@@ -280,17 +281,17 @@ ends-save-exact : (base : Document) (w : World) (how : SaveEnd) (out : Option Sa
 ends-save-exact base w how None within is exact e = exact
 ends-save-exact base w Done (Some out) within is exact e =
     let entry : Entry = record { session = out.session; index = out.index; kind = ends; reply = saved out.version } in
-    stays-exact base w entry (next-entry base w entry within is exact (may-end base w out Done e) tt) refl (λ stack at. refl)
+    stays-exact base w entry (next-entry base w entry within is exact tt (may-end base w out Done e) tt) refl (λ stack at. refl)
 ends-save-exact base w Fault (Some out) within is exact e =
     let entry : Entry = record { session = out.session; index = out.index; kind = ends; reply = save_fault out.version } in
-    stays-exact base w entry (next-entry base w entry within is exact (may-end base w out Fault e) tt) refl (λ stack at. refl)
+    stays-exact base w entry (next-entry base w entry within is exact tt (may-end base w out Fault e) tt) refl (λ stack at. refl)
 ends-save-exact base w Memory (Some out) within is exact e =
     let entry : Entry = record { session = out.session; index = out.index; kind = ends; reply = save_memory out.version } in
-    stays-exact base w entry (next-entry base w entry within is exact (may-end base w out Memory e) tt) refl (λ stack at. refl)
+    stays-exact base w entry (next-entry base w entry within is exact tt (may-end base w out Memory e) tt) refl (λ stack at. refl)
 
 pub stays-so : (base : Document) → IsDocument base → StaysExact base
 stays-so base within w (submits session call seen tables) is exact may brings =
-    submit-exact base w session call seen tables within is exact may
+    submit-exact base w session call seen tables within is exact may.0 (may.1, may.2)
 stays-so base within w takes is exact may brings = take-exact base w exact
 stays-so base within w (finishes number) is exact may brings = absurd brings
 stays-so base within w (begins_save session) is exact may brings = starts-save-exact base w session w.state.out within is exact refl

@@ -17,6 +17,7 @@ use Rattle.spec_history.specs.Machine.{Call, edit, undo, redo, tile, peek, top, 
 use Rattle.spec_history.specs.Machine.{no_stack, outside_tile, history_full, State, latest, document_at, answer}
 use Rattle.spec_history.specs.Machine.{has_stack, tile_reply}
 use Rattle.spec_history.specs.History.{Entry, asked, next_index, after_entry, is_changed, IsStep, MayPeek, PeekAnswers}
+use Rattle.spec_history.specs.Limited.{AsksCall}
 use Rattle.spec_history.specs.Kept as history
 use Rattle.spec_history.specs.Kept.{last_tile, shown_version, kept_in, MeetsKept, PeekMeetsKept}
 use Rattle.spec_history.proofs.Canvas.{canvas-document}
@@ -68,31 +69,31 @@ entry_of w session call tables reply =
 
 -- with a reply that makes no version
 standing-kept : (base : Document) (w : World) (session : ℕ) (call : Call) (tables : List (List ℕ)) (reply : Reply)
-    → IsStanding base w
+    → IsStanding base w → AsksCall (asked call tables)
     → IsStep base w.state w.entries (entry_of w session call tables reply) → PeekMeetsKept base w.entries (asked call tables) reply
     → is_changed reply ≡ false → ((stack : ℕ) (at : TileAt) → shown_version (asked call tables) reply stack at ≡ None)
     → cache_of base w.state (after_entry base w.state (entry_of w session call tables reply)) call reply w.cache ≡ w.cache
     → IsStanding base (with_call base w session call tables reply)
-standing-kept base w session call tables reply is step peeks unchanged silent kept =
+standing-kept base w session call tables reply is asks step peeks unchanged silent kept =
     let e = entry_of w session call tables reply in
     subst (λ c. IsStanding base (record (with_entry base w e) { cache = c })) (sym kept)
-    (standing-entry base w e is (enters base w.entries e w.state is.legal is.replayed step peeks) unchanged silent)
+    (standing-entry base w e is (enters base w.entries e w.state is.legal is.replayed asks step peeks) unchanged silent)
 
 -- with any reply of the machine
 standing-plain : (base : Document) (w : World) (session : ℕ) (call : Call) (tables : List (List ℕ)) (reply : Reply)
-    → IsStanding base w → DamageIsAlwaysSound base
+    → IsStanding base w → DamageIsAlwaysSound base → AsksCall (asked call tables)
     → IsStep base w.state w.entries (entry_of w session call tables reply) → PeekMeetsKept base w.entries (asked call tables) reply
     → ((r : Reply) (stack : ℕ) (at : TileAt) → shown_version (asked call tables) r stack at ≡ None)
     → ((t : State) → Keeps base w.state t call w.cache)
     → ((v g n : ℕ) (t : State) → cache_of base w.state t call (changed v g n) w.cache ≡ cache_after base w.state t w.cache)
     → IsStanding base (with_call base w session call tables reply)
-standing-plain base w session call tables (changed v g n) is sound step peeks silent keeps follows =
+standing-plain base w session call tables (changed v g n) is sound asks step peeks silent keeps follows =
     let e = entry_of w session call tables (changed v g n) in
-    let enter = enters base w.entries e w.state is.legal is.replayed step peeks in
+    let enter = enters base w.entries e w.state is.legal is.replayed asks step peeks in
     subst (λ c. IsStanding base (record (with_entry base w e) { cache = c })) (sym (follows v g n (after_entry base w.state e)))
     (standing-version base w e is enter (sound-after base w e sound enter) refl (λ stack at. silent (changed v g n) stack at))
-standing-plain base w session call tables reply is sound step peeks silent keeps follows =
-    standing-kept base w session call tables reply is step peeks refl (λ stack at. silent reply stack at)
+standing-plain base w session call tables reply is sound asks step peeks silent keeps follows =
+    standing-kept base w session call tables reply is asks step peeks refl (λ stack at. silent reply stack at)
     (keeps (after_entry base w.state (entry_of w session call tables reply)) reply refl)
 
 -- ---- a tile
@@ -105,20 +106,20 @@ canvas-grid base w at is =
     (λ i. is_on_grid (d i).width (d i).height at) ∙ (λ i. is_on_grid (c.width i) (c.height i) at)
 
 standing-tiles : (base : Document) (w : World) (session k : ℕ) (place : TileAt) (tables : List (List ℕ)) (here on : Bool)
-    → IsStanding base w
+    → IsStanding base w → AsksCall (asked (tile k place) tables)
     → not (has_stack (document_now base w.state) k) ≡ here
     → not (is_on_grid (document_now base w.state).width (document_now base w.state).height place) ≡ on
     → tile_reply (document_now base w.state) k place (tile_of (latest w.state))
     ≡ cond here (no_stack k) (cond on outside_tile (tile_of (latest w.state)))
     → IsStanding base (with_call base w session (tile k place) tables
     (cond here (no_stack k) (cond on outside_tile (tile_of (latest w.state)))))
-standing-tiles base w session k place tables true on is p q e =
-    standing-kept base w session (tile k place) tables (no_stack k) is (refl, sym e) tt refl (λ stack at. refl) refl
-standing-tiles base w session k place tables false true is p q e =
-    standing-kept base w session (tile k place) tables outside_tile is (refl, sym e) tt refl (λ stack at. refl) refl
-standing-tiles base w session k place tables false false is p q e =
+standing-tiles base w session k place tables true on is asks p q e =
+    standing-kept base w session (tile k place) tables (no_stack k) is asks (refl, sym e) tt refl (λ stack at. refl) refl
+standing-tiles base w session k place tables false true is asks p q e =
+    standing-kept base w session (tile k place) tables outside_tile is asks (refl, sym e) tt refl (λ stack at. refl) refl
+standing-tiles base w session k place tables false false is asks p q e =
     let enter = enters base w.entries
-    (entry_of w session (tile k place) tables (tile_of (latest w.state))) w.state is.legal is.replayed (refl, sym e) tt in
+    (entry_of w session (tile k place) tables (tile_of (latest w.state))) w.state is.legal is.replayed asks (refl, sym e) tt in
     standing-tile base w session (next_index w.entries session) k place tables is (sym (canvas-grid base w place is)
     ∙ not-false (is_on_grid (document_now base w.state).width (document_now base w.state).height place) q) enter
   where
@@ -223,30 +224,30 @@ meets-plain None node = (tt, tt)
 meets-plain (Some k) node = (tt, tt)
 
 standing-peeks : (base : Document) (w : World) (session stack : ℕ) (at : TileAt) (seen : ℕ) (tables : List (List ℕ))
-    (here on : Bool) → IsStanding base w → seen ≤ latest w.state
+    (here on : Bool) → IsStanding base w → AsksCall (asked (peek stack at) tables) → seen ≤ latest w.state
     → tile_reply (document_now base w.state) stack at (tile_of (latest w.state))
     ≡ cond here (no_stack stack) (cond on outside_tile (tile_of (latest w.state)))
     → IsStanding base (with_call base w session (peek stack at) tables
     (where_tile (cond here (no_stack stack) (cond on outside_tile (tile_of (latest w.state))))
     (peek_reply (cache.kept w.cache stack at (latest w.state)) seen)))
-standing-peeks base w session stack at seen tables true on is le e =
-    standing-kept base w session (peek stack at) tables (no_stack stack) is (
+standing-peeks base w session stack at seen tables true on is asks le e =
+    standing-kept base w session (peek stack at) tables (no_stack stack) is asks (
       refl,
       subst (λ r. PeekAnswers base w.state stack r (no_stack stack)) (sym e) refl,
     )
     (meets-plain (history.kept base w.entries stack at) stack).0 refl (λ k place. refl) refl
-standing-peeks base w session stack at seen tables false true is le e =
-    standing-kept base w session (peek stack at) tables outside_tile is (
+standing-peeks base w session stack at seen tables false true is asks le e =
+    standing-kept base w session (peek stack at) tables outside_tile is asks (
       refl,
       subst (λ r. PeekAnswers base w.state stack r outside_tile) (sym e) refl,
     )
     (meets-plain (history.kept base w.entries stack at) stack).1 refl (λ k place. refl) refl
-standing-peeks base w session stack at seen tables false false is le e =
+standing-peeks base w session stack at seen tables false false is asks le e =
     let kept = cache.kept w.cache stack at (latest w.state) in
     let allowed = peek-allowed base w.state stack at kept (history.kept base w.entries stack at) seen le
     (kept-picture base w stack at is) (keeps-enough base w stack at is) in
     let reply = peek_reply kept seen in
-    standing-kept base w session (peek stack at) tables reply is (
+    standing-kept base w session (peek stack at) tables reply is asks (
       refl,
       subst (λ r. PeekAnswers base w.state stack r reply) (sym e) allowed.0,
     )
@@ -257,38 +258,38 @@ standing-peeks base w session stack at seen tables false false is le e =
 -- ---- any call
 
 standing-call : (base : Document) (w : World) (session : ℕ) (call : Call) (seen : ℕ) (tables : List (List ℕ)) → IsStanding base w
-    → DamageIsAlwaysSound base → seen ≤ latest w.state
+    → DamageIsAlwaysSound base → seen ≤ latest w.state → AsksCall (asked call tables)
     → IsStanding base (with_call base w session call tables (reply_to base w call seen tables))
-standing-call base w session (edit guard es) seen tables is sound le =
-    standing-plain base w session (edit guard es) tables (answer base w.state (edit guard es) tables).reply is sound (
+standing-call base w session (edit guard es) seen tables is sound le asks =
+    standing-plain base w session (edit guard es) tables (answer base w.state (edit guard es) tables).reply is sound asks (
       refl,
       refl,
     ) tt (λ r k place. refl)
     (λ t. keeps-edit base w.state t guard es w.cache) (λ v g n t. refl)
-standing-call base w session (undo named) seen tables is sound le =
-    standing-plain base w session (undo named) tables (answer base w.state (undo named) tables).reply is sound (
+standing-call base w session (undo named) seen tables is sound le asks =
+    standing-plain base w session (undo named) tables (answer base w.state (undo named) tables).reply is sound asks (
       refl,
       refl,
     ) tt (λ r k place. refl)
     (λ t. keeps-undo base w.state t named w.cache) (λ v g n t. refl)
-standing-call base w session redo seen tables is sound le =
-    standing-plain base w session redo tables (answer base w.state redo tables).reply is sound (refl, refl) tt (λ r k place. refl)
+standing-call base w session redo seen tables is sound le asks =
+    standing-plain base w session redo tables (answer base w.state redo tables).reply is sound asks (refl, refl) tt (λ r k place. refl)
     (λ t. keeps-redo base w.state t w.cache) (λ v g n t. refl)
-standing-call base w session top seen tables is sound le =
-    standing-plain base w session top tables (answer base w.state top tables).reply is sound (refl, refl) tt (λ r k place. refl)
+standing-call base w session top seen tables is sound le asks =
+    standing-plain base w session top tables (answer base w.state top tables).reply is sound asks (refl, refl) tt (λ r k place. refl)
     (λ t. keeps-top base w.state t w.cache) (λ v g n t. refl)
-standing-call base w session (tile k place) seen tables is sound le =
+standing-call base w session (tile k place) seen tables is sound le asks =
     standing-tiles base w session k place tables (not (has_stack (document_now base w.state) k))
-    (not (is_on_grid (document_now base w.state).width (document_now base w.state).height place)) is refl refl refl
-standing-call base w session (peek stack at) seen tables is sound le =
+    (not (is_on_grid (document_now base w.state).width (document_now base w.state).height place)) is asks refl refl refl
+standing-call base w session (peek stack at) seen tables is sound le asks =
     standing-peeks base w session stack at seen tables (not (has_stack (document_now base w.state) stack))
-    (not (is_on_grid (document_now base w.state).width (document_now base w.state).height at)) is le refl
+    (not (is_on_grid (document_now base w.state).width (document_now base w.state).height at)) is asks le refl
 
 pub standing-submit : (base : Document) (w : World) (session : ℕ) (call : Call) (seen : ℕ) (tables : List (List ℕ))
-    → IsStanding base w → DamageIsAlwaysSound base → seen ≤ latest w.state
+    → IsStanding base w → DamageIsAlwaysSound base → seen ≤ latest w.state → AsksCall (asked call tables)
     → IsStanding base (submit base w session call seen tables).world
-standing-submit base w session call seen tables is sound le =
-    go (free_entries w == 0) (standing-call base w session call seen tables is sound le)
+standing-submit base w session call seen tables is sound le asks =
+    go (free_entries w == 0) (standing-call base w session call seen tables is sound le asks)
   where
     full : Outcome
     full = record { reply = history_full; world = w }

@@ -1,15 +1,18 @@
 -- What may happen to a world, and the world after it.
 use Rattle.std.specs.Prelude.{◌≡◌, ℕ, ◌<◌, ◌≤◌, ◌==◌, nat_lt, if◌then◌else◌, List, [], ◌∷◌, ◌++◌, length, remove}
-use Rattle.std.specs.Prelude.{slice_get, Option, Some, None}
+use Rattle.std.specs.List.{AllByRecursion}
+use Rattle.std.specs.Prelude.{slice_get, Option, Some, None, option_map, unwrap_or}
 use Rattle.spec_document.specs.Document.{Document}
 use Rattle.spec_picture.specs.Picture.{project}
 use Rattle.spec_cache.specs.declared.Finished.{Finished}
 use Rattle.spec_cache.specs.declared.Finished.TheVariants.{Gone}
 use Rattle.spec_cache.specs.Slots.{Slot, Shown, fill_slot, change_slot}
 use Rattle.spec_cache.specs.Cache.{Cache, Place, kept, change_stack, next_place, after_take, finish, install}
-use Rattle.spec_history.specs.Machine.{Call, tile, peek, Reply, changed, tile_of, stale, saved, save_fault}
-use Rattle.spec_history.specs.Machine.{save_memory, history_full, State, Saving, latest, answer}
-use Rattle.spec_history.specs.History.{asked, starts, ends, Entry, next_index, after_entry}
+use Rattle.spec_document.specs.Limits.{AreBytes}
+use Rattle.spec_history.specs.Machine.{Call, edit, undo, redo, tile, peek, top, Reply, tile_of, stale, version_shown}
+use Rattle.spec_history.specs.Machine.{saved, save_fault, save_memory, history_full, State, Saving, latest, answer}
+use Rattle.spec_history.specs.Calls.{IsCall}
+use Rattle.spec_history.specs.History.{asked, starts, ends, Entry, next_index, after_entry, is_changed}
 use Rattle.spec_world.specs.declared.SaveEnd.{SaveEnd}
 use Rattle.spec_world.specs.declared.SaveEnd.TheVariants.{Done, Fault, Memory}
 use Rattle.spec_world.specs.World.{World, Job, document_now, result_of, free_entries, cache_after}
@@ -21,26 +24,39 @@ abbrev pub peek_reply : Option Shown → (seen : ℕ) → Reply
 peek_reply None seen = stale None seen
 peek_reply (Some shown) seen = if nat_lt shown.version seen then stale (Some shown.version) seen else tile_of shown.version
 
+-- in the place of a reply that shows a tile
 abbrev pub where_tile : (plain shown : Reply) → Reply
-where_tile (tile_of version) shown = shown
-where_tile plain shown = plain
+where_tile plain shown = unwrap_or (option_map (λ version. shown) (version_shown plain)) plain
 
 -- The machine's reply; for a peek of a tile that is there, by what is kept of it.
 abbrev pub reply_to : Document → World → Call → (seen : ℕ) → (tables : List (List ℕ)) → Reply
 reply_to base w (peek stack at) seen tables =
     where_tile (answer base w.state (peek stack at) tables).reply (peek_reply (kept w.cache stack at (latest w.state)) seen)
-reply_to base w call seen tables = (answer base w.state call tables).reply
+reply_to base w (edit guard edits) seen tables = (answer base w.state (edit guard edits) tables).reply
+reply_to base w (undo named) seen tables = (answer base w.state (undo named) tables).reply
+reply_to base w redo seen tables = (answer base w.state redo tables).reply
+reply_to base w (tile stack at) seen tables = (answer base w.state (tile stack at) tables).reply
+reply_to base w top seen tables = (answer base w.state top tables).reply
 
 -- a slot that a tile call showed is clean, and one that was clean stays as it was
 abbrev pub show_slot : (picture : List ℕ) → Slot → Slot
 show_slot picture s = if s.marked then fill_slot picture s else s
 
+-- the kept pictures after a call that showed a tile, if any
+abbrev pub cache_shown : Document → State → (version : Option ℕ) → Call → Cache → Cache
+cache_shown base s None call cache = cache
+cache_shown base s (Some version) (edit guard edits) cache = cache
+cache_shown base s (Some version) (undo named) cache = cache
+cache_shown base s (Some version) redo cache = cache
+cache_shown base s (Some version) (tile stack at) cache =
+    change_stack stack (change_slot at (show_slot (project (document_now base s) stack at))) cache
+cache_shown base s (Some version) (peek stack at) cache = cache
+cache_shown base s (Some version) top cache = cache
+
 -- the kept pictures after a call and its reply
 abbrev pub cache_of : Document → (old new : State) → Call → Reply → Cache → Cache
-cache_of base old new call (changed version group next) cache = cache_after base old new cache
-cache_of base old new (tile stack at) (tile_of version) cache =
-    change_stack stack (change_slot at (show_slot (project (document_now base old) stack at))) cache
-cache_of base old new call reply cache = cache
+cache_of base old new call reply cache =
+    if is_changed reply then cache_after base old new cache else cache_shown base old (version_shown reply) call cache
 
 -- the world with one entry more
 abbrev pub with_entry : Document → World → Entry → World
@@ -139,9 +155,10 @@ abbrev pub IsOutOf : Option Saving → (session : ℕ) → Type 0
 IsOutOf None session = ⊥
 IsOutOf (Some out) session = session ≡ out.session
 
--- A session has seen no version that is not there, a job that comes back is out, and a save is ended by its own session.
+-- A session has seen no version that is not there, its call is within its type, and its filters answer bytes; a job that comes back
+-- is out, and a save is ended by its own session.
 abbrev pub MayHappen : World → Event → Type 0
-MayHappen w (submits session call seen tables) = seen ≤ latest w.state
+MayHappen w (submits session call seen tables) = (seen ≤ latest w.state) × IsCall call × AllByRecursion AreBytes tables
 MayHappen w takes = Unit {0}
 MayHappen w (finishes number) = number < length w.jobs
 MayHappen w (begins_save session) = Unit {0}
@@ -153,10 +170,6 @@ after base w takes = take_job w
 after base w (finishes number) = finish_job base w number
 after base w (begins_save session) = begin_save base w session
 after base w (ends_save session how) = end_save base w how
-
--- one event, to the world after it
-abbrev pub Step : Document → World → Event → World → Type 0
-Step base old event new = MayHappen old event × (new ≡ after base old event)
 
 -- a list of events, one after another
 abbrev pub Happen : Document → World → List Event → World → Type 0

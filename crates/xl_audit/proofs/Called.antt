@@ -19,8 +19,8 @@ use Rattle.spec_history.proofs.Canvas.{canvas-document}
 use Rattle.spec_history.proofs.Growing.{replay-snoc}
 use Rattle.spec_script.specs.Script as lines
 use Rattle.spec_script.specs.Script.{Line}
-use Rattle.spec_tables.specs.Agrees.{Agrees, edits_made}
-use Rattle.spec_tables.specs.Tables.{expected_tables, tables_for, filters_after, filters_along}
+use Rattle.spec_tables.specs.Agrees.{Agrees}
+use Rattle.spec_tables.specs.Tables.{edits_made, expected_tables, tables_for, filters_after, filters_along}
 use Rattle.spec_tables.proofs.Made.{tables_made, filters_made}
 use Rattle.spec_text.specs.declared.OrderWord.{OrderWord}
 use Rattle.spec_text.specs.Text.{digest_of, shown_digest, is_save_memory}

@@ -3,7 +3,6 @@ use Rattle.std.proofs.Common.{◌≡◌, ℕ, ◌+◌, ◌<◌, ◌≤◌, Bool,
 use Rattle.std.proofs.Common.{ap, subst, arith, length-append}
 use Rattle.std.specs.Prelude.{Option, Some, None, slice_index, slice_set, IfSome}
 use Rattle.std.proofs.lemmas.List.{length-set}
-use Rattle.spec_document.proofs.Elements.{all-append}
 use Rattle.spec_grid.specs.declared.TileAt.{TileAt}
 use Rattle.spec_document.specs.Document.{Document}
 use Rattle.spec_history.specs.Calls.{most_entries}
@@ -12,7 +11,7 @@ use Rattle.spec_history.specs.Machine as machine
 use Rattle.spec_history.specs.Machine.{Call, Reply, State, Saving, latest, document_at, answer}
 use Rattle.spec_history.specs.History.{Entry, asked, replay, next_index, is_changed, latest_of, document_of, IsStep}
 use Rattle.spec_history.specs.Kept.{PeekMeetsKept, shown_version}
-use Rattle.spec_history.proofs.Growing.{replay-snoc, latest_of-snoc, document_of-append}
+use Rattle.spec_history.proofs.Growing.{AsksCall-last, replay-snoc, latest_of-snoc, document_of-append}
 use Rattle.spec_history.proofs.Versions.{latest_of-legal}
 use Rattle.spec_world.specs.World.{entries_owed}
 use Rattle.spec_world.specs.Exact.{SlotsAreExact}
@@ -101,12 +100,12 @@ come base es e old new has eight stands exact made seen out wanted shares =
 
 quiet_exact : (base : Document) (es : List Entry) (e : Entry) (now : Now) (made : List ℕ) → Stands base es now made
     → SlotsAreExact base (world_of base es now.cache)
-    → IsStep base (replay base es) es e → PeekMeetsKept base es e.kind e.reply → is_changed e.reply ≡ false
+    → AsksCall e.kind → IsStep base (replay base es) es e → PeekMeetsKept base es e.kind e.reply → is_changed e.reply ≡ false
     → ((stack : ℕ) (at : TileAt) → shown_version e.kind e.reply stack at ≡ None)
     → SlotsAreExact base (world_of base (es ++ e ∷ []) now.cache)
-quiet_exact base es e now made stands exact step peeks unchanged silent =
+quiet_exact base es e now made stands exact asks step peeks unchanged silent =
     let w = world_of base es now.cache in
-    let next = next-entry base w e stands.within (is_right base es now made stands) exact step peeks in
+    let next = next-entry base w e stands.within (is_right base es now made stands) exact asks step peeks in
     stays-exact base w e next unchanged silent
 
 -- where nothing else than what is counted changes
@@ -119,7 +118,8 @@ pub come_quietly : (base : Document) (es : List Entry) (e : Entry) (old new : Wa
     → new.versions.wanted.items ≡ old.versions.wanted.items → new.versions.shares.items ≡ old.versions.shares.items
     → HasCome base (es ++ e ∷ []) new
 come_quietly base es e old new has eight step peeks unchanged silent stands same made seen out wanted shares =
-    let exact = quiet_exact base es e old.standing old.made has.stands has.exact step peeks unchanged silent in
+    let asks = AsksCall-last es e stands.legal.calls in
+    let exact = quiet_exact base es e old.standing old.made has.stands has.exact asks step peeks unchanged silent in
     let S : Now → Type 0 = λ n. Stands base (es ++ e ∷ []) n new.made in
     let X : Now → Type 0 = λ n. SlotsAreExact base (world_of base (es ++ e ∷ []) n.cache) in
     let kept : cond (is_changed e.reply) (with_share old.versions.wanted.items new.standing.document old.versions.shares.items)
@@ -149,11 +149,10 @@ stands_peeked base es now made session stack at reply stands eight within step p
     let owed : entries_owed (replay base (es ++ e ∷ [])).out ≡ entries_owed (replay base es).out =
     ap entries_owed (out-call base es session (slice_index made session) (machine.peek stack at) [] reply) in
     let groups = stands.groups in
-    let pictures = pictures-entry base es now made e stands step peeks unchanged (λ k place. refl) in
+    let pictures = pictures-entry base es now made e stands (tt, tt) step peeks unchanged (λ k place. refl) in
     record {
       within = stands.within;
       small = stands.small;
-      calls = all-append (λ (x : Entry). AsksCall x.kind) es (e ∷ []) stands.calls ((tt, tt), tt);
       legal = pictures.legal;
       few = omega (arith, more, room, owed);
       is_now = stands.is_now ∙ ap (λ (t : State). now_of base t now.cache) (sym (replay-snoc base es e));
@@ -197,9 +196,10 @@ come_called base es old new session c tables reply has eight room goes counts =
     let version = version_now base es old.standing old.made has.stands in
     let led = submitted base w session c old.standing.version tables reply (world_of base (es ++ e ∷ []) new.standing.cache) room
     goes.says goes.world in
+    let asks = AsksCall-last es e goes.stands.legal.calls in
     let exact = subst (SlotsAreExact base) (sym led.1)
     (stays-so base has.stands.within w (submits session c old.standing.version tables)
-    (is_right base es old.standing old.made has.stands) has.exact (omega (arith, version)) tt) in
+    (is_right base es old.standing old.made has.stands) has.exact (omega (arith, version), asks.0, asks.1) tt) in
     let long = length-set old.made session (slice_index old.made session + 1) in
     let old_long = has.eight_made in
     come base es e old new has eight

@@ -12,8 +12,8 @@ use Rattle.spec_history.specs.Machine.{Call, Reply, Saving, latest}
 use Rattle.spec_history.specs.History.{Entry, replay, next_index, mine, is_changed}
 use Rattle.spec_script.specs.Script as lines
 use Rattle.spec_script.specs.Script.{Line}
-use Rattle.spec_tables.specs.Agrees.{Agrees, AreAsked, edits_made}
-use Rattle.spec_tables.specs.Tables.{filters_along}
+use Rattle.spec_tables.specs.Agrees.{Agrees, AreAsked}
+use Rattle.spec_tables.specs.Tables.{edits_made, filters_along}
 use Rattle.spec_text.specs.declared.OrderWord.{OrderWord}
 use Rattle.spec_text.specs.Text.{is_save_memory}
 use Rattle.spec_world.specs.World.{entries_owed}

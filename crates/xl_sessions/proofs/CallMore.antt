@@ -9,14 +9,13 @@ use Rattle.spec_history.specs.Machine.{Call, Reply, tile_of}
 use Rattle.spec_history.specs.History.{Entry, asked, latest_of}
 use Rattle.spec_history.specs.Kept.{IsFreshReply, IsLegal}
 use Rattle.spec_script.specs.Script.{Line, call}
-use Rattle.spec_tables.specs.Agrees.{edits_made}
 use Rattle.spec_tables.specs.Tables.{expected_tables, used_by}
 use Rattle.spec_tables.proofs.Made.{filters_made}
 use Rattle.spec_text.specs.Text.{is_save_memory}
 use Rattle.spec_seats.specs.Picked.{picked, IsCaughtUp}
 use Rattle.spec_seats.specs.Digests.{asks_tile, digest_in, digests_in}
 use Rattle.spec_seats.specs.Made.{HasMade, IsOf}
-use Rattle.spec_tables.specs.Tables.{filters_along}
+use Rattle.spec_tables.specs.Tables.{edits_made, filters_along}
 use Rattle.spec_seats.proofs.More.{picked_one, made_call, caught_up_last}
 use Rattle.spec_tables.proofs.Along.{filters_append}
 use Rattle.spec_seats.proofs.Shown.{digests_one}

@@ -39,7 +39,6 @@ use Rattle.xl_standing.specs.Now.{Now, Gives, stays, response, now_of, with_tile
 use Rattle.xl_standing.specs.Now.{IsKeptNow, world_of, Stands}
 use Rattle.xl_standing.proofs.Simulates.{IsReady, follows}
 use Rattle.xl_standing.proofs.GroupNumbers.{groups-response}
-use Rattle.xl_standing.proofs.WithinTypes.{calls-snoc}
 
 -- one call more of a session, and none of the others
 pub counted : (made : List ℕ) (entries : List Entry) (e : Entry)
@@ -172,12 +171,11 @@ module _ (between : (base old new : Document)
       ap (λ b. (cond b full done).world) (some-free base w few)
       ∙ (ap (with_call base w session call tables) (sym says) ∙ sym world) in
       let pictures = subst (IsStanding base) submitted
-      (standing-submit base w session call seen tables stands.pictures (always-sound base stands.within) seen_le) in
+      (standing-submit base w session call seen tables stands.pictures (always-sound base stands.within) seen_le (is_call, bytes)) in
       record {
         stands = record {
           within = stands.within;
           small = stands.small;
-          calls = calls-snoc entries e stands.calls (is_call, bytes);
           legal = pictures.legal;
           few = omega (arith, more, few, owed);
           is_now = after ∙ (ap (now_of base t) (sym (ap (λ n. n.cache) after))

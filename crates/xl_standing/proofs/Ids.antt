@@ -14,8 +14,8 @@ pub has_ids : (base : Document) (entries : List Entry) (now : Now) (made : List 
 has_ids base entries now made stands =
     let P : Now → Type 0 = λ n. HasIds (at_now n) most_edits in
     let s = replay base entries in
-    let are = calls_have_edits entries stands.calls in
-    let short = calls_are_short entries stands.calls in
+    let are = calls_have_edits entries stands.legal.calls in
+    let short = calls_are_short entries stands.legal.calls in
     let kept = stands.few in
     let few : length entries ≤ most_entries = omega arith in
     let asks = short_asks base entries stands.small short few in

@@ -4,7 +4,6 @@ mod CleanTiles
 mod Trails
 mod Simulates
 mod GroupNumbers
-mod WithinTypes
 mod Groups
 mod Asking
 mod Sides

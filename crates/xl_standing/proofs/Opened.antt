@@ -7,6 +7,7 @@ use Rattle.spec_document.specs.Limits.{IsDocument}
 use Rattle.spec_document.proofs.Elements.{all-each}
 use Rattle.spec_forest.specs.Forest.{ids, size}
 use Rattle.spec_history.specs.History.{Entry}
+use Rattle.spec_history.proofs.Growing.{IsLegal-empty}
 use Rattle.spec_world.proofs.AllRight.{standing-start}
 use Rattle.xl_doc.specs.Numbered.{AreNumbered}
 use Rattle.xl_standing.specs.Now.{Now, first_now, Stands}
@@ -29,8 +30,7 @@ opened : (d : Document) → AreNumbered d.nodes → IsDocument d → Stands d []
 opened d numbered within = record {
   within = within;
   small = small_ids d numbered;
-  calls = tt;
-  legal = record { run = tt; kept = tt };
+  legal = IsLegal-empty d;
   few = lit≤ tt;
   is_now = refl;
   groups = lit≤ tt;

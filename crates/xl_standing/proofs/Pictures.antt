@@ -9,6 +9,7 @@ use Rattle.spec_picture.specs.Picture.{project}
 use Rattle.spec_cache.specs.Cache.{Cache, Place, next_place, after_take, install}
 use Rattle.spec_history.specs.Machine.{State, latest, document_at, has_stack}
 use Rattle.spec_history.specs.History.{Entry, replay, IsStep, is_changed}
+use Rattle.spec_history.specs.Limited.{AsksCall}
 use Rattle.spec_history.specs.Kept.{PeekMeetsKept, shown_version}
 use Rattle.spec_history.proofs.Canvas.{canvas-document}
 use Rattle.spec_history.proofs.Growing.{replay-snoc}
@@ -30,7 +31,6 @@ pub stands-with : (base : Document) (entries : List Entry) (now : Now) (made : L
 stands-with base entries now made cache stands pictures = record {
   within = stands.within;
   small = stands.small;
-  calls = stands.calls;
   legal = stands.legal;
   few = stands.few;
   is_now = ap (λ n. with_cache n cache) stands.is_now;
@@ -46,11 +46,11 @@ is_right base entries now made stands = right base (world_of base entries now.ca
 
 -- an entry that makes no version and shows no tile
 pub pictures-entry : (base : Document) (entries : List Entry) (now : Now) (made : List ℕ) (e : Entry) → Stands base entries now made
-    → IsStep base (replay base entries) entries e
+    → AsksCall e.kind → IsStep base (replay base entries) entries e
     → PeekMeetsKept base entries e.kind e.reply → is_changed e.reply ≡ false
     → ((stack : ℕ) (at : TileAt) → shown_version e.kind e.reply stack at ≡ None)
     → IsStanding base (world_of base (entries ++ e ∷ []) now.cache)
-pictures-entry base entries now made e stands step peek unchanged silent =
+pictures-entry base entries now made e stands asks step peek unchanged silent =
     subst (IsStanding base) (λ i. record {
       entries = entries ++ e ∷ [];
       state = sym (replay-snoc base entries e) i;
@@ -59,7 +59,7 @@ pictures-entry base entries now made e stands step peek unchanged silent =
       jobs = [];
     })
     (standing-entry base (world_of base entries now.cache) e stands.pictures
-    (enters base entries e (replay base entries) stands.legal refl step peek) unchanged silent)
+    (enters base entries e (replay base entries) stands.legal refl asks step peek) unchanged silent)
 
 -- ---- jobs
 

@@ -9,7 +9,6 @@ use Rattle.spec_history.specs.Calls.{most_entries}
 use Rattle.spec_history.proofs.Growing.{replay-snoc, next_index-snoc}
 use Rattle.spec_world.specs.World.{entries_owed}
 use Rattle.xl_standing.specs.Now.{Now, now_of, Stands}
-use Rattle.xl_standing.proofs.WithinTypes.{calls-snoc}
 use Rattle.xl_standing.proofs.GoesOn.{counted}
 use Rattle.xl_standing.proofs.Pictures.{pictures-entry}
 
@@ -33,11 +32,10 @@ stands_started base entries now made session stands eight within none few =
     let more : length (entries ++ e ∷ []) ≡ length entries + 1 = length-append entries (e ∷ []) in
     let owed : entries_owed (replay base (entries ++ e ∷ [])).out ≡ 1 = ap (λ t. entries_owed t.out) (replay-snoc base entries e) in
     let groups = stands.groups in
-    let pictures = pictures-entry base entries now made e stands (index, none, last) tt refl (λ stack at. refl) in
+    let pictures = pictures-entry base entries now made e stands tt (index, none, last) tt refl (λ stack at. refl) in
     record {
       within = stands.within;
       small = stands.small;
-      calls = calls-snoc entries e stands.calls tt;
       legal = pictures.legal;
       few = omega (arith, more, few, owed);
       is_now = stands.is_now ∙ ap (λ t. now_of base t now.cache) (sym (replay-snoc base entries e));
@@ -90,12 +88,11 @@ stands_ended base entries now made session index reply stands may =
     let before = may_owed s.out session index reply may in
     let few = stands.few in
     let groups = stands.groups in
-    let pictures = pictures-entry base entries now made e stands may tt (may_unchanged s.out session index reply may)
+    let pictures = pictures-entry base entries now made e stands tt may tt (may_unchanged s.out session index reply may)
     (λ stack at. refl) in
     record {
       within = stands.within;
       small = stands.small;
-      calls = calls-snoc entries e stands.calls tt;
       legal = pictures.legal;
       few = omega (arith, more, few, owed, before);
       is_now = stands.is_now ∙ ap (λ t. now_of base t now.cache) (sym (replay-snoc base entries e));

@@ -1,5 +1,6 @@
 -- A history: the document with which it began, and its entries.
-use Rattle.std.specs.Prelude.{◌≡◌, ℕ, ◌+◌, Bool, nat_le, List, [], ◌∷◌, ◌++◌, length, Some, MatchBool}
+use Rattle.std.specs.Prelude.{◌≡◌, ℕ, ◌+◌, Bool, nat_le, List, [], ◌∷◌, ◌++◌, length, Option, Some, IfSome, MatchBool}
+use Rattle.spec_grid.specs.declared.TileAt.{TileAt}
 use Rattle.spec_document.specs.Document.{Document}
 use Rattle.spec_picture.specs.Picture.{project}
 use Rattle.spec_history.specs.Machine as machine
@@ -43,11 +44,18 @@ Answers old session call tables reply new =
     ((reply ≡ machine.history_full) × (new ≡ old))
     ((reply ≡ reply_to old call tables) × (new ≡ with_call old session call tables reply))
 
+-- the bytes are those of a tile at a version, if any
+abbrev pub ShowsAt : History → (stack : ℕ) → TileAt → (version : Option ℕ) → (bytes : List ℕ) → Type 0
+ShowsAt h stack at version bytes = IfSome version (λ v. bytes ≡ project (document_of h.base h.entries v) stack at)
+
 -- the bytes are those of the tile that was asked for, at the version that is named
 abbrev pub Shows : History → Call → Reply → (bytes : List ℕ) → Type 0
-Shows h (machine.tile stack at) (machine.tile_of version) bytes = bytes ≡ project (document_of h.base h.entries version) stack at
-Shows h (machine.peek stack at) (machine.tile_of version) bytes = bytes ≡ project (document_of h.base h.entries version) stack at
-Shows h call reply bytes = Unit {0}
+Shows h (machine.tile stack at) reply bytes = ShowsAt h stack at (machine.version_shown reply) bytes
+Shows h (machine.peek stack at) reply bytes = ShowsAt h stack at (machine.version_shown reply) bytes
+Shows h (machine.edit guard edits) reply bytes = Unit {0}
+Shows h (machine.undo named) reply bytes = Unit {0}
+Shows h machine.redo reply bytes = Unit {0}
+Shows h machine.top reply bytes = Unit {0}
 
 -- after this history the call needs no step: every call but a tile, and a tile of which the last version is kept
 abbrev pub NeedsNoStep : History → Call → Type 0

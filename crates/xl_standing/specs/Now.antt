@@ -1,6 +1,6 @@
 -- What stands now, as far as calls ask for it.
 use Rattle.std.specs.Prelude.{◌≡◌, ℕ, ◌+◌, ◌-◌, ◌^◌, ◌≤◌, ◌<◌, not, if◌then◌else◌, List, [], ◌∷◌, true, false, length}
-use Rattle.std.specs.Prelude.{map, slice_index, slice_get, Option, Some, None, IsSomeAnd, Result, Ok, Err}
+use Rattle.std.specs.Prelude.{map, slice_index, slice_get, Option, Some, None, IsSomeAnd, IfSome, Result, Ok, Err}
 use Rattle.std.specs.List.{AllByRecursion}
 use Rattle.spec_grid.specs.declared.TileAt.{TileAt}
 use Rattle.spec_grid.specs.Grid.{is_on_grid}
@@ -17,10 +17,9 @@ use Rattle.spec_cache.specs.Cache.{Cache, Place, no_slots, slot_of, change_stack
 use Rattle.spec_history.specs.Machine as machine
 use Rattle.spec_history.specs.Machine.{Call, Reply, changed, refused, moved, nothing_to_undo, nothing_to_redo, not_top}
 use Rattle.spec_history.specs.Machine.{tile_of, stale, no_stack, outside_tile, top_is, saved, save_fault, save_memory}
-use Rattle.spec_history.specs.Machine.{history_full, names, push, Cause, State, Done, latest, document_at, has_stack}
+use Rattle.spec_history.specs.Machine.{history_full, version_shown, names, push, Cause, State, Done, latest, document_at, has_stack}
 use Rattle.spec_history.specs.History.{Entry, replay, next_index}
 use Rattle.spec_history.specs.Kept.{IsLegal}
-use Rattle.spec_history.specs.Limited.{AreCalls}
 use Rattle.spec_history.specs.Calls.{most_entries}
 use Rattle.spec_world.specs.World.{World, entries_owed, stack_ids, add_stacks}
 use Rattle.spec_world.specs.Events.{peek_reply, show_slot}
@@ -171,13 +170,12 @@ response old machine.top seen tables = stays old (top_is (top_of old.undo) old.v
 
 -- the bytes are those of the tile that was asked for, where it is shown
 abbrev pub ShowsTile : Document → (stack : ℕ) → TileAt → Reply → (bytes : List ℕ) → Type 0
-ShowsTile d stack at (tile_of version) bytes = bytes ≡ project d stack at
-ShowsTile d stack at reply bytes = Unit {0}
+ShowsTile d stack at reply bytes = IfSome (version_shown reply) (λ version. bytes ≡ project d stack at)
 
 -- the bytes are those of the picture that is kept, where it is shown
 abbrev pub ShowsKept : Option Shown → Reply → (bytes : List ℕ) → Type 0
-ShowsKept kept (tile_of version) bytes = IsSomeAnd kept (λ k. (version ≡ k.version) × (bytes ≡ k.picture))
-ShowsKept kept reply bytes = Unit {0}
+ShowsKept kept reply bytes =
+    IfSome (version_shown reply) (λ version. IsSomeAnd kept (λ k. (version ≡ k.version) × (bytes ≡ k.picture)))
 
 abbrev pub ShowsNow : Now → Call → Reply → (bytes : List ℕ) → Type 0
 ShowsNow now (machine.tile stack at) reply bytes = ShowsTile now.document stack at reply bytes
@@ -268,12 +266,11 @@ now_of base s cache = record {
 abbrev pub world_of : Document → List Entry → Cache → World
 world_of base entries cache = record { entries = entries; state = replay base entries; cache = cache; jobs = [] }
 
--- What stands is what the machine has come to after the entries, each of whose calls is within its type, and made counts each
--- session's calls. The base is within its limits, and its ids are small. The pictures that are kept are right.
+-- What stands is what the machine has come to after the entries, which are legal, and made counts each session's calls. The base is
+-- within its limits, and its ids are small. The pictures that are kept are right.
 pub record Stands (base : Document) (entries : List Entry) (now : Now) (made : List ℕ) : Type 0 where
   pub within : IsDocument base
   pub small : AllByRecursion (λ id. id ≤ 2 ^ 31) (ids base.nodes)
-  pub calls : AreCalls entries
   pub legal : IsLegal base entries
   pub few : length entries + entries_owed (replay base entries).out ≤ most_entries
   pub is_now : now ≡ now_of base (replay base entries) now.cache

@@ -8,7 +8,8 @@ ghost use Rattle.spec_edit.specs.Edit.{IsEdit};
 ghost use Rattle.spec_history.specs.Calls.{IsCall, most_edits};
 ghost use Rattle.spec_history.specs.Limited as limited;
 ghost use Rattle.spec_history.specs.Machine as machine;
-ghost use Rattle.spec_tables.specs.Agrees.{AreThere, AreAsked, IsPartUsed, edits_made};
+ghost use Rattle.spec_tables.specs.Agrees.{AreThere, AreAsked, IsPartUsed};
+ghost use Rattle.spec_tables.specs.Tables.{edits_made};
 ghost use Rattle.spec_world.specs.World.{add_stacks, stack_ids};
 ghost use Rattle.xl_compose.specs.Job.{StandsFor};
 ghost use Rattle.xl_standing.specs.Needs.{TakesNoStep};
@@ -148,6 +149,7 @@ impl Standing {
         ensures shown { IfOk result (λ a. ShowsNow self.new (call_of call.now) (reply_of a.reply) desk.new.out) }
         ensures desk { IfOk result (λ a. KeepsDesk (reply_of a.reply) desk.old.out desk.new.out) }
         ensures steps { TakesNoStep self.old.cache (call_of call.now) → steps.new ≡ steps.old }
+        ensures steps_as_before { OnErr result (steps.new ≡ steps.old) }
         ensures as_before { OnErr result (self.new ≡ self.old) }
         ensures chest { OnErr result (IsPartUsed (states_in state desk.old.chest) (states_in state desk.new.chest)
             (limited.edits_of (call_of call.now))) }
@@ -311,6 +313,7 @@ impl Standing {
         ensures shown { IfOk result (λ reply. ShowsTile self.new.document node.0 at (reply_of reply) out.new) }
         ensures desk { IfOk result (λ reply. KeepsDesk (reply_of reply) out.old out.new) }
         ensures steps { is_clean self.old.cache node.0 at ≡ true → steps.new ≡ steps.old }
+        ensures steps_as_before { OnErr result (steps.new ≡ steps.old) }
         ensures as_before { OnErr result (self.new ≡ self.old) }
         ensures out_as_before { OnErr result (out.new ≡ out.old) }
     {

@@ -68,6 +68,7 @@ pub(crate) fn show<L: Ledger>(
     ensures cache { OnOk result (cache.new
         ≡ change_stack node.0 (change_slot at (show_slot (project document.now node.0 at))) cache.old) }
     ensures steps { is_clean cache.old node.0 at ≡ true → steps.new ≡ steps.old }
+    ensures steps_as_before { OnErr result (steps.new ≡ steps.old) }
     ensures as_before { OnErr result (cache.new ≡ cache.old) }
     ensures out_as_before { OnErr result (out.new ≡ out.old) }
 {

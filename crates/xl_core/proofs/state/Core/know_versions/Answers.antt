@@ -14,8 +14,8 @@ each_within : (base : Document) (entries : List Entry) (now : Now) (made : List 
 each_within base entries now made stands number =
     let kept = stands.few in
     let few : length entries ≤ most_entries = omega arith in
-    short_version base entries number stands.within stands.small (calls_have_edits entries stands.calls)
-    (calls_are_short entries stands.calls) few
+    short_version base entries number stands.within stands.small (calls_have_edits entries stands.legal.calls)
+    (calls_are_short entries stands.legal.calls) few
 
 pub returns : goal.returns
 returns g c =
