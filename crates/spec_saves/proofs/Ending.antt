@@ -10,9 +10,10 @@ use Rattle.spec_world.specs.declared.SaveEnd.TheVariants.{Done, Fault, Memory}
 use Rattle.spec_world.specs.Events.{end_reply}
 use Rattle.xl_ports.specs.Shelf.{Content}
 use Rattle.xl_ports.specs.Disk.{Disk, MightHaveLeft, Between}
+use Rattle.xl_ports.specs.State.{ShelfState}
 use Rattle.spec_saves.specs.Names.{Named, the_old, version, names, files, version_out, out_version, ends_by_fault, save_faults}
 use Rattle.spec_saves.specs.Contents.{IsVersion, IsSaved, IsIn}
-use Rattle.spec_saves.specs.Shelf.{Known, file_name, IsSettled, DiskIsRight, RoseOften, ShelfIsRight}
+use Rattle.spec_saves.specs.Shelf.{file_name, IsSettled, DiskIsRight, RoseOften, ShelfIsRight}
 use Rattle.spec_saves.specs.Returns.{end_entry, Among, DiskReturns, CountEnds, Returns}
 use Rattle.spec_saves.proofs.Bounds.{IsOutThere, one_more_name, bounded}
 use Rattle.spec_saves.proofs.Staying.{names-snoc, save_faults-snoc, with_some, stays_version, stays_in, stays_saved}
@@ -136,7 +137,7 @@ count_stays Done faults old mid new none count stays = count ∙ stays (omega (a
 count_stays Memory faults old mid new none count stays = count ∙ stays (omega (arith, none))
 count_stays Fault faults old mid new none count stays = absurd (omega (arith, none))
 
-pub comes_back_right : (opening handed now : Known) (base : Document) (es : List Entry) (session index : ℕ) (how : SaveEnd)
+pub comes_back_right : (opening handed now : ShelfState) (base : Document) (es : List Entry) (session index : ℕ) (how : SaveEnd)
     → Run base es → IsSome (replay base es).out
     → ShelfIsRight opening base es handed → Returns opening handed base es how now
     → ShelfIsRight opening base (es ++ end_entry base es session index how ∷ []) now

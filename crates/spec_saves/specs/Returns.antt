@@ -8,9 +8,10 @@ use Rattle.spec_world.specs.Events.{end_reply}
 use Rattle.xl_ports.specs.Shelf.{Content}
 use Rattle.xl_ports.specs.Faults.{Rose}
 use Rattle.xl_ports.specs.Disk.{Disk, MayLeave, MightHaveLeft, LeavesJust}
+use Rattle.xl_ports.specs.State.{ShelfState}
 use Rattle.spec_saves.specs.Names.{names, files, out_version}
 use Rattle.spec_saves.specs.Contents.{IsVersion, IsIn, IsSaved}
-use Rattle.spec_saves.specs.Shelf.{Known, file_name, IsSettled}
+use Rattle.spec_saves.specs.Shelf.{file_name, IsSettled}
 
 -- the end of the save that is out
 abbrev pub end_entry : Document → List Entry → (session index : ℕ) → SaveEnd → Entry
@@ -45,7 +46,7 @@ CountEnds Fault old new = Rose old new
 CountEnds Memory old new = new ≡ old
 
 -- The shelf that was handed out comes back from the save that is out after these entries.
-pub record Returns (opening handed : Known) (base : Document) (es : List Entry) (how : SaveEnd) (now : Known) : Type 0 where
+pub record Returns (opening handed : ShelfState) (base : Document) (es : List Entry) (how : SaveEnd) (now : ShelfState) : Type 0 where
   pub selected : now.selected ≡ opening.selected
   pub reading : now.reading ≡ handed.reading
   pub saving : CountEnds how handed.saving now.saving
