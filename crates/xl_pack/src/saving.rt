@@ -18,6 +18,7 @@ pub fn save_smallest<D: Shelf>(file: &[u8], shelf: &mut D) -> Result<(), Failed>
         (λ name. MayHaveSmallest name d (D.state shelf.old).disk (D.state shelf.new).disk)) }
     ensures closed { OnOk result ((D.state shelf.new).is_open ≡ false) }
     ensures selected { (D.state shelf.new).selected ≡ (D.state shelf.old).selected }
+    ensures loads { (D.state shelf.new).loads ≡ (D.state shelf.old).loads }
     ensures reading { (D.state shelf.new).reading ≡ (D.state shelf.old).reading }
     ensures cause { HasCause (D.state shelf.old).saving (D.state shelf.new).saving result }
 {

@@ -20,6 +20,7 @@ pub fn save<D: Shelf>(bytes: &[u8], shelf: &mut D) -> Result<(), Failed>
     ensures saved { OnOk result (IfSome (D.state shelf.old).selected (λ name. IfSome (D.state shelf.new).disk (HasSaved name bytes.now))) }
     ensures closed { OnOk result ((D.state shelf.new).is_open ≡ false) }
     ensures selected { (D.state shelf.new).selected ≡ (D.state shelf.old).selected }
+    ensures loads { (D.state shelf.new).loads ≡ (D.state shelf.old).loads }
     ensures reading { (D.state shelf.new).reading ≡ (D.state shelf.old).reading }
     ensures cause { HasCause (D.state shelf.old).saving (D.state shelf.new).saving result }
 {

@@ -71,6 +71,7 @@ comes_back opening handed now base es session index d how legal right is saves =
     subst (λ (n : List ℕ). Puts how d n handed.disk now.disk) name saves.contents in
     record {
       selected = saves.selected ∙ right.selected;
+      loads = saves.loads;
       reading = saves.reading;
       saving = saves.saving;
       contents = among legal (start_is base es session index legal)

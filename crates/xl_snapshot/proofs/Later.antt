@@ -70,6 +70,7 @@ module _ (base : Document) (es more : List Entry) (legal : IsLegal base es) (sam
       | inr is ↦ inr (saved_stays base es more c legal is)
     ];
     ends = ends_later how name opened now r.ends;
+    elsewhere = r.elsewhere;
   }
 
   among_later : (how : SaveEnd) (name : List ℕ) (opened handed now : Option Disk)
@@ -85,6 +86,7 @@ module _ (base : Document) (es more : List Entry) (legal : IsLegal base es) (sam
       → Returns opening handed base (es ++ more) how now
   returns_later opening handed now how r = record {
     selected = r.selected;
+    loads = r.loads;
     reading = r.reading;
     saving = r.saving;
     contents = among_later how (file_name opening) opening.disk handed.disk now.disk r.contents;

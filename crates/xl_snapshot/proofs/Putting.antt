@@ -27,10 +27,12 @@ put_fault bytes (Some name) before after some only = only
 
 pub saved_done : (d : Document) (bytes : List ℕ) (old new : ShelfState) → Written bytes d → IsSome old.selected
     → IfSome old.selected (λ name. Between old.disk new.disk (SavesOnly name bytes))
-    → IfSome old.selected (λ name. IfSome new.disk (HasSaved name bytes)) → new.selected ≡ old.selected → new.reading ≡ old.reading
+    → IfSome old.selected (λ name. IfSome new.disk (HasSaved name bytes)) → new.selected ≡ old.selected → new.loads ≡ old.loads
+    → new.reading ≡ old.reading
     → new.saving ≡ old.saving → IsSavedOn old d Done new
-saved_done d bytes old new wrote some only has selected reading saving = record {
+saved_done d bytes old new wrote some only has selected loads reading saving = record {
   selected = selected;
+  loads = loads;
   reading = reading;
   saving = saving;
   contents = (bytes, wrote, put_done bytes old.selected old.disk new.disk some only has);
@@ -38,9 +40,10 @@ saved_done d bytes old new wrote some only has selected reading saving = record 
 
 pub saved_fault : (d : Document) (bytes : List ℕ) (old new : ShelfState) → Written bytes d → IsSome old.selected
     → IfSome old.selected (λ name. Between old.disk new.disk (SavesOnly name bytes))
-    → new.selected ≡ old.selected → new.reading ≡ old.reading → Rose old.saving new.saving → IsSavedOn old d Fault new
-saved_fault d bytes old new wrote some only selected reading saving = record {
+    → new.selected ≡ old.selected → new.loads ≡ old.loads → new.reading ≡ old.reading → Rose old.saving new.saving → IsSavedOn old d Fault new
+saved_fault d bytes old new wrote some only selected loads reading saving = record {
   selected = selected;
+  loads = loads;
   reading = reading;
   saving = saving;
   contents = (bytes, wrote, put_fault bytes old.selected old.disk new.disk some only);

@@ -20,6 +20,7 @@ Puts Memory d name before after = after ≡ before
 -- the shelf after a save that ended so
 pub record IsSavedOn (old : ShelfState) (d : Document) (how : SaveEnd) (new : ShelfState) : Type 0 where
   pub selected : new.selected ≡ old.selected
+  pub loads : new.loads ≡ old.loads
   pub reading : new.reading ≡ old.reading
   pub saving : CountEnds how old.saving new.saving
   pub contents : Puts how d (file_name old) old.disk new.disk
