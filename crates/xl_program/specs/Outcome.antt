@@ -1,5 +1,5 @@
 -- What a command writes, and why it may stop.
-use Rattle.std.specs.Prelude.{◌≡◌, ◌⊎◌, ◌<◌, ◌==◌, ℕ, List, [], ◌∷◌, length, map, Option, Some, None, IfSome, IsTrue}
+use Rattle.std.specs.Prelude.{◌≡◌, ◌⊎◌, ◌==◌, ℕ, List, [], ◌∷◌, length, map, Option, Some, None, IfSome, IsTrue}
 use Rattle.std.specs.Prelude.{Result, Ok, Err, Vec}
 use Rattle.std.specs.declared.alloc.Global.{Global}
 use Rattle.std.specs.List.{list_any}
@@ -18,6 +18,9 @@ use Rattle.spec_saves.specs.Names.{save_faults}
 use Rattle.spec_saves.specs.Shelf.{Known, ShelfIsRight}
 use Rattle.spec_text.specs.Text.{IsTextOf, Alone}
 use Rattle.xl_core.specs.Editing.{known}
+use Rattle.xl_play.specs.Playing.{AreOfFirst}
+use Rattle.xl_play.specs.Told.{NoneFailed, SomeFailed, AnyFailed}
+use Rattle.xl_play.specs.Versions.{AreWithin}
 use Rattle.xl_ports.specs.Disk.{Disk, Between, IsQuiet}
 use Rattle.xl_ports.specs.Faults.{Rose}
 use Rattle.xl_ports.specs.Shelf.{Content}
@@ -28,10 +31,8 @@ use Rattle.xl_program.specs.Files.{HoldsDocument}
 use Rattle.xl_program.specs.Flattening.{IsFlattened, MayBeFlattened}
 use Rattle.xl_program.specs.LastSaved.{HasLastSaved}
 use Rattle.xl_program.specs.Lines.{WritesLine}
-use Rattle.xl_program.specs.Playing.{AreOfFirst}
 use Rattle.xl_program.specs.Making.{FailsAtFirst, IsMadeHistory, IsSummary}
 use Rattle.xl_program.specs.Packing.{IsPacked, MayBePacked}
-use Rattle.xl_program.specs.Versions.{AreWithin}
 use Rattle.xl_program.specs.Viewing.{IsBadViewLine, IsViewed, IsViewScript}
 use Rattle.xl_program.specs.declared.stopped.Stopped.{Stopped}
 use Rattle.xl_program.specs.declared.stopped.Stopped.TheVariants.{SourceFault, BadLine, ShelfFault, Refused, SaveFault}
@@ -94,16 +95,6 @@ pub record IsUntouched (old new : Shelved) : Type 0 where
   pub contents : new.content ≡ old.content
   pub quiet : Between old.known.disk new.known.disk IsQuiet
   pub saving : new.known.saving ≡ old.known.saving
-
--- how many saves of a run may have failed
-abbrev pub NoneFailed : (faults : ℕ) → Type 0
-NoneFailed faults = faults ≡ 0
-
-abbrev pub SomeFailed : (faults : ℕ) → Type 0
-SomeFailed faults = 0 < faults
-
-abbrev pub AnyFailed : (faults : ℕ) → Type 0
-AnyFailed faults = Unit {0}
 
 -- ---- what is written
 
