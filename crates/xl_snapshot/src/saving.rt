@@ -37,6 +37,7 @@ pub fn save_file<D: Shelf>(file: &[u8], shelf: &mut D) -> Result<(), Failed>
     ensures failed { OnErr result ((d : Plain) → Written file.now d
         → IsSavedOn (D.state shelf.old) d save_end.Fault
         (D.state shelf.new)) }
+    ensures loads { (D.state shelf.new).loads ≡ (D.state shelf.old).loads }
     ensures selected { (D.state shelf.new).selected ≡ (D.state shelf.old).selected }
 {
     save(file, shelf)
