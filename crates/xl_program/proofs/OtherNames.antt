@@ -13,6 +13,7 @@ use Rattle.xl_ports.proofs.Moments.{weaker, one_then, others_still, others_then,
 use Rattle.xl_save.specs.Save.{SavesOnly, HasSaved}
 use Rattle.xl_save.proofs.Others.{others_stay}
 use Rattle.xl_snapshot.specs.Saving.{IsSavedOn, Puts}
+use Rattle.xl_play.specs.Told.{NoneFailed, SomeFailed, AnyFailed}
 use Rattle.xl_program.specs.Making.{IsMadeHistory}
 use Rattle.xl_program.specs.Outcome.{Given, ComesTo, FailsAtShelf, IsHistory, IsOutput, IsUntouched, MayHaveSaved}
 use Rattle.xl_program.specs.Outcome.{opened, OtherNamesStay}
@@ -101,11 +102,12 @@ others_saved old new (view name cols rows) same = others_untouched name old new 
 others_come : {K : Type 0} (held : K → Option (List ℕ)) (faults : K → ℕ) (given : Given) (old new : ShelfState) (command : Asked)
     (before after : K) (result : Result (Unit {0}) Stopped) → ComesTo held faults given old new command before after result
     → Others (name_of command) old new
-others_come held faults given old new command before after (Ok x) comes = others_output given old new command _ comes.0 comes.1
+others_come held faults given old new command before after (Ok x) comes =
+    others_output given old new command NoneFailed comes.0 comes.1
 others_come held faults given old new command before after (Err SaveFault) comes =
-    others_output given old new command _ comes.0 comes.1
+    others_output given old new command SomeFailed comes.0 comes.1
 others_come held faults given old new command before after (Err SinkFault) comes =
-    others_output given old new command _ comes.0 comes.1
+    others_output given old new command AnyFailed comes.0 comes.1
 others_come held faults given old new command before after (Err Memory) comes = others_saved old new command comes.1
 others_come held faults given old new command before after (Err SourceFault) comes =
     others_untouched (name_of command) old new comes.1
