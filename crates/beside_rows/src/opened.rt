@@ -33,7 +33,7 @@ fn core_over<D: Shelf>(alloc: Global, document: Document, shelf: D) -> Result<Co
     ensures empty { IfOk result (λ core. core.history.entries ≡ []) }
     ensures handed { IfOk result (λ core. core.handed ≡ []) }
     ensures right { IfOk result (λ core. IsRight core.history.base (world core)) }
-    ensures selected { IfOk result (λ core. IsSome (D.selected core.opening)) }
+    ensures selected { IfOk result (λ core. IsSome (D.state core.opening).selected) }
 {
     let mut shelf = shelf;
     if shelf.select("f").is_err() {

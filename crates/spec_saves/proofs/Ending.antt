@@ -9,10 +9,12 @@ use Rattle.spec_world.specs.declared.SaveEnd.{SaveEnd}
 use Rattle.spec_world.specs.declared.SaveEnd.TheVariants.{Done, Fault, Memory}
 use Rattle.spec_world.specs.Events.{end_reply}
 use Rattle.xl_ports.specs.Shelf.{Content}
-use Rattle.xl_ports.specs.Disk.{Disk, MightHaveLeft, Between}
+use Rattle.xl_ports.specs.Disk.{Disk, MightHaveLeft, Between, OthersStay}
+use Rattle.xl_ports.proofs.Moments.{others_then}
+use Rattle.xl_ports.specs.State.{ShelfState}
 use Rattle.spec_saves.specs.Names.{Named, the_old, version, names, files, version_out, out_version, ends_by_fault, save_faults}
 use Rattle.spec_saves.specs.Contents.{IsVersion, IsSaved, IsIn}
-use Rattle.spec_saves.specs.Shelf.{Known, file_name, IsSettled, DiskIsRight, RoseOften, ShelfIsRight}
+use Rattle.spec_saves.specs.Shelf.{file_name, IsSettled, DiskIsRight, RoseOften, ShelfIsRight}
 use Rattle.spec_saves.specs.Returns.{end_entry, Among, DiskReturns, CountEnds, Returns}
 use Rattle.spec_saves.proofs.Bounds.{IsOutThere, one_more_name, bounded}
 use Rattle.spec_saves.proofs.Staying.{names-snoc, save_faults-snoc, with_some, stays_version, stays_in, stays_saved}
@@ -55,9 +57,9 @@ module _ (name : List ℕ) (base : Document) (es : List Entry) (run : Run base e
       ⊎_elim (λ was. inl was) (λ is. inr (stays_saved base es (end_entry base es session index how) run c is))
       (back.left since c le might)
 
-  done : opened.moment ≤ handed.moment → DiskReturns name base es Done opened handed now
+  done : opened.moment ≤ handed.moment → OthersStay name opened handed → DiskReturns name base es Done opened handed now
       → DiskIsRight name base (ended Done) opened now
-  done later back =
+  done later others back =
       let e = end_entry base es session index Done in
       let is : names (ended Done) ≡ version (out_version base es) ∷ [] = names-snoc es e in
       let back_later = back.later in
@@ -68,11 +70,12 @@ module _ (name : List ℕ) (base : Document) (es : List Entry) (run : Run base e
             (stays_version base es e (out_version base es) v_there (now.read name) back.ends.0)));
         left = left Done back;
         settled = subst (λ ns. IsSettled ns name opened now) (sym is) back.ends.1;
+        elsewhere = others_then opened handed now name others back.elsewhere;
       }
 
-  fault : opened.moment ≤ handed.moment → DiskReturns name base es Fault opened handed now
+  fault : opened.moment ≤ handed.moment → OthersStay name opened handed → DiskReturns name base es Fault opened handed now
       → DiskIsRight name base (ended Fault) opened now
-  fault later back =
+  fault later others back =
       let e = end_entry base es session index Fault in
       let is : names (ended Fault) ≡ names es ++ version (out_version base es) ∷ [] = names-snoc es e in
       let all : files base es ≡ names es ++ version (out_version base es) ∷ [] = with_some (names es) (replay base es).out out in
@@ -87,11 +90,12 @@ module _ (name : List ℕ) (base : Document) (es : List Entry) (run : Run base e
         left = left Fault back;
         settled = subst (λ ns. IsSettled ns name opened now) (sym is)
             (two_names (names es) (out_version base es) name opened now (bounded base es run).some);
+        elsewhere = others_then opened handed now name others back.elsewhere;
       }
 
-  memory : opened.moment ≤ handed.moment → DiskReturns name base es Memory opened handed now
+  memory : opened.moment ≤ handed.moment → OthersStay name opened handed → DiskReturns name base es Memory opened handed now
       → DiskIsRight name base (ended Memory) opened now
-  memory later back =
+  memory later others back =
       let e = end_entry base es session index Memory in
       let is : names (ended Memory) ≡ names es = names-snoc es e in
       let back_later = back.later in
@@ -101,13 +105,14 @@ module _ (name : List ℕ) (base : Document) (es : List Entry) (run : Run base e
             (stays_in base es e opened name c (names es) (bounded base es run).names (back.ends.0 c may));
         left = left Memory back;
         settled = subst (λ ns. IsSettled ns name opened now) (sym is) back.ends.1;
+        elsewhere = others_then opened handed now name others back.elsewhere;
       }
 
-  ends_disk : (how : SaveEnd) → opened.moment ≤ handed.moment → DiskReturns name base es how opened handed now
+  ends_disk : (how : SaveEnd) → opened.moment ≤ handed.moment → OthersStay name opened handed → DiskReturns name base es how opened handed now
       → DiskIsRight name base (ended how) opened now
-  ends_disk Done later back = done later back
-  ends_disk Fault later back = fault later back
-  ends_disk Memory later back = memory later back
+  ends_disk Done later others back = done later others back
+  ends_disk Fault later others back = fault later others back
+  ends_disk Memory later others back = memory later others back
 
 ends_contents : (name : List ℕ) (base : Document) (es : List Entry) (run : Run base es) (out : IsSome (replay base es).out)
     (session index : ℕ) (how : SaveEnd)
@@ -116,7 +121,7 @@ ends_contents : (name : List ℕ) (base : Document) (es : List Entry) (run : Run
     → Between opened now (DiskIsRight name base (es ++ end_entry base es session index how ∷ []))
 ends_contents name base es run out session index how None None None right back = tt
 ends_contents name base es run out session index how (Some o) (Some h) (Some n) right back =
-    ends_disk name base es run out session index o h n how right.later back
+    ends_disk name base es run out session index o h n how right.later right.elsewhere back
 ends_contents name base es run out session index how None None (Some n) right back = absurd back
 ends_contents name base es run out session index how None (Some h) now right back = absurd right
 ends_contents name base es run out session index how (Some o) None now right back = absurd right
@@ -136,7 +141,7 @@ count_stays Done faults old mid new none count stays = count ∙ stays (omega (a
 count_stays Memory faults old mid new none count stays = count ∙ stays (omega (arith, none))
 count_stays Fault faults old mid new none count stays = absurd (omega (arith, none))
 
-pub comes_back_right : (opening handed now : Known) (base : Document) (es : List Entry) (session index : ℕ) (how : SaveEnd)
+pub comes_back_right : (opening handed now : ShelfState) (base : Document) (es : List Entry) (session index : ℕ) (how : SaveEnd)
     → Run base es → IsSome (replay base es).out
     → ShelfIsRight opening base es handed → Returns opening handed base es how now
     → ShelfIsRight opening base (es ++ end_entry base es session index how ∷ []) now
@@ -146,6 +151,7 @@ comes_back_right opening handed now base es session index how run out right back
     save_faults-snoc es e ∙ ap (λ b. save_faults es + cond b 1 0) (fault_or_not how (out_version base es)) in
     record {
       selected = back.selected;
+      loads = back.loads ∙ right.loads;
       reading = back.reading ∙ right.reading;
       saving_rose = subst (λ n. RoseOften n opening.saving now.saving) (sym faults)
           (rose_once_more how (save_faults es) opening.saving handed.saving now.saving right.saving_rose back.saving);

@@ -13,11 +13,12 @@ use Rattle.spec_history.specs.History.{Kind, asked, starts, ends, Entry, is_end_
 use Rattle.spec_history.proofs.Growing.{document_of-append}
 use Rattle.xl_ports.specs.Shelf.{Content, absent, file}
 use Rattle.xl_ports.specs.Disk.{Disk, Between}
-use Rattle.xl_ports.proofs.Moments.{weaker}
+use Rattle.xl_ports.specs.State.{ShelfState}
+use Rattle.xl_ports.proofs.Moments.{weaker, others_still}
 use Rattle.spec_saves.specs.Names.{Named, the_old, version, after_one, after_kind, names, with_out, versions_of}
 use Rattle.spec_saves.specs.Names.{saved_versions, ends_by_fault, save_faults, is_start, saves_started, version_out}
 use Rattle.spec_saves.specs.Contents.{IsVersion, IsSaved, IsNamed, IsIn}
-use Rattle.spec_saves.specs.Shelf.{Known, file_name, IsSettled, DiskIsRight, RoseOften, ShelfIsRight}
+use Rattle.spec_saves.specs.Shelf.{file_name, IsSettled, DiskIsRight, RoseOften, ShelfIsRight}
 use Rattle.spec_saves.proofs.Bounds.{IsThere, bounded}
 
 -- ---- one entry more
@@ -105,15 +106,17 @@ stays_disk name base es e run same opened now right = record {
       (stays_in base es e opened name c (names es) (bounded base es run).names (right.leaves c may));
   left = λ since c le left. ⊎_elim (λ was. inl was) (λ is. inr (stays_saved base es e run c is)) (right.left since c le left);
   settled = subst (λ ns. IsSettled ns name opened now) (sym same) right.settled;
+  elsewhere = right.elsewhere;
 }
 
-pub stays_right : (opening now : Known) (base : Document) (es : List Entry) (e : Entry) → Run base es → is_end_kind e.kind ≡ false
+pub stays_right : (opening now : ShelfState) (base : Document) (es : List Entry) (e : Entry) → Run base es → is_end_kind e.kind ≡ false
     → ShelfIsRight opening base es now → ShelfIsRight opening base (es ++ e ∷ []) now
 stays_right opening now base es e run no_end right =
     let faults : save_faults (es ++ e ∷ []) ≡ save_faults es = save_faults-snoc es e
     ∙ rw (no_fault e e.kind no_end) (omega arith) in
     record {
       selected = right.selected;
+      loads = right.loads;
       reading = right.reading;
       saving_rose = subst (λ n. RoseOften n opening.saving now.saving) (sym faults) right.saving_rose;
       saving_stays = λ none. right.saving_stays (sym faults ∙ none);
@@ -127,11 +130,18 @@ stays_right opening now base es e run no_end right =
 opened_disk : (name : List ℕ) (base : Document) (disk : Option Disk) → Between disk disk (DiskIsRight name base [])
 opened_disk name base None = tt
 opened_disk name base (Some d) =
-    record { later = omega arith; leaves = λ c may. inl may; left = λ since c le left. inl left; settled = refl }
+    record {
+      later = omega arith;
+      leaves = λ c may. inl may;
+      left = λ since c le left. inl left;
+      settled = refl;
+      elsewhere = others_still d name;
+    }
 
-pub opened_right : (opening : Known) (base : Document) → ShelfIsRight opening base [] opening
+pub opened_right : (opening : ShelfState) (base : Document) → ShelfIsRight opening base [] opening
 opened_right opening base = record {
   selected = refl;
+  loads = refl;
   reading = refl;
   saving_rose = inl (omega arith);
   saving_stays = λ none. refl;

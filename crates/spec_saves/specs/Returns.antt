@@ -7,10 +7,11 @@ use Rattle.spec_world.specs.declared.SaveEnd.TheVariants.{Done, Fault, Memory}
 use Rattle.spec_world.specs.Events.{end_reply}
 use Rattle.xl_ports.specs.Shelf.{Content}
 use Rattle.xl_ports.specs.Faults.{Rose}
-use Rattle.xl_ports.specs.Disk.{Disk, MayLeave, MightHaveLeft, LeavesJust}
+use Rattle.xl_ports.specs.Disk.{Disk, MayLeave, MightHaveLeft, LeavesJust, OthersStay}
+use Rattle.xl_ports.specs.State.{ShelfState}
 use Rattle.spec_saves.specs.Names.{names, files, out_version}
 use Rattle.spec_saves.specs.Contents.{IsVersion, IsIn, IsSaved}
-use Rattle.spec_saves.specs.Shelf.{Known, file_name, IsSettled}
+use Rattle.spec_saves.specs.Shelf.{file_name, IsSettled}
 
 -- the end of the save that is out
 abbrev pub end_entry : Document → List Entry → (session index : ℕ) → SaveEnd → Entry
@@ -35,13 +36,14 @@ EndsOn Fault name base es opened now = (c : Content) → MayLeave now name c →
 EndsOn Memory name base es opened now =
     ((c : Content) → MayLeave now name c → IsIn base es opened name c (names es)) × IsSettled (names es) name opened now
 
--- what the file may hold under this name, now and at each moment since the shelf was handed out
+-- what the file may hold under this name, now and at each moment since the shelf was handed out; other names stay
 pub record DiskReturns (name : List ℕ) (base : Document) (es : List Entry) (how : SaveEnd) (opened handed now : Disk) : Type 0 where
   pub later : handed.moment ≤ now.moment
   pub within : (c : Content) → MightHaveLeft now name handed.moment c → IsIn base es opened name c (files base es)
   pub left : (since : ℕ) (c : Content) → since ≤ opened.moment → MightHaveLeft now name since c
       → MightHaveLeft opened name since c ⊎ IsSaved base es c
   pub ends : EndsOn how name base es opened now
+  pub elsewhere : OthersStay name handed now
 
 -- only a fault raised the count
 abbrev pub CountEnds : SaveEnd → (old new : ℕ) → Type 0
@@ -50,8 +52,9 @@ CountEnds Fault old new = Rose old new
 CountEnds Memory old new = new ≡ old
 
 -- The shelf that was handed out comes back from the save that is out after these entries.
-pub record Returns (opening handed : Known) (base : Document) (es : List Entry) (how : SaveEnd) (now : Known) : Type 0 where
+pub record Returns (opening handed : ShelfState) (base : Document) (es : List Entry) (how : SaveEnd) (now : ShelfState) : Type 0 where
   pub selected : now.selected ≡ opening.selected
+  pub loads : now.loads ≡ handed.loads
   pub reading : now.reading ≡ handed.reading
   pub saving : CountEnds how handed.saving now.saving
   pub contents : Among opening.disk handed.disk now.disk (DiskReturns (file_name opening) base es how)

@@ -4,20 +4,14 @@ use Rattle.spec_document.specs.Document.{Document}
 use Rattle.spec_history.specs.History.{Entry}
 use Rattle.xl_ports.specs.Shelf.{Content}
 use Rattle.xl_ports.specs.Faults.{last_count}
-use Rattle.xl_ports.specs.Disk.{Disk, MayLeave, MightHaveLeft, LeavesJust, Between}
+use Rattle.xl_ports.specs.Disk.{Disk, MayLeave, MightHaveLeft, LeavesJust, Between, OthersStay}
+use Rattle.xl_ports.specs.State.{ShelfState}
 use Rattle.spec_saves.specs.Names.{Named, the_old, version, names, save_faults}
 use Rattle.spec_saves.specs.Contents.{IsIn, IsSaved}
 
--- what is known of a shelf: the name that is selected, what it holds, and both counts of faults
-pub record Known : Type 0 where
-  pub selected : Option (List ℕ)
-  pub disk : Option Disk
-  pub reading : ℕ
-  pub saving : ℕ
-
 -- the name of the file
-abbrev pub file_name : Known → List ℕ
-file_name known = unwrap_or known.selected []
+abbrev pub file_name : ShelfState → List ℕ
+file_name s = unwrap_or s.selected []
 
 -- where the file has one name, a crash leaves one content; the old one is what a read gave
 abbrev pub IsSettled : List Named → (name : List ℕ) → (opened now : Disk) → Type 0
@@ -26,7 +20,7 @@ IsSettled (the_old ∷ []) name opened now = now.read name ≡ opened.read name
 IsSettled (version v ∷ []) name opened now = LeavesJust now name (now.read name)
 IsSettled (one ∷ two ∷ more) name opened now = Unit {0}
 
--- what the file may hold under this name, now and at each moment
+-- what the file may hold under this name, now and at each moment; other names stay
 pub record DiskIsRight (name : List ℕ) (base : Document) (es : List Entry) (opened now : Disk) : Type 0 where
   pub later : opened.moment ≤ now.moment
   -- a crash now
@@ -35,14 +29,16 @@ pub record DiskIsRight (name : List ℕ) (base : Document) (es : List Entry) (op
   pub left : (since : ℕ) (c : Content) → since ≤ opened.moment → MightHaveLeft now name since c
       → MightHaveLeft opened name since c ⊎ IsSaved base es c
   pub settled : IsSettled (names es) name opened now
+  pub elsewhere : OthersStay name opened now
 
 -- a count rose at least so often, or stands at its end
 abbrev pub RoseOften : (times : ℕ) → (old new : ℕ) → Type 0
 RoseOften times old new = (old + times ≤ new) ⊎ (last_count ≤ new)
 
--- The shelf is that of the opening, after these saves. What the file holds is said where it is known.
-pub record ShelfIsRight (opening : Known) (base : Document) (es : List Entry) (now : Known) : Type 0 where
+-- The shelf is that of the opening, after these saves, and nothing was read of it. What the files hold is said where it is known.
+pub record ShelfIsRight (opening : ShelfState) (base : Document) (es : List Entry) (now : ShelfState) : Type 0 where
   pub selected : now.selected ≡ opening.selected
+  pub loads : now.loads ≡ opening.loads
   pub reading : now.reading ≡ opening.reading
   pub saving_rose : RoseOften (save_faults es) opening.saving now.saving
   pub saving_stays : save_faults es ≡ 0 → now.saving ≡ opening.saving

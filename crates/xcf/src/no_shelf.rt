@@ -16,17 +16,14 @@ impl NoShelf {
 }
 
 impl Shelf for NoShelf {
-    ghost selected = { λ s. Some [] };
-
-    ghost is_open = { λ s. s.open };
-
-    ghost content = { λ s name. None };
-
-    ghost disk = { λ s. None };
-
-    ghost reading_faults = { λ s. last_count };
-
-    ghost saving_faults = { λ s. last_count };
+    ghost state = { λ s. record {
+      selected = Some [];
+      is_open = s.open;
+      disk = None;
+      loads = last_count;
+      reading = last_count;
+      saving = last_count;
+    } };
 
     fn select(&mut self, _name: &str) -> Result<(), Failed> {
         Err(Failed)
@@ -57,6 +54,4 @@ impl Shelf for NoShelf {
     fn settle(&mut self) -> Result<(), Failed> {
         Err(Failed)
     }
-
-    ghost reads = { λ s name. refl };
 }

@@ -12,7 +12,7 @@ use Rattle.spec_world.specs.declared.SaveEnd.TheVariants.{Done, Fault, Memory}
 use Rattle.spec_world.specs.World.{entries_owed}
 use Rattle.spec_world.specs.Events.{end_reply, IsOutOf}
 use Rattle.spec_saves.specs.Names.{version_out, saves_started}
-use Rattle.spec_saves.specs.Shelf.{Known, ShelfIsRight}
+use Rattle.spec_saves.specs.Shelf.{ShelfIsRight}
 use Rattle.spec_saves.specs.Returns.{Returns, end_entry}
 use Rattle.spec_saves.proofs.Staying.{saves_started-snoc, stays_right}
 use Rattle.spec_saves.proofs.Ending.{comes_back_right}
@@ -24,6 +24,7 @@ use Rattle.xl_core.specs.declared.saving.Place.TheVariants.{In, Out}
 use Rattle.xl_standing.specs.Now.{Now, Stands}
 use Rattle.xl_standing.proofs.GoesOn.{out-call}
 use Rattle.xl_standing.proofs.SaveEntries.{stands_ended as ended}
+use Rattle.xl_ports.specs.State.{ShelfState}
 
 -- ---- what stands
 
@@ -80,7 +81,7 @@ pub last-snoc : {K : Type 0} (first : K) (ks : List K) (k : K) → last_of first
 last-snoc first [] k = refl
 last-snoc first (x ∷ ks) k = last-snoc x ks k
 
-module _ {K : Type 0} (see : K → Known) (base : Document) (entries : List Entry) (now : Now) (made : List ℕ)
+module _ {K : Type 0} (see : K → ShelfState) (base : Document) (entries : List Entry) (now : Now) (made : List ℕ)
     (stands : Stands base entries now made) (opening : K) (handed : List K) where
   -- a call leaves the shelf where it is
   pub holds_called : (place : Place K) (room more : ℕ) (session index : ℕ) (call : Call) (tables : List (List ℕ)) (reply : Reply)

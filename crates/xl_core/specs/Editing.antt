@@ -10,8 +10,9 @@ use Rattle.spec_world.specs.World.{World, Job}
 use Rattle.spec_world.specs.Events.{submit, Event, finishes, after, finish_answer, end_reply}
 use Rattle.spec_world.specs.declared.SaveEnd.{SaveEnd}
 use Rattle.xl_ports.specs.Disk.{Disk}
+use Rattle.xl_ports.specs.State.{ShelfState}
 use Rattle.spec_saves.specs.Names.{version_out}
-use Rattle.spec_saves.specs.Shelf.{Known, ShelfIsRight}
+use Rattle.spec_saves.specs.Shelf.{ShelfIsRight}
 use Rattle.spec_saves.specs.Returns.{Returns}
 use Rattle.spec_history.specs.Calls.{most_entries}
 use Rattle.xl_standing.specs.History.{History, version, document}
@@ -87,10 +88,6 @@ handed_in c done = record c { cache = install (place_done done) done.version don
 
 -- ---- shelves
 
--- what is known of a shelf
-abbrev pub known : {K : Type 0} → (selected : K → Option (List ℕ)) → (disk : K → Option Disk) → (reading saving : K → ℕ) → K → Known
-known selected disk reading saving k = record { selected = selected k; disk = disk k; reading = reading k; saving = saving k }
-
 -- the last of some shelves, or the one before them
 abbrev pub last_of : {K : Type 0} → K → List K → K
 last_of first [] = first
@@ -100,7 +97,7 @@ last_of first (k ∷ ks) = last_of k ks
 abbrev pub last_handed : {K : Type 0} → Editing K → K
 last_handed c = last_of c.opening c.handed
 
-module _ {K : Type 0} (see : K → Known) where
+module _ {K : Type 0} (see : K → ShelfState) where
   -- this shelf is right after the history
   abbrev pub IsRight : Editing K → K → Type 0
   IsRight c k = ShelfIsRight (see c.opening) c.history.base c.history.entries (see k)

@@ -6,10 +6,11 @@ use Rattle.spec_history.specs.Machine.{Saving}
 use Rattle.spec_history.specs.History.{Entry, replay}
 use Rattle.spec_world.specs.World.{entries_owed}
 use Rattle.spec_saves.specs.Names.{saves_started}
-use Rattle.spec_saves.specs.Shelf.{Known, ShelfIsRight}
+use Rattle.spec_saves.specs.Shelf.{ShelfIsRight}
 use Rattle.xl_core.specs.Editing.{last_of}
 use Rattle.xl_core.specs.declared.saving.Place.{Place}
 use Rattle.xl_core.specs.declared.saving.Place.TheVariants.{In, Out}
+use Rattle.xl_ports.specs.State.{ShelfState}
 
 -- what was seen
 abbrev pub all_seen : {K : Type 0} → List (Snapshot K) → List K
@@ -34,7 +35,7 @@ IsPlace (Out index version) (Some out) = (index ≡ out.index) × (version ≡ o
 
 -- The shelf is in its place and is right, or was as it was handed out; and there is room for the entry that a save owes.
 pub record Holds {K : Type 0} (see : K
-    → Known) (base : Document) (entries : List Entry) (opening : K) (handed : List K) (place : Place K) (room : ℕ) : Type 0 where
+    → ShelfState) (base : Document) (entries : List Entry) (opening : K) (handed : List K) (place : Place K) (room : ℕ) : Type 0 where
   pub place_is : IsPlace place (replay base entries).out
   pub right : ShelfIsRight (see opening) base entries (see (at_hand opening handed place))
   pub each_start : length handed ≡ saves_started entries

@@ -10,18 +10,18 @@ use Rattle.std.proofs.lemmas.List.Elements.{Contains-push, Contains-push_cases}
 use Rattle.xl_ports.specs.Shelf.{Content, file, IsFile}
 use Rattle.xl_ports.specs.Disk.{MayLeave, Stays, IsQuiet, Swaps, SwapsIn, Settles, SettlesAt}
 use Rattle.xl_ports.proofs.Moments.{stays_on}
-use Rattle.xl_fakes.specs.Kept.{ShelfState, Standing, Past, standing, found, gone_in, disk_of, draft_in, known_content}
+use Rattle.xl_fakes.specs.Kept.{MemoryState, Standing, Past, standing, found, gone_in, disk_of, draft_in, known_content}
 use Rattle.xl_fakes.specs.Kept.{NotesOrNot, KeepsFiles, IsSwapped, IsSettled}
 use Rattle.xl_fakes.proofs.Places.{named, not_named}
 use Rattle.xl_fakes.proofs.Records.{elapses_noted, elapses_push, stays_if, quiet_if}
 
-pub keeps_quiet : (a b : ShelfState) → KeepsFiles a b → IsQuiet (disk_of a) (disk_of b)
+pub keeps_quiet : (a b : MemoryState) → KeepsFiles a b → IsQuiet (disk_of a) (disk_of b)
 keeps_quiet a b keeps = quiet_if a b (λ name. λ i. standing (keeps.here i) (keeps.files i) name) keeps.log
 
-pub keeps_content : (a b : ShelfState) → KeepsFiles a b → known_content b ≡ known_content a
+pub keeps_content : (a b : MemoryState) → KeepsFiles a b → known_content b ≡ known_content a
 keeps_content a b keeps = λ i name. Some (standing (keeps.here i) (keeps.files i) name).read
 
-pub same_content : (a b : ShelfState) → ((name : List ℕ) → standing b.here b.files name ≡ standing a.here a.files name)
+pub same_content : (a b : MemoryState) → ((name : List ℕ) → standing b.here b.files name ≡ standing a.here a.files name)
     → known_content b ≡ known_content a
 same_content a b same = λ i name. Some (same name i).read
 
@@ -41,7 +41,7 @@ off_name here files h other is differ = ap (λ (o : Option Standing). standing o
     ∙ ap (λ (r : Bool). if r then h else found files other) (not_named h.name other (λ e. differ (sym e)))
 
 -- the selected name is kept otherwise, and the others are not
-module _ (a b : ShelfState) (h k : Standing) (old : a.here ≡ Some h) (new : b.here ≡ Some k) (same_name : k.name ≡ h.name)
+module _ (a b : MemoryState) (h k : Standing) (old : a.here ≡ Some h) (new : b.here ≡ Some k) (same_name : k.name ≡ h.name)
     (files : b.files ≡ a.files) where
   new_at : (P : Standing → Type 0) → P k → P (standing b.here b.files h.name)
   new_at P p = subst P (sym (subst (λ (n : List ℕ). standing b.here b.files n ≡ k) same_name (at_name b.here b.files k new))) p
@@ -107,7 +107,7 @@ rest_of_more : (x c : Content) (xs : List Content) → Contains xs c → Contain
 rest_of_more x c xs at = Contains-append_right (x ∷ []) xs c at
 
 -- the draft took the name
-pub swapped_in : (a b : ShelfState) (h : Standing) → a.here ≡ Some h
+pub swapped_in : (a b : MemoryState) (h : Standing) → a.here ≡ Some h
     → b.here ≡ Some (record { name = h.name; read = file (draft_in a.draft).bytes; others = h.read ∷ h.others }) → b.files ≡ a.files
     → NotesOrNot a.log b.log
     → Swaps h.name (disk_of a) (disk_of b) × ((disk_of b).read h.name ≡ file (draft_in a.draft).bytes)
@@ -120,7 +120,7 @@ swapped_in a b h old new files log =
     )
 
 -- it did not
-pub not_swapped : (a b : ShelfState) (h : Standing) → a.here ≡ Some h → b.here ≡ Some h → b.files ≡ a.files → NotesOrNot a.log b.log
+pub not_swapped : (a b : MemoryState) (h : Standing) → a.here ≡ Some h → b.here ≡ Some h → b.files ≡ a.files → NotesOrNot a.log b.log
     → Swaps h.name (disk_of a) (disk_of b)
     × (((disk_of b).read h.name ≡ (disk_of a).read h.name) ⊎ ((disk_of b).read h.name ≡ file (draft_in a.draft).bytes))
 not_swapped a b h old new files log = (
@@ -129,7 +129,7 @@ not_swapped a b h old new files log = (
 )
 
 -- it may be left too
-pub left_beside : (a b : ShelfState) (h : Standing) → a.here ≡ Some h
+pub left_beside : (a b : MemoryState) (h : Standing) → a.here ≡ Some h
     → b.here ≡ Some (record { name = h.name; read = h.read; others = h.others ++ file (draft_in a.draft).bytes ∷ [] })
     → b.files ≡ a.files → NotesOrNot a.log b.log
     → Swaps h.name (disk_of a) (disk_of b)
@@ -144,7 +144,7 @@ left_beside a b h old new files log =
       inl (new_read a b h k old new refl files ∙ sym (old_read a b h k old new refl files)),
     )
 
-pub swap_tells : {A E : Type 0} (result : Result A E) (a b : ShelfState)
+pub swap_tells : {A E : Type 0} (result : Result A E) (a b : MemoryState)
     → IfSome a.here (λ h. IsSwapped result h (draft_in a.draft) b.here) → b.files ≡ a.files → NotesOrNot a.log b.log
     → IfSome (option_map (λ (h : Standing). h.name) a.here) (λ name. SwapsIn result name (disk_of a) (disk_of b))
 swap_tells result a b is files log = by_here a.here refl is
@@ -161,7 +161,7 @@ swap_tells result a b is files log = by_here a.here refl is
     by_here (Some h) old new = of_result result h old new
 
 -- all went but what a read gives
-pub let_go : (a b : ShelfState) (h : Standing) → a.here ≡ Some h
+pub let_go : (a b : MemoryState) (h : Standing) → a.here ≡ Some h
     → b.here ≡ Some (record { name = h.name; read = h.read; others = [] }) → b.files ≡ a.files
     → b.log ≡ a.log ++ Some (record { name = h.name; gone = h.others }) ∷ []
     → Settles h.name (disk_of a) (disk_of b) × ((c : Content) → MayLeave (disk_of b) h.name c → c ≡ (disk_of b).read h.name)
@@ -201,7 +201,7 @@ let_go a b h old new files log =
     none c at = omega (arith, at.1)
 
 -- nothing went
-pub kept_all : (a b : ShelfState) (h : Standing) → a.here ≡ Some h → b.here ≡ Some h → b.files ≡ a.files → NotesOrNot a.log b.log
+pub kept_all : (a b : MemoryState) (h : Standing) → a.here ≡ Some h → b.here ≡ Some h → b.files ≡ a.files → NotesOrNot a.log b.log
     → Settles h.name (disk_of a) (disk_of b) × ((disk_of b).others h.name ≡ (disk_of a).others h.name)
 kept_all a b h old new files log =
     let same : (name : List ℕ) → standing b.here b.files name ≡ standing a.here a.files name =
@@ -211,7 +211,7 @@ kept_all a b h old new files log =
       (quiet.stays h.name).others,
     )
 
-pub settle_tells : {A E : Type 0} (result : Result A E) (a b : ShelfState)
+pub settle_tells : {A E : Type 0} (result : Result A E) (a b : MemoryState)
     → IfSome a.here (λ h. IsSettled result h a.log b.here b.log) → b.files ≡ a.files
     → IfSome (option_map (λ (h : Standing). h.name) a.here) (λ name. SettlesAt result name (disk_of a) (disk_of b))
 settle_tells result a b is files = by_here a.here refl is

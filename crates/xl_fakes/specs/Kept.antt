@@ -25,13 +25,14 @@ pub record Past : Type 0 where
   pub gone : List Content
 
 -- A shelf in memory: what it keeps under the selected name and under the others, the draft, a record of all calls, which
--- has an entry where a name was settled, how often it found no memory, and the calls.
-pub record ShelfState : Type 0 where
+-- has an entry where a name was settled, how often it found no memory, how often it was asked for bytes, and the calls.
+pub record MemoryState : Type 0 where
   pub here : Option Standing
   pub files : List Standing
   pub draft : Option Draft
   pub log : List (Option Past)
   pub starved : ℕ
+  pub loads : ℕ
   pub calls : ShelfCalls
 
 -- no file, or a file of these bytes
@@ -118,7 +119,7 @@ draft_in None = empty_draft
 draft_in (Some draft) = draft
 
 -- what is known of the shelf
-abbrev pub disk_of : ShelfState → Disk
+abbrev pub disk_of : MemoryState → Disk
 disk_of s = record {
   read = λ name. (standing s.here s.files name).read;
   others = λ name. (standing s.here s.files name).others;
@@ -142,17 +143,17 @@ abbrev pub NotesOrNot : (old new : List (Option Past)) → Type 0
 NotesOrNot old new = Notes old new ⊎ (new ≡ old)
 
 -- what the selected name stands for
-abbrev pub shown : ShelfState → Option Content
+abbrev pub shown : MemoryState → Option Content
 shown s = option_map (λ h. h.read) s.here
 
 -- what is kept under each name stays
-pub record KeepsFiles (old new : ShelfState) : Type 0 where
+pub record KeepsFiles (old new : MemoryState) : Type 0 where
   pub here : new.here ≡ old.here
   pub files : new.files ≡ old.files
   pub log : NotesOrNot old.log new.log
 
 -- a call that saves failed just where it was to fail, or for want of memory inside, which it counted
-pub record EndsSaving {A E : Type 0} (result : Result A E) (old new : ShelfState) : Type 0 where
+pub record EndsSaving {A E : Type 0} (result : Result A E) (old new : MemoryState) : Type 0 where
   pub fails : NextCallFails old.calls → IsErr result
   pub starved : OnErr result (NextCallFails old.calls ⊎ Rose old.starved new.starved)
   pub not_starved : OnOk result (new.starved ≡ old.starved)
@@ -161,7 +162,7 @@ pub record EndsSaving {A E : Type 0} (result : Result A E) (old new : ShelfState
   pub cause : HasCause old.calls.saving new.calls.saving result
 
 -- the same of a call that reads, which may fail for a further reason
-pub record EndsReading {A E : Type 0} (reason : Type 0) (result : Result A E) (old new : ShelfState) : Type 0 where
+pub record EndsReading {A E : Type 0} (reason : Type 0) (result : Result A E) (old new : MemoryState) : Type 0 where
   pub fails : NextCallFails old.calls → IsErr result
   pub starved : OnErr result (NextCallFails old.calls ⊎ reason ⊎ Rose old.starved new.starved)
   pub not_starved : OnOk result (new.starved ≡ old.starved)
@@ -179,7 +180,7 @@ IsSwapped (Ok x) old draft new = new ≡ Some (record { name = old.name; read = 
 IsSwapped (Err e) old draft new = (new ≡ Some old) ⊎ MayBeLeft old draft new
 
 -- the draft may be left too; or there was no memory for that, and what is kept stays
-abbrev pub LeavesBoth : (old new : ShelfState) → Type 0
+abbrev pub LeavesBoth : (old new : MemoryState) → Type 0
 LeavesBoth old new = (IfSome old.here (λ h. MayBeLeft h (draft_in old.draft) new.here) × (new.starved ≡ old.starved))
     ⊎ ((new.here ≡ old.here) × Rose old.starved new.starved)
 
@@ -191,5 +192,5 @@ IsSettled (Ok x) old log new new_log = (new ≡ Some (record { name = old.name; 
 IsSettled (Err e) old log new new_log = (new ≡ Some old) × NotesOrNot log new_log
 
 -- what each name stands for
-abbrev pub known_content : ShelfState → (name : List ℕ) → Option Content
+abbrev pub known_content : MemoryState → (name : List ℕ) → Option Content
 known_content s name = Some (standing s.here s.files name).read

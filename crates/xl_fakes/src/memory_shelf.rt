@@ -2,7 +2,7 @@ ghost use Rattle.std.specs.Prelude.{◌≡◌, refl, ◌⊎◌, ◌<◌, ◌≤�
 ghost use Rattle.std.specs.Prelude.{take, min, ◌^◌, ◌-◌, map, IfOk, OnOk, OnErr, IsErr, is_err, is_ok, is_some, IsSome};
 ghost use Rattle.std.specs.Prelude.{option_copied, option_map, string_bytes, IfSome, if◌then◌else◌};
 ghost use Rattle.std.specs.Str.{bytes_eq};
-ghost use Rattle.xl_ports.specs.Faults.{HasCause, Rose};
+ghost use Rattle.xl_ports.specs.Faults.{Counted, HasCause, Rose};
 ghost use Rattle.xl_ports.specs.Shelf.{absent, file, GivesPart};
 ghost use Rattle.xl_ports.specs.Disk.{IsQuiet, SwapsIn, SettlesAt, empty_draft};
 ghost use Rattle.xl_fakes.specs.Fakes.{next_count};
@@ -32,13 +32,14 @@ pub struct MemoryShelf {
     // An entry for each call.
     log: Vec<Option<Settled>>,
     starved: u64,
+    loads: u64,
     calls: ShelfCalls,
 }
 
 impl Model for MemoryShelf {
-    ghost use Rattle.xl_fakes.specs.Kept.{ShelfState};
+    ghost use Rattle.xl_fakes.specs.Kept.{MemoryState};
 
-    ghost Value = { ShelfState };
+    ghost Value = { MemoryState };
 
     ghost view = { λ s. record {
       here = s.here;
@@ -46,6 +47,7 @@ impl Model for MemoryShelf {
       draft = s.draft;
       log = s.log.items;
       starved = s.starved;
+      loads = s.loads;
       calls = s.calls;
     } };
 }
@@ -67,6 +69,7 @@ impl MemoryShelf {
           draft = None;
           log = [];
           starved = 0;
+          loads = 0;
           calls = no_shelf_calls fails.items stop;
         }) }
     {
@@ -77,6 +80,7 @@ impl MemoryShelf {
             draft: None,
             log: Vec::new(alloc),
             starved: 0,
+            loads: 0,
             calls: ShelfCalls::new(fails, stop),
         })
     }
@@ -161,6 +165,7 @@ impl MemoryShelf {
         ensures known { KnowsToo result name.now self.old.here self.old.files self.new.here self.new.files }
         ensures log { NotesOrNot self.old.log self.new.log }
         ensures noted { OnOk result (Notes self.old.log self.new.log) }
+        ensures loads { self.new.loads ≡ self.old.loads }
         ensures ends { EndsReading ⊥ result self.old self.new }
     {
         let failed = self.calls.next_fails();
@@ -182,6 +187,7 @@ impl MemoryShelf {
         ensures closed { OnErr result (self.new.draft ≡ None) }
         ensures keeps { KeepsFiles self.old self.new }
         ensures noted { OnOk result (Notes self.old.log self.new.log) }
+        ensures loads { self.new.loads ≡ self.old.loads }
         ensures ends { EndsSaving result self.old self.new }
     {
         self.draft = None;
@@ -201,6 +207,7 @@ impl MemoryShelf {
         ensures not_synced { (draft_in self.new.draft).is_synced ≡ false }
         ensures keeps { KeepsFiles self.old self.new }
         ensures noted { OnOk result (Notes self.old.log self.new.log) }
+        ensures loads { self.new.loads ≡ self.old.loads }
         ensures ends { EndsSaving result self.old self.new }
     {
         let mut draft = self.draft.take().unwrap();
@@ -223,6 +230,7 @@ impl MemoryShelf {
         ensures synced { (draft_in self.new.draft).is_synced ≡ is_ok result }
         ensures keeps { KeepsFiles self.old self.new }
         ensures noted { OnOk result (Notes self.old.log self.new.log) }
+        ensures loads { self.new.loads ≡ self.old.loads }
         ensures ends { EndsSaving result self.old self.new }
     {
         let mut draft = self.draft.take().unwrap();
@@ -249,6 +257,7 @@ impl MemoryShelf {
         ensures starved { OnErr result (NextCallFails self.old.calls ⊎ (self.new.here ≡ self.old.here)) }
         ensures log { NotesOrNot self.old.log self.new.log }
         ensures noted { OnOk result (Notes self.old.log self.new.log) }
+        ensures loads { self.new.loads ≡ self.old.loads }
         ensures ends { EndsSaving result self.old self.new }
     {
         let bytes = self.draft.take().unwrap().into_bytes();
@@ -274,6 +283,7 @@ impl MemoryShelf {
         ensures draft { self.new.draft ≡ self.old.draft }
         ensures files { self.new.files ≡ self.old.files }
         ensures here { IfSome self.old.here (λ h. IsSettled result h self.old.log self.new.here self.new.log) }
+        ensures loads { self.new.loads ≡ self.old.loads }
         ensures ends { EndsSaving result self.old self.new }
     {
         let failed = self.calls.next_fails();
@@ -294,8 +304,10 @@ impl MemoryShelf {
         ensures draft { self.new.draft ≡ self.old.draft }
         ensures keeps { KeepsFiles self.old self.new }
         ensures noted { OnOk result (Notes self.old.log self.new.log) }
+        ensures counted { Counted self.old.loads self.new.loads }
         ensures ends { EndsReading (shown self.old ≡ Some absent) result self.old self.new }
     {
+        self.loads = self.loads.saturating_add(1);
         let failed = self.calls.next_fails();
         let starved = note(&mut self.log).is_err();
         if failed || starved {
@@ -309,17 +321,14 @@ impl MemoryShelf {
 }
 
 impl Shelf for MemoryShelf {
-    ghost selected = { λ s. option_map (λ h. h.name) s.here };
-
-    ghost is_open = { λ s. is_some s.draft };
-
-    ghost content = { known_content };
-
-    ghost disk = { λ s. Some (disk_of s) };
-
-    ghost reading_faults = { λ s. s.calls.reading };
-
-    ghost saving_faults = { λ s. s.calls.saving };
+    ghost state = { λ s. record {
+      selected = option_map (λ h. h.name) s.here;
+      is_open = is_some s.draft;
+      disk = Some (disk_of s);
+      loads = s.loads;
+      reading = s.calls.reading;
+      saving = s.calls.saving;
+    } };
 
     fn select(&mut self, name: &str) -> Result<(), Failed>
         ensures selected { OnOk result (option_map (λ h. h.name) self.new.here ≡ Some name.now) }
@@ -331,6 +340,7 @@ impl Shelf for MemoryShelf {
         ensures quiet { IsQuiet (disk_of self.old) (disk_of self.new) }
         ensures advances { OnOk result (length self.old.log < length self.new.log) }
         ensures saving { self.new.calls.saving ≡ self.old.calls.saving }
+        ensures loads { self.new.loads ≡ self.old.loads }
         ensures cause { HasCause self.old.calls.reading self.new.calls.reading result }
         ensures ends { EndsReading ⊥ result self.old self.new }
         ensures known { KnowsToo result name.now self.old.here self.old.files self.new.here self.new.files }
@@ -349,6 +359,7 @@ impl Shelf for MemoryShelf {
         ensures quiet { IsQuiet (disk_of self.old) (disk_of self.new) }
         ensures advances { OnOk result (length self.old.log < length self.new.log) }
         ensures saving { self.new.calls.saving ≡ self.old.calls.saving }
+        ensures counted { Counted self.old.loads self.new.loads }
         ensures cause { HasCause self.old.calls.reading self.new.calls.reading result }
         ensures ends { EndsReading (shown self.old ≡ Some absent) result self.old self.new }
     {
@@ -364,6 +375,7 @@ impl Shelf for MemoryShelf {
         ensures quiet { IsQuiet (disk_of self.old) (disk_of self.new) }
         ensures advances { OnOk result (length self.old.log < length self.new.log) }
         ensures reading { self.new.calls.reading ≡ self.old.calls.reading }
+        ensures loads { self.new.loads ≡ self.old.loads }
         ensures cause { HasCause self.old.calls.saving self.new.calls.saving result }
         ensures ends { EndsSaving result self.old self.new }
     {
@@ -380,6 +392,7 @@ impl Shelf for MemoryShelf {
         ensures quiet { IsQuiet (disk_of self.old) (disk_of self.new) }
         ensures advances { OnOk result (length self.old.log < length self.new.log) }
         ensures reading { self.new.calls.reading ≡ self.old.calls.reading }
+        ensures loads { self.new.loads ≡ self.old.loads }
         ensures cause { HasCause self.old.calls.saving self.new.calls.saving result }
         ensures ends { EndsSaving result self.old self.new }
     {
@@ -397,6 +410,7 @@ impl Shelf for MemoryShelf {
         ensures quiet { IsQuiet (disk_of self.old) (disk_of self.new) }
         ensures advances { OnOk result (length self.old.log < length self.new.log) }
         ensures reading { self.new.calls.reading ≡ self.old.calls.reading }
+        ensures loads { self.new.loads ≡ self.old.loads }
         ensures cause { HasCause self.old.calls.saving self.new.calls.saving result }
         ensures ends { EndsSaving result self.old self.new }
     {
@@ -412,6 +426,7 @@ impl Shelf for MemoryShelf {
         ensures selected { option_map (λ h. h.name) self.new.here ≡ option_map (λ h. h.name) self.old.here }
         ensures advances { OnOk result (length self.old.log < length self.new.log) }
         ensures reading { self.new.calls.reading ≡ self.old.calls.reading }
+        ensures loads { self.new.loads ≡ self.old.loads }
         ensures cause { HasCause self.old.calls.saving self.new.calls.saving result }
         ensures ends { EndsSaving result self.old self.new }
         ensures stopped { IsStopped self.old.calls → self.new.here ≡ self.old.here }
@@ -430,13 +445,12 @@ impl Shelf for MemoryShelf {
         ensures selected { option_map (λ h. h.name) self.new.here ≡ option_map (λ h. h.name) self.old.here }
         ensures advances { OnOk result (length self.old.log < length self.new.log) }
         ensures reading { self.new.calls.reading ≡ self.old.calls.reading }
+        ensures loads { self.new.loads ≡ self.old.loads }
         ensures cause { HasCause self.old.calls.saving self.new.calls.saving result }
         ensures ends { EndsSaving result self.old self.new }
     {
         self.settle_name()
     }
-
-    ghost reads = { λ s name. refl };
 }
 
 // The bytes that a read gives from an offset on, as many as there is room for.

@@ -5,7 +5,6 @@ use Rattle.spec_document.specs.Document.{Document}
 use Rattle.spec_world.specs.declared.SaveEnd.{SaveEnd}
 use Rattle.spec_world.specs.declared.SaveEnd.TheVariants.{Done, Fault}
 use Rattle.spec_world.specs.Events.{end_reply, IsOutOf}
-use Rattle.spec_saves.specs.Shelf.{Known}
 use Rattle.spec_saves.specs.Returns.{Returns}
 use Rattle.xl_core.specs.declared.saving.Begun.TheVariants.{Snapshot}
 use Rattle.xl_snapshot.specs.Saving.{IsSavedOn}
@@ -27,6 +26,7 @@ use Rattle.xl_edit.specs.Replies.{reply_of}
 use Rattle.xl_script.specs.Printed.{HasText}
 use Rattle.xl_play.specs.Playing.{ArePlayed, IsBetweenLines, with_save}
 use Rattle.xl_play.proofs.Played.{played_save}
+use Rattle.xl_ports.specs.State.{ShelfState}
 
 -- the save that is out after its start
 pub out_after_start : (h : History) (session : ℕ)
@@ -104,7 +104,7 @@ module _ {D : Type 0} where
       subst (λ (c : Editing D). IsOutOf (out_of c.history) session) (sym begins.4)
       (subst (λ (o : Option Saving). IsOutOf o session) (sym out.1) (sym out.2))
 
-  pub begun_back : (see : D → Known) (core mid : Editing D) (session v : ℕ) (d : Document) (k k' : D) (how : SaveEnd)
+  pub begun_back : (see : D → ShelfState) (core mid : Editing D) (session v : ℕ) (d : Document) (k k' : D) (how : SaveEnd)
       → Begins core session (Snapshot v d k) mid
       → IsLegal core.history.base core.history.entries → IsRight see core k → IsSavedOn (see k) d how (see k')
       → ComesBack see mid how k'

@@ -9,7 +9,7 @@ use Rattle.spec_history.specs.History.{Entry}
 use Rattle.spec_history.specs.Kept.{IsLegal}
 use Rattle.spec_history.proofs.Growing.{IsLegal-empty}
 use Rattle.spec_saves.specs.Names.{save_faults}
-use Rattle.spec_saves.specs.Shelf.{Known, ShelfIsRight}
+use Rattle.spec_saves.specs.Shelf.{ShelfIsRight}
 use Rattle.spec_saves.proofs.Staying.{opened_right}
 use Rattle.spec_filters.specs.declared.FilterState.{FilterState}
 use Rattle.spec_script.specs.Script.{Line}
@@ -20,12 +20,13 @@ use Rattle.xl_play.specs.Playing.{AreOfFirst}
 use Rattle.xl_play.specs.Versions.{AreWithin}
 use Rattle.xl_play.specs.declared.playing.Replies.{Replies}
 use Rattle.xl_play.proofs.VersionsWithin.{first_within}
+use Rattle.xl_ports.specs.State.{ShelfState}
 
 -- without memory for a core nothing was played
-pub nothing_played : (k now : Known) (d : Document) (lists : List (List Line)) (chests : List (List FilterState)) (workers : ℕ)
+pub nothing_played : (k now : ShelfState) (d : Document) (lists : List (List Line)) (chests : List (List FilterState)) (workers : ℕ)
     (e : AllocError) → now ≡ k → IsDocument d → IsPlayed k now d lists chests workers (Err e)
 nothing_played k now d lists chests workers e same within =
-    subst (λ (n : Known). IsPlayed k n d lists chests workers (Err e)) (sym same)
+    subst (λ (n : ShelfState). IsPlayed k n d lists chests workers (Err e)) (sym same)
     (record {
       entries = [];
       legal = IsLegal-empty d;
@@ -35,7 +36,7 @@ nothing_played k now d lists chests workers e same within =
     })
 
 -- the history of a core that was played on, and the shelf that comes back
-pub played_on : {D : Type 0} (see : D → Known) (old new : Editing D) (back : D) (lists : List (List Line))
+pub played_on : {D : Type 0} (see : D → ShelfState) (old new : Editing D) (back : D) (lists : List (List Line))
     (chests : List (List FilterState)) (workers : ℕ) (replies : Result Replies AllocError)
     → new.history.base ≡ old.history.base → new.opening ≡ old.opening → IsLegal new.history.base new.history.entries
     → AreWithin new.history.base new.history.entries → IsRight see new back
@@ -65,17 +66,17 @@ told_together base lists chests workers es text (Ok told) together is same faile
 told_together base lists chests workers es text (Err e) together is same failed = tt
 
 -- the same of the document, the lines and the shelf that were handed in
-pub same_played : (k first now : Known) (d base : Document) (lists others : List (List Line)) (chests : List (List FilterState))
+pub same_played : (k first now : ShelfState) (d base : Document) (lists others : List (List Line)) (chests : List (List FilterState))
     (workers : ℕ) (replies : Result Replies AllocError)
     → first ≡ k → base ≡ d → others ≡ lists → IsPlayed first now base others chests workers replies
     → IsPlayed k now d lists chests workers replies
 same_played k first now d base lists others chests workers replies opening same_document same_lists played =
     subst (λ (x : Document). IsPlayed k now x lists chests workers replies) same_document
     (subst (λ (ls : List (List Line)). IsPlayed k now base ls chests workers replies) same_lists
-    (subst (λ (o : Known). IsPlayed o now base others chests workers replies) opening played))
+    (subst (λ (o : ShelfState). IsPlayed o now base others chests workers replies) opening played))
 
 -- the same of an edit that asks for no worker
-pub without_workers : (k now : Known) (d : Document) (lists : List (List Line)) (chests : List (List FilterState)) (workers : ℕ)
+pub without_workers : (k now : ShelfState) (d : Document) (lists : List (List Line)) (chests : List (List FilterState)) (workers : ℕ)
     (replies : Result Replies AllocError)
     → workers ≡ 0 → IsPlayed k now d lists chests 0 replies → IsPlayed k now d lists chests workers replies
 without_workers k now d lists chests workers replies none played =

@@ -7,11 +7,12 @@ use Rattle.spec_script.specs.Script as script
 use Rattle.spec_history.specs.History.{Entry}
 use Rattle.spec_history.specs.Kept.{IsLegal}
 use Rattle.spec_saves.specs.Names.{save_faults}
-use Rattle.spec_saves.specs.Shelf.{Known, ShelfIsRight}
+use Rattle.spec_saves.specs.Shelf.{ShelfIsRight}
 use Rattle.spec_text.specs.Text.{IsTextOf, Alone}
 use Rattle.xl_play.specs.Playing.{AreOfFirst}
 use Rattle.xl_play.specs.Versions.{AreWithin}
 use Rattle.xl_play.specs.declared.playing.Replies.{Replies}
+use Rattle.xl_ports.specs.State.{ShelfState}
 
 -- how many saves of a run may have failed
 abbrev pub NoneFailed : (faults : ℕ) → Type 0
@@ -39,7 +40,7 @@ pub record IsToldOf
 
 -- a legal history, its versions within the limits, the shelf after its saves, and its text unless memory ran out
 pub record IsPlayed
-    (opening now : Known) (document : Document) (lists : List (List script.Line)) (chests : List (List FilterState)) (workers : ℕ)
+    (opening now : ShelfState) (document : Document) (lists : List (List script.Line)) (chests : List (List FilterState)) (workers : ℕ)
     (replies : Result Replies AllocError) : Type 0 where
   pub entries : List Entry
   pub legal : IsLegal document entries

@@ -4,7 +4,7 @@ ghost use Rattle.spec_document.specs.Limits.{IsDocument};
 ghost use Rattle.spec_saves.specs.Names.{save_faults};
 ghost use Rattle.spec_script.specs.Fits.{FitsFilters};
 ghost use Rattle.spec_world.specs.Right as worlds;
-ghost use Rattle.xl_core.specs.Editing.{known, world};
+ghost use Rattle.xl_core.specs.Editing.{world};
 ghost use Rattle.xl_doc.specs.Numbered.{AreNumbered};
 ghost use Rattle.xl_play.specs.Told.{IsPlayed, WhetherFailed};
 ghost use Rattle.xl_play.specs.Playing.{AreOfFirst, KeepsExactly};
@@ -67,11 +67,11 @@ fn play_alone<D: Shelf, G: Gate>(
     requires fresh { core.history.entries ≡ [] }
     requires kept { KeepsExactly core }
     requires inside { IsSome core.shelf }
-    requires selected { IsSome (D.selected core.opening) }
+    requires selected { IsSome (D.state core.opening).selected }
     requires boxes { AllByRecursion (λ boxes. length boxes.items < 2 ^ 32) chest.items }
     requires fits { FitsFilters (map length (states_of (λ b. state b) chest.items)) (lists_of script) }
-    ensures { IsPlayed (known D.selected D.disk D.reading_faults D.saving_faults core.opening)
-        (known D.selected D.disk D.reading_faults D.saving_faults result.shelf)
+    ensures { IsPlayed (D.state core.opening)
+        (D.state result.shelf)
         core.history.base (lists_of script) (states_of (λ b. state b) chest.items) 0 result.replies }
 {
     let replies = play(alloc, &mut core, gate, script, chest);
@@ -111,14 +111,14 @@ fn play_together<R: Threads + Wait + Sync, D: Shelf, G: Gate>(
     requires handed { core.handed ≡ [] }
     requires right { worlds.IsRight core.history.base (world core) }
     requires inside { IsSome core.shelf }
-    requires selected { IsSome (D.selected core.opening) }
+    requires selected { IsSome (D.state core.opening).selected }
     requires boxes { AllByRecursion (λ boxes. length boxes.items < 2 ^ 32) chest.items }
     requires fits { FitsFilters (map length (states_of (λ b. state b) chest.items)) (lists_of script) }
     requires eight { length (lists_of script) ≡ 8 }
     requires workers { workers ≤ 8 }
     requires together { workers ≡ 0 → AreOfFirst (lists_of script) → ⊥ }
-    ensures { IsPlayed (known D.selected D.disk D.reading_faults D.saving_faults core.opening)
-        (known D.selected D.disk D.reading_faults D.saving_faults result.shelf)
+    ensures { IsPlayed (D.state core.opening)
+        (D.state result.shelf)
         core.history.base (lists_of script) (states_of (λ b. state b) chest.items) workers result.replies }
 {
     let PlayedBeside { core, text } = play_beside(rt, alloc, core, script, chest, workers, gate);
@@ -143,12 +143,12 @@ pub fn run_script<R: Threads + Wait + Sync, D: Shelf, G: Gate>(
 ) -> Played<D>
     requires limits { IsDocument document }
     requires numbered { AreNumbered document.nodes }
-    requires selected { IsSome (D.selected shelf) }
+    requires selected { IsSome (D.state shelf).selected }
     requires boxes { AllByRecursion (λ boxes. length boxes.items < 2 ^ 32) chest.items }
     requires fits { FitsFilters (map length (states_of (λ b. state b) chest.items)) (lists_of script) }
     requires workers { workers ≤ 8 }
-    ensures { IsPlayed (known D.selected D.disk D.reading_faults D.saving_faults shelf)
-        (known D.selected D.disk D.reading_faults D.saving_faults result.shelf)
+    ensures { IsPlayed (D.state shelf)
+        (D.state result.shelf)
         document (lists_of script) (states_of (λ b. state b) chest.items) workers result.replies }
 {
     let core = match open_core(alloc, document, shelf) {

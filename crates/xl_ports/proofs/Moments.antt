@@ -2,7 +2,7 @@
 use Rattle.std.proofs.Common.{◌≡◌, ◌⊎◌, inl, inr, ⊎_elim, ℕ, ◌+◌, ◌-◌, ◌≤◌, List, Option, Some, None, refl, sym, ◌∙◌, subst, arith}
 use Rattle.std.specs.Prelude.{Contains}
 use Rattle.xl_ports.specs.Shelf.{Content}
-use Rattle.xl_ports.specs.Disk.{Disk, MayLeave, MightHaveLeft, Between, Elapses, Stays, IsQuiet}
+use Rattle.xl_ports.specs.Disk.{Disk, MayLeave, MightHaveLeft, Between, Elapses, Stays, IsQuiet, StaysThrough, OthersStay}
 
 -- one relation after another, where the disks are known
 pub one_then : (R S T : Disk → Disk → Type 0) → ((a b c : Disk) → R a b → S b c → T a c) → (old mid new : Option Disk)
@@ -74,6 +74,46 @@ quiet_then a b c first second = record {
         (first.time.keeps name since x le left);
   };
 }
+
+-- ---- names that stay at each moment
+
+through_still : (a : Disk) (name : List ℕ) → StaysThrough a a name
+through_still a name = record {
+  later = omega arith;
+  stays = record { read = refl; others = refl };
+  nothing_new = λ since x le left. left;
+  keeps = λ since x le left. left;
+}
+
+through_then : (a b c : Disk) (name : List ℕ) → StaysThrough a b name → StaysThrough b c name → StaysThrough a c name
+through_then a b c name first second =
+    let later = first.later in
+    record {
+      later = omega (arith, later, second.later);
+      stays = stays_then name first.stays second.stays;
+      nothing_new = λ since x le left. first.nothing_new since x le (second.nothing_new since x (omega (arith, le, later)) left);
+      keeps = λ since x le left. second.keeps since x (omega (arith, le, later)) (first.keeps since x le left);
+    }
+
+pub quiet_through : (a b : Disk) (name : List ℕ) → IsQuiet a b → StaysThrough a b name
+quiet_through a b name quiet = record {
+  later = quiet.time.later;
+  stays = quiet.stays name;
+  nothing_new = λ since x le left. ⊎_elim (λ was. was) (λ may. inl (stays_back a b name (quiet.stays name) x may))
+      (quiet.time.nothing_else name since x le left);
+  keeps = quiet.time.keeps name;
+}
+
+pub others_still : (a : Disk) (name : List ℕ) → OthersStay name a a
+others_still a name other not = through_still a other
+
+pub others_then : (a b c : Disk) (name : List ℕ) → OthersStay name a b → OthersStay name b c → OthersStay name a c
+others_then a b c name first second other not = through_then a b c other (first other not) (second other not)
+
+pub quiet_others : (a b : Disk) (name : List ℕ) → IsQuiet a b → OthersStay name a b
+quiet_others a b name quiet other not = quiet_through a b other quiet
+
+-- ---- calls that change nothing
 
 pub quiet_still : (a : Disk) → IsQuiet a a
 quiet_still a = record { stays = λ name. record { read = refl; others = refl }; time = no_time a }

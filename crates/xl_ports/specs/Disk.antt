@@ -71,6 +71,19 @@ pub record IsQuiet (before after : Disk) : Type 0 where
   pub stays : (name : List ℕ) → Stays before after name
   pub time : Elapses before after
 
+-- under this name a read and a crash give what they gave, and at each moment a crash left what it might have left before
+pub record StaysThrough (before after : Disk) (name : List ℕ) : Type 0 where
+  pub later : before.moment ≤ after.moment
+  pub stays : Stays before after name
+  pub nothing_new : (since : ℕ) (c : Content) → since ≤ before.moment → MightHaveLeft after name since c
+      → MightHaveLeft before name since c
+  pub keeps : (since : ℕ) (c : Content) → since ≤ before.moment → MightHaveLeft before name since c
+      → MightHaveLeft after name since c
+
+-- so it is under each other name
+abbrev pub OthersStay : (name : List ℕ) → (before after : Disk) → Type 0
+OthersStay name before after = (other : List ℕ) → (other ≡ name → ⊥) → StaysThrough before after other
+
 -- The draft joins what a crash may leave under this name, or does not. Of a draft that was not synced a file of any bytes
 -- may be left.
 pub record Swaps (name : List ℕ) (before after : Disk) : Type 0 where

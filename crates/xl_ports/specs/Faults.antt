@@ -1,5 +1,5 @@
--- When a device may answer that it failed: each has a count of its faults, which never falls.
-use Rattle.std.specs.Prelude.{◌≡◌, ◌⊎◌, ℕ, ◌-◌, ◌^◌, ◌<◌, Result, Ok, Err}
+-- When a device may answer that it failed, and how often it was called: it has counts, which never fall.
+use Rattle.std.specs.Prelude.{◌≡◌, ◌⊎◌, ℕ, ◌+◌, ◌-◌, ◌^◌, ◌<◌, Result, Ok, Err}
 use Rattle.xl_ports.specs.declared.failed.FailedOrMemory.{FailedOrMemory}
 use Rattle.xl_ports.specs.declared.failed.FailedOrMemory.TheVariants.{Memory, Failed}
 
@@ -10,6 +10,10 @@ last_count = 2 ^ 64 - 1
 -- the count rose, or stands at its last value
 abbrev pub Rose : (old new : ℕ) → Type 0
 Rose old new = (old < new) ⊎ ((old ≡ last_count) × (new ≡ old))
+
+-- one call more was counted, or the count stands at its last value
+abbrev pub Counted : (old new : ℕ) → Type 0
+Counted old new = (new ≡ old + 1) ⊎ ((old ≡ last_count) × (new ≡ old))
 
 -- a failure comes only where the count rose, and after any other answer it is as before
 abbrev pub HasCause : {A E : Type 0} → (old new : ℕ) → Result A E → Type 0

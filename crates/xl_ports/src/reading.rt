@@ -9,7 +9,8 @@ use std::alloc::Global;
 
 /// The bytes that the source has left, the first `limit` of them where there are more.
 ///
-/// After an error some of the bytes were taken and are lost.
+/// Each call of `read` but the last takes a byte, so there are no more calls than bytes that are asked for. After an error
+/// some of the bytes were taken and are lost.
 pub fn read_all<S: Source>(
     alloc: Global,
     source: &mut S,
@@ -18,6 +19,7 @@ pub fn read_all<S: Source>(
     ensures within { IfOk result (λ bytes. length bytes.items ≤ limit) }
     ensures given { IfOk result (λ bytes. S.left source.old ≡ led_by bytes.items (S.left source.new)) }
     ensures all { IfOk result (λ bytes. (length bytes.items ≡ limit) ⊎ IsEnded (S.left source.new)) }
+    ensures reads { S.reads source.new ≤ S.reads source.old + limit }
     ensures some { OnErr result ((bytes : List ℕ) × (S.left source.old ≡ led_by bytes (S.left source.new))) }
     ensures cause { HasCauseOrMemory (S.faults source.old) (S.faults source.new) result }
 {
@@ -49,6 +51,7 @@ fn read_more<S: Source>(
     ensures short { vec_len bytes.new ≤ limit }
     ensures given { IfOk result (λ k. S.left source.old ≡ led_by (take k (drop filled bytes.new.items)) (S.left source.new)) }
     ensures end { IfOk result (λ k. k ≡ 0 → IsEnded (S.left source.new)) }
+    ensures reads { S.reads source.new ≤ S.reads source.old + 1 }
     ensures as_before { OnErr result (S.left source.new ≡ S.left source.old) }
     ensures cause { HasCauseOrMemory (S.faults source.old) (S.faults source.new) result }
 {

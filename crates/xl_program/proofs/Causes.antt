@@ -1,15 +1,15 @@
 -- Why a fault of the shelf stopped a command that reads its file.
 use Rattle.spec_command.specs.Arguments.{Asked}
 use Rattle.std.specs.Prelude.{Result, Ok, Err}
-use Rattle.spec_saves.specs.Shelf.{Known}
 use Rattle.xl_ports.specs.Faults.{Rose}
+use Rattle.xl_ports.specs.State.{ShelfState}
 use Rattle.xl_program.specs.Outcome.{FaultsRose, ShelfCause, ShelfCauseOf}
 use Rattle.xl_program.specs.declared.stopped.Stopped.{Stopped}
 use Rattle.xl_program.specs.declared.stopped.Stopped.TheVariants.{SourceFault, BadLine, ShelfFault, Refused, SaveFault}
 use Rattle.xl_program.specs.declared.stopped.Stopped.TheVariants.{NotFlattened, SinkFault, Memory}
 
 -- the cause of a command that a fault of reading stops
-pub cause_of : (before after : Known) (command : Asked) (result : Result (Unit {0}) Stopped)
+pub cause_of : (before after : ShelfState) (command : Asked) (result : Result (Unit {0}) Stopped)
     → (Rose before.reading after.reading → FaultsRose before after command)
     → ShelfCause before.reading after.reading result → ShelfCauseOf before after command result
 cause_of before after command (Ok x) rises cause = cause

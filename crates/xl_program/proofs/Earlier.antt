@@ -5,9 +5,11 @@ use Rattle.spec_document.specs.Document.{Document}
 use Rattle.spec_history.specs.History.{Entry}
 use Rattle.xl_ports.specs.Shelf.{Content}
 use Rattle.xl_ports.specs.Disk.{Disk, MayLeave, MightHaveLeft, Between, IsQuiet}
+use Rattle.xl_ports.specs.State.{ShelfState}
+use Rattle.xl_ports.proofs.Moments.{others_then, quiet_others}
 use Rattle.spec_saves.specs.Names.{Named, the_old, version, names, save_faults}
 use Rattle.spec_saves.specs.Contents.{IsNamed, IsIn}
-use Rattle.spec_saves.specs.Shelf.{Known, file_name, ShelfIsRight, DiskIsRight, IsSettled, RoseOften}
+use Rattle.spec_saves.specs.Shelf.{file_name, ShelfIsRight, DiskIsRight, IsSettled, RoseOften}
 
 named_earlier : (base : Document) (es : List Entry) (before after : Disk) (name : List ℕ) (c : Content) (n : Named)
     → IsQuiet before after
@@ -54,6 +56,7 @@ disk_earlier base es before after now name quiet right =
         | inr is ↦ inr is
       ];
       settled = settled_earlier before after now name (names es) quiet right.settled;
+      elsewhere = others_then before after now name (quiet_others before after name quiet) right.elsewhere;
     }
 
 disks_earlier : (base : Document) (es : List Entry) (before after now : Option Disk) (name : List ℕ) → Between before after IsQuiet
@@ -68,13 +71,14 @@ disks_earlier base es (Some before) (Some after) (Some now) name quiet right =
     disk_earlier base es before after now name quiet right
 
 -- what was right since the document was opened is right since before the file was read
-pub right_earlier : (before after now : Known) (base : Document) (es : List Entry) → before.selected ≡ after.selected
-    → before.reading ≡ after.reading → before.saving ≡ after.saving
+pub right_earlier : (before after now : ShelfState) (base : Document) (es : List Entry) → before.selected ≡ after.selected
+    → now.loads ≡ before.loads → before.reading ≡ after.reading → before.saving ≡ after.saving
     → Between before.disk after.disk IsQuiet → ShelfIsRight after base es now → ShelfIsRight before base es now
-right_earlier before after now base es selected reading saving quiet right =
+right_earlier before after now base es selected loads reading saving quiet right =
     let same : file_name after ≡ file_name before = ap (λ (o : Option (List ℕ)). unwrap_or o []) (sym selected) in
     record {
       selected = right.selected ∙ sym selected;
+      loads = loads;
       reading = right.reading ∙ sym reading;
       saving_rose = subst (λ (n : ℕ). RoseOften (save_faults es) n now.saving) (sym saving) right.saving_rose;
       saving_stays = λ none. right.saving_stays none ∙ sym saving;

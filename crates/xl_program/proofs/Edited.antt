@@ -8,9 +8,11 @@ use Rattle.spec_document.specs.Limits.{IsDocument}
 use Rattle.spec_saves.specs.Names.{save_faults}
 use Rattle.xl_play.specs.Told.{NoneFailed, SomeFailed, AnyFailed, WhetherFailed, IsPlayed}
 use Rattle.xl_program.specs.Files.{HoldsDocument}
-use Rattle.xl_program.specs.Outcome.{Given, HasLines, Shelved, opened, IsUntouched, IsHistory}
+use Rattle.xl_program.specs.Outcome.{Given, HasLines, opened, IsUntouched, IsHistory}
 use Rattle.xl_program.specs.Outcome.{IsReplies, ComesTo}
 use Rattle.xl_ports.specs.Shelf.{Content}
+use Rattle.xl_ports.specs.State.{ShelfState}
+use Rattle.xl_ports.specs.Disk.{read_at}
 use Rattle.xl_program.specs.Parts.{Loads, ReadsScript, StopsEdit, WritesReplies}
 use Rattle.xl_play.specs.declared.playing.Replies.{Replies}
 use Rattle.xl_program.specs.declared.stopped.Stopped.{Stopped}
@@ -22,13 +24,13 @@ use Rattle.xl_program.proofs.LastFile.{has_last}
 use Rattle.xl_program.proofs.Taken.{untouched}
 
 -- what was known when the script was played
-pub record IsOpened (given : Given) (before mid : Shelved) (name : List ℕ) (d : Document) (lists : List (List Line)) : Type 0 where
-  pub holds : IfSome (before.content name) (λ c. HoldsDocument c d)
+pub record IsOpened (given : Given) (before mid : ShelfState) (name : List ℕ) (d : Document) (lists : List (List Line)) : Type 0 where
+  pub holds : IfSome (read_at before.disk name) (λ c. HoldsDocument c d)
   pub within : IsDocument d
   pub read : HasLines given lists
   pub untouched : IsUntouched before mid
-  pub named : mid.known.selected ≡ Some name
-  pub reading : mid.known.reading ≡ before.known.reading
+  pub named : mid.selected ≡ Some name
+  pub reading : mid.reading ≡ before.reading
 
 pub none_failed : (b : Bool) → b ≡ false → (n : ℕ) → WhetherFailed b n → NoneFailed n
 none_failed false is n h = h
@@ -38,13 +40,14 @@ pub some_failed : (b : Bool) → b ≡ true → (n : ℕ) → WhetherFailed b n 
 some_failed true is n h = h
 some_failed false is n h = let bad : false ≡ true = is in cc
 
-module _ {given : Given} {before mid : Shelved} {name : List ℕ} {d : Document} {lists : List (List Line)}
-    (known_then : IsOpened given before mid name d lists) (after : Shelved) (workers : ℕ) where
-  history_of : (replies : Result Replies AllocError) (played : IsPlayed mid.known after.known d lists given.chests workers replies)
+module _ {given : Given} {before mid : ShelfState} {name : List ℕ} {d : Document} {lists : List (List Line)}
+    (known_then : IsOpened given before mid name d lists) (after : ShelfState) (workers : ℕ) where
+  history_of : (replies : Result Replies AllocError) (played : IsPlayed mid after d lists given.chests workers replies)
       → IsHistory name before after d played.entries
   history_of replies played =
       let right =
-      right_earlier (opened before name) mid.known after.known d played.entries (sym known_then.named) (sym known_then.reading)
+      right_earlier (opened before after name) mid after d played.entries (sym known_then.named) refl
+      (sym known_then.reading)
       (sym known_then.untouched.saving) known_then.untouched.quiet played.shelf in
       record {
         held = known_then.holds;
@@ -52,11 +55,11 @@ module _ {given : Given} {before mid : Shelved} {name : List ℕ} {d : Document}
         legal = played.legal;
         versions = played.versions;
         shelf = right;
-        file = λ none. has_last d played.entries name before.known.disk after.known.disk none right.contents;
+        file = λ none. has_last d played.entries name before.disk after.disk none right.contents;
       }
 
   replies_of : (replies : Replies) (P : ℕ → Type 0)
-      (played : IsPlayed mid.known after.known d lists given.chests workers (Ok replies))
+      (played : IsPlayed mid after d lists given.chests workers (Ok replies))
       → ((n : ℕ) → WhetherFailed replies.save_failed n → P n)
       → IsReplies given name before after workers P (string_bytes replies.text)
   replies_of replies P played fails = record {
@@ -73,7 +76,7 @@ module _ {given : Given} {before mid : Shelved} {name : List ℕ} {d : Document}
   -- what is written, and the shelf
   pub played_comes : {K : Type 0} (held : K → Option (List ℕ)) (faults : K → ℕ) (old new : K) (replies : Result Replies AllocError)
       (result : Result (Unit {0}) Stopped)
-      → IsPlayed mid.known after.known d lists given.chests workers replies → WritesReplies held faults old new replies result
+      → IsPlayed mid after d lists given.chests workers replies → WritesReplies held faults old new replies result
       → ComesTo held faults given before after (edit name workers) old new result
   played_comes held faults old new (Ok replies) (Ok x) played writes =
       (string_bytes replies.text, replies_of replies NoneFailed played (none_failed replies.save_failed writes.1), writes.0)
@@ -94,7 +97,7 @@ module _ {given : Given} {before mid : Shelved} {name : List ℕ} {d : Document}
 -- ---- why an editing stops
 
 -- before the file is read
-pub read_stopped : {K : Type 0} (held : K → Option (List ℕ)) (faults : K → ℕ) (given : Given) (s : Shelved) (name : List ℕ)
+pub read_stopped : {K : Type 0} (held : K → Option (List ℕ)) (faults : K → ℕ) (given : Given) (s : ShelfState) (name : List ℕ)
     (sink : K) (why : Stopped) → ReadsScript given (Err why)
     → (workers : ℕ) → ComesTo held faults given s s (edit name workers) sink sink (Err why)
 read_stopped held faults given s name sink SourceFault reads workers = ((refl, refl), untouched s)

@@ -3,9 +3,10 @@ use Rattle.std.proofs.Common.{◌≡◌, true, false, inl, inr, ⊎_elim, ℕ, L
 use Rattle.std.specs.Prelude.{Option, unwrap_or, Result, Ok, Err, OnOk, OnErr, is_err}
 use Rattle.spec_document.specs.Document.{Document}
 use Rattle.spec_world.specs.declared.SaveEnd.TheVariants.{Done, Fault}
-use Rattle.spec_saves.specs.Shelf.{Known, file_name}
+use Rattle.spec_saves.specs.Shelf.{file_name}
 use Rattle.xl_ports.specs.Faults.{Rose}
 use Rattle.xl_ports.specs.Disk.{Disk, Between, IsQuiet}
+use Rattle.xl_ports.specs.State.{ShelfState}
 use Rattle.xl_ports.proofs.Moments.{stays_then, stays_back, one_then}
 use Rattle.xl_save.specs.Save.{SavesOnly, HasSaved}
 use Rattle.xl_save.proofs.AfterCalls.{saves}
@@ -33,17 +34,18 @@ done_earlier : (name bytes : List ℕ) (a b c : Disk) → IsQuiet a b → SavesO
     → SavesOnly name bytes a c × HasSaved name bytes c
 done_earlier name bytes a b c quiet save = (saves_earlier name bytes a b c quiet save.0, save.1)
 
-module _ (d : Document) (opening mid after : Known) where
-  pub saved_first : mid.selected ≡ opening.selected → Between opening.disk mid.disk IsQuiet → mid.reading ≡ opening.reading
+module _ (d : Document) (opening mid after : ShelfState) where
+  pub saved_first : mid.selected ≡ opening.selected → after.loads ≡ opening.loads → Between opening.disk mid.disk IsQuiet → mid.reading ≡ opening.reading
       → mid.saving ≡ opening.saving
       → IsSavedOn mid d Done after → IsSavedOn opening d Done after
-  saved_first selected quiet reading saving save =
+  saved_first selected loads quiet reading saving save =
       let name : List ℕ = file_name opening in
       let same : file_name mid ≡ name = ap (λ (o : Option (List ℕ)). unwrap_or o []) selected in
       let puts : Puts Done d name mid.disk after.disk =
       subst (λ (n : List ℕ). Puts Done d n mid.disk after.disk) same save.contents in
       record {
         selected = save.selected ∙ selected;
+        loads = loads;
         reading = save.reading ∙ reading;
         saving = save.saving ∙ saving;
         contents = (
@@ -55,16 +57,17 @@ module _ (d : Document) (opening mid after : Known) where
         );
       }
 
-  pub failed_first : mid.selected ≡ opening.selected → Between opening.disk mid.disk IsQuiet → mid.reading ≡ opening.reading
+  pub failed_first : mid.selected ≡ opening.selected → after.loads ≡ opening.loads → Between opening.disk mid.disk IsQuiet → mid.reading ≡ opening.reading
       → mid.saving ≡ opening.saving
       → IsSavedOn mid d Fault after → IsSavedOn opening d Fault after
-  failed_first selected quiet reading saving save =
+  failed_first selected loads quiet reading saving save =
       let name : List ℕ = file_name opening in
       let same : file_name mid ≡ name = ap (λ (o : Option (List ℕ)). unwrap_or o []) selected in
       let puts : Puts Fault d name mid.disk after.disk =
       subst (λ (n : List ℕ). Puts Fault d n mid.disk after.disk) same save.contents in
       record {
         selected = save.selected ∙ selected;
+        loads = loads;
         reading = save.reading ∙ reading;
         saving = subst (λ (n : ℕ). Rose n after.saving) saving save.saving;
         contents = (

@@ -8,17 +8,17 @@ use Rattle.spec_document.specs.Limits.{IsDocument}
 use Rattle.spec_flat.specs.Flat.{flat_refusal}
 use Rattle.spec_flat.specs.Flattened.{BecomesFlat}
 use Rattle.spec_layout.specs.Layout.{Written}
-use Rattle.spec_saves.specs.Shelf.{Known, file_name}
+use Rattle.spec_saves.specs.Shelf.{file_name}
 use Rattle.spec_world.specs.declared.SaveEnd.TheVariants.{Done, Fault}
-use Rattle.xl_core.specs.Editing.{known}
 use Rattle.xl_edit.specs.declared.call.Group.{Group}
 use Rattle.xl_layout.proofs.Short.{read}
-use Rattle.xl_ports.specs.Disk.{Disk, Between}
+use Rattle.xl_ports.specs.Disk.{read_at, Disk, Between}
 use Rattle.xl_ports.specs.Shelf.{Content}
+use Rattle.xl_ports.specs.State.{ShelfState}
 use Rattle.xl_program.specs.Files.{HoldsDocument}
 use Rattle.xl_program.specs.Flattening.{made_flat, flattened_line, HasFlat, IsFlatGroup, IsFlatSave, IsFlattened}
 use Rattle.xl_program.specs.Flattening.{SavesAndTells}
-use Rattle.xl_program.specs.Outcome.{ComesTo, Given, IsUntouched, opened, ShelfCauseOf, Shelved, shelved}
+use Rattle.xl_program.specs.Outcome.{ComesTo, Given, IsUntouched, opened, ShelfCauseOf}
 use Rattle.xl_program.specs.Parts.{StopsFlatten}
 use Rattle.xl_program.specs.declared.stopped.Stopped.{Stopped}
 use Rattle.xl_program.specs.declared.stopped.Stopped.TheVariants.{SourceFault, BadLine, ShelfFault, Refused, SaveFault}
@@ -28,12 +28,12 @@ use Rattle.xl_save.specs.Save.{SavesOnly, HasSaved}
 use Rattle.xl_snapshot.specs.Saving.{IsSavedOn}
 
 -- what was known when the file was read, of a document that can be made flat
-pub record IsFlatRead (before mid : Shelved) (name : List ℕ) (d : Document) : Type 0 where
-  pub holds : IfSome (before.content name) (λ c. HoldsDocument c d)
+pub record IsFlatRead (before mid : ShelfState) (name : List ℕ) (d : Document) : Type 0 where
+  pub holds : IfSome (read_at before.disk name) (λ c. HoldsDocument c d)
   pub within : IsDocument d
   pub untouched : IsUntouched before mid
-  pub named : mid.known.selected ≡ Some name
-  pub reading : mid.known.reading ≡ before.known.reading
+  pub named : mid.selected ≡ Some name
+  pub reading : mid.reading ≡ before.reading
   pub allowed : flat_refusal d ≡ None
   pub becomes : BecomesFlat d (next_id d)
 
@@ -46,40 +46,40 @@ read_flat name bytes d None (Some after) saved gives = absurd saved
 read_flat name bytes d (Some before) None saved gives = tt
 read_flat name bytes d (Some before) (Some after) saved gives = gives after saved.1
 
-module _ {before mid : Shelved} {name : List ℕ} {d : Document} (known_then : IsFlatRead before mid name d) (after : Shelved) where
-  done_save : IsSavedOn mid.known (made_flat d) Done after.known
-      → IsFlatSave (before.content name) (opened before name) after.known Done
+module _ {before mid : ShelfState} {name : List ℕ} {d : Document} (known_then : IsFlatRead before mid name d) (after : ShelfState) where
+  done_save : IsSavedOn mid (made_flat d) Done after
+      → IsFlatSave (read_at before.disk name) (opened before after name) after Done
   done_save saved = record {
     document = d;
     held = known_then.holds;
     within = known_then.within;
     allowed = known_then.allowed;
     becomes = known_then.becomes;
-    saved = saved_first (made_flat d) (opened before name) mid.known after.known known_then.named known_then.untouched.quiet
+    saved = saved_first (made_flat d) (opened before after name) mid after known_then.named refl known_then.untouched.quiet
         known_then.reading known_then.untouched.saving saved;
   }
 
-  failed_save : IsSavedOn mid.known (made_flat d) Fault after.known
-      → IsFlatSave (before.content name) (opened before name) after.known Fault
+  failed_save : IsSavedOn mid (made_flat d) Fault after
+      → IsFlatSave (read_at before.disk name) (opened before after name) after Fault
   failed_save saved = record {
     document = d;
     held = known_then.holds;
     within = known_then.within;
     allowed = known_then.allowed;
     becomes = known_then.becomes;
-    saved = failed_first (made_flat d) (opened before name) mid.known after.known known_then.named known_then.untouched.quiet
+    saved = failed_first (made_flat d) (opened before after name) mid after known_then.named refl known_then.untouched.quiet
         known_then.reading known_then.untouched.saving saved;
   }
 
-  flattened : IsSavedOn mid.known (made_flat d) Done after.known
-      → IsFlattened (before.content name) (opened before name) after.known flattened_line
+  flattened : IsSavedOn mid (made_flat d) Done after
+      → IsFlattened (read_at before.disk name) (opened before after name) after flattened_line
   unfolding done_save
   flattened saved =
       let flat = done_save saved in
       let puts = flat.saved.contents in
       record {
         flat = flat;
-        file = read_flat name puts.0 d before.known.disk after.known.disk puts.2 (λ now has. record {
+        file = read_flat name puts.0 d before.disk after.disk puts.2 (λ now has. record {
           bytes = puts.0;
           read = has.read;
           written = puts.1;
@@ -90,7 +90,7 @@ module _ {before mid : Shelved} {name : List ℕ} {d : Document} (known_then : I
 
   -- what is written, and the shelf
   pub flat_comes : {K : Type 0} (held : K → Option (List ℕ)) (faults : K → ℕ) (given : Given) (old new : K)
-      (result : Result (Unit {0}) Stopped) → SavesAndTells held faults (made_flat d) mid.known after.known old new result
+      (result : Result (Unit {0}) Stopped) → SavesAndTells held faults (made_flat d) mid after old new result
       → ComesTo held faults given before after (flatten name) old new result
   flat_comes held faults given old new (Ok x) saves = (flattened_line, (flattened saves.0, refl), saves.1)
   flat_comes held faults given old new (Err SinkFault) saves = (flattened_line, (flattened saves.0, tt), saves.1)
@@ -104,8 +104,8 @@ module _ {before mid : Shelved} {name : List ℕ} {d : Document} (known_then : I
   flat_comes held faults given old new (Err Memory) saves = absurd saves
 
   pub flat_cause : {K : Type 0} (held : K → Option (List ℕ)) (faults : K → ℕ) (old new : K)
-      (result : Result (Unit {0}) Stopped) → SavesAndTells held faults (made_flat d) mid.known after.known old new result
-      → ShelfCauseOf before.known after.known (flatten name) result
+      (result : Result (Unit {0}) Stopped) → SavesAndTells held faults (made_flat d) mid after old new result
+      → ShelfCauseOf before after (flatten name) result
   flat_cause held faults old new (Ok x) saves = saves.0.reading ∙ known_then.reading
   flat_cause held faults old new (Err SinkFault) saves = saves.0.reading ∙ known_then.reading
   flat_cause held faults old new (Err ShelfFault) saves = inr (failed_save saves.0).saved.saving
@@ -118,13 +118,12 @@ module _ {before mid : Shelved} {name : List ℕ} {d : Document} (known_then : I
 
 -- ---- of the shelves of a run
 
-module _ {D : Type 0} (content : D → List ℕ → Option Content) (selected : D → Option (List ℕ)) (disk : D → Option Disk)
-    (reading saving : D → ℕ) where
+module _ {D : Type 0} (state : D → ShelfState) where
   pub flat_read : (shelf mid : D) (name : List ℕ) (d : Document) (group : Group)
-      → IfSome (content shelf name) (λ c. HoldsDocument c d) → IsDocument d
-      → IsUntouched (shelved content selected disk reading saving shelf) (shelved content selected disk reading saving mid)
-      → selected mid ≡ Some name → reading mid ≡ reading shelf → IsFlatGroup d group
-      → IsFlatRead (shelved content selected disk reading saving shelf) (shelved content selected disk reading saving mid) name d
+      → IfSome (read_at (state shelf).disk name) (λ c. HoldsDocument c d) → IsDocument d
+      → IsUntouched (state shelf) (state mid)
+      → (state mid).selected ≡ Some name → (state mid).reading ≡ (state shelf).reading → IsFlatGroup d group
+      → IsFlatRead (state shelf) (state mid) name d
   flat_read shelf mid name d group holds within untouched named reads flat = record {
     holds = holds;
     within = within;
@@ -144,19 +143,19 @@ module _ {D : Type 0} (content : D → List ℕ → Option Content) (selected : 
   pub saved_there : {K : Type 0} (held : K → Option (List ℕ)) (faults : K → ℕ) (mid back new : D) (base d : Document)
       (file bytes : List ℕ) (old told : K) (result : Result (Unit {0}) Stopped)
       → ((d : Document) → Written bytes d
-      → SavesAndTells held faults d (known selected disk reading saving back) (known selected disk reading saving new) old told result)
+      → SavesAndTells held faults d (state back) (state new) old told result)
       → back ≡ mid → bytes ≡ file → Written file (made_flat base) → base ≡ d
-      → SavesAndTells held faults (made_flat d) (known selected disk reading saving mid) (known selected disk reading saving new) old
+      → SavesAndTells held faults (made_flat d) (state mid) (state new) old
       told result
   saved_there held faults mid back new base d file bytes old told result saves same is written base_is =
-      subst (λ (k : D). SavesAndTells held faults (made_flat d) (known selected disk reading saving k)
-      (known selected disk reading saving new) old told result) same
+      subst (λ (k : D). SavesAndTells held faults (made_flat d) (state k)
+      (state new) old told result) same
       (saves (made_flat d) (subst (λ (b : List ℕ). Written b (made_flat d)) (sym is)
       (subst (λ (x : Document). Written file (made_flat x)) base_is written)))
 
 -- ---- why it stops
 
-pub flat_stops : {K : Type 0} (held : K → Option (List ℕ)) (faults : K → ℕ) (d : Document) (opening now : Known) (old new : K)
+pub flat_stops : {K : Type 0} (held : K → Option (List ℕ)) (faults : K → ℕ) (d : Document) (opening now : ShelfState) (old new : K)
     (content : Option Content) (result : Result (Unit {0}) Stopped) → SavesAndTells held faults d opening now old new result
     → StopsFlatten content result
 flat_stops held faults d opening now old new content (Ok x) saves = tt

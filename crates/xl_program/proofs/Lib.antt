@@ -11,6 +11,7 @@ mod FlatSaves
 mod MadeFiles
 mod MadeRuns
 mod MadeScripts
+mod OtherNames
 mod PackSaves
 mod Quiet
 mod Viewed

@@ -14,7 +14,7 @@ use Rattle.spec_history.specs.Kept.{IsLegal}
 use Rattle.spec_history.proofs.Growing.{IsLegal-empty}
 use Rattle.spec_saves.specs.Names.{version, names, save_faults}
 use Rattle.spec_saves.specs.Contents.{IsVersion, IsIn}
-use Rattle.spec_saves.specs.Shelf.{Known, file_name, DiskIsRight, ShelfIsRight}
+use Rattle.spec_saves.specs.Shelf.{file_name, DiskIsRight, ShelfIsRight}
 use Rattle.spec_saves.proofs.Staying.{opened_right}
 use Rattle.spec_merged.specs.Fills.{EndsWithSave}
 use Rattle.spec_merged.proofs.Ends.{last_is_save_of_seed}
@@ -24,10 +24,11 @@ use Rattle.spec_text.specs.Text.{IsTextOf, made_by, printed}
 use Rattle.spec_world.specs.declared.SaveEnd.TheVariants.{Done}
 use Rattle.xl_ports.specs.Shelf.{Content}
 use Rattle.xl_ports.specs.Disk.{Disk, MayLeave, Between}
+use Rattle.xl_ports.specs.State.{ShelfState}
 use Rattle.xl_play.specs.Told.{NoneFailed, SomeFailed, AnyFailed, WhetherFailed}
 use Rattle.xl_program.specs.Making.{IsMadeHistory, IsRunOf, IsSummary}
 use Rattle.xl_sessions.specs.Outcomes.{states_of}
-use Rattle.xl_program.specs.Outcome.{Comes, ShelfCauseOf}
+use Rattle.xl_program.specs.Outcome.{Comes, opened, ShelfCauseOf}
 use Rattle.xl_core.specs.Editing.{Editing, IsRight}
 use Rattle.xl_standing.specs.History.{document as last_document}
 use Rattle.xl_program.specs.Parts.{IsSummedUp, StopsMaking, SumsUp, WritesReplies}
@@ -92,10 +93,10 @@ summed d lists chests es (Err e) (Ok told) made none is played sum failed = let 
 summed d lists chests es text (Err e) made none is played sum failed = tt
 
 -- without memory for a core nothing was played
-pub nothing_summed : (k now : Known) (d : Document) (lists : List (List Line)) (e : AllocError) → now ≡ k → IsDocument d
+pub nothing_summed : (k now : ShelfState) (d : Document) (lists : List (List Line)) (e : AllocError) → now ≡ k → IsDocument d
     → IsSummedUp k now d lists (Err e)
 nothing_summed k now d lists e same within =
-    subst (λ (n : Known). IsSummedUp k n d lists (Err e)) (sym same)
+    subst (λ (n : ShelfState). IsSummedUp k n d lists (Err e)) (sym same)
     (record {
       entries = [];
       legal = IsLegal-empty d;
@@ -105,7 +106,7 @@ nothing_summed k now d lists e same within =
     })
 
 -- the history of a core that was played on, and the shelf that comes back
-pub summed_on : {D : Type 0} (see : D → Known) (old new : Editing D) (back : D) (lists : List (List Line))
+pub summed_on : {D : Type 0} (see : D → ShelfState) (old new : Editing D) (back : D) (lists : List (List Line))
     (chests : List (List FilterState)) (text : Result (String Global) AllocError) (told : Result Replies AllocError)
     → new.history.base ≡ old.history.base → new.opening ≡ old.opening → IsLegal new.history.base new.history.entries
     → AreWithin new.history.base new.history.entries → IsRight see new back
@@ -129,13 +130,13 @@ summed_on {D} see old new back lists chests text told base opening legal version
     }
 
 -- the same of the document, the sessions and the shelf with which the core was opened
-pub same_sum : (k first now : Known) (d base : Document) (lists others : List (List Line)) (told : Result Replies AllocError)
+pub same_sum : (k first now : ShelfState) (d base : Document) (lists others : List (List Line)) (told : Result Replies AllocError)
     → first ≡ k → base ≡ d → others ≡ lists
     → (IsMade base others → IsSummedUp first now base others told) → IsMade d lists → IsSummedUp k now d lists told
 same_sum k first now d base lists others told opening same_document same_lists sum made =
     subst (λ (x : Document). IsSummedUp k now x lists told) same_document
     (subst (λ (ls : List (List Line)). IsSummedUp k now base ls told) same_lists
-    (subst (λ (o : Known). IsSummedUp o now base others told) opening
+    (subst (λ (o : ShelfState). IsSummedUp o now base others told) opening
     (sum (subst (λ (x : Document). IsMade x others) (sym same_document)
     (subst (λ (ls : List (List Line)). IsMade d ls) (sym same_lists) made)))))
 
@@ -153,9 +154,20 @@ last_left base es v name (Some old) (Some now) is right =
       only c (inl this) = this
       only c (inr bad) = absurd bad
 
+-- the first save on a shelf that was not loaded from since
+pub saved_as_now : (before first now : ShelfState) (name : List ℕ) (d : Document) → now.loads ≡ first.loads
+    → IsSavedOn (opened before first name) d Done first → IsSavedOn (opened before now name) d Done first
+saved_as_now before first now name d same saved = record {
+  selected = saved.selected;
+  loads = sym same;
+  reading = saved.reading;
+  saving = saved.saving;
+  contents = saved.contents;
+}
+
 -- ---- what is written
 
-module _ (d : Document) (lists : List (List Line)) (sessions : IsMade d lists) (opening first now : Known)
+module _ (d : Document) (lists : List (List Line)) (sessions : IsMade d lists) (opening first now : ShelfState)
     (saved : IsSavedOn opening d Done first) where
   made_history : (told : Result Replies AllocError) (summed_up : IsSummedUp first now d lists told)
       → IsMadeHistory opening now d summed_up.entries
@@ -226,7 +238,7 @@ made_stops held faults old new (Ok told) (Err SinkFault) writes = tt
 made_stops held faults old new (Ok told) (Err Memory) writes = absurd writes
 made_stops held faults old new (Err e) result writes = subst StopsMaking (sym writes.0) tt
 
-pub made_cause : {K : Type 0} (held : K → Option (List ℕ)) (faults : K → ℕ) (old new : K) (before after : Known) (name : List ℕ)
+pub made_cause : {K : Type 0} (held : K → Option (List ℕ)) (faults : K → ℕ) (old new : K) (before after : ShelfState) (name : List ℕ)
     (seed : ℕ) (told : Result Replies AllocError) (result : Result (Unit {0}) Stopped)
     → after.reading ≡ before.reading → WritesReplies held faults old new told result
     → ShelfCauseOf before after (make name seed) result

@@ -8,10 +8,11 @@ use Rattle.spec_shortest.specs.Files.{IsSmallestFile}
 use Rattle.spec_shortest.specs.Lines.{IsPackText}
 use Rattle.xl_pack.specs.Saving.{HasSmallest, MayHaveSmallest}
 use Rattle.xl_ports.proofs.Moments.{one_then}
-use Rattle.xl_ports.specs.Disk.{Disk, Between, IsQuiet}
+use Rattle.xl_ports.specs.Disk.{read_at, Disk, Between, IsQuiet}
 use Rattle.xl_ports.specs.Faults.{HasCause, Rose}
+use Rattle.xl_ports.specs.State.{ShelfState}
 use Rattle.xl_program.specs.Files.{HoldsDocument, HasLength}
-use Rattle.xl_program.specs.Outcome.{FailsAtShelf, FaultsRose, IsUntouched, Shelved, opened}
+use Rattle.xl_program.specs.Outcome.{FailsAtShelf, FaultsRose, IsUntouched, opened}
 use Rattle.xl_program.specs.Packing.{IsPacked, MayBePacked}
 use Rattle.xl_program.proofs.FirstSaves.{saves_earlier}
 use Rattle.xl_save.specs.Save.{SavesOnly}
@@ -40,25 +41,25 @@ may_earlier name d a b c quiet save = record {
 
 -- ---- what was known when the file was read
 
-pub record IsPackRead (before mid : Shelved) (name : List ℕ) (d : Document) (size : ℕ) : Type 0 where
-  pub holds : IfSome (before.content name) (λ c. HoldsDocument c d)
-  pub size_is : IfSome (before.content name) (λ c. HasLength c size)
+pub record IsPackRead (before mid : ShelfState) (name : List ℕ) (d : Document) (size : ℕ) : Type 0 where
+  pub holds : IfSome (read_at before.disk name) (λ c. HoldsDocument c d)
+  pub size_is : IfSome (read_at before.disk name) (λ c. HasLength c size)
   pub within : IsDocument d
   pub untouched : IsUntouched before mid
-  pub named : mid.known.selected ≡ Some name
-  pub reading : mid.known.reading ≡ before.known.reading
+  pub named : mid.selected ≡ Some name
+  pub reading : mid.reading ≡ before.reading
 
-module _ {before mid : Shelved} {name : List ℕ} {d : Document} {size : ℕ} (read : IsPackRead before mid name d size)
-    (after : Shelved) where
+module _ {before mid : ShelfState} {name : List ℕ} {d : Document} {size : ℕ} (read : IsPackRead before mid name d size)
+    (after : ShelfState) where
   -- the save is done
   pub is_packed : (with_plans : Bool) (file out : List ℕ)
-      → IfSome mid.known.selected (λ n. HasSmallest n d (length file) mid.known.disk after.known.disk)
-      → after.known.reading ≡ mid.known.reading → after.known.saving ≡ mid.known.saving
+      → IfSome mid.selected (λ n. HasSmallest n d (length file) mid.disk after.disk)
+      → after.reading ≡ mid.reading → after.saving ≡ mid.saving
       → IsPackText d with_plans size (length file) out
-      → IsPacked (before.content name) (opened before name) after.known with_plans out
+      → IsPacked (read_at before.disk name) (opened before after name) after with_plans out
   is_packed with_plans file out saved reading saving text =
-      let named : HasSmallest name d (length file) mid.known.disk after.known.disk =
-      subst (λ (o : Option (List ℕ)). IfSome o (λ n. HasSmallest n d (length file) mid.known.disk after.known.disk)) read.named
+      let named : HasSmallest name d (length file) mid.disk after.disk =
+      subst (λ (o : Option (List ℕ)). IfSome o (λ n. HasSmallest n d (length file) mid.disk after.disk)) read.named
       saved in
       record {
         document = d;
@@ -67,31 +68,31 @@ module _ {before mid : Shelved} {name : List ℕ} {d : Document} {size : ℕ} (r
         before = size;
         length_before = read.size_is;
         after = length file;
-        saved = has_earlier name d (length file) before.known.disk mid.known.disk after.known.disk read.untouched.quiet named;
+        saved = has_earlier name d (length file) before.disk mid.disk after.disk read.untouched.quiet named;
         reading = reading ∙ read.reading;
         saving = saving ∙ read.untouched.saving;
         text = text;
       }
 
   -- a fault stopped it
-  pub may_be_packed : (with_plans : Bool) → IfSome mid.known.selected (λ n. MayHaveSmallest n d mid.known.disk after.known.disk)
-      → after.known.reading ≡ mid.known.reading → Rose mid.known.saving after.known.saving
+  pub may_be_packed : (with_plans : Bool) → IfSome mid.selected (λ n. MayHaveSmallest n d mid.disk after.disk)
+      → after.reading ≡ mid.reading → Rose mid.saving after.saving
       → FailsAtShelf before after (pack name with_plans)
   may_be_packed with_plans saved reading rose =
-      let named : MayHaveSmallest name d mid.known.disk after.known.disk =
-      subst (λ (o : Option (List ℕ)). IfSome o (λ n. MayHaveSmallest n d mid.known.disk after.known.disk)) read.named saved in
+      let named : MayHaveSmallest name d mid.disk after.disk =
+      subst (λ (o : Option (List ℕ)). IfSome o (λ n. MayHaveSmallest n d mid.disk after.disk)) read.named saved in
       inr (record {
         document = d;
         held = read.holds;
         within = read.within;
         reading = reading ∙ read.reading;
-        saving = subst (λ (n : ℕ). Rose n after.known.saving) read.untouched.saving rose;
-        saved = may_earlier name d before.known.disk mid.known.disk after.known.disk read.untouched.quiet named;
+        saving = subst (λ (n : ℕ). Rose n after.saving) read.untouched.saving rose;
+        saved = may_earlier name d before.disk mid.disk after.disk read.untouched.quiet named;
       })
 
-  pub save_rose : (with_plans : Bool) → Rose mid.known.saving after.known.saving
-      → FaultsRose before.known after.known (pack name with_plans)
-  save_rose with_plans rose = inr (subst (λ (n : ℕ). Rose n after.known.saving) read.untouched.saving rose)
+  pub save_rose : (with_plans : Bool) → Rose mid.saving after.saving
+      → FaultsRose before after (pack name with_plans)
+  save_rose with_plans rose = inr (subst (λ (n : ℕ). Rose n after.saving) read.untouched.saving rose)
 
 -- the same text of the same file
 pub text_moved : (d : Document) (with_plans : Bool) (before : ℕ) (file bytes text out : List ℕ) → bytes ≡ file → out ≡ text

@@ -10,11 +10,12 @@ use Rattle.spec_flat.specs.declared.FlatRefused.{FlatRefused}
 use Rattle.xl_ports.specs.Faults.{Rose}
 use Rattle.xl_ports.specs.Shelf.{Content}
 use Rattle.xl_ports.specs.Sink.{appended}
+use Rattle.xl_ports.specs.State.{ShelfState}
 use Rattle.xl_play.specs.Told.{SomeFailed}
 use Rattle.xl_program.specs.Command.{IsFlatten, ReadsFile, ReadsSource}
 use Rattle.xl_program.specs.Files.{CannotBeFlat, HasFault}
 use Rattle.xl_program.specs.Lines.{WritesLine}
-use Rattle.xl_program.specs.Outcome.{Given, InGrammar, IsBadLineOf, Keeps, Shelved, ComesTo, IsOutput}
+use Rattle.xl_program.specs.Outcome.{Given, InGrammar, IsBadLineOf, Keeps, ComesTo, IsOutput}
 use Rattle.xl_program.specs.Outcome.{ShelfCauseOf, ShelfFails, WritesLineOr, WritesStop, WritesSome}
 use Rattle.xl_program.specs.Parts.{StopsFor}
 use Rattle.xl_program.specs.declared.stopped.Stopped.{Stopped}
@@ -165,7 +166,7 @@ module _ (given : Given) (content : List ℕ → Option Content) where
   reads_source (view name cols rows) stops = tt
 
 module _ {K : Type 0} (held : K → Option (List ℕ)) (faults : K → ℕ) (given : Given) (content : List ℕ → Option Content)
-    (before after : Shelved) where
+    (before after : ShelfState) where
   -- status 3 tells the line of the script that is refused
   pub bad_line_written : (command : Asked) (stopped : Stopped) (status : ℕ) (old mid new : K) → status ≡ 3
       → ComesTo held faults given before after command old mid (Err stopped)
@@ -234,7 +235,7 @@ module _ {K : Type 0} (held : K → Option (List ℕ)) (faults : K → ℕ) (giv
   -- status 6 tells that the file could not be read or was not saved first, or a save failed and all is written
   pub shelf_fault_written : (command : Asked) (stopped : Stopped) (status : ℕ) (old mid new : K) → status ≡ 6
       → ComesTo held faults given before after command old mid (Err stopped)
-      → ShelfCauseOf before.known after.known command (Err stopped) → WritesStop held faults mid new stopped status
+      → ShelfCauseOf before after command (Err stopped) → WritesStop held faults mid new stopped status
       → ShelfFails held faults given before after (Some command) old new
   shelf_fault_written command ShelfFault status old mid new six kept cause told =
       inl (cause, kept.1, kept_then_written held faults old mid new (stop_line shelf_fault) kept.0 told.1)
@@ -257,7 +258,7 @@ module _ {K : Type 0} (held : K → Option (List ℕ)) (faults : K → ℕ) (giv
   -- so it does of the words' command, whatever the sink is called afterwards
   pub shelf_fault_asked : (command : Asked) (stopped : Stopped) (status : ℕ) (old mid new : K) → status ≡ 6
       → ComesTo held faults given before after command old mid (Err stopped)
-      → ShelfCauseOf before.known after.known command (Err stopped) → WritesStop held faults mid new stopped status
+      → ShelfCauseOf before after command (Err stopped) → WritesStop held faults mid new stopped status
       → {asked : Option Asked} → Some command ≡ asked → {last : K} → new ≡ last
       → ShelfFails held faults given before after asked old last
   shelf_fault_asked command stopped status old mid new six comes cause told is {last} same =

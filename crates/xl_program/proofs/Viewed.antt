@@ -14,11 +14,13 @@ use Rattle.spec_view.specs.Script.{view_script}
 use Rattle.spec_view.specs.Text.{Views}
 use Rattle.xl_ports.specs.Shelf.{Content}
 use Rattle.xl_ports.specs.Source.{led_by, IsEnded}
+use Rattle.xl_ports.specs.State.{ShelfState}
+use Rattle.xl_ports.specs.Disk.{read_at}
 use Rattle.xl_script.specs.Lines.{lists_of}
 use Rattle.xl_script.specs.declared.script.Line as code
 use Rattle.xl_sessions.specs.Outcomes.{states_of}
 use Rattle.xl_program.specs.Files.{HoldsDocument}
-use Rattle.xl_program.specs.Outcome.{Given, Shelved, first_filters, ComesTo, IsUntouched, ReadsToEnd}
+use Rattle.xl_program.specs.Outcome.{Given, first_filters, ComesTo, IsUntouched, ReadsToEnd}
 use Rattle.xl_program.specs.Parts.{Loads, ReadsViewed, StopsView, WritesViewed}
 use Rattle.xl_program.specs.Viewing.{IsViewed}
 use Rattle.xl_program.specs.declared.stopped.Stopped.{Stopped}
@@ -30,18 +32,18 @@ use Rattle.xl_program.proofs.Taken.{untouched}
 -- ---- what a viewing comes to
 
 -- what was known when the script was taken
-pub record IsViewOpened (given : Given) (before mid : Shelved) (name : List ℕ) (d : Document) (lists : List (List code.Line))
+pub record IsViewOpened (given : Given) (before mid : ShelfState) (name : List ℕ) (d : Document) (lists : List (List code.Line))
     : Type 0 where
-  pub holds : IfSome (before.content name) (λ c. HoldsDocument c d)
+  pub holds : IfSome (read_at before.disk name) (λ c. HoldsDocument c d)
   pub within : IsDocument d
   pub read : ReadsViewed given (Ok lists)
   pub untouched : IsUntouched before mid
 
-module _ (given : Given) {before mid : Shelved} {name : List ℕ} {d : Document} {lists : List (List code.Line)}
-    (then : IsViewOpened given before mid name d lists) (after : Shelved) (same : after ≡ mid)
+module _ (given : Given) {before mid : ShelfState} {name : List ℕ} {d : Document} {lists : List (List code.Line)}
+    (then : IsViewOpened given before mid name d lists) (after : ShelfState) (same : after ≡ mid)
     (cols rows : ℕ) where
   is_viewed : (out : List ℕ) → Views out d (list_at (lists_of lists) 0) (first_filters given) cols rows
-      → IsViewed given.left (first_filters given) (before.content name) cols rows out
+      → IsViewed given.left (first_filters given) (read_at before.disk name) cols rows out
   is_viewed out text =
       record { document = d; lines = list_at (lists_of lists) 0; held = then.holds; within = then.within; read = then.read; text = text }
 
@@ -71,7 +73,7 @@ module _ (given : Given) {before mid : Shelved} {name : List ℕ} {d : Document}
 -- ---- why a viewing stops
 
 -- before the file is read
-pub view_stopped : {K : Type 0} (held : K → Option (List ℕ)) (faults : K → ℕ) (given : Given) (s : Shelved) (name : List ℕ)
+pub view_stopped : {K : Type 0} (held : K → Option (List ℕ)) (faults : K → ℕ) (given : Given) (s : ShelfState) (name : List ℕ)
     (cols rows : ℕ) (sink : K) (why : Stopped) → ReadsViewed given (Err why)
     → ComesTo held faults given s s (view name cols rows) sink sink (Err why)
 view_stopped held faults given s name cols rows sink SourceFault reads = ((refl, refl), untouched s)

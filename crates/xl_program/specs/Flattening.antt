@@ -10,7 +10,7 @@ use Rattle.spec_filters.specs.declared.FilterState.{FilterState}
 use Rattle.spec_flat.specs.Flat.{flat_edits}
 use Rattle.spec_history.specs.Calls.{IsGroupOfEdits}
 use Rattle.spec_layout.specs.Layout.{Written}
-use Rattle.spec_saves.specs.Shelf.{Known, file_name}
+use Rattle.spec_saves.specs.Shelf.{file_name}
 use Rattle.spec_tables.specs.Agrees.{AreThere}
 use Rattle.spec_world.specs.declared.SaveEnd.{SaveEnd}
 use Rattle.spec_world.specs.declared.SaveEnd.TheVariants.{Done, Fault}
@@ -19,6 +19,7 @@ use Rattle.xl_edit.specs.Edits.{edits_of}
 use Rattle.xl_ports.specs.Shelf.{Content, file}
 use Rattle.xl_ports.specs.Disk.{Disk}
 use Rattle.xl_ports.specs.Sink.{WritesAll, WritesPart}
+use Rattle.xl_ports.specs.State.{ShelfState}
 use Rattle.xl_program.specs.Files.{HoldsDocument}
 use Rattle.xl_program.specs.declared.stopped.Stopped.{Stopped}
 use Rattle.xl_program.specs.declared.stopped.Stopped.TheVariants.{SourceFault, BadLine, ShelfFault, Refused, SaveFault}
@@ -38,7 +39,7 @@ pub record HasFlat (name : List ℕ) (d : Document) (now : Disk) : Type 0 where
 
 -- A document within the limits that may be made flat, which the file held where its content is told. Made flat it shows what it
 -- showed, and its save ended so.
-pub record IsFlatSave (content : Option Content) (opening now : Known) (how : SaveEnd) : Type 0 where
+pub record IsFlatSave (content : Option Content) (opening now : ShelfState) (how : SaveEnd) : Type 0 where
   pub document : Document
   pub held : IfSome content (λ c. HoldsDocument c document)
   pub within : IsDocument document
@@ -51,13 +52,13 @@ abbrev pub flattened_line : List ℕ
 flattened_line = codes "flattened 1" ++ 10 ∷ []
 
 -- the save is done, and the line is written
-pub record IsFlattened (content : Option Content) (opening now : Known) (out : List ℕ) : Type 0 where
+pub record IsFlattened (content : Option Content) (opening now : ShelfState) (out : List ℕ) : Type 0 where
   pub flat : IsFlatSave content opening now Done
   pub file : IfSome now.disk (HasFlat (file_name opening) flat.document)
   pub text : out ≡ flattened_line
 
 -- a fault stopped the save: at each moment a crash leaves what it left before, or a file of the image made flat
-abbrev pub MayBeFlattened : (content : Option Content) → (opening now : Known) → Type 0
+abbrev pub MayBeFlattened : (content : Option Content) → (opening now : ShelfState) → Type 0
 MayBeFlattened content opening now = IsFlatSave content opening now Fault
 
 -- ---- the parts of it
@@ -85,7 +86,7 @@ GivesGroup d (Err SinkFault) = ⊥
 
 module _ {K : Type 0} (held : K → Option (List ℕ)) (faults : K → ℕ) where
   -- a document is saved and the line written; or a fault stopped the save, or one of the sink came while the line was written
-  abbrev pub SavesAndTells : Document → (opening now : Known) → (old new : K) → Result (Unit {0}) Stopped → Type 0
+  abbrev pub SavesAndTells : Document → (opening now : ShelfState) → (old new : K) → Result (Unit {0}) Stopped → Type 0
   SavesAndTells d opening now old new (Ok x) = IsSavedOn opening d Done now × WritesAll held faults old new flattened_line
   SavesAndTells d opening now old new (Err ShelfFault) = IsSavedOn opening d Fault now × (new ≡ old)
   SavesAndTells d opening now old new (Err SinkFault) =

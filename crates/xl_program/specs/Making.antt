@@ -6,23 +6,24 @@ use Rattle.spec_history.specs.History.{Entry, latest_of, document_of}
 use Rattle.spec_history.specs.Kept.{IsLegal}
 use Rattle.spec_saves.specs.Names.{save_faults}
 use Rattle.spec_saves.specs.Contents.{IsVersion}
-use Rattle.spec_saves.specs.Shelf.{Known, file_name, ShelfIsRight}
+use Rattle.spec_saves.specs.Shelf.{file_name, ShelfIsRight}
 use Rattle.spec_script.specs.Script.{Line}
 use Rattle.spec_text.specs.Text.{IsTextOf, printed}
 use Rattle.spec_world.specs.declared.SaveEnd.TheVariants.{Done, Fault}
 use Rattle.xl_ports.specs.Shelf.{Content}
 use Rattle.xl_ports.specs.Disk.{Disk, MayLeave}
+use Rattle.xl_ports.specs.State.{ShelfState}
 use Rattle.xl_snapshot.specs.Saving.{IsSavedOn}
 use Rattle.xl_play.specs.Versions.{AreWithin}
 
 -- a fault stopped the first save, that of the document as it is made
-abbrev pub FailsAtFirst : (opening now : Known) → Document → Type 0
+abbrev pub FailsAtFirst : (opening now : ShelfState) → Document → Type 0
 FailsAtFirst opening now d = IsSavedOn opening d Fault now
 
 -- The first save is done, and the saves of a legal history of the document come behind it, the old file being that of the first.
 -- Each version is within the limits.
-pub record IsMadeHistory (opening now : Known) (d : Document) (entries : List Entry) : Type 0 where
-  pub first : Known
+pub record IsMadeHistory (opening now : ShelfState) (d : Document) (entries : List Entry) : Type 0 where
+  pub first : ShelfState
   pub saved : IsSavedOn opening d Done first
   pub legal : IsLegal d entries
   pub versions : AreWithin d entries
@@ -40,7 +41,7 @@ HasLast name d entries disk = (c : Content) → MayLeave disk name c → IsVersi
 
 -- The line that sums up such a history of the calls of these sessions, and the shelf after its saves. Where none of these failed, the
 -- file is that of the last document.
-pub record IsSummary (opening now : Known) (d : Document) (lists : List (List Line)) (HaveFailed : ℕ → Type 0) (out : List ℕ)
+pub record IsSummary (opening now : ShelfState) (d : Document) (lists : List (List Line)) (HaveFailed : ℕ → Type 0) (out : List ℕ)
     : Type 0 where
   pub entries : List Entry
   pub history : IsMadeHistory opening now d entries

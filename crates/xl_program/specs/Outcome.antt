@@ -1,9 +1,9 @@
 -- What a command writes, and why it may stop.
-use Rattle.std.specs.Prelude.{◌≡◌, ◌⊎◌, ◌==◌, ℕ, List, [], ◌∷◌, length, map, Option, Some, None, IfSome, IsTrue}
+use Rattle.std.specs.Prelude.{◌≡◌, ◌⊎◌, ◌==◌, ◌+◌, ◌^◌, ◌≤◌, ℕ, List, [], ◌∷◌, length, map, Option, Some, None, IfSome, IsTrue, option_map}
 use Rattle.std.specs.Prelude.{Result, Ok, Err, Vec}
 use Rattle.std.specs.declared.alloc.Global.{Global}
 use Rattle.std.specs.List.{list_any}
-use Rattle.spec_command.specs.Arguments.{Asked, edit, render, info, make, pack, flatten, view}
+use Rattle.spec_command.specs.Arguments.{Asked, edit, render, info, make, pack, flatten, view, name_of}
 use Rattle.spec_command.specs.Ends.{Stop, source_fault, bad_line, shelf_fault, refused, flat_refused, stop_line, stop_status}
 use Rattle.spec_document.specs.Document.{Document}
 use Rattle.spec_document.specs.Limits.{IsDocument}
@@ -15,17 +15,17 @@ use Rattle.spec_script.specs.Script.{Line, list_at, script}
 use Rattle.spec_history.specs.History.{Entry}
 use Rattle.spec_history.specs.Kept.{IsLegal}
 use Rattle.spec_saves.specs.Names.{save_faults}
-use Rattle.spec_saves.specs.Shelf.{Known, ShelfIsRight}
+use Rattle.spec_saves.specs.Shelf.{ShelfIsRight}
 use Rattle.spec_text.specs.Text.{IsTextOf, Alone}
-use Rattle.xl_core.specs.Editing.{known}
 use Rattle.xl_play.specs.Playing.{AreOfFirst}
 use Rattle.xl_play.specs.Told.{NoneFailed, SomeFailed, AnyFailed}
 use Rattle.xl_play.specs.Versions.{AreWithin}
-use Rattle.xl_ports.specs.Disk.{Disk, Between, IsQuiet}
+use Rattle.xl_ports.specs.Disk.{read_at, Between, IsQuiet, StaysThrough}
 use Rattle.xl_ports.specs.Faults.{Rose}
 use Rattle.xl_ports.specs.Shelf.{Content}
 use Rattle.xl_ports.specs.Sink.{WritesAll, WritesPart}
 use Rattle.xl_ports.specs.Source.{led_by, IsEnded}
+use Rattle.xl_ports.specs.State.{ShelfState}
 use Rattle.xl_sessions.specs.Outcomes.{states_of}
 use Rattle.xl_program.specs.Files.{HoldsDocument}
 use Rattle.xl_program.specs.Flattening.{IsFlattened, MayBeFlattened}
@@ -77,24 +77,27 @@ IsBadLineOf given (Some (view name cols rows)) number = IsBadViewLine given.left
 
 -- ---- the shelf
 
--- what is seen of a shelf: what its names stand for, and what is known of it
-pub record Shelved : Type 0 where
-  pub content : List ℕ → Option Content
-  pub known : Known
+-- a shelf as a command finds it, the name of its file being selected, and the file loaded as often as it was in the end
+abbrev pub opened : (old new : ShelfState) → (name : List ℕ) → ShelfState
+opened old new name = record old { selected = Some name; loads = new.loads }
 
-abbrev pub shelved : {D : Type 0} → (content : D → List ℕ → Option Content) → (selected : D → Option (List ℕ))
-    → (disk : D → Option Disk) → (reading saving : D → ℕ) → D → Shelved
-shelved content selected disk reading saving d = record { content = content d; known = known selected disk reading saving d }
+-- how often a file is loaded from at most: as often as a file has bytes that is not too long
+abbrev pub most_loads : ℕ
+most_loads = 2 ^ 31
 
--- a shelf as a command finds it, the name of its file being selected
-abbrev pub opened : Shelved → (name : List ℕ) → Known
-opened s name = record { selected = Some name; disk = s.known.disk; reading = s.known.reading; saving = s.known.saving }
+abbrev pub LoadsFew : (old new : ShelfState) → Type 0
+LoadsFew old new = new.loads ≤ old.loads + most_loads
+
+-- every name but that of the command's file stays, at each moment; without a command every name does
+abbrev pub OtherNamesStay : (old new : ShelfState) → Option Asked → Type 0
+OtherNamesStay old new command = (other : List ℕ) → (option_map name_of command ≡ Some other → ⊥)
+    → Between old.disk new.disk (λ before after. StaysThrough before after other)
 
 -- Nothing was saved: under each name a read gives and a crash leaves what they did, at each moment.
-pub record IsUntouched (old new : Shelved) : Type 0 where
-  pub contents : new.content ≡ old.content
-  pub quiet : Between old.known.disk new.known.disk IsQuiet
-  pub saving : new.known.saving ≡ old.known.saving
+pub record IsUntouched (old new : ShelfState) : Type 0 where
+  pub contents : read_at new.disk ≡ read_at old.disk
+  pub quiet : Between old.disk new.disk IsQuiet
+  pub saving : new.saving ≡ old.saving
 
 -- ---- what is written
 
@@ -107,17 +110,17 @@ pub record IsReport (text : Document → List ℕ) (content : Option Content) (o
 
 -- A legal history of a document within the limits, as are all its versions, which the file held, where that is told, and the shelf
 -- after its saves. Where none of these failed, the file is that of the last one that was acknowledged, or the old one.
-pub record IsHistory (name : List ℕ) (old new : Shelved) (document : Document) (entries : List Entry) : Type 0 where
-  pub held : IfSome (old.content name) (λ c. HoldsDocument c document)
+pub record IsHistory (name : List ℕ) (old new : ShelfState) (document : Document) (entries : List Entry) : Type 0 where
+  pub held : IfSome (read_at old.disk name) (λ c. HoldsDocument c document)
   pub within : IsDocument document
   pub legal : IsLegal document entries
   pub versions : AreWithin document entries
-  pub shelf : ShelfIsRight (opened old name) document entries new.known
-  pub file : save_faults entries ≡ 0 → Between old.known.disk new.known.disk (HasLastSaved name document entries)
+  pub shelf : ShelfIsRight (opened old new name) document entries new
+  pub file : save_faults entries ≡ 0 → Between old.disk new.disk (HasLastSaved name document entries)
 
 -- The text of such a history whose calls are those of the script. Where no worker was asked for, these are all of session 0 and no
 -- save failed, it is that of one session alone.
-pub record IsReplies (given : Given) (name : List ℕ) (old new : Shelved) (workers : ℕ) (HaveFailed : ℕ → Type 0) (out : List ℕ)
+pub record IsReplies (given : Given) (name : List ℕ) (old new : ShelfState) (workers : ℕ) (HaveFailed : ℕ → Type 0) (out : List ℕ)
     : Type 0 where
   pub document : Document
   pub lists : List (List Line)
@@ -129,25 +132,25 @@ pub record IsReplies (given : Given) (name : List ℕ) (old new : Shelved) (work
   pub failed : HaveFailed (save_faults entries)
 
 -- what the command writes when it comes to its end, and the shelf then
-abbrev pub IsOutput : Given → (old new : Shelved) → Asked → (HaveFailed : ℕ → Type 0) → (out : List ℕ) → Type 0
-IsOutput given old new (render name) HaveFailed out = IsReport pam (old.content name) out × IsUntouched old new × HaveFailed 0
-IsOutput given old new (info name) HaveFailed out = IsReport json.info (old.content name) out × IsUntouched old new × HaveFailed 0
+abbrev pub IsOutput : Given → (old new : ShelfState) → Asked → (HaveFailed : ℕ → Type 0) → (out : List ℕ) → Type 0
+IsOutput given old new (render name) HaveFailed out = IsReport pam (read_at old.disk name) out × IsUntouched old new × HaveFailed 0
+IsOutput given old new (info name) HaveFailed out = IsReport json.info (read_at old.disk name) out × IsUntouched old new × HaveFailed 0
 IsOutput given old new (make name seed) HaveFailed out =
-    IsSummary (opened old name) new.known (document seed) (made_script seed) HaveFailed out
+    IsSummary (opened old new name) new (document seed) (made_script seed) HaveFailed out
 IsOutput given old new (edit name workers) HaveFailed out = IsReplies given name old new workers HaveFailed out
 IsOutput given old new (pack name with_plans) HaveFailed out =
-    IsPacked (old.content name) (opened old name) new.known with_plans out × HaveFailed 0
-IsOutput given old new (flatten name) HaveFailed out = IsFlattened (old.content name) (opened old name) new.known out × HaveFailed 0
+    IsPacked (read_at old.disk name) (opened old new name) new with_plans out × HaveFailed 0
+IsOutput given old new (flatten name) HaveFailed out = IsFlattened (read_at old.disk name) (opened old new name) new out × HaveFailed 0
 IsOutput given old new (view name cols rows) HaveFailed out =
-    IsViewed given.left (first_filters given) (old.content name) cols rows out × IsUntouched old new × HaveFailed 0
+    IsViewed given.left (first_filters given) (read_at old.disk name) cols rows out × IsUntouched old new × HaveFailed 0
 
 -- The shelf where memory ran out: as before, or after a history. So each file that a crash might leave is the old one, or holds a
 -- version of that history.
-abbrev pub MayHaveSaved : (old new : Shelved) → Asked → Type 0
+abbrev pub MayHaveSaved : (old new : ShelfState) → Asked → Type 0
 MayHaveSaved old new (render name) = IsUntouched old new
 MayHaveSaved old new (info name) = IsUntouched old new
 MayHaveSaved old new (make name seed) =
-    IsUntouched old new ⊎ ((entries : List Entry) × IsMadeHistory (opened old name) new.known (document seed) entries)
+    IsUntouched old new ⊎ ((entries : List Entry) × IsMadeHistory (opened old new name) new (document seed) entries)
 MayHaveSaved old new (edit name workers) =
     IsUntouched old new ⊎ ((document : Document) × (entries : List Entry) × IsHistory name old new document entries)
 MayHaveSaved old new (pack name with_plans) = IsUntouched old new
@@ -155,19 +158,19 @@ MayHaveSaved old new (flatten name) = IsUntouched old new
 MayHaveSaved old new (view name cols rows) = IsUntouched old new
 
 -- the same of any words
-abbrev pub MaySave : (old new : Shelved) → Option Asked → Type 0
+abbrev pub MaySave : (old new : ShelfState) → Option Asked → Type 0
 MaySave old new None = IsUntouched old new
 MaySave old new (Some command) = MayHaveSaved old new command
 
 -- the shelf where a fault of it stopped the command: as before, or after a part of the one save of a command, or of the first of what
 -- is made
-abbrev pub FailsAtShelf : (old new : Shelved) → Asked → Type 0
+abbrev pub FailsAtShelf : (old new : ShelfState) → Asked → Type 0
 FailsAtShelf old new (render name) = IsUntouched old new
 FailsAtShelf old new (info name) = IsUntouched old new
-FailsAtShelf old new (make name seed) = IsUntouched old new ⊎ FailsAtFirst (opened old name) new.known (document seed)
+FailsAtShelf old new (make name seed) = IsUntouched old new ⊎ FailsAtFirst (opened old new name) new (document seed)
 FailsAtShelf old new (edit name workers) = IsUntouched old new
-FailsAtShelf old new (pack name with_plans) = IsUntouched old new ⊎ MayBePacked (old.content name) (opened old name) new.known
-FailsAtShelf old new (flatten name) = IsUntouched old new ⊎ MayBeFlattened (old.content name) (opened old name) new.known
+FailsAtShelf old new (pack name with_plans) = IsUntouched old new ⊎ MayBePacked (read_at old.disk name) (opened old new name) new
+FailsAtShelf old new (flatten name) = IsUntouched old new ⊎ MayBeFlattened (read_at old.disk name) (opened old new name) new
 FailsAtShelf old new (view name cols rows) = IsUntouched old new
 
 module _ {K : Type 0} (held : K → Option (List ℕ)) (faults : K → ℕ) where
@@ -197,7 +200,7 @@ module _ {K : Type 0} (held : K → Option (List ℕ)) (faults : K → ℕ) wher
   Comes IsOut Untouched Failed Saved old new (Err (NotFlattened why)) = Keeps old new × Untouched
 
   -- so does this command
-  abbrev pub ComesTo : Given → (before after : Shelved) → Asked → (old new : K) → Result (Unit {0}) Stopped → Type 0
+  abbrev pub ComesTo : Given → (before after : ShelfState) → Asked → (old new : K) → Result (Unit {0}) Stopped → Type 0
   ComesTo given before after command old new result =
       Comes (IsOutput given before after command) (IsUntouched before after) (FailsAtShelf before after command)
       (MayHaveSaved before after command) old new result
@@ -241,7 +244,7 @@ ShelfCause before after result = IfShelf (fault_of result) (Rose before after) (
 
 -- the faults rose that may stop the command: those of reading, and of saving for the one save of a command, or the first of what is
 -- made
-abbrev pub FaultsRose : (before after : Known) → Asked → Type 0
+abbrev pub FaultsRose : (before after : ShelfState) → Asked → Type 0
 FaultsRose before after (render name) = Rose before.reading after.reading
 FaultsRose before after (info name) = Rose before.reading after.reading
 FaultsRose before after (make name seed) = Rose before.reading after.reading ⊎ Rose before.saving after.saving
@@ -251,7 +254,7 @@ FaultsRose before after (flatten name) = Rose before.reading after.reading ⊎ R
 FaultsRose before after (view name cols rows) = Rose before.reading after.reading
 
 -- the same of a command; the reading faults stay where none stops it
-abbrev pub ShelfCauseOf : (before after : Known) → Asked → Result (Unit {0}) Stopped → Type 0
+abbrev pub ShelfCauseOf : (before after : ShelfState) → Asked → Result (Unit {0}) Stopped → Type 0
 ShelfCauseOf before after command result =
     IfShelf (fault_of result) (FaultsRose before after command) (after.reading ≡ before.reading)
 
@@ -266,21 +269,29 @@ InGrammar given (Some (pack name with_plans)) = Unit {0}
 InGrammar given (Some (flatten name)) = Unit {0}
 InGrammar given (Some (view name cols rows)) = IsViewScript given.left (first_filters given)
 
-module _ {S : Type 0} (left : S → Option (List ℕ)) (faults : S → ℕ) where
-  -- the source was left as it was
+-- how often a source is read for a script at most: as often as a script may have bytes, and once more
+abbrev pub most_reads : ℕ
+most_reads = 2 ^ 24 + 1
+
+module _ {S : Type 0} (left : S → Option (List ℕ)) (faults reads : S → ℕ) where
+  -- the source was left as it was, and not read
   abbrev pub Leaves : (old new : S) → Type 0
-  Leaves old new = (left new ≡ left old) × (faults new ≡ faults old)
+  Leaves old new = (left new ≡ left old) × (faults new ≡ faults old) × (reads new ≡ reads old)
+
+  -- the first bytes that the source has left were taken, in so many reads at most
+  abbrev pub TakesFront : (old new : S) → Type 0
+  TakesFront old new = ((bytes : List ℕ) × (left old ≡ led_by bytes (left new))) × (reads new ≤ reads old + most_reads)
 
   -- an edit and a view take the first bytes that the source has left
   abbrev pub Takes : (old new : S) → Option Asked → Type 0
   Takes old new None = Leaves old new
-  Takes old new (Some (edit name workers)) = (bytes : List ℕ) × (left old ≡ led_by bytes (left new))
+  Takes old new (Some (edit name workers)) = TakesFront old new
   Takes old new (Some (render name)) = Leaves old new
   Takes old new (Some (info name)) = Leaves old new
   Takes old new (Some (make name seed)) = Leaves old new
   Takes old new (Some (pack name with_plans)) = Leaves old new
   Takes old new (Some (flatten name)) = Leaves old new
-  Takes old new (Some (view name cols rows)) = (bytes : List ℕ) × (left old ≡ led_by bytes (left new))
+  Takes old new (Some (view name cols rows)) = TakesFront old new
 
 -- nothing is left of a script, unless the source failed, a line is refused or memory ran out
 abbrev pub ReadsToEnd : (left : Option (List ℕ)) → Result (Unit {0}) Stopped → Type 0
@@ -310,23 +321,23 @@ IsStatus status = IsTrue (list_any (λ n. n == status) (0 ∷ 2 ∷ 3 ∷ 4 ∷ 
 
 module _ {K : Type 0} (held : K → Option (List ℕ)) (faults : K → ℕ) where
   -- all is written, and no save failed
-  abbrev pub ComesWell : Given → (before after : Shelved) → Option Asked → (old new : K) → Type 0
+  abbrev pub ComesWell : Given → (before after : ShelfState) → Option Asked → (old new : K) → Type 0
   ComesWell given before after None old new = ⊥
   ComesWell given before after (Some command) old new =
       WritesSome held faults (IsOutput given before after command NoneFailed) old new
 
   -- the file could not be read, or the one save of a command, or the first of what is made, failed, which is told; or all is written,
   -- and a save failed
-  abbrev pub ShelfFails : Given → (before after : Shelved) → Option Asked → (old new : K) → Type 0
+  abbrev pub ShelfFails : Given → (before after : ShelfState) → Option Asked → (old new : K) → Type 0
   ShelfFails given before after None old new = ⊥
   ShelfFails given before after (Some command) old new =
-      (FaultsRose before.known after.known command × FailsAtShelf before after command
+      (FaultsRose before after command × FailsAtShelf before after command
       × WritesLine held faults old new (stop_line shelf_fault))
-      ⊎ ((after.known.reading ≡ before.known.reading)
+      ⊎ ((after.reading ≡ before.reading)
       × WritesSome held faults (IsOutput given before after command SomeFailed) old new)
 
   -- a fault of the sink came while all was written
-  abbrev pub WritesInPart : Given → (before after : Shelved) → Option Asked → (old new : K) → Type 0
+  abbrev pub WritesInPart : Given → (before after : ShelfState) → Option Asked → (old new : K) → Type 0
   WritesInPart given before after None old new = ⊥
   WritesInPart given before after (Some command) old new =
       WritesFront held faults (IsOutput given before after command AnyFailed) old new

@@ -10,12 +10,13 @@ use Rattle.spec_script.specs.Script.{list_at}
 use Rattle.spec_history.specs.History.{Entry}
 use Rattle.spec_history.specs.Kept.{IsLegal}
 use Rattle.spec_saves.specs.Names.{save_faults}
-use Rattle.spec_saves.specs.Shelf.{Known, ShelfIsRight}
+use Rattle.spec_saves.specs.Shelf.{ShelfIsRight}
 use Rattle.xl_play.specs.Told.{WhetherFailed}
 use Rattle.xl_play.specs.Versions.{AreWithin}
 use Rattle.xl_play.specs.declared.playing.Replies.{Replies}
 use Rattle.xl_ports.specs.Shelf.{Content}
 use Rattle.xl_ports.specs.Sink.{WritesAll, WritesPart}
+use Rattle.xl_ports.specs.State.{ShelfState}
 use Rattle.xl_program.specs.Making.{IsRunOf}
 use Rattle.xl_program.specs.Files.{CannotBeFlat, HasFault, HasLength, HoldsDocument}
 use Rattle.xl_program.specs.Outcome.{first_filters, Given, HasLines, IsScript, IsBadLine}
@@ -64,7 +65,7 @@ pub record SumsUp (document : Document) (lists : List (List script.Line)) (entri
 
 -- a legal history, its versions within the limits, the shelf after its saves, and the line that sums it up unless memory ran out
 pub record IsSummedUp
-    (opening now : Known) (document : Document) (lists : List (List script.Line)) (told : Result Replies AllocError) : Type 0 where
+    (opening now : ShelfState) (document : Document) (lists : List (List script.Line)) (told : Result Replies AllocError) : Type 0 where
   pub entries : List Entry
   pub legal : IsLegal document entries
   pub versions : AreWithin document entries

@@ -1,7 +1,8 @@
 ghost use Rattle.std.specs.Prelude.{◌≡◌, ◌⊎◌, Some};
 ghost use Rattle.spec_command.specs.Arguments.{info as info_of};
-ghost use Rattle.xl_program.specs.Outcome.{Given, ComesTo, ShelfCause, shelved};
+ghost use Rattle.xl_program.specs.Outcome.{Given, ComesTo, LoadsFew, ShelfCause};
 ghost use Rattle.xl_program.specs.Parts.{StopsReport};
+ghost use Rattle.xl_ports.specs.Disk.{read_at};
 
 use crate::loading::read_document;
 use crate::stopped::Stopped;
@@ -17,12 +18,13 @@ pub fn describe<K: Sink, D: Shelf>(
     shelf: &mut D,
 ) -> Result<(), Stopped>
     ensures comes { (given : Given) → ComesTo K.held K.faults given
-        (shelved D.content D.selected D.disk D.reading_faults D.saving_faults shelf.old)
-        (shelved D.content D.selected D.disk D.reading_faults D.saving_faults shelf.new)
+        (D.state shelf.old)
+        (D.state shelf.new)
         (info_of name.now) sink.old sink.new result }
-    ensures stops { StopsReport (D.content shelf.old name.now) result }
-    ensures cause { ShelfCause (D.reading_faults shelf.old) (D.reading_faults shelf.new) result }
-    ensures selected { (D.selected shelf.new ≡ D.selected shelf.old) ⊎ (D.selected shelf.new ≡ Some name.now) }
+    ensures stops { StopsReport (read_at (D.state shelf.old).disk name.now) result }
+    ensures cause { ShelfCause (D.state shelf.old).reading (D.state shelf.new).reading result }
+    ensures few_loads { LoadsFew (D.state shelf.old) (D.state shelf.new) }
+    ensures selected { ((D.state shelf.new).selected ≡ (D.state shelf.old).selected) ⊎ ((D.state shelf.new).selected ≡ Some name.now) }
 {
     let document = read_document(alloc, name, shelf)?;
     let Ok(line) = info(alloc, &document) else {

@@ -2,8 +2,9 @@ ghost use Rattle.std.specs.Prelude.{◌≡◌, ◌<◌, ◌≤◌, ◌^◌, ◌�
 ghost use Rattle.std.specs.List.{AllByRecursion};
 ghost use Rattle.spec_script.specs.Fits.{FitsFilters};
 ghost use Rattle.spec_command.specs.Arguments.{edit as edit_of};
-ghost use Rattle.xl_ports.specs.Source.{led_by, IsEnded};
-ghost use Rattle.xl_program.specs.Outcome.{given_of, ComesTo, ReadsToEnd, SourceCause, ShelfCause, shelved};
+ghost use Rattle.xl_ports.specs.Source.{IsEnded};
+ghost use Rattle.xl_ports.specs.Disk.{read_at};
+ghost use Rattle.xl_program.specs.Outcome.{given_of, ComesTo, LoadsFew, ReadsToEnd, SourceCause, ShelfCause, TakesFront};
 ghost use Rattle.xl_program.specs.Parts.{ReadsScript, WritesReplies, StopsEdit};
 ghost use Rattle.xl_script.specs.Lines.{lists_of};
 ghost use Rattle.xl_sessions.specs.Outcomes.{states_of};
@@ -40,15 +41,16 @@ pub fn edit<R: Threads + Wait + Sync, S: Source, K: Sink, D: Shelf, G: Gate>(
     requires boxes { AllByRecursion (λ boxes. length boxes.items < 2 ^ 32) chest.items }
     requires workers { workers ≤ 8 }
     ensures comes { ComesTo K.held K.faults (given_of (S.left source.old) (λ b. state b) chest.items)
-        (shelved D.content D.selected D.disk D.reading_faults D.saving_faults shelf)
-        (shelved D.content D.selected D.disk D.reading_faults D.saving_faults result.shelf)
+        (D.state shelf)
+        (D.state result.shelf)
         (edit_of name.now workers) sink.old sink.new result.result }
-    ensures stops { StopsEdit (given_of (S.left source.old) (λ b. state b) chest.items) (D.content shelf name.now) result.result }
-    ensures takes { (bytes : List ℕ) × (S.left source.old ≡ led_by bytes (S.left source.new)) }
+    ensures stops { StopsEdit (given_of (S.left source.old) (λ b. state b) chest.items) (read_at (D.state shelf).disk name.now) result.result }
+    ensures takes { TakesFront S.left S.faults S.reads source.old source.new }
     ensures ended { ReadsToEnd (S.left source.new) result.result }
     ensures source_cause { SourceCause (S.faults source.old) (S.faults source.new) result.result }
-    ensures shelf_cause { ShelfCause (D.reading_faults shelf) (D.reading_faults result.shelf) result.result }
-    ensures selected { (D.selected result.shelf ≡ D.selected shelf) ⊎ (D.selected result.shelf ≡ Some name.now) }
+    ensures shelf_cause { ShelfCause (D.state shelf).reading (D.state result.shelf).reading result.result }
+    ensures few_loads { LoadsFew (D.state shelf) (D.state result.shelf) }
+    ensures selected { ((D.state result.shelf).selected ≡ (D.state shelf).selected) ⊎ ((D.state result.shelf).selected ≡ Some name.now) }
 {
     let script = match read_script(alloc, source, &chest) {
         Ok(script) => script,
@@ -95,7 +97,7 @@ fn read_script<S: Source>(
     requires { AllByRecursion (λ boxes. length boxes.items < 2 ^ 32) chest.now.items }
     ensures reads { ReadsScript (given_of (S.left source.old) (λ b. state b) chest.now.items) result }
     ensures fits { IfOk result (λ script. FitsFilters (map length (states_of (λ b. state b) chest.now.items)) (lists_of script)) }
-    ensures takes { (bytes : List ℕ) × (S.left source.old ≡ led_by bytes (S.left source.new)) }
+    ensures takes { TakesFront S.left S.faults S.reads source.old source.new }
     ensures ended { OnOk result (IsEnded (S.left source.new)) }
     ensures cause { SourceCause (S.faults source.old) (S.faults source.new) result }
 {

@@ -3,11 +3,11 @@ ghost use Rattle.spec_command.specs.Arguments.{flatten as flatten_of};
 ghost use Rattle.spec_document.specs.Document.{Document as Plain};
 ghost use Rattle.spec_document.specs.Ids.{next_id};
 ghost use Rattle.spec_layout.specs.Layout.{Written};
-ghost use Rattle.xl_core.specs.Editing.{known};
 ghost use Rattle.xl_doc.specs.Numbered.{AreNumbered};
 ghost use Rattle.xl_program.specs.Flattening.{made_flat, GivesGroup, IsFlatGroup, SavesAndTells};
-ghost use Rattle.xl_program.specs.Outcome.{Given, ComesTo, ShelfCauseOf, shelved};
+ghost use Rattle.xl_program.specs.Outcome.{Given, ComesTo, LoadsFew, ShelfCauseOf};
 ghost use Rattle.xl_program.specs.Parts.{StopsFlatten};
+ghost use Rattle.xl_ports.specs.Disk.{read_at};
 
 use crate::ended::Done;
 use crate::loading::read_document;
@@ -35,13 +35,14 @@ const SESSION: u8 = 0;
 /// The file is made before the save begins. The shelf comes back always.
 pub fn flatten<K: Sink, D: Shelf>(alloc: Global, name: &str, sink: &mut K, mut shelf: D) -> Done<D>
     ensures comes { (given : Given) → ComesTo K.held K.faults given
-        (shelved D.content D.selected D.disk D.reading_faults D.saving_faults shelf)
-        (shelved D.content D.selected D.disk D.reading_faults D.saving_faults result.shelf)
+        (D.state shelf)
+        (D.state result.shelf)
         (flatten_of name.now) sink.old sink.new result.result }
-    ensures stops { StopsFlatten (D.content shelf name.now) result.result }
-    ensures cause { ShelfCauseOf (known D.selected D.disk D.reading_faults D.saving_faults shelf)
-        (known D.selected D.disk D.reading_faults D.saving_faults result.shelf) (flatten_of name.now) result.result }
-    ensures selected { (D.selected result.shelf ≡ D.selected shelf) ⊎ (D.selected result.shelf ≡ Some name.now) }
+    ensures stops { StopsFlatten (read_at (D.state shelf).disk name.now) result.result }
+    ensures cause { ShelfCauseOf (D.state shelf)
+        (D.state result.shelf) (flatten_of name.now) result.result }
+    ensures few_loads { LoadsFew (D.state shelf) (D.state result.shelf) }
+    ensures selected { ((D.state result.shelf).selected ≡ (D.state shelf).selected) ⊎ ((D.state result.shelf).selected ≡ Some name.now) }
 {
     let document = match read_document(alloc, name, &mut shelf) {
         Ok(document) => document,
@@ -132,11 +133,12 @@ fn flat_file<L: Ledger, D: Shelf>(
 
 // Saves a file, and writes the line that tells of it.
 fn save_flat<K: Sink, D: Shelf>(file: &[u8], sink: &mut K, shelf: &mut D) -> Result<(), Stopped>
-    requires { IsSome (D.selected shelf.old) }
+    requires { IsSome (D.state shelf.old).selected }
     ensures saved { (d : Plain) → Written file.now d → SavesAndTells K.held K.faults d
-        (known D.selected D.disk D.reading_faults D.saving_faults shelf.old)
-        (known D.selected D.disk D.reading_faults D.saving_faults shelf.new) sink.old sink.new result }
-    ensures selected { D.selected shelf.new ≡ D.selected shelf.old }
+        (D.state shelf.old)
+        (D.state shelf.new) sink.old sink.new result }
+    ensures loads { (D.state shelf.new).loads ≡ (D.state shelf.old).loads }
+    ensures selected { (D.state shelf.new).selected ≡ (D.state shelf.old).selected }
 {
     if save_file(file, shelf).is_err() {
         return Err(Stopped::ShelfFault);

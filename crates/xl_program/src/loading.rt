@@ -1,8 +1,9 @@
 ghost use Rattle.std.specs.Prelude.{◌≡◌, ◌⊎◌, Some, IfOk, OnOk};
 ghost use Rattle.spec_document.specs.Limits.{IsDocument};
 ghost use Rattle.xl_doc.specs.Numbered.{AreNumbered};
-ghost use Rattle.xl_program.specs.Outcome.{ShelfCause, IsUntouched, shelved};
+ghost use Rattle.xl_program.specs.Outcome.{IsUntouched, LoadsFew, ShelfCause};
 ghost use Rattle.xl_program.specs.Parts.{Loads, LoadsMeasured};
+ghost use Rattle.xl_ports.specs.Disk.{read_at};
 
 use crate::stopped::Stopped;
 use std::alloc::Global;
@@ -28,14 +29,15 @@ pub fn read_document<D: Shelf>(
     name: &str,
     shelf: &mut D,
 ) -> Result<Document, Stopped>
-    ensures loads { Loads (D.content shelf.old name.now) result }
+    ensures loads { Loads (read_at (D.state shelf.old).disk name.now) result }
     ensures limits { IfOk result (λ document. IsDocument document) }
     ensures numbered { IfOk result (λ document. AreNumbered document.nodes) }
-    ensures cause { ShelfCause (D.reading_faults shelf.old) (D.reading_faults shelf.new) result }
-    ensures untouched { IsUntouched (shelved D.content D.selected D.disk D.reading_faults D.saving_faults shelf.old)
-        (shelved D.content D.selected D.disk D.reading_faults D.saving_faults shelf.new) }
-    ensures named { OnOk result (D.selected shelf.new ≡ Some name.now) }
-    ensures selected { (D.selected shelf.new ≡ D.selected shelf.old) ⊎ (D.selected shelf.new ≡ Some name.now) }
+    ensures cause { ShelfCause (D.state shelf.old).reading (D.state shelf.new).reading result }
+    ensures untouched { IsUntouched (D.state shelf.old)
+        (D.state shelf.new) }
+    ensures few_loads { LoadsFew (D.state shelf.old) (D.state shelf.new) }
+    ensures named { OnOk result ((D.state shelf.new).selected ≡ Some name.now) }
+    ensures selected { ((D.state shelf.new).selected ≡ (D.state shelf.old).selected) ⊎ ((D.state shelf.new).selected ≡ Some name.now) }
 {
     let loaded = load_document(alloc, name, shelf)?;
     Ok(loaded.document)
@@ -43,14 +45,15 @@ pub fn read_document<D: Shelf>(
 
 /// The document of a file, and the file's length.
 pub fn load_document<D: Shelf>(alloc: Global, name: &str, shelf: &mut D) -> Result<Loaded, Stopped>
-    ensures loads { LoadsMeasured (D.content shelf.old name.now) result }
+    ensures loads { LoadsMeasured (read_at (D.state shelf.old).disk name.now) result }
     ensures limits { IfOk result (λ loaded. IsDocument loaded.document) }
     ensures numbered { IfOk result (λ loaded. AreNumbered loaded.document.nodes) }
-    ensures cause { ShelfCause (D.reading_faults shelf.old) (D.reading_faults shelf.new) result }
-    ensures untouched { IsUntouched (shelved D.content D.selected D.disk D.reading_faults D.saving_faults shelf.old)
-        (shelved D.content D.selected D.disk D.reading_faults D.saving_faults shelf.new) }
-    ensures named { OnOk result (D.selected shelf.new ≡ Some name.now) }
-    ensures selected { (D.selected shelf.new ≡ D.selected shelf.old) ⊎ (D.selected shelf.new ≡ Some name.now) }
+    ensures cause { ShelfCause (D.state shelf.old).reading (D.state shelf.new).reading result }
+    ensures untouched { IsUntouched (D.state shelf.old)
+        (D.state shelf.new) }
+    ensures few_loads { LoadsFew (D.state shelf.old) (D.state shelf.new) }
+    ensures named { OnOk result ((D.state shelf.new).selected ≡ Some name.now) }
+    ensures selected { ((D.state shelf.new).selected ≡ (D.state shelf.old).selected) ⊎ ((D.state shelf.new).selected ≡ Some name.now) }
 {
     match shelf.select(name) {
         Ok(()) => {}

@@ -9,11 +9,10 @@ ghost use Rattle.spec_saves.specs.Names.{save_faults};
 ghost use Rattle.spec_script.specs.Fits.{FitsFilters};
 ghost use Rattle.spec_text.specs.Text.{digest_of};
 ghost use Rattle.spec_world.specs.declared.SaveEnd.TheVariants as save_end;
-ghost use Rattle.xl_core.specs.Editing.{known};
 ghost use Rattle.xl_standing.specs.History.{document as last_document};
 ghost use Rattle.xl_doc.specs.Numbered.{AreNumbered};
 ghost use Rattle.xl_play.specs.Told.{WhetherFailed};
-ghost use Rattle.xl_program.specs.Outcome.{Given, ComesTo, FailsAtShelf, FaultsRose, ShelfCauseOf, opened, shelved};
+ghost use Rattle.xl_program.specs.Outcome.{Given, ComesTo, FailsAtShelf, FaultsRose, LoadsFew, ShelfCauseOf, opened};
 ghost use Rattle.xl_program.specs.Parts.{IsSummedUp, StopsMaking};
 ghost use Rattle.xl_snapshot.specs.Saving.{IsSavedOn};
 ghost use Rattle.xl_script.specs.Lines.{lists_of};
@@ -51,13 +50,14 @@ pub fn make<R: Threads + Wait + Sync, K: Sink, D: Shelf, G: Gate>(
     gate: &G,
 ) -> Done<D>
     ensures comes { (given : Given) → ComesTo K.held K.faults given
-        (shelved D.content D.selected D.disk D.reading_faults D.saving_faults shelf)
-        (shelved D.content D.selected D.disk D.reading_faults D.saving_faults result.shelf)
+        (D.state shelf)
+        (D.state result.shelf)
         (make_of name.now seed) sink.old sink.new result.result }
     ensures stops { StopsMaking result.result }
-    ensures cause { ShelfCauseOf (known D.selected D.disk D.reading_faults D.saving_faults shelf)
-        (known D.selected D.disk D.reading_faults D.saving_faults result.shelf) (make_of name.now seed) result.result }
-    ensures selected { (D.selected result.shelf ≡ D.selected shelf) ⊎ (D.selected result.shelf ≡ Some name.now) }
+    ensures cause { ShelfCauseOf (D.state shelf)
+        (D.state result.shelf) (make_of name.now seed) result.result }
+    ensures few_loads { LoadsFew (D.state shelf) (D.state result.shelf) }
+    ensures selected { ((D.state result.shelf).selected ≡ (D.state shelf).selected) ⊎ ((D.state result.shelf).selected ≡ Some name.now) }
 {
     let Ok((made, file)) = made_with_file(alloc, seed) else {
         return Done {
@@ -94,16 +94,17 @@ fn made_with_file(alloc: Global, seed: u32) -> Result<(Made, Vec<u8>), AllocErro
 // Saves the file of a document that is made, before its script is played.
 fn save_first<D: Shelf>(name: &str, file: &[u8], shelf: &mut D) -> Result<(), Failed>
     ensures saved { OnOk result ((seed : ℕ) → Written file.now (document seed) → IsSavedOn
-        (opened (shelved D.content D.selected D.disk D.reading_faults D.saving_faults shelf.old) name.now)
+        (opened (D.state shelf.old) (D.state shelf.new) name.now)
         (document seed) save_end.Done
-        (known D.selected D.disk D.reading_faults D.saving_faults shelf.new)) }
+        (D.state shelf.new)) }
     ensures failed { OnErr result ((seed : ℕ) → Written file.now (document seed) → FailsAtShelf
-        (shelved D.content D.selected D.disk D.reading_faults D.saving_faults shelf.old)
-        (shelved D.content D.selected D.disk D.reading_faults D.saving_faults shelf.new) (make_of name.now seed)
-        × FaultsRose (known D.selected D.disk D.reading_faults D.saving_faults shelf.old)
-        (known D.selected D.disk D.reading_faults D.saving_faults shelf.new) (make_of name.now seed)) }
-    ensures selected { (D.selected shelf.new ≡ D.selected shelf.old) ⊎ (D.selected shelf.new ≡ Some name.now) }
-    ensures named { OnOk result (D.selected shelf.new ≡ Some name.now) }
+        (D.state shelf.old)
+        (D.state shelf.new) (make_of name.now seed)
+        × FaultsRose (D.state shelf.old)
+        (D.state shelf.new) (make_of name.now seed)) }
+    ensures loads { (D.state shelf.new).loads ≡ (D.state shelf.old).loads }
+    ensures selected { ((D.state shelf.new).selected ≡ (D.state shelf.old).selected) ⊎ ((D.state shelf.new).selected ≡ Some name.now) }
+    ensures named { OnOk result ((D.state shelf.new).selected ≡ Some name.now) }
 {
     shelf.select(name)?;
     save_file(file, shelf)
@@ -117,14 +118,14 @@ fn run_made<R: Threads + Wait + Sync, D: Shelf, G: Gate>(
     shelf: D,
     gate: &G,
 ) -> Played<D>
-    requires selected { IsSome (D.selected shelf) }
+    requires selected { IsSome (D.state shelf).selected }
     requires limits { IsDocument made.document }
     requires numbered { AreNumbered made.document.nodes }
     requires fits { FitsFilters [] (lists_of made.script) }
     requires eight { length (lists_of made.script) ≡ 8 }
     ensures { (seed : ℕ) → made.document ≡ document seed → lists_of made.script ≡ script seed
-        → IsSummedUp (known D.selected D.disk D.reading_faults D.saving_faults shelf)
-        (known D.selected D.disk D.reading_faults D.saving_faults result.shelf) (document seed) (script seed) result.replies }
+        → IsSummedUp (D.state shelf)
+        (D.state result.shelf) (document seed) (script seed) result.replies }
 {
     let core = match open_core(alloc, made.document, shelf) {
         Ok(core) => core,

@@ -1,8 +1,8 @@
 ghost use Rattle.std.specs.Prelude.{◌≡◌, ◌⊎◌, Some};
 ghost use Rattle.spec_command.specs.Arguments.{pack as pack_of};
-ghost use Rattle.xl_core.specs.Editing.{known};
-ghost use Rattle.xl_program.specs.Outcome.{Given, ComesTo, ShelfCauseOf, shelved};
+ghost use Rattle.xl_program.specs.Outcome.{Given, ComesTo, LoadsFew, ShelfCauseOf};
 ghost use Rattle.xl_program.specs.Parts.{StopsReport};
+ghost use Rattle.xl_ports.specs.Disk.{read_at};
 
 use crate::loading::load_document;
 use crate::stopped::Stopped;
@@ -22,13 +22,14 @@ pub fn pack<K: Sink, D: Shelf>(
     shelf: &mut D,
 ) -> Result<(), Stopped>
     ensures comes { (given : Given) → ComesTo K.held K.faults given
-        (shelved D.content D.selected D.disk D.reading_faults D.saving_faults shelf.old)
-        (shelved D.content D.selected D.disk D.reading_faults D.saving_faults shelf.new)
+        (D.state shelf.old)
+        (D.state shelf.new)
         (pack_of name.now with_plans) sink.old sink.new result }
-    ensures stops { StopsReport (D.content shelf.old name.now) result }
-    ensures cause { ShelfCauseOf (known D.selected D.disk D.reading_faults D.saving_faults shelf.old)
-        (known D.selected D.disk D.reading_faults D.saving_faults shelf.new) (pack_of name.now with_plans) result }
-    ensures selected { (D.selected shelf.new ≡ D.selected shelf.old) ⊎ (D.selected shelf.new ≡ Some name.now) }
+    ensures stops { StopsReport (read_at (D.state shelf.old).disk name.now) result }
+    ensures cause { ShelfCauseOf (D.state shelf.old)
+        (D.state shelf.new) (pack_of name.now with_plans) result }
+    ensures few_loads { LoadsFew (D.state shelf.old) (D.state shelf.new) }
+    ensures selected { ((D.state shelf.new).selected ≡ (D.state shelf.old).selected) ⊎ ((D.state shelf.new).selected ≡ Some name.now) }
 {
     let loaded = load_document(alloc, name, shelf)?;
     let Ok(packed) = xl_pack::pack(alloc, loaded.document, loaded.length, with_plans) else {

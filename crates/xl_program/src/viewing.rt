@@ -8,8 +8,9 @@ ghost use Rattle.spec_view.specs.Script.{IsViewedLine};
 ghost use Rattle.spec_view.specs.Text.{Views};
 ghost use Rattle.xl_command.specs.Asking.{IsWindowSize};
 ghost use Rattle.xl_doc.specs.Numbered.{AreNumbered};
-ghost use Rattle.xl_ports.specs.Source.{led_by, IsEnded};
-ghost use Rattle.xl_program.specs.Outcome.{given_of, ComesTo, ReadsToEnd, SourceCause, ShelfCause, shelved};
+ghost use Rattle.xl_ports.specs.Source.{IsEnded};
+ghost use Rattle.xl_ports.specs.Disk.{read_at};
+ghost use Rattle.xl_program.specs.Outcome.{given_of, ComesTo, LoadsFew, ReadsToEnd, SourceCause, ShelfCause, TakesFront};
 ghost use Rattle.xl_program.specs.Parts.{ReadsViewed, StopsView, WritesViewed};
 ghost use Rattle.xl_script.specs.Lines.{lists_of};
 ghost use Rattle.xl_sessions.specs.Outcomes.{states_of};
@@ -43,15 +44,16 @@ pub fn view<S: Source, K: Sink, D: Shelf>(
     requires boxes { AllByRecursion (λ boxes. length boxes.items < 2 ^ 32) chest.items }
     requires size { IsWindowSize cols rows }
     ensures comes { ComesTo K.held K.faults (given_of (S.left source.old) (λ b. state b) chest.items)
-        (shelved D.content D.selected D.disk D.reading_faults D.saving_faults shelf)
-        (shelved D.content D.selected D.disk D.reading_faults D.saving_faults result.shelf)
+        (D.state shelf)
+        (D.state result.shelf)
         (view_of name.now cols rows) sink.old sink.new result.result }
-    ensures stops { StopsView (given_of (S.left source.old) (λ b. state b) chest.items) (D.content shelf name.now) result.result }
-    ensures takes { (bytes : List ℕ) × (S.left source.old ≡ led_by bytes (S.left source.new)) }
+    ensures stops { StopsView (given_of (S.left source.old) (λ b. state b) chest.items) (read_at (D.state shelf).disk name.now) result.result }
+    ensures takes { TakesFront S.left S.faults S.reads source.old source.new }
     ensures ended { ReadsToEnd (S.left source.new) result.result }
     ensures source_cause { SourceCause (S.faults source.old) (S.faults source.new) result.result }
-    ensures shelf_cause { ShelfCause (D.reading_faults shelf) (D.reading_faults result.shelf) result.result }
-    ensures selected { (D.selected result.shelf ≡ D.selected shelf) ⊎ (D.selected result.shelf ≡ Some name.now) }
+    ensures shelf_cause { ShelfCause (D.state shelf).reading (D.state result.shelf).reading result.result }
+    ensures few_loads { LoadsFew (D.state shelf) (D.state result.shelf) }
+    ensures selected { ((D.state result.shelf).selected ≡ (D.state shelf).selected) ⊎ ((D.state result.shelf).selected ≡ Some name.now) }
 {
     let script = match read_script(alloc, source, &chest) {
         Ok(script) => script,
@@ -96,7 +98,7 @@ fn read_script<S: Source>(
     ensures fits { IfOk result (λ script.
         FitsFilters (length (list_at (states_of (λ b. state b) chest.now.items) 0) ∷ []) (lists_of script)) }
     ensures viewed { IfOk result (λ script. AllByRecursion IsViewedLine (list_at (lists_of script) 0)) }
-    ensures takes { (bytes : List ℕ) × (S.left source.old ≡ led_by bytes (S.left source.new)) }
+    ensures takes { TakesFront S.left S.faults S.reads source.old source.new }
     ensures ended { OnOk result (IsEnded (S.left source.new)) }
     ensures cause { SourceCause (S.faults source.old) (S.faults source.new) result }
 {
@@ -131,7 +133,7 @@ fn view_document<D: Shelf>(
 ) -> Viewed<D>
     requires limits { IsDocument document }
     requires numbered { AreNumbered document.nodes }
-    requires selected { IsSome (D.selected shelf) }
+    requires selected { IsSome (D.state shelf).selected }
     requires size { IsWindowSize cols rows }
     requires boxes { AllByRecursion (λ boxes. length boxes.items < 2 ^ 32) chest.items }
     requires fits { FitsFilters (length (list_at (states_of (λ b. state b) chest.items) 0) ∷ []) (lists_of script) }

@@ -34,6 +34,7 @@ pub struct FileShelf {
     // That file, from the first load on.
     file: Option<File>,
     draft: Option<File>,
+    loads: u64,
     reading_faults: u64,
     saving_faults: u64,
     // What the system said of the last call that failed.
@@ -41,11 +42,12 @@ pub struct FileShelf {
 }
 
 impl FileShelf {
-    /// A shelf with no name selected and no fault counted.
+    /// A shelf with no name selected and nothing counted.
     pub fn new(rt: &HostRuntime) -> Self
         ensures name { result.name ≡ None }
         ensures file { result.file ≡ None }
         ensures draft { result.draft ≡ None }
+        ensures loads { result.loads ≡ 0 }
         ensures reading { result.reading_faults ≡ 0 }
         ensures saving { result.saving_faults ≡ 0 }
     {
@@ -55,6 +57,7 @@ impl FileShelf {
             place: String::new(rt.alloc()),
             file: None,
             draft: None,
+            loads: 0,
             reading_faults: 0,
             saving_faults: 0,
             error: None,
@@ -82,6 +85,7 @@ impl FileShelf {
     fn conclude(&mut self, done: io::Result<()>) -> Result<(), Failed>
         ensures name { self.new.name ≡ self.old.name }
         ensures draft { self.new.draft ≡ self.old.draft }
+        ensures loads { self.new.loads ≡ self.old.loads }
         ensures reading { self.new.reading_faults ≡ self.old.reading_faults }
         ensures cause { HasCause self.old.saving_faults self.new.saving_faults result }
         ensures ok { is_ok result ≡ is_ok done }
@@ -98,6 +102,7 @@ impl FileShelf {
     fn conclude_draft(&mut self, done: io::Result<()>) -> Result<(), Failed>
         ensures name { self.new.name ≡ self.old.name }
         ensures draft { self.new.draft ≡ self.old.draft }
+        ensures loads { self.new.loads ≡ self.old.loads }
         ensures reading { self.new.reading_faults ≡ self.old.reading_faults }
         ensures cause { HasCause self.old.saving_faults self.new.saving_faults result }
         ensures ok { is_ok result ≡ is_ok done }
@@ -110,17 +115,14 @@ impl FileShelf {
 }
 
 impl Shelf for FileShelf {
-    ghost selected = { λ s. option_map string_bytes s.name };
-
-    ghost is_open = { λ s. is_some s.draft };
-
-    ghost content = { λ s name. None };
-
-    ghost disk = { λ s. None };
-
-    ghost reading_faults = { λ s. s.reading_faults };
-
-    ghost saving_faults = { λ s. s.saving_faults };
+    ghost state = { λ s. record {
+      selected = option_map string_bytes s.name;
+      is_open = is_some s.draft;
+      disk = None;
+      loads = s.loads;
+      reading = s.reading_faults;
+      saving = s.saving_faults;
+    } };
 
     fn select(&mut self, name: &str) -> Result<(), Failed> {
         match find_place(&self.rt, name) {
@@ -138,6 +140,7 @@ impl Shelf for FileShelf {
     }
 
     fn load(&mut self, at: u64, buf: &mut [u8]) -> Result<usize, Failed> {
+        self.loads = self.loads.saturating_add(1);
         match load_at(&self.rt, &self.place, &mut self.file, at, buf) {
             Ok(given) => Ok(given),
             Err(error) => Err(self.fail_reading(error)),
@@ -180,8 +183,6 @@ impl Shelf for FileShelf {
         let done = sync_folder(&self.rt, &self.place);
         self.conclude(done)
     }
-
-    ghost reads = { λ s name. refl };
 }
 
 // Where the file of a name is, and the name.

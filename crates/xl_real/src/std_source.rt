@@ -8,15 +8,18 @@ use xl_ports::{Failed, Source};
 pub struct StdSource {
     input: Stdin,
     faults: u64,
+    reads: u64,
 }
 
 impl StdSource {
     pub fn new(rt: &HostRuntime) -> Self
-        ensures { result.faults ≡ 0 }
+        ensures faults { result.faults ≡ 0 }
+        ensures reads { result.reads ≡ 0 }
     {
         StdSource {
             input: rt.stdin(),
             faults: 0,
+            reads: 0,
         }
     }
 }
@@ -26,7 +29,10 @@ impl Source for StdSource {
 
     ghost faults = { λ s. s.faults };
 
+    ghost reads = { λ s. s.reads };
+
     fn read(&mut self, buf: &mut [u8]) -> Result<usize, Failed> {
+        self.reads = self.reads.saturating_add(1);
         match self.input.read(buf) {
             Ok(given) => Ok(given),
             Err(_) => {

@@ -14,14 +14,15 @@ use xl_ports::{Failed, Shelf};
 /// `Failed` where one of the calls failed, at which it stops. Then a read gives the old file or the new one, and a draft
 /// may be open. A later save opens a draft of its own.
 pub fn save<D: Shelf>(bytes: &[u8], shelf: &mut D) -> Result<(), Failed>
-    requires { IsSome (D.selected shelf.old) }
-    ensures moments { IfSome (D.selected shelf.old)
-        (λ name. Between (D.disk shelf.old) (D.disk shelf.new) (SavesOnly name bytes.now)) }
-    ensures saved { OnOk result (IfSome (D.selected shelf.old) (λ name. IfSome (D.disk shelf.new) (HasSaved name bytes.now))) }
-    ensures closed { OnOk result (D.is_open shelf.new ≡ false) }
-    ensures selected { D.selected shelf.new ≡ D.selected shelf.old }
-    ensures reading { D.reading_faults shelf.new ≡ D.reading_faults shelf.old }
-    ensures cause { HasCause (D.saving_faults shelf.old) (D.saving_faults shelf.new) result }
+    requires { IsSome (D.state shelf.old).selected }
+    ensures moments { IfSome (D.state shelf.old).selected
+        (λ name. Between (D.state shelf.old).disk (D.state shelf.new).disk (SavesOnly name bytes.now)) }
+    ensures saved { OnOk result (IfSome (D.state shelf.old).selected (λ name. IfSome (D.state shelf.new).disk (HasSaved name bytes.now))) }
+    ensures closed { OnOk result ((D.state shelf.new).is_open ≡ false) }
+    ensures selected { (D.state shelf.new).selected ≡ (D.state shelf.old).selected }
+    ensures loads { (D.state shelf.new).loads ≡ (D.state shelf.old).loads }
+    ensures reading { (D.state shelf.new).reading ≡ (D.state shelf.old).reading }
+    ensures cause { HasCause (D.state shelf.old).saving (D.state shelf.new).saving result }
 {
     shelf.draft_new()?;
     add_all(bytes, shelf)?;

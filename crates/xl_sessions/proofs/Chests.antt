@@ -14,7 +14,7 @@ use Rattle.spec_history.specs.Machine.{Call}
 use Rattle.spec_history.specs.Limited.{edits_of}
 use Rattle.spec_filters.specs.declared.FilterState.{FilterState}
 use Rattle.spec_filters.specs.Slots.{has_slot}
-use Rattle.spec_saves.specs.Shelf as shelves
+use Rattle.xl_ports.specs.State.{ShelfState}
 use Rattle.spec_script.specs.Script as script
 use Rattle.spec_script.specs.Script.{is_there, finds_filter}
 use Rattle.spec_script.specs.Fits.{finds_filters, dropped_by, IsFit}
@@ -109,7 +109,7 @@ stocked_without given dropped chest slot stocked n there =
 
 -- ---- after any line
 
-pub line_stocked : {K : Type 0} (see : K → shelves.Known) (opening : K) (given : ℕ) (dropped : List ℕ) (base : Document)
+pub line_stocked : {K : Type 0} (see : K → ShelfState) (opening : K) (given : ℕ) (dropped : List ℕ) (base : Document)
     (session : ℕ) (line : script.Line) (before after : List (Option FilterState)) (old new : Known K) (told : List (List ℕ))
     → IsLineMade see opening base session line before after old new told → IsStocked given dropped before
     → IsStocked given (dropped_by dropped line) after

@@ -9,7 +9,7 @@ use Rattle.spec_history.specs.Calls.{most_entries}
 use Rattle.spec_history.specs.Machine.{Call, Reply, Saving, saved, save_fault, save_memory, history_full}
 use Rattle.spec_history.specs.History.{Entry, replay}
 use Rattle.spec_history.specs.Kept.{IsLegal}
-use Rattle.spec_saves.specs.Shelf as shelves
+use Rattle.xl_ports.specs.State.{ShelfState}
 use Rattle.spec_tables.specs.Agrees.{Agrees}
 use Rattle.spec_tables.proofs.Chests.{some_list}
 use Rattle.spec_world.specs.World.{entries_owed}
@@ -138,7 +138,7 @@ module _ {K : Type 0} where
 
   -- ---- a save
 
-  whole_count : (see : K → shelves.Known) (opening : K) (base : Document) (session : ℕ) (reply : Reply) (old new : Known K)
+  whole_count : (see : K → ShelfState) (opening : K) (base : Document) (session : ℕ) (reply : Reply) (old new : Known K)
       → IsWhole see opening base session reply old new → MakesAtMost 2 old new
   whole_count see opening base session reply old new whole =
       let n = length (entries_in whole.entered) in
@@ -148,7 +148,7 @@ module _ {K : Type 0} where
       let one = length-append old.made (n ∷ []) in
       omega (arith, size, last, one)
 
-  pub count_after_save : {E : Type 0} (R : Type 0) (reply_of : R → Reply) (r : Result R E) (see : K → shelves.Known) (opening : K)
+  pub count_after_save : {E : Type 0} (R : Type 0) (reply_of : R → Reply) (r : Result R E) (see : K → ShelfState) (opening : K)
       (base : Document) (session : ℕ) (old new : Known K)
       → IfOk r (λ reply. IsSaved see opening base session (reply_of reply) old new) → OnErr r (HasHeard old new)
       → MakesAtMost 2 old new
@@ -158,7 +158,7 @@ module _ {K : Type 0} where
   ]
   count_after_save R reply_of (Err e) see opening base session old new wrote heard = heard_none old new heard.made 2
 
-  pub full_after_save : {E : Type 0} (R : Type 0) (reply_of : R → Reply) (r : Result R E) (see : K → shelves.Known) (opening : K)
+  pub full_after_save : {E : Type 0} (R : Type 0) (reply_of : R → Reply) (r : Result R E) (see : K → ShelfState) (opening : K)
       (base : Document) (session : ℕ) (old new : Known K)
       → IfOk r (λ reply. IsSaved see opening base session (reply_of reply) old new)
       → IfOk r (λ reply. reply_of reply ≡ history_full → FindsFull old new)

@@ -9,7 +9,7 @@ use Rattle.spec_history.specs.Machine.{Call, Reply}
 use Rattle.spec_history.specs.History.{Entry}
 use Rattle.spec_tables.specs.Agrees.{Agrees}
 use Rattle.spec_tables.proofs.Chests.{some_list}
-use Rattle.spec_saves.specs.Shelf as shelves
+use Rattle.xl_ports.specs.State.{ShelfState}
 use Rattle.spec_seats.specs.Made.{IsOf}
 use Rattle.spec_seats.proofs.More.{before_end, with_save, of_grows, of_call, of_save}
 use Rattle.xl_core.specs.Editing.{start_of}
@@ -87,7 +87,7 @@ module _ {K : Type 0} where
       (entries-append (entered ++ Made s (Some shelf) ∷ []) between
       ∙ ap (λ es. es ++ entries_in between) (entries-append entered (Made s (Some shelf) ∷ [])))
 
-  of_whole : (see : K → shelves.Known) (opening : K) (base : Document) (session : ℕ) (reply : Reply) (old new : Known K)
+  of_whole : (see : K → ShelfState) (opening : K) (base : Document) (session : ℕ) (reply : Reply) (old new : Known K)
       → IsWhole see opening base session reply old new
       → IsOf session old.made (entries_in old.front) → IsOf session new.made (entries_in new.front)
   of_whole see opening base session reply old new whole of =
@@ -101,7 +101,7 @@ module _ {K : Type 0} where
       (of_save session old.made (entries_in old.front) es s (entries_in whole.between) t of
       (entries-prefix old.front whole.entered whole.begins) refl refl refl refl refl)
 
-  pub of_saved : (see : K → shelves.Known) (opening : K) (base : Document) (session : ℕ) (reply : Reply) (old new : Known K)
+  pub of_saved : (see : K → ShelfState) (opening : K) (base : Document) (session : ℕ) (reply : Reply) (old new : Known K)
       → IsSaved see opening base session reply old new
       → IsOf session old.made (entries_in old.front) → IsOf session new.made (entries_in new.front)
   of_saved see opening base session reply old new saved of = elim saved.is [
@@ -109,7 +109,7 @@ module _ {K : Type 0} where
     | inr whole ↦ of_whole see opening base session reply old new whole of
   ]
 
-  pub of_after_save : {E : Type 0} (R : Type 0) (reply_of : R → Reply) (r : Result R E) (see : K → shelves.Known) (opening : K)
+  pub of_after_save : {E : Type 0} (R : Type 0) (reply_of : R → Reply) (r : Result R E) (see : K → ShelfState) (opening : K)
       (base : Document) (session : ℕ) (old new : Known K)
       → IfOk r (λ reply. IsSaved see opening base session (reply_of reply) old new)
       → OnErr r (HasHeard old new) → IsOf session old.made (entries_in old.front) → IsOf session new.made (entries_in new.front)
@@ -120,7 +120,7 @@ module _ {K : Type 0} where
 
   -- ---- a line that is no call
 
-  pub save_line : (see : K → shelves.Known) (opening : K) (base : Document) (session : ℕ) (line : Line)
+  pub save_line : (see : K → ShelfState) (opening : K) (base : Document) (session : ℕ) (line : Line)
       (before : List (Option FilterState)) (old new : Known K) (texts : List (List ℕ)) → line ≡ Save
       → IsSaveMade see opening base session old new
       → (told : List (List ℕ)) × (texts ≡ texts ++ told)
@@ -132,7 +132,7 @@ module _ {K : Type 0} where
         (sym is) (made, refl, refl),
   )
 
-  pub forget_line : (see : K → shelves.Known) (opening : K) (base : Document) (session : ℕ) (line : Line) (slot : ℕ)
+  pub forget_line : (see : K → ShelfState) (opening : K) (base : Document) (session : ℕ) (line : Line) (slot : ℕ)
       (before after : List (Option FilterState)) (known : Known K) (texts : List (List ℕ)) → line ≡ Forget slot
       → after ≡ slice_set before slot None
       → (told : List (List ℕ)) × (texts ≡ texts ++ told)

@@ -6,7 +6,7 @@ use Rattle.spec_filters.specs.declared.FilterState.{FilterState}
 use Rattle.spec_history.specs.Machine.{Reply, saved}
 use Rattle.spec_history.specs.History.{Entry, starts, ends, latest_of, next_index}
 use Rattle.spec_history.specs.Kept.{IsFreshReply, IsLegal}
-use Rattle.spec_saves.specs.Shelf as shelves
+use Rattle.xl_ports.specs.State.{ShelfState}
 use Rattle.spec_script.specs.Script.{Line, save}
 use Rattle.spec_seats.specs.Picked.{picked, IsCaughtUp}
 use Rattle.spec_seats.specs.Digests.{digests_in}
@@ -53,7 +53,7 @@ fresh_end Fault version seen = tt
 fresh_end Memory version seen = tt
 
 module _ {K : Type 0} where
-  whole_more : (see : K → shelves.Known) (opening : K) (base : Document) (session : ℕ) (reply : Reply) (old new : Known K)
+  whole_more : (see : K → ShelfState) (opening : K) (base : Document) (session : ℕ) (reply : Reply) (old new : Known K)
       → IsWhole see opening base session reply old new
       → IsSaveMore session reply old.made (entries_in old.front) new.made (entries_in new.front)
   whole_more see opening base session reply old new whole =
@@ -71,7 +71,7 @@ module _ {K : Type 0} where
         entries_are = ap entries_in whole.front ∙ saved_entries whole.entered whole.between s t whole.shelf;
       }
 
-  pub save_more : (see : K → shelves.Known) (opening : K) (base : Document) (session : ℕ) (reply : Reply) (old new : Known K)
+  pub save_more : (see : K → ShelfState) (opening : K) (base : Document) (session : ℕ) (reply : Reply) (old new : Known K)
       → IsSaved see opening base session reply old new → IsPrinted reply
       → IsSaveMore session reply old.made (entries_in old.front) new.made (entries_in new.front)
   save_more see opening base session reply old new is printed = elim is.is [

@@ -5,7 +5,7 @@ use Rattle.spec_filters.specs.declared.FilterState.{FilterState}
 use Rattle.spec_history.specs.Machine.{Call}
 use Rattle.spec_history.specs.History.{asked, latest_of}
 use Rattle.spec_history.specs.Kept.{IsLegal}
-use Rattle.spec_saves.specs.Shelf as shelves
+use Rattle.xl_ports.specs.State.{ShelfState}
 use Rattle.spec_script.specs.Script.{Line, call, save, forget}
 use Rattle.spec_tables.specs.Agrees.{Agrees}
 use Rattle.spec_tables.specs.Tables.{expected_tables}
@@ -93,7 +93,7 @@ module _ {K : Type 0} where
               ∙ sym (call_told of more base legal);
         }
 
-    so_far_save : (see : K → shelves.Known) (opening : K) (after : List (Option FilterState)) (new : Known K) (said : List (List ℕ))
+    so_far_save : (see : K → ShelfState) (opening : K) (after : List (Option FilterState)) (new : Known K) (said : List (List ℕ))
         → IsSaveMade see opening base session old new → after ≡ before → said ≡ []
         → IsSoFar base session start after (lines ++ save ∷ []) new (texts ++ said)
     so_far_save see opening after new said made same silent =
@@ -127,7 +127,7 @@ module _ {K : Type 0} where
         })
 
     -- one line more
-    pub so_far_line : (see : K → shelves.Known) (opening : K) (line : Line) (after : List (Option FilterState)) (new : Known K)
+    pub so_far_line : (see : K → ShelfState) (opening : K) (line : Line) (after : List (Option FilterState)) (new : Known K)
         (said : List (List ℕ)) → IsLineMade see opening base session line before after old new said
         → IsSoFar base session start after (lines ++ line ∷ []) new (texts ++ said)
     so_far_line see opening (call c) after new said made = so_far_call c after new said made

@@ -6,7 +6,7 @@ use Rattle.spec_document.specs.Document.{Document}
 use Rattle.spec_filters.specs.declared.FilterState.{FilterState}
 use Rattle.spec_history.specs.History.{latest_of}
 use Rattle.spec_history.specs.Kept.{IsLegal}
-use Rattle.spec_saves.specs.Shelf as shelves
+use Rattle.xl_ports.specs.State.{ShelfState}
 use Rattle.spec_script.specs.Script.{Line}
 use Rattle.spec_script.specs.Fits.{AreFit, dropped_by}
 use Rattle.spec_tables.specs.Agrees.{Agrees}
@@ -56,7 +56,7 @@ module _ {K : Type 0} where
     under_way_fit line rest turn =
         line_fits (length start) way.dropped now line way.stocked (subst (AreFit (length start) way.dropped) turn way.fit).0
 
-    pub under_way_more : (see : K → shelves.Known) (opening : K) (line : Line) (rest : List Line) → left ≡ line ∷ rest
+    pub under_way_more : (see : K → ShelfState) (opening : K) (line : Line) (rest : List Line) → left ≡ line ∷ rest
         → (after : List (Option FilterState)) (new : Known K) (said : List (List ℕ)) → IsLegal base (entries_in known.front)
         → IsPrefix known.front new.front
         → (told : List (List ℕ)) × (said ≡ texts ++ told) × IsLineMade see opening base session line now after known new told

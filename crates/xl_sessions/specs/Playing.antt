@@ -9,7 +9,7 @@ use Rattle.spec_history.specs.Calls.{IsCall}
 use Rattle.spec_history.specs.History.{asked, latest_of}
 use Rattle.spec_history.specs.Kept.{IsFreshReply}
 use Rattle.spec_history.specs.Limited.{edits_of}
-use Rattle.spec_saves.specs.Shelf as shelves
+use Rattle.xl_ports.specs.State.{ShelfState}
 use Rattle.spec_script.specs.Script.{Line, call, save, forget}
 use Rattle.spec_tables.specs.Agrees.{Agrees, AreThere, IsAfter}
 use Rattle.spec_tables.specs.Tables.{expected_tables}
@@ -57,13 +57,13 @@ module _ {K : Type 0} where
     pub digests_are : digests ≡ said (asks_tile c) reply bytes
 
   -- a save was answered, and printably
-  pub record IsSaveMade (see : K → shelves.Known) (opening : K) (base : Document) (session : ℕ) (old new : Known K) : Type 0 where
+  pub record IsSaveMade (see : K → ShelfState) (opening : K) (base : Document) (session : ℕ) (old new : Known K) : Type 0 where
     pub reply : Reply
     pub saved : IsSaved see opening base session reply old new
     pub printed : IsPrinted reply
 
   -- what a line of the script makes, and the digests that are said of it
-  abbrev pub IsLineMade : (see : K → shelves.Known) → (opening : K) → (base : Document) → (session : ℕ) → Line
+  abbrev pub IsLineMade : (see : K → ShelfState) → (opening : K) → (base : Document) → (session : ℕ) → Line
       → (before after : List (Option FilterState)) → (old new : Known K) → (digests : List (List ℕ)) → Type 0
   IsLineMade see opening base session (call c) before after old new digests = IsCallMade base session c before after old new digests
   IsLineMade see opening base session save before after old new digests =

@@ -210,7 +210,7 @@ fn play_in<R: Threads + Wait + Sync, D: Shelf, G: Gate>(
     requires handed { core.handed ≡ [] }
     requires right { IsRight core.history.base (world core) }
     requires inside { IsSome core.shelf }
-    requires selected { IsSome (D.selected core.opening) }
+    requires selected { IsSome (D.state core.opening).selected }
     requires few { number ≤ 8 }
     requires fit { AreFitParts (in_slots state) room.parts.items }
     requires script { AreOfAScript (in_slots state) room.parts.items }
@@ -253,7 +253,7 @@ pub fn play_beside<R: Threads + Wait + Sync, D: Shelf, G: Gate>(
     requires handed { core.handed ≡ [] }
     requires right { IsRight core.history.base (world core) }
     requires inside { IsSome core.shelf }
-    requires selected { IsSome (D.selected core.opening) }
+    requires selected { IsSome (D.state core.opening).selected }
     requires boxes { AllByRecursion (λ boxes. length boxes.items < 2 ^ 32) chest.items }
     requires fits { FitsFilters (map length (states_of (λ b. state b) chest.items)) (lists_of script) }
     requires eight { length (lists_of script) ≡ 8 }

@@ -9,8 +9,9 @@ use Rattle.spec_history.specs.Kept.{IsLegal}
 use Rattle.spec_world.specs.declared.SaveEnd.{SaveEnd}
 use Rattle.spec_world.specs.declared.SaveEnd.TheVariants.{Done, Fault, Memory}
 use Rattle.xl_ports.specs.Disk.{Disk, Between}
+use Rattle.xl_ports.specs.State.{ShelfState}
 use Rattle.xl_save.specs.Save.{SavesOnly, HasSaved}
-use Rattle.spec_saves.specs.Shelf.{Known, file_name, ShelfIsRight, DiskIsRight}
+use Rattle.spec_saves.specs.Shelf.{file_name, ShelfIsRight, DiskIsRight}
 use Rattle.spec_saves.specs.Returns.{Returns, DiskReturns, Among}
 use Rattle.xl_snapshot.specs.Saving.{IsSavedOn, Puts}
 use Rattle.xl_snapshot.proofs.Returning.{IsStarted, start_is, done_returns, failed_returns, untouched_returns}
@@ -59,7 +60,7 @@ module _ {base : Document} {es : List Entry} {e : Entry} {v : ℕ} (legal : IsLe
       (among_untouched opened handed right)
 
 -- the shelf that was handed out comes back from the save of the version that stands
-pub comes_back : (opening handed now : Known) (base : Document) (es : List Entry) (session index : ℕ) (d : Document) (how : SaveEnd)
+pub comes_back : (opening handed now : ShelfState) (base : Document) (es : List Entry) (session index : ℕ) (d : Document) (how : SaveEnd)
     → IsLegal base es
     → ShelfIsRight opening base es handed → d ≡ document_of base es (latest_of es) → IsSavedOn handed d how now
     → Returns opening handed base (es
@@ -70,6 +71,7 @@ comes_back opening handed now base es session index d how legal right is saves =
     subst (λ (n : List ℕ). Puts how d n handed.disk now.disk) name saves.contents in
     record {
       selected = saves.selected ∙ right.selected;
+      loads = saves.loads;
       reading = saves.reading;
       saving = saves.saving;
       contents = among legal (start_is base es session index legal)

@@ -10,9 +10,10 @@ use Rattle.spec_world.specs.declared.SaveEnd.{SaveEnd}
 use Rattle.spec_world.specs.declared.SaveEnd.TheVariants.{Done, Fault, Memory}
 use Rattle.xl_ports.specs.Shelf.{Content}
 use Rattle.xl_ports.specs.Disk.{Disk}
+use Rattle.xl_ports.specs.State.{ShelfState}
 use Rattle.spec_saves.specs.Names.{Named, names, files, version_out, with_out, out_version}
 use Rattle.spec_saves.specs.Contents.{IsVersion, IsIn}
-use Rattle.spec_saves.specs.Shelf.{Known, IsSettled, file_name}
+use Rattle.spec_saves.specs.Shelf.{IsSettled, file_name}
 use Rattle.spec_saves.specs.Returns.{Among, EndsOn, DiskReturns, Returns}
 use Rattle.xl_snapshot.proofs.Returning.{IsThere, AreThere, one_more, names_there, version_stays, in_stays, saved_stays}
 
@@ -69,6 +70,7 @@ module _ (base : Document) (es more : List Entry) (legal : IsLegal base es) (sam
       | inr is ↦ inr (saved_stays base es more c legal is)
     ];
     ends = ends_later how name opened now r.ends;
+    elsewhere = r.elsewhere;
   }
 
   among_later : (how : SaveEnd) (name : List ℕ) (opened handed now : Option Disk)
@@ -80,10 +82,11 @@ module _ (base : Document) (es more : List Entry) (legal : IsLegal base es) (sam
   among_later how name (Some opened) (Some handed) None r = absurd r
   among_later how name (Some opened) (Some handed) (Some now) r = disk_later how name opened handed now r
 
-  pub returns_later : (opening handed now : Known) (how : SaveEnd) → Returns opening handed base es how now
+  pub returns_later : (opening handed now : ShelfState) (how : SaveEnd) → Returns opening handed base es how now
       → Returns opening handed base (es ++ more) how now
   returns_later opening handed now how r = record {
     selected = r.selected;
+    loads = r.loads;
     reading = r.reading;
     saving = r.saving;
     contents = among_later how (file_name opening) opening.disk handed.disk now.disk r.contents;

@@ -4,9 +4,9 @@ use Rattle.std.specs.Prelude.{Option, IsSome, IfSome, unwrap_or}
 use Rattle.spec_document.specs.Document.{Document}
 use Rattle.spec_layout.specs.Layout.{Written}
 use Rattle.spec_world.specs.declared.SaveEnd.TheVariants.{Done, Fault}
-use Rattle.spec_saves.specs.Shelf.{Known}
 use Rattle.xl_ports.specs.Disk.{Disk, Between}
 use Rattle.xl_ports.specs.Faults.{Rose}
+use Rattle.xl_ports.specs.State.{ShelfState}
 use Rattle.xl_save.specs.Save.{SavesOnly, HasSaved}
 use Rattle.xl_snapshot.specs.Saving.{IsSavedOn}
 
@@ -25,22 +25,25 @@ put_fault : (bytes : List ℕ) (s : Option (List ℕ)) (before after : Option Di
 put_fault bytes None before after some only = let bad : false ≡ true = some in cc
 put_fault bytes (Some name) before after some only = only
 
-pub saved_done : (d : Document) (bytes : List ℕ) (old new : Known) → Written bytes d → IsSome old.selected
+pub saved_done : (d : Document) (bytes : List ℕ) (old new : ShelfState) → Written bytes d → IsSome old.selected
     → IfSome old.selected (λ name. Between old.disk new.disk (SavesOnly name bytes))
-    → IfSome old.selected (λ name. IfSome new.disk (HasSaved name bytes)) → new.selected ≡ old.selected → new.reading ≡ old.reading
+    → IfSome old.selected (λ name. IfSome new.disk (HasSaved name bytes)) → new.selected ≡ old.selected → new.loads ≡ old.loads
+    → new.reading ≡ old.reading
     → new.saving ≡ old.saving → IsSavedOn old d Done new
-saved_done d bytes old new wrote some only has selected reading saving = record {
+saved_done d bytes old new wrote some only has selected loads reading saving = record {
   selected = selected;
+  loads = loads;
   reading = reading;
   saving = saving;
   contents = (bytes, wrote, put_done bytes old.selected old.disk new.disk some only has);
 }
 
-pub saved_fault : (d : Document) (bytes : List ℕ) (old new : Known) → Written bytes d → IsSome old.selected
+pub saved_fault : (d : Document) (bytes : List ℕ) (old new : ShelfState) → Written bytes d → IsSome old.selected
     → IfSome old.selected (λ name. Between old.disk new.disk (SavesOnly name bytes))
-    → new.selected ≡ old.selected → new.reading ≡ old.reading → Rose old.saving new.saving → IsSavedOn old d Fault new
-saved_fault d bytes old new wrote some only selected reading saving = record {
+    → new.selected ≡ old.selected → new.loads ≡ old.loads → new.reading ≡ old.reading → Rose old.saving new.saving → IsSavedOn old d Fault new
+saved_fault d bytes old new wrote some only selected loads reading saving = record {
   selected = selected;
+  loads = loads;
   reading = reading;
   saving = saving;
   contents = (bytes, wrote, put_fault bytes old.selected old.disk new.disk some only);

@@ -18,6 +18,8 @@ use Rattle.spec_world.specs.declared.SaveEnd.TheVariants.{Done, Fault, Memory}
 use Rattle.xl_ports.specs.Shelf.{Content, absent, file}
 use Rattle.xl_ports.specs.Disk.{Disk, MayLeave, MightHaveLeft, LeavesJust}
 use Rattle.xl_save.specs.Save.{SavesOnly, HasSaved}
+use Rattle.xl_save.proofs.Others.{others_stay}
+use Rattle.xl_ports.proofs.Moments.{others_still}
 use Rattle.spec_saves.specs.Names.{Named, the_old, version, names, files, saved_versions, after_one, after_end}
 use Rattle.spec_saves.specs.Names.{after_kind as after_named, versions_of, version_started, version_out, with_out}
 use Rattle.spec_saves.specs.Names.{out_version}
@@ -259,6 +261,7 @@ module _ {base : Document} {es : List Entry} {e : Entry} {v : ℕ} (legal : IsLe
     left =
         λ since c le was. either_left bytes wrote right since c le (only.each since c (let later = right.later in omega arith) was);
     ends = λ c may. either_in bytes wrote right c (only.now c may);
+    elsewhere = others_stay name bytes _ _ only;
   }
 
   -- a save that is done
@@ -277,6 +280,7 @@ module _ {base : Document} {es : List Entry} {e : Entry} {v : ℕ} (legal : IsLe
               (version_stays base es (e ∷ []) v (file bytes) start.low wrote)),
           subst (LeavesJust now name) (sym has.read) has.just,
         );
+        elsewhere = wrong.elsewhere;
       }
 
   -- a save for which memory ran out did not touch the shelf
@@ -294,6 +298,7 @@ module _ {base : Document} {es : List Entry} {e : Entry} {v : ℕ} (legal : IsLe
               → IsIn base (es ++ e ∷ []) opened name c ns) (sym start.same) named,
           subst (λ (ns : List Named). IsSettled ns name opened handed) (sym start.same) right.settled,
         );
+        elsewhere = others_still handed name;
       } where
         now_left : (d : Disk) (n : List ℕ) (c : Content) → MightHaveLeft d n d.moment c → MayLeave d n c
         now_left d n c (inl may) = may

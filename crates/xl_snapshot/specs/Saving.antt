@@ -4,9 +4,10 @@ use Rattle.spec_document.specs.Document.{Document}
 use Rattle.spec_layout.specs.Layout.{Written}
 use Rattle.spec_world.specs.declared.SaveEnd.{SaveEnd}
 use Rattle.spec_world.specs.declared.SaveEnd.TheVariants.{Done, Fault, Memory}
-use Rattle.spec_saves.specs.Shelf.{Known, file_name}
+use Rattle.spec_saves.specs.Shelf.{file_name}
 use Rattle.spec_saves.specs.Returns.{CountEnds}
 use Rattle.xl_ports.specs.Disk.{Disk, Between}
+use Rattle.xl_ports.specs.State.{ShelfState}
 use Rattle.xl_save.specs.Save.{SavesOnly, HasSaved}
 
 -- a file of the document was saved, or a fault stopped that; without memory for the file nothing was touched
@@ -17,8 +18,9 @@ Puts Fault d name before after = (bytes : List ℕ) × Written bytes d × Betwee
 Puts Memory d name before after = after ≡ before
 
 -- the shelf after a save that ended so
-pub record IsSavedOn (old : Known) (d : Document) (how : SaveEnd) (new : Known) : Type 0 where
+pub record IsSavedOn (old : ShelfState) (d : Document) (how : SaveEnd) (new : ShelfState) : Type 0 where
   pub selected : new.selected ≡ old.selected
+  pub loads : new.loads ≡ old.loads
   pub reading : new.reading ≡ old.reading
   pub saving : CountEnds how old.saving new.saving
   pub contents : Puts how d (file_name old) old.disk new.disk

@@ -2,7 +2,6 @@ ghost use Rattle.std.specs.Prelude.{◌≡◌, IfOk, OnOk, OnErr, IsSome};
 ghost use Rattle.spec_document.specs.Document.{Document as Plain};
 ghost use Rattle.spec_layout.specs.Layout.{Written};
 ghost use Rattle.spec_world.specs.declared.SaveEnd.TheVariants as save_end;
-ghost use Rattle.xl_core.specs.Editing.{known};
 ghost use Rattle.xl_snapshot.specs.Saving.{IsSavedOn};
 
 use std::alloc::{AllocError, Global};
@@ -31,14 +30,15 @@ pub fn file_of<C: PlaneCoder>(
 
 /// Saves the file of a document on a shelf.
 pub fn save_file<D: Shelf>(file: &[u8], shelf: &mut D) -> Result<(), Failed>
-    requires { IsSome (D.selected shelf.old) }
+    requires { IsSome (D.state shelf.old).selected }
     ensures saved { OnOk result ((d : Plain) → Written file.now d
-        → IsSavedOn (known D.selected D.disk D.reading_faults D.saving_faults shelf.old) d save_end.Done
-        (known D.selected D.disk D.reading_faults D.saving_faults shelf.new)) }
+        → IsSavedOn (D.state shelf.old) d save_end.Done
+        (D.state shelf.new)) }
     ensures failed { OnErr result ((d : Plain) → Written file.now d
-        → IsSavedOn (known D.selected D.disk D.reading_faults D.saving_faults shelf.old) d save_end.Fault
-        (known D.selected D.disk D.reading_faults D.saving_faults shelf.new)) }
-    ensures selected { D.selected shelf.new ≡ D.selected shelf.old }
+        → IsSavedOn (D.state shelf.old) d save_end.Fault
+        (D.state shelf.new)) }
+    ensures loads { (D.state shelf.new).loads ≡ (D.state shelf.old).loads }
+    ensures selected { (D.state shelf.new).selected ≡ (D.state shelf.old).selected }
 {
     save(file, shelf)
 }
@@ -50,9 +50,9 @@ pub fn save_document<D: Shelf, C: PlaneCoder>(
     coder: &mut C,
     shelf: &mut D,
 ) -> SaveEnd
-    requires { IsSome (D.selected shelf.old) }
-    ensures { IsSavedOn (known D.selected D.disk D.reading_faults D.saving_faults shelf.old) document.now result
-        (known D.selected D.disk D.reading_faults D.saving_faults shelf.new) }
+    requires { IsSome (D.state shelf.old).selected }
+    ensures { IsSavedOn (D.state shelf.old) document.now result
+        (D.state shelf.new) }
 {
     let Ok(file) = file_of(alloc, document, coder) else {
         return SaveEnd::Memory;

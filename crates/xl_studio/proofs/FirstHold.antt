@@ -9,7 +9,7 @@ use Rattle.spec_history.specs.Machine.{history_full}
 use Rattle.spec_history.specs.History.{Entry, starts}
 use Rattle.spec_history.specs.Kept.{IsLegal}
 use Rattle.spec_saves.specs.Shelf.{ShelfIsRight}
-use Rattle.spec_saves.specs.Shelf as shelves
+use Rattle.xl_ports.specs.State.{ShelfState}
 use Rattle.xl_turn.specs.Sums.{times, same}
 use Rattle.xl_turn.specs.Turns.{Closes, IsWithin}
 use Rattle.xl_turn.specs.Seats.{MayLeave, made_after}
@@ -91,7 +91,7 @@ module _ {K : Type 0} where
         | inr new ↦ let e = same_true i n new in omega arith
       ]
 
-  module _ (see : K → shelves.Known) (held : Editing K) (session : ℕ) (old new : Known K) (start : ℕ) (one : start ≡ 1)
+  module _ (see : K → ShelfState) (held : Editing K) (session : ℕ) (old new : Known K) (start : ℕ) (one : start ≡ 1)
       (begins : IsPrefix old.front (moments_of held)) (legal : IsLegal held.history.base held.history.entries)
       (within : IsWithin start (moments_of held) old.made) (left : List (Moment K)) (is : new.front ≡ left) (grown : new.made
       ≡ made_after start old.made (moments_of held) left) where
@@ -171,7 +171,7 @@ module _ {K : Type 0} where
   pub heard_more : (old mid new : Known K) → HasHeard old mid → HasHeard mid new → HasHeard old new
   heard_more old mid new one two = heard_twice old mid new one two
 
-  started_later : (see : K → shelves.Known) (opening : K) (base : Document) (session : ℕ) (d : Document) (k : K)
+  started_later : (see : K → ShelfState) (opening : K) (base : Document) (session : ℕ) (d : Document) (k : K)
       (old mid new : Known K) → HasHeard old mid → HasStarted see opening base session d k mid new
       → HasStarted see opening base session d k old new
   started_later see opening base session d k old mid new heard s = record {
@@ -194,7 +194,7 @@ module _ {K : Type 0} where
   }
 
   -- what was not `Out`
-  pub after_wait : (see : K → shelves.Known) (opening : K) (base : Document) (session : ℕ) (b : Begun K) (old mid new : Known K)
+  pub after_wait : (see : K → ShelfState) (opening : K) (base : Document) (session : ℕ) (b : Begun K) (old mid new : Known K)
       → HasHeard old mid → (b ≡ Out → ⊥) → AfterFirst see opening base session b mid new
       → AfterWait see opening base session b old new
   after_wait see opening base session (Snapshot v d k) old mid new heard found is =

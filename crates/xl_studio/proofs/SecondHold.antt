@@ -13,7 +13,7 @@ use Rattle.spec_history.proofs.Versions.{latest_of-legal}
 use Rattle.spec_world.specs.declared.SaveEnd.{SaveEnd}
 use Rattle.spec_world.specs.Events.{end_reply, IsOutOf}
 use Rattle.spec_saves.specs.Names.{Named, the_old, names, after_one, after_kind, version_out}
-use Rattle.spec_saves.specs.Shelf as shelves
+use Rattle.xl_ports.specs.State.{ShelfState}
 use Rattle.spec_saves.specs.Returns.{Returns}
 use Rattle.xl_turn.specs.Sums.{times}
 use Rattle.xl_turn.specs.Turns.{Closes, IsClosed}
@@ -130,7 +130,7 @@ module _ {K : Type 0} (base : Document) (session : ℕ) (handed : K) (old : Know
   pub is_out : IsOutOf (out_of held.history) session
   is_out = subst (λ (o : Option Saving). IsOutOf o session) (sym (out_held ∙ out_is base session handed old u)) refl
 
-  pub may_come_back : (see : K → shelves.Known) (opening : K) (how : SaveEnd) (shelf : K) → opening ≡ held.opening
+  pub may_come_back : (see : K → ShelfState) (opening : K) (how : SaveEnd) (shelf : K) → opening ≡ held.opening
       → Returns (see opening) (see handed) base (entries_in old.front) how (see shelf) → ComesBack see held how shelf
   may_come_back see opening how shelf first r =
       let later = returns_later base (entries_in old.front) (entries_in begins.0) legal
@@ -212,7 +212,7 @@ module _ {K : Type 0} (base : Document) (session : ℕ) (handed : K) (old : Know
 
 module _ {K : Type 0} where
   -- the shelf on which the snapshot was saved comes back as it has to
-  returns_saved : (see : K → shelves.Known) (opening : K) (base : Document) (session : ℕ) (d : Document) (handed shelf : K)
+  returns_saved : (see : K → ShelfState) (opening : K) (base : Document) (session : ℕ) (d : Document) (handed shelf : K)
       (how : SaveEnd) (old mid : Known K) → (s : HasStarted see opening base session d handed old mid)
       → IsSavedOn (see handed) d how (see shelf)
       → Returns (see opening) (see handed) base (entries_in s.out.entered
@@ -223,7 +223,7 @@ module _ {K : Type 0} where
       (next_index es session) d how s.out.legal s.right s.snapshot saves
 
   -- it may come back
-  pub saved_comes_back : (see : K → shelves.Known) (opening : K) (base : Document) (session : ℕ) (d : Document) (handed shelf : K)
+  pub saved_comes_back : (see : K → ShelfState) (opening : K) (base : Document) (session : ℕ) (d : Document) (handed shelf : K)
       (how : SaveEnd) (old mid : Known K) → HasStarted see opening base session d handed old mid
       → IsSavedOn (see handed) d how (see shelf) → MayComeBack see opening base session how shelf mid
   saved_comes_back see opening base session d handed shelf how old mid s saves = record {
@@ -234,7 +234,7 @@ module _ {K : Type 0} where
         (returns_saved see opening base session d handed shelf how old mid s saves);
   }
 
-  pub is_whole : (see : K → shelves.Known) (opening : K) (base : Document) (session : ℕ) (d : Document) (handed shelf : K)
+  pub is_whole : (see : K → ShelfState) (opening : K) (base : Document) (session : ℕ) (d : Document) (handed shelf : K)
       (how : SaveEnd) (reply : Reply) (old mid new : Known K) → HasStarted see opening base session d handed old mid
       → IsSavedOn (see handed) d how (see shelf) → HasEnded base session how reply mid new
       → IsWhole see opening base session reply old new

@@ -9,7 +9,7 @@ use Rattle.spec_history.specs.History.{Entry, ends, next_index, latest_of}
 use Rattle.spec_world.specs.declared.SaveEnd.{SaveEnd}
 use Rattle.spec_world.specs.Events.{end_reply}
 use Rattle.spec_saves.specs.Shelf.{ShelfIsRight}
-use Rattle.spec_saves.specs.Shelf as shelves
+use Rattle.xl_ports.specs.State.{ShelfState}
 use Rattle.spec_saves.specs.Returns.{Returns}
 use Rattle.xl_core.specs.Editing.{start_of, out_of}
 use Rattle.xl_studio.specs.declared.moment.Moment.{Moment}
@@ -38,7 +38,7 @@ pub record FoundNoRoom {K : Type 0} (base : Document) (reply : Reply) (old new :
 -- the history that ends with the start. Where the save is done, a crash leaves its version alone. It ended by a fault
 -- only where the count of saving faults rose since it was handed out.
 pub record IsWhole {K : Type 0} (see : K
-    → shelves.Known) (opening : K) (base : Document) (session : ℕ) (reply : Reply) (old new : Known K) : Type 0 where
+    → ShelfState) (opening : K) (base : Document) (session : ℕ) (reply : Reply) (old new : Known K) : Type 0 where
   pub entered : List (Moment K)
   pub shelf : K
   pub between : List (Moment K)
@@ -57,5 +57,5 @@ pub record IsWhole {K : Type 0} (see : K
 
 -- a save of a session, with this reply
 pub record IsSaved {K : Type 0} (see : K
-    → shelves.Known) (opening : K) (base : Document) (session : ℕ) (reply : Reply) (old new : Known K) : Type 0 where
+    → ShelfState) (opening : K) (base : Document) (session : ℕ) (reply : Reply) (old new : Known K) : Type 0 where
   pub is : FoundNoRoom base reply old new ⊎ IsWhole see opening base session reply old new

@@ -9,7 +9,7 @@ use Rattle.spec_world.specs.declared.SaveEnd.{SaveEnd}
 use Rattle.spec_world.specs.Events.{end_reply}
 use Rattle.spec_saves.specs.Names.{version_out}
 use Rattle.spec_saves.specs.Shelf.{ShelfIsRight}
-use Rattle.spec_saves.specs.Shelf as shelves
+use Rattle.xl_ports.specs.State.{ShelfState}
 use Rattle.spec_saves.specs.Returns.{Returns}
 use Rattle.xl_turn.specs.Sums.{times}
 use Rattle.xl_standing.specs.History.{document}
@@ -36,7 +36,7 @@ module _ {K : Type 0} where
       (left ≡ entered) × (most_entries < length (entries_in entered) + 2) × (out_of (history_of base entered) ≡ None)
 
   -- the last version's document is handed out, with a shelf that is right and has a name selected
-  abbrev pub Hands : (see : K → shelves.Known) → (old : Editing K) → Begun K → Type 0
+  abbrev pub Hands : (see : K → ShelfState) → (old : Editing K) → Begun K → Type 0
   Hands see old (Snapshot v d k) = (d ≡ document old.history) × IsRight see old k × IsSome (see k).selected
   Hands see old Out = Unit {0}
   Hands see old Full = Unit {0}
@@ -59,7 +59,7 @@ module _ {K : Type 0} where
     pub within : (i : ℕ) → 0 < times i known.made → i + 1 < length known.front
 
   -- the first hold has started the save
-  pub record HasStarted (see : K → shelves.Known) (opening : K) (base : Document) (session : ℕ) (d : Document) (shelf : K)
+  pub record HasStarted (see : K → ShelfState) (opening : K) (base : Document) (session : ℕ) (d : Document) (shelf : K)
       (old new : Known K) : Type 0 where
     pub out : IsUnderWay base session shelf new
     pub begins : IsPrefix old.front out.entered
@@ -69,21 +69,21 @@ module _ {K : Type 0} where
     pub selected : IsSome (see shelf).selected
 
   -- after a first hold
-  abbrev pub AfterFirst : (see : K → shelves.Known) → (opening : K) → (base : Document) → (session : ℕ) → Begun K
+  abbrev pub AfterFirst : (see : K → ShelfState) → (opening : K) → (base : Document) → (session : ℕ) → Begun K
       → (old new : Known K) → Type 0
   AfterFirst see opening base session (Snapshot v d k) old new = HasStarted see opening base session d k old new
   AfterFirst see opening base session Out old new = HasHeard old new
   AfterFirst see opening base session Full old new = FoundNoRoom base history_full old new
 
   -- after the first hold that found the shelf
-  abbrev pub AfterWait : (see : K → shelves.Known) → (opening : K) → (base : Document) → (session : ℕ) → Begun K
+  abbrev pub AfterWait : (see : K → ShelfState) → (opening : K) → (base : Document) → (session : ℕ) → Begun K
       → (old new : Known K) → Type 0
   AfterWait see opening base session (Snapshot v d k) old new = HasStarted see opening base session d k old new
   AfterWait see opening base session Out old new = ⊥
   AfterWait see opening base session Full old new = FoundNoRoom base history_full old new
 
   -- the shelf may come back to the save that is under way
-  pub record MayComeBack (see : K → shelves.Known) (opening : K) (base : Document) (session : ℕ) (how : SaveEnd) (shelf : K)
+  pub record MayComeBack (see : K → ShelfState) (opening : K) (base : Document) (session : ℕ) (how : SaveEnd) (shelf : K)
       (known : Known K) : Type 0 where
     pub handed : K
     pub out : IsUnderWay base session handed known

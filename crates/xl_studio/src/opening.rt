@@ -22,7 +22,7 @@ impl<D: Shelf> Studio<D> {
         requires empty { core.history.entries ≡ [] }
         requires handed { core.handed ≡ [] }
         requires right { IsRight core.history.base (world core) }
-        requires selected { IsSome (D.selected core.opening) }
+        requires selected { IsSome (D.state core.opening).selected }
         ensures seat { IfOk result (λ r. IsSeatOf r.0 r.1) }
         ensures base { IfOk result (λ r. base_of r.0 ≡ core.history.base) }
         ensures shelf { IfOk result (λ r. opening_shelf r.0 ≡ core.opening) }

@@ -7,7 +7,7 @@ ghost use Rattle.spec_history.specs.Limited.{edits_of};
 ghost use Rattle.spec_tables.specs.Agrees.{Agrees, AreThere, IsAfter, IsPartAfter};
 ghost use Rattle.spec_tables.specs.Tables.{expected_tables};
 ghost use Rattle.spec_world.specs.Events.{IsOutOf};
-ghost use Rattle.xl_core.specs.Editing.{known, out_of, ComesBack};
+ghost use Rattle.xl_core.specs.Editing.{out_of, ComesBack};
 ghost use Rattle.xl_standing.specs.History.{version, is_full, Shows, NeedsNoStep};
 ghost use Rattle.xl_standing.specs.Now.{KeepsDesk};
 ghost use Rattle.xl_edit.specs.Calls.{call_of};
@@ -51,7 +51,7 @@ impl<D: Shelf> Model for Shared<D> {
 
     ghost view = { λ s. record { core = s.core; closing = s.closing } };
 
-    ghost invariant = { λ s. IsKept s.core × (s.moments ≡ length s.core.history.entries + 1) × IsSome (D.selected s.core.opening) };
+    ghost invariant = { λ s. IsKept s.core × (s.moments ≡ length s.core.history.entries + 1) × IsSome (D.state s.core.opening).selected };
 }
 
 impl<D: Shelf> Chronicle for Shared<D> {
@@ -73,7 +73,7 @@ impl<D: Shelf> Shared<D> {
     /// A core with the number of its moments.
     pub fn new(core: Core<D>) -> Shared<D>
         requires kept { IsKept core }
-        requires selected { IsSome (D.selected core.opening) }
+        requires selected { IsSome (D.state core.opening).selected }
         ensures { result ≡ record { core = core; closing = false } }
     {
         let moments = core.entries().len() as u64 + 1;
@@ -143,7 +143,7 @@ impl<D: Shelf> Shared<D> {
         requires session { session < 8 }
         ensures begun { IfOk result (λ begun.
             AddsStart self.old.core.history.base (moments_of self.old.core) session begun (moments_of self.new.core)) }
-        ensures hands { IfOk result (λ begun. Hands (known D.selected D.disk D.reading_faults D.saving_faults) self.old.core begun) }
+        ensures hands { IfOk result (λ begun. Hands D.state self.old.core begun) }
         ensures failed { OnErr result (moments_of self.new.core ≡ moments_of self.old.core) }
         ensures base { self.new.core.history.base ≡ self.old.core.history.base }
         ensures closing { self.new.closing ≡ self.old.closing }
@@ -160,7 +160,7 @@ impl<D: Shelf> Shared<D> {
     /// Ends the save of a session that is out, as the core does.
     pub(crate) fn end(&mut self, session: u8, shelf: D, how: SaveEnd) -> Reply
         requires out { IsOutOf (out_of self.old.core.history) session }
-        requires returns { ComesBack (known D.selected D.disk D.reading_faults D.saving_faults) self.old.core how shelf }
+        requires returns { ComesBack D.state self.old.core how shelf }
         ensures ended { AddsEnd self.old.core.history.base (moments_of self.old.core) session how (reply_of result)
             (moments_of self.new.core) }
         ensures closing { self.new.closing ≡ self.old.closing }

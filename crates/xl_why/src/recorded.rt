@@ -47,6 +47,8 @@ impl<S: Source> Source for Recorded<S> {
 
     ghost faults = { λ r. S.faults r.source };
 
+    ghost reads = { λ r. S.reads r.source };
+
     fn read(&mut self, buf: &mut [u8]) -> Result<usize, Failed> {
         let taken = self.source.read(buf)?;
         self.record(&buf[..taken]);

@@ -10,5 +10,6 @@ loop-filled-preserved g c =
       filled = omega (arith, more.within);
       short = omega (arith, more.short);
       given = one_read _ _ _ _ _ _ _ so_far.given more.front more.given;
+      reads = omega (arith, so_far.reads, more.reads);
       no_fault = cc (more.cause, so_far.no_fault);
     }

@@ -1,19 +1,21 @@
+use Rattle.std.proofs.Common.{arith}
 use Rattle.std.specs.Prelude.{Err}
 use Rattle.xl_script.specs.Lines.{lists_of}
-use Rattle.xl_program.specs.Outcome.{Shelved, shelved}
 use Rattle.xl_program.proofs.Edited.{IsOpened, played_comes, read_stopped, load_stops, play_stops}
 use Rattle.xl_program.proofs.ScriptEnded.{ended_anyhow, unread}
 use Rattle.xl_program.proofs.editing.edit.Goals as goal
+use Rattle.xl_ports.specs.State.{ShelfState}
+use Rattle.xl_ports.specs.Disk.{read_at}
 
 pub returns-clause-comes : goal.returns-clause-comes
 returns-clause-comes g c =
-    let before : Shelved =
-    shelved g.D.Shelf.content g.D.Shelf.selected g.D.Shelf.disk g.D.Shelf.reading_faults g.D.Shelf.saving_faults c.args.shelf in
-    let mid : Shelved =
-    shelved g.D.Shelf.content g.D.Shelf.selected g.D.Shelf.disk g.D.Shelf.reading_faults g.D.Shelf.saving_faults
+    let before : ShelfState =
+    g.D.Shelf.state c.args.shelf in
+    let mid : ShelfState =
+    g.D.Shelf.state
     c.read_document.new.shelf in
-    let after : Shelved =
-    shelved g.D.Shelf.content g.D.Shelf.selected g.D.Shelf.disk g.D.Shelf.reading_faults g.D.Shelf.saving_faults
+    let after : ShelfState =
+    g.D.Shelf.state
     c.run_script-played.result.shelf in
     let loaded = c.in-Ok-read_document.ensures in
     let then : IsOpened _ before mid c.args.name.now c.in-Ok-read_document.document (lists_of c.in-Ok.script) = record {
@@ -30,20 +32,20 @@ returns-clause-comes g c =
 
 pub returns-in-Err-clause-comes : goal.returns-in-Err-clause-comes
 returns-in-Err-clause-comes g c =
-    let before : Shelved =
-    shelved g.D.Shelf.content g.D.Shelf.selected g.D.Shelf.disk g.D.Shelf.reading_faults g.D.Shelf.saving_faults c.args.shelf in
+    let before : ShelfState =
+    g.D.Shelf.state c.args.shelf in
     read_stopped g.K.Sink.held g.K.Sink.faults _ before c.args.name.now c.args.sink.now c.in-Err.stopped c.in-Err.ensures.reads
     c.args.workers
 
 pub returns-in-Err-read_document-clause-stops : goal.returns-in-Err-read_document-clause-stops
 returns-in-Err-read_document-clause-stops g c =
-    load_stops _ (g.D.Shelf.content c.args.shelf c.args.name.now) (lists_of c.in-Ok.script) c.in-Err-read_document.stopped
+    load_stops _ (read_at (g.D.Shelf.state c.args.shelf).disk c.args.name.now) (lists_of c.in-Ok.script) c.in-Err-read_document.stopped
     c.in-Ok.ensures.reads c.in-Err-read_document.ensures.loads
 
 pub returns-clause-stops : goal.returns-clause-stops
 returns-clause-stops g c =
     play_stops g.K.Sink.held g.K.Sink.faults c.args.sink.now c.write_replies.new.sink _
-    (g.D.Shelf.content c.args.shelf c.args.name.now) (lists_of c.in-Ok.script)
+    (read_at (g.D.Shelf.state c.args.shelf).disk c.args.name.now) (lists_of c.in-Ok.script)
     c.run_script-played.result.replies c.write_replies.result c.in-Ok.ensures.reads c.write_replies.ensures
 
 pub returns-in-Err-clause-ended : goal.returns-in-Err-clause-ended
@@ -55,3 +57,7 @@ returns-in-Err-read_document-clause-ended g c =
 
 pub returns-clause-ended : goal.returns-clause-ended
 returns-clause-ended g c = ended_anyhow (g.S.Source.left c.read_script.new.source) c.write_replies.result c.in-Ok.ensures.ended
+
+pub returns-clause-few_loads : goal.returns-clause-few_loads
+returns-clause-few_loads g c =
+    omega (arith, c.in-Ok-read_document.ensures.few_loads, c.run_script-played.ensures.shelf.loads)

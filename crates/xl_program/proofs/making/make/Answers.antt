@@ -1,20 +1,19 @@
-use Rattle.std.proofs.Common.{◌≡◌, refl, inl, inr, sym, ◌∙◌, subst}
+use Rattle.std.proofs.Common.{◌≡◌, refl, inl, inr, sym, ◌∙◌, subst, arith}
 use Rattle.std.specs.Prelude.{Option, List, [], ℕ, IsSome}
 use Rattle.spec_document.specs.Document.{Document}
 use Rattle.spec_generated.specs.Generated.{document, script}
 use Rattle.spec_layout.specs.Layout.{Written}
-use Rattle.spec_saves.specs.Shelf.{Known}
 use Rattle.spec_script.specs.Fits.{FitsFilters}
 use Rattle.spec_script.specs.Script.{Line}
-use Rattle.xl_core.specs.Editing.{known}
 use Rattle.xl_doc.specs.Numbered.{AreNumbered}
-use Rattle.xl_program.specs.Outcome.{opened, shelved}
+use Rattle.xl_program.specs.Outcome.{opened}
 use Rattle.xl_program.proofs.FirstSaves.{ok_at, err_at}
-use Rattle.xl_program.proofs.MadeRuns.{seed_is_made, made_comes, made_stops, made_cause}
+use Rattle.xl_program.proofs.MadeRuns.{seed_is_made, made_comes, made_stops, made_cause, saved_as_now}
 use Rattle.xl_program.proofs.MadeScripts.{script_fits}
 use Rattle.xl_program.proofs.Taken.{untouched}
 use Rattle.xl_report.proofs.MadeNumbered.{made_is_numbered}
 use Rattle.xl_program.proofs.making.make.Goals as goal
+use Rattle.xl_ports.specs.State.{ShelfState}
 
 -- the file as it is handed on
 written : (bytes file : List ℕ) (d : Document) → bytes ≡ file → Written file d → Written bytes d
@@ -37,7 +36,7 @@ pub returns-in_default-clause-comes : goal.returns-in_default-clause-comes
 returns-in_default-clause-comes g c = λ given. (
   (refl, refl),
   inl (untouched
-      (shelved g.D.Shelf.content g.D.Shelf.selected g.D.Shelf.disk g.D.Shelf.reading_faults g.D.Shelf.saving_faults
+      (g.D.Shelf.state
       c.args.shelf)),
 )
 
@@ -55,19 +54,19 @@ returns-then-is_err-clause-cause g c =
 
 pub returns-clause-comes : goal.returns-clause-comes
 returns-clause-comes g c = λ given.
-    let see = known g.D.Shelf.selected g.D.Shelf.disk g.D.Shelf.reading_faults g.D.Shelf.saving_faults in
-    let old : Known =
-    opened (shelved g.D.Shelf.content g.D.Shelf.selected g.D.Shelf.disk g.D.Shelf.reading_faults g.D.Shelf.saving_faults
-    c.args.shelf) c.args.name.now in
-    let first : Known = see c.save_first.new.shelf in
-    let now : Known = see c.run_made-played.result.shelf in
+    let see = g.D.Shelf.state in
+    let first : ShelfState = see c.save_first.new.shelf in
+    let now : ShelfState = see c.run_made-played.result.shelf in
+    let old : ShelfState = opened (see c.args.shelf) now c.args.name.now in
+    let run = c.run_made-played.ensures c.args.seed c.in-Ok.ensures.document c.in-Ok.ensures.script in
     let saved =
-    ok_at c.save_first.result (sym c.is_err.ensures.value ∙ c.if-is_err.false) c.save_first.ensures.saved c.args.seed
-    (written c.deref.result.now _ (document c.args.seed) c.deref.ensures.value c.in-Ok.ensures.file) in
+    saved_as_now (see c.args.shelf) first now c.args.name.now (document c.args.seed) run.shelf.loads
+    (ok_at c.save_first.result (sym c.is_err.ensures.value ∙ c.if-is_err.false) c.save_first.ensures.saved c.args.seed
+    (written c.deref.result.now _ (document c.args.seed) c.deref.ensures.value c.in-Ok.ensures.file)) in
     made_comes (document c.args.seed) (script c.args.seed) (seed_is_made c.args.seed) old first now saved g.K.Sink.held
     g.K.Sink.faults _ _ c.args.sink.now c.write_replies.new.sink
     c.run_made-played.result.replies c.write_replies.result
-    (c.run_made-played.ensures c.args.seed c.in-Ok.ensures.document c.in-Ok.ensures.script)
+    run
     c.write_replies.ensures
 
 pub returns-clause-stops : goal.returns-clause-stops
@@ -77,7 +76,7 @@ returns-clause-stops g c =
 
 pub returns-clause-cause : goal.returns-clause-cause
 returns-clause-cause g c =
-    let see = known g.D.Shelf.selected g.D.Shelf.disk g.D.Shelf.reading_faults g.D.Shelf.saving_faults in
+    let see = g.D.Shelf.state in
     let saved =
     ok_at c.save_first.result (sym c.is_err.ensures.value ∙ c.if-is_err.false) c.save_first.ensures.saved c.args.seed
     (written c.deref.result.now _ (document c.args.seed) c.deref.ensures.value c.in-Ok.ensures.file) in
@@ -91,3 +90,8 @@ pub returns-clause-selected : goal.returns-clause-selected
 returns-clause-selected g c =
     inr ((c.run_made-played.ensures c.args.seed c.in-Ok.ensures.document c.in-Ok.ensures.script).shelf.selected
     ∙ ok_at c.save_first.result (sym c.is_err.ensures.value ∙ c.if-is_err.false) c.save_first.ensures.named)
+
+pub returns-clause-few_loads : goal.returns-clause-few_loads
+returns-clause-few_loads g c =
+    let run = c.run_made-played.ensures c.args.seed c.in-Ok.ensures.document c.in-Ok.ensures.script in
+    omega (arith, run.shelf.loads, c.save_first.ensures.loads)

@@ -2,20 +2,19 @@ use Rattle.std.proofs.Common.{ap, ◌∙◌, subst}
 use Rattle.spec_document.specs.Document.{Document}
 use Rattle.spec_document.specs.Limits.{IsDocument}
 use Rattle.spec_generated.specs.Generated.{document, script}
-use Rattle.xl_core.specs.Editing.{known}
 use Rattle.xl_script.specs.Lines.{lists_of}
 use Rattle.xl_program.proofs.MadeRuns.{no_states, nothing_summed, same_sum, seed_is_made, summed_on}
 use Rattle.xl_program.proofs.making.run_made.Goals as goal
 
 pub returns-in-Err : goal.returns-in-Err
 returns-in-Err g c = λ seed same_document same_lists.
-    let see = known g.D.Shelf.selected g.D.Shelf.disk g.D.Shelf.reading_faults g.D.Shelf.saving_faults in
+    let see = g.D.Shelf.state in
     nothing_summed (see c.args.shelf) _ (document seed) (script seed) record {} (ap see c.in-Err.ensures.back)
     (subst (λ (d : Document). IsDocument d) same_document c.requires.limits)
 
 pub returns : goal.returns
 returns g c = λ seed same_document same_lists.
-    let see = known g.D.Shelf.selected g.D.Shelf.disk g.D.Shelf.reading_faults g.D.Shelf.saving_faults in
+    let see = g.D.Shelf.state in
     let core = c.in-Ok.core in
     let played = c.play_beside-core.ensures in
     let new = c.play_beside-core.result.core in

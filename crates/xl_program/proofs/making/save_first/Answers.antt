@@ -1,11 +1,10 @@
-use Rattle.std.proofs.Common.{inl, inr, ◌∙◌}
+use Rattle.std.proofs.Common.{inl, inr, ◌∙◌, refl}
 use Rattle.std.proofs.lemmas.Result.{on_ok_weaker, on_err_weaker}
 use Rattle.spec_generated.specs.Generated.{document}
-use Rattle.spec_saves.specs.Shelf.{Known}
-use Rattle.xl_core.specs.Editing.{known}
-use Rattle.xl_program.specs.Outcome.{opened, shelved}
+use Rattle.xl_program.specs.Outcome.{opened}
 use Rattle.xl_program.proofs.FirstSaves.{saved_first, failed_first, ok_any, err_any}
 use Rattle.xl_program.proofs.making.save_first.Goals as goal
+use Rattle.xl_ports.specs.State.{ShelfState}
 
 pub returns-in_err-select-clause-failed : goal.returns-in_err-select-clause-failed
 returns-in_err-select-clause-failed g c =
@@ -15,27 +14,25 @@ returns-in_err-select-clause-failed g c =
 
 pub returns-clause-saved : goal.returns-clause-saved
 returns-clause-saved g c =
-    let see = known g.D.Shelf.selected g.D.Shelf.disk g.D.Shelf.reading_faults g.D.Shelf.saving_faults in
-    let old : Known =
-    opened (shelved g.D.Shelf.content g.D.Shelf.selected g.D.Shelf.disk g.D.Shelf.reading_faults g.D.Shelf.saving_faults
-    c.args.shelf.now) c.args.name.now in
+    let see = g.D.Shelf.state in
+    let old : ShelfState =
+    opened (see c.args.shelf.now) (see c.save_file.new.shelf) c.args.name.now in
     let e = c.in_ok-select.ensures in
     on_ok_weaker c.save_file.result
     (λ saves seed wrote.
-    saved_first (document seed) old (see c.select.new.self) (see c.save_file.new.shelf) e.selected e.quiet e.cause e.saving
+    saved_first (document seed) old (see c.select.new.self) (see c.save_file.new.shelf) e.selected refl e.quiet e.cause e.saving
     (saves (document seed) wrote)) c.save_file.ensures.saved
 
 pub returns-clause-failed : goal.returns-clause-failed
 returns-clause-failed g c =
-    let see = known g.D.Shelf.selected g.D.Shelf.disk g.D.Shelf.reading_faults g.D.Shelf.saving_faults in
-    let old : Known =
-    opened (shelved g.D.Shelf.content g.D.Shelf.selected g.D.Shelf.disk g.D.Shelf.reading_faults g.D.Shelf.saving_faults
-    c.args.shelf.now) c.args.name.now in
+    let see = g.D.Shelf.state in
+    let old : ShelfState =
+    opened (see c.args.shelf.now) (see c.save_file.new.shelf) c.args.name.now in
     let e = c.in_ok-select.ensures in
     on_err_weaker c.save_file.result
     (λ saves seed wrote.
     let fails =
-    failed_first (document seed) old (see c.select.new.self) (see c.save_file.new.shelf) e.selected e.quiet e.cause e.saving
+    failed_first (document seed) old (see c.select.new.self) (see c.save_file.new.shelf) e.selected refl e.quiet e.cause e.saving
     (saves (document seed) wrote) in
     (inr fails, inr fails.saving))
     c.save_file.ensures.failed

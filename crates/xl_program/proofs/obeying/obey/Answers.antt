@@ -1,5 +1,4 @@
 use Rattle.spec_command.specs.Arguments.{render, info, edit, view}
-use Rattle.xl_core.specs.Editing.{known}
 use Rattle.xl_program.specs.Outcome.{Given, given_of}
 use Rattle.xl_program.proofs.Causes.{cause_of}
 use Rattle.xl_program.proofs.obeying.obey.Goals as goal
@@ -30,19 +29,19 @@ returns-in-Make-clause-comes g c =
 
 pub returns-in-Render-clause-shelf_cause : goal.returns-in-Render-clause-shelf_cause
 returns-in-Render-clause-shelf_cause g c =
-    let see = known g.D.Shelf.selected g.D.Shelf.disk g.D.Shelf.reading_faults g.D.Shelf.saving_faults in
+    let see = g.D.Shelf.state in
     rw c.in-Render.is (cause_of (see c.args.shelf) (see c.render-result.new.shelf) (render c.in-Render.name.now)
     c.render-result.result (λ rose. rose) c.render-result.ensures.cause)
 
 pub returns-in-Info-clause-shelf_cause : goal.returns-in-Info-clause-shelf_cause
 returns-in-Info-clause-shelf_cause g c =
-    let see = known g.D.Shelf.selected g.D.Shelf.disk g.D.Shelf.reading_faults g.D.Shelf.saving_faults in
+    let see = g.D.Shelf.state in
     rw c.in-Info.is (cause_of (see c.args.shelf) (see c.describe-result.new.shelf) (info c.in-Info.name.now)
     c.describe-result.result (λ rose. rose) c.describe-result.ensures.cause)
 
 pub returns-in-Edit-clause-shelf_cause : goal.returns-in-Edit-clause-shelf_cause
 returns-in-Edit-clause-shelf_cause g c =
-    let see = known g.D.Shelf.selected g.D.Shelf.disk g.D.Shelf.reading_faults g.D.Shelf.saving_faults in
+    let see = g.D.Shelf.state in
     rw c.in-Edit.is (cause_of (see c.args.shelf) (see c.edit.result.shelf) (edit c.in-Edit.name.now c.in-Edit.workers)
     c.edit.result.result (λ rose. rose) c.edit.ensures.shelf_cause)
 
@@ -68,7 +67,7 @@ returns-in-View-clause-comes g c = rw c.in-View.is c.view.ensures.comes
 
 pub returns-in-View-clause-shelf_cause : goal.returns-in-View-clause-shelf_cause
 returns-in-View-clause-shelf_cause g c =
-    let see = known g.D.Shelf.selected g.D.Shelf.disk g.D.Shelf.reading_faults g.D.Shelf.saving_faults in
+    let see = g.D.Shelf.state in
     rw c.in-View.is (cause_of (see c.args.shelf) (see c.view.result.shelf) (view c.in-View.name.now c.in-View.cols c.in-View.rows)
     c.view.result.result (λ rose. rose) c.view.ensures.shelf_cause)
 

@@ -1,17 +1,17 @@
 use Rattle.std.proofs.Common.{refl, sym, ◌∙◌}
-use Rattle.xl_program.specs.Outcome.{Shelved, shelved}
 use Rattle.xl_program.proofs.FirstSaves.{ok_at, err_at}
 use Rattle.xl_program.proofs.PackSaves.{IsPackRead, is_packed, may_be_packed, save_rose, text_moved, smallest_moved}
 use Rattle.xl_program.proofs.PackSaves.{rose_at, stays_at}
 use Rattle.xl_program.proofs.Reported.{wrote_part, wrote_all}
 use Rattle.xl_program.proofs.packing.pack.Goals as goal
+use Rattle.xl_ports.specs.State.{ShelfState}
 
 pub returns-then-is_err-clause-comes : goal.returns-then-is_err-clause-comes
 returns-then-is_err-clause-comes g c = λ given.
-    let see = shelved g.D.Shelf.content g.D.Shelf.selected g.D.Shelf.disk g.D.Shelf.reading_faults g.D.Shelf.saving_faults in
-    let before : Shelved = see c.args.shelf.now in
-    let mid : Shelved = see c.load_document.new.shelf in
-    let after : Shelved = see c.save_smallest.new.shelf in
+    let see = g.D.Shelf.state in
+    let before : ShelfState = see c.args.shelf.now in
+    let mid : ShelfState = see c.load_document.new.shelf in
+    let after : ShelfState = see c.save_smallest.new.shelf in
     let loaded = c.in_ok-loaded.loaded in
     let read : IsPackRead before mid c.args.name.now loaded.document loaded.length = record {
       holds = c.in_ok-loaded.ensures.loads.0;
@@ -31,10 +31,10 @@ returns-then-is_err-clause-comes g c = λ given.
 
 pub returns-then-is_err-clause-cause : goal.returns-then-is_err-clause-cause
 returns-then-is_err-clause-cause g c =
-    let see = shelved g.D.Shelf.content g.D.Shelf.selected g.D.Shelf.disk g.D.Shelf.reading_faults g.D.Shelf.saving_faults in
-    let before : Shelved = see c.args.shelf.now in
-    let mid : Shelved = see c.load_document.new.shelf in
-    let after : Shelved = see c.save_smallest.new.shelf in
+    let see = g.D.Shelf.state in
+    let before : ShelfState = see c.args.shelf.now in
+    let mid : ShelfState = see c.load_document.new.shelf in
+    let after : ShelfState = see c.save_smallest.new.shelf in
     let loaded = c.in_ok-loaded.loaded in
     let read : IsPackRead before mid c.args.name.now loaded.document loaded.length = record {
       holds = c.in_ok-loaded.ensures.loads.0;
@@ -49,10 +49,10 @@ returns-then-is_err-clause-cause g c =
 
 pub returns-then-is_err-2-clause-comes : goal.returns-then-is_err-2-clause-comes
 returns-then-is_err-2-clause-comes g c = λ given.
-    let see = shelved g.D.Shelf.content g.D.Shelf.selected g.D.Shelf.disk g.D.Shelf.reading_faults g.D.Shelf.saving_faults in
-    let before : Shelved = see c.args.shelf.now in
-    let mid : Shelved = see c.load_document.new.shelf in
-    let after : Shelved = see c.save_smallest.new.shelf in
+    let see = g.D.Shelf.state in
+    let before : ShelfState = see c.args.shelf.now in
+    let mid : ShelfState = see c.load_document.new.shelf in
+    let after : ShelfState = see c.save_smallest.new.shelf in
     let loaded = c.in_ok-loaded.loaded in
     let well = sym c.is_err.ensures.value ∙ c.if-is_err.false in
     let read : IsPackRead before mid c.args.name.now loaded.document loaded.length = record {
@@ -80,10 +80,10 @@ returns-then-is_err-2-clause-comes g c = λ given.
 
 pub returns-clause-comes : goal.returns-clause-comes
 returns-clause-comes g c = λ given.
-    let see = shelved g.D.Shelf.content g.D.Shelf.selected g.D.Shelf.disk g.D.Shelf.reading_faults g.D.Shelf.saving_faults in
-    let before : Shelved = see c.args.shelf.now in
-    let mid : Shelved = see c.load_document.new.shelf in
-    let after : Shelved = see c.save_smallest.new.shelf in
+    let see = g.D.Shelf.state in
+    let before : ShelfState = see c.args.shelf.now in
+    let mid : ShelfState = see c.load_document.new.shelf in
+    let after : ShelfState = see c.save_smallest.new.shelf in
     let loaded = c.in_ok-loaded.loaded in
     let well = sym c.is_err.ensures.value ∙ c.if-is_err.false in
     let read : IsPackRead before mid c.args.name.now loaded.document loaded.length = record {

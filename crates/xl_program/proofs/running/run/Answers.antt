@@ -5,11 +5,14 @@ use Rattle.spec_command.specs.Grammar.{asked_in}
 use Rattle.spec_command.specs.Ends.{source_fault, bad_line, refused, flat_refused, stop_line}
 use Rattle.xl_command.specs.Asking.{asked_of, arguments_of}
 use Rattle.xl_ports.specs.Shelf.{Content, selected_content}
+use Rattle.xl_ports.specs.State.{ShelfState}
+use Rattle.xl_ports.specs.Disk.{read_at}
 use Rattle.xl_program.specs.Command.{IsFlatten, ReadsFile, ReadsSource}
 use Rattle.xl_program.specs.Files.{CannotBeFlat, HasFault}
 use Rattle.xl_program.specs.Lines.{WritesLine}
-use Rattle.xl_program.specs.Outcome.{Given, given_of, InGrammar, IsBadLineOf, Shelved, shelved}
+use Rattle.xl_program.specs.Outcome.{Given, given_of, InGrammar, IsBadLineOf, OtherNamesStay}
 use Rattle.xl_program.proofs.Taken.{nothing_taken, nothing_saved}
+use Rattle.xl_program.proofs.OtherNames.{all_stay, names_stay}
 use Rattle.xl_program.proofs.ScriptEnded.{ended_written}
 use Rattle.xl_program.proofs.StopLines.{bad_line_written, flat_refusal_written, refusal_written, script_in_grammar}
 use Rattle.xl_program.proofs.StopLines.{shelf_fault_asked, source_fault_written}
@@ -18,24 +21,24 @@ use Rattle.xl_program.proofs.running.run.Goals.{in-Ok-result, in-Err}
 
 pub returns-in_default-clause-source_taken : goal.returns-in_default-clause-source_taken
 returns-in_default-clause-source_taken g c =
-    nothing_taken g.S.Source.left g.S.Source.faults c.args.source.now (asked_in (arguments_of c.args.words.now))
+    nothing_taken g.S.Source.left g.S.Source.faults g.S.Source.reads c.args.source.now (asked_in (arguments_of c.args.words.now))
 
 pub returns-in_default-clause-memory : goal.returns-in_default-clause-memory
 returns-in_default-clause-memory g c = λ eight.
-    let kept : Shelved =
-    shelved g.D.Shelf.content g.D.Shelf.selected g.D.Shelf.disk g.D.Shelf.reading_faults g.D.Shelf.saving_faults c.args.shelf in
+    let kept : ShelfState =
+    g.D.Shelf.state c.args.shelf in
     ((refl, refl), nothing_saved kept (asked_in (arguments_of c.args.words.now)))
 
 pub returns-clause-shelf_fault : goal.returns-clause-shelf_fault
 returns-clause-shelf_fault g c = λ six. elim c.match-done.branch [
   | in-Ok-result w ↦ absurd (omega arith)
   | in-Err w ↦
-      let content = g.D.Shelf.content c.args.shelf in
-      let before : Shelved =
-      shelved g.D.Shelf.content g.D.Shelf.selected g.D.Shelf.disk g.D.Shelf.reading_faults g.D.Shelf.saving_faults
+      let content = read_at (g.D.Shelf.state c.args.shelf).disk in
+      let before : ShelfState =
+      g.D.Shelf.state
       c.args.shelf in
-      let after : Shelved =
-      shelved g.D.Shelf.content g.D.Shelf.selected g.D.Shelf.disk g.D.Shelf.reading_faults g.D.Shelf.saving_faults
+      let after : ShelfState =
+      g.D.Shelf.state
       c.obey-done.result.shelf in
       shelf_fault_asked g.K.Sink.held g.K.Sink.faults _ content before after (asked_of c.in-Some.command) w.in-Err.stopped _ _ _ _
       (sym w.status-is ∙ six) (rw w.in-Err.is at c.obey-done.ensures.comes) (rw w.in-Err.is at c.obey-done.ensures.shelf_cause)
@@ -46,7 +49,7 @@ pub returns-clause-source_fault_written : goal.returns-clause-source_fault_writt
 returns-clause-source_fault_written g c = λ five. elim c.match-done.branch [
   | in-Ok-result w ↦ absurd (omega arith)
   | in-Err w ↦
-      let content = g.D.Shelf.content c.args.shelf in
+      let content = read_at (g.D.Shelf.state c.args.shelf).disk in
       let command = asked_of c.in-Some.command in
       let is : Some command ≡ asked_in (arguments_of c.args.words.now) = rw c.in-Some.is at c.in-Ok.ensures.asked in
       let told =
@@ -65,7 +68,7 @@ returns-clause-bad_line g c = λ three. elim c.match-done.branch [
       let given : Given =
       given_of (g.S.Source.left c.args.source.now) (λ b. (goal.PointFilter-dyn g (b.vtable, b.value)).state b.value)
       c.args.chest.items in
-      let content = g.D.Shelf.content c.args.shelf in
+      let content = read_at (g.D.Shelf.state c.args.shelf).disk in
       let command = asked_of c.in-Some.command in
       let is : Some command ≡ asked_in (arguments_of c.args.words.now) = rw c.in-Some.is at c.in-Ok.ensures.asked in
       let told =
@@ -83,7 +86,7 @@ pub returns-clause-flat_refused : goal.returns-clause-flat_refused
 returns-clause-flat_refused g c = λ nine. elim c.match-done.branch [
   | in-Ok-result w ↦ absurd (omega arith)
   | in-Err w ↦
-      let content = g.D.Shelf.content c.args.shelf in
+      let content = read_at (g.D.Shelf.state c.args.shelf).disk in
       let command = asked_of c.in-Some.command in
       let is : Some command ≡ asked_in (arguments_of c.args.words.now) = rw c.in-Some.is at c.in-Ok.ensures.asked in
       let told =
@@ -103,7 +106,7 @@ pub returns-clause-refused : goal.returns-clause-refused
 returns-clause-refused g c = λ four. elim c.match-done.branch [
   | in-Ok-result w ↦ absurd (omega arith)
   | in-Err w ↦
-      let content = g.D.Shelf.content c.args.shelf in
+      let content = read_at (g.D.Shelf.state c.args.shelf).disk in
       let command = asked_of c.in-Some.command in
       let is : Some command ≡ asked_in (arguments_of c.args.words.now) = rw c.in-Some.is at c.in-Ok.ensures.asked in
       let told =
@@ -128,7 +131,7 @@ returns-clause-script_first g c = λ which. elim c.match-done.branch [
       let given : Given =
       given_of (g.S.Source.left c.args.source.now) (λ b. (goal.PointFilter-dyn g (b.vtable, b.value)).state b.value)
       c.args.chest.items in
-      let content = g.D.Shelf.content c.args.shelf in
+      let content = read_at (g.D.Shelf.state c.args.shelf).disk in
       let command = asked_of c.in-Some.command in
       let is : Some command ≡ asked_in (arguments_of c.args.words.now) = rw c.in-Some.is at c.in-Ok.ensures.asked in
       subst (λ (o : Option Asked). InGrammar given o) is
@@ -151,3 +154,15 @@ returns-clause-source_ended g c = λ after asked.
 
 pub obey-done-requires-clause-range : goal.obey-done-requires-clause-range
 obey-done-requires-clause-range g c κs within = rw c.in-Some.is at c.in-Ok.ensures.range
+
+pub returns-in_default-clause-other_names : goal.returns-in_default-clause-other_names
+returns-in_default-clause-other_names g c = all_stay (g.D.Shelf.state c.args.shelf) (asked_in (arguments_of c.args.words.now))
+
+pub returns-clause-other_names : goal.returns-clause-other_names
+returns-clause-other_names g c =
+    let command = asked_of c.in-Some.command in
+    let is : Some command ≡ asked_in (arguments_of c.args.words.now) = rw c.in-Some.is at c.in-Ok.ensures.asked in
+    let before : ShelfState = g.D.Shelf.state c.args.shelf in
+    let after : ShelfState = g.D.Shelf.state c.obey-done.result.shelf in
+    subst (λ (o : Option Asked). OtherNamesStay before after o) is
+    (names_stay g.K.Sink.held g.K.Sink.faults _ before after command _ _ c.obey-done.result.result c.obey-done.ensures.comes)

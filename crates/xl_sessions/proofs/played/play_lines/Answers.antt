@@ -1,5 +1,4 @@
 use Rattle.std.proofs.Common.{refl, ap, ◌∙◌, length, map, string_bytes, arith}
-use Rattle.xl_core.specs.Editing.{known}
 use Rattle.xl_script.specs.Lines.{line_of, lines_of}
 use Rattle.xl_sessions.specs.Full.{most_made}
 use Rattle.xl_studio.specs.Seats.{base_of, opening_shelf, known_by, made_of}
@@ -34,7 +33,7 @@ pub loop-line-preserved : goal.loop-line-preserved
 loop-line-preserved g c = (
   c.play_line.ensures.seat,
   c.play_line.ensures.weight ∙ c.loop-line.invariant.1,
-  under_way_more c.loop-line.invariant.2 (known g.D.Shelf.selected g.D.Shelf.disk g.D.Shelf.reading_faults g.D.Shelf.saving_faults)
+  under_way_more c.loop-line.invariant.2 g.D.Shelf.state
       (opening_shelf c.args.studio.now) (line_of c.in-Some.line) (lines_of c.next.new.self.rest.items)
       (ap lines_of c.in-Some.ensures.steps.0)
       _ (known_by c.play_line.new.seat) _ c.loop-line.invariant.0.front.legal c.play_line.ensures.begins

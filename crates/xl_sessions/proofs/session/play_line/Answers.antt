@@ -1,6 +1,5 @@
 use Rattle.std.proofs.Common.{[], ◌∷◌, ap, map, string_bytes}
 use Rattle.std.proofs.lemmas.Result.{on_ok_weaker}
-use Rattle.xl_core.specs.Editing.{known}
 use Rattle.xl_script.specs.Lines.{line_of}
 use Rattle.xl_script.specs.declared.script.Line.{Line}
 use Rattle.xl_sessions.specs.Full.{most_made}
@@ -12,14 +11,14 @@ use Rattle.xl_sessions.proofs.session.play_line.Goals as goal
 pub returns-in-Save-clause-made : goal.returns-in-Save-clause-made
 returns-in-Save-clause-made g c =
     on_ok_weaker c.play_save.result
-    (λ made. save_line (known g.D.Shelf.selected g.D.Shelf.disk g.D.Shelf.reading_faults g.D.Shelf.saving_faults)
+    (λ made. save_line g.D.Shelf.state
     (opening_shelf c.args.studio.now) (base_of c.args.studio.now) c.args.session c.args.line _ (known_by c.args.seat.now)
     (known_by c.play_save.new.seat) (map string_bytes c.args.digests.now.items) c.in-Save.is made)
     c.play_save.ensures.made
 
 pub returns-in-Forget-clause-made : goal.returns-in-Forget-clause-made
 returns-in-Forget-clause-made g c =
-    forget_line (known g.D.Shelf.selected g.D.Shelf.disk g.D.Shelf.reading_faults g.D.Shelf.saving_faults)
+    forget_line g.D.Shelf.state
     (opening_shelf c.args.studio.now) (base_of c.args.studio.now) c.args.session c.args.line c.in-Forget.slot _ _
     (known_by c.args.seat.now) (map string_bytes c.args.digests.now.items) c.in-Forget.is c.forget.ensures
 

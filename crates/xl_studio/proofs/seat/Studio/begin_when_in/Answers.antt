@@ -1,5 +1,4 @@
 use Rattle.std.proofs.Common.{◌∙◌}
-use Rattle.xl_core.specs.Editing.{known}
 use Rattle.xl_turn.proofs.Fronts.{prefix_trans}
 use Rattle.xl_studio.specs.Seats.{base_of, opening_shelf, known_by}
 use Rattle.xl_studio.proofs.FirstHold.{after_wait}
@@ -13,7 +12,7 @@ returns-in_default g c =
       weight = c.begin.ensures.weight ∙ i.4;
       job = c.begin.ensures.job ∙ i.5;
       begins = prefix_trans _ _ _ i.3.begins c.begin.ensures.begins;
-      begun = after_wait (known g.D.Shelf.selected g.D.Shelf.disk g.D.Shelf.reading_faults g.D.Shelf.saving_faults)
+      begun = after_wait g.D.Shelf.state
           (opening_shelf c.args.self.now) (base_of c.args.self.now) c.args.session
           c.in_ok-begun.begun (known_by c.args.seat.now) (known_by c.loop.seat)
           (known_by c.begin.new.seat) i.3 c.in_default.not-Out c.in_ok-begun.ensures.begun;

@@ -1,6 +1,5 @@
 use Rattle.std.proofs.Common.{◌≡◌, ℕ, List, ap, sym, ◌∙◌, subst}
 use mathlib.Core.List.{IsPrefix}
-use Rattle.xl_core.specs.Editing.{known}
 use Rattle.xl_edit.specs.Replies.{reply_of}
 use Rattle.xl_turn.specs.Seats as turns
 use Rattle.xl_turn.specs.Seats.{opened_with, start_of, made_after}
@@ -28,7 +27,7 @@ end-reply-requires-clause-returns g c κs within =
     (base_entered (opened_with c.args.self.now.lock).core c.enter-held.result.value.core
     (front_of c.args.seat.now) c.requires.seat.front.begins c.enter-held.ensures.front) c.enter-held.ensures.front
     c.know_kept.ensures (start_of c.args.seat.now.seat) c.requires.seat.front.start_is c.enter-held.ensures.closed
-    (known g.D.Shelf.selected g.D.Shelf.disk g.D.Shelf.reading_faults g.D.Shelf.saving_faults)
+    g.D.Shelf.state
     (opening_shelf c.args.self.now) c.args.how c.args.shelf
     (shelf_entered (opened_with c.args.self.now.lock).core c.enter-held.result.value.core
     (front_of c.args.seat.now) c.requires.seat.front.begins c.enter-held.ensures.front) c.requires.back.returns
