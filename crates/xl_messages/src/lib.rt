@@ -8,4 +8,4 @@ mod stops;
 #[cfg(test)]
 mod tests;
 
-pub use stops::message;
+pub use stops::{VERSION, message};

@@ -9,6 +9,9 @@ use xl_why::{cause_of, cause_of_viewed};
 const USAGE: &str =
     "these words are no command; the commands are\n  xcfedit render FILE              writes the picture of FILE as a PAM\n  xcfedit info FILE                writes the layers of FILE as a line of JSON\n  xcfedit edit FILE [--workers N]  runs a script from standard input on FILE, N from 0 to 8\n  xcfedit make FILE --seed N       saves the document of the seed N, runs the seed's script on FILE and sums the run up in a line\n  xcfedit pack FILE [--plan]       saves FILE as small as it can be with run-length coded tiles\n  xcfedit flatten FILE             puts one layer in the place of all nodes of FILE\n  xcfedit view FILE --cols W --rows H  runs a script of session 0 on FILE, a tile with its neighbours, W and H from 1 to 16";
 
+/// The version of the program, which stands in the manual page and in the changelog too.
+pub const VERSION: &str = "0.1.0";
+
 /// The status where memory ran out.
 const MEMORY: u8 = 8;
 
@@ -25,7 +28,7 @@ pub fn message<'a>(
         return String::from_str(alloc, "out of memory");
     }
     let (Some(command), Some(stopped)) = (command_of(alloc, words)?, cause) else {
-        return String::from_str(alloc, USAGE);
+        return format!(in alloc; "xcfedit {VERSION}: {USAGE}");
     };
     stop_text(alloc, command, stopped, script)
 }

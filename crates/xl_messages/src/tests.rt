@@ -1,5 +1,5 @@
 use crate::faults::fault_text;
-use crate::message;
+use crate::{VERSION, message};
 use spec_fields::{Kind, ReadRefused};
 use std::alloc::{AllocError, Global};
 use std::test::Fail;
@@ -176,7 +176,8 @@ fn the_commands_are_listed(rt: HostRuntime) -> Result<(), Fail> {
     let alloc = rt.alloc();
     let words = ["edit"];
     let text = message(alloc, words.as_slice(), 2, None, &[])?;
-    assert!(rt; text.as_str().starts_with("these words are no command"));
+    let front = format!(in alloc; "xcfedit {VERSION}: these words are no command;")?;
+    assert!(rt; text.as_str().starts_with(front.as_str()));
     assert_eq!(rt; text.as_str().lines().count(), 8);
     Ok(())
 }
