@@ -9,7 +9,6 @@ use Rattle.spec_world.specs.World.{World}
 use Rattle.spec_world.specs.Events.{submit}
 use Rattle.spec_world.specs.declared.SaveEnd.{SaveEnd}
 use Rattle.spec_world.specs.Events.{end_reply}
-use Rattle.xl_ports.specs.Disk.{Disk}
 use Rattle.xl_ports.specs.State.{ShelfState}
 use Rattle.spec_saves.specs.Names.{version_out}
 use Rattle.spec_saves.specs.Shelf.{ShelfIsRight}
