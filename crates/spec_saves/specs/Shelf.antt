@@ -1,5 +1,5 @@
 -- What holds of a shelf on which a document is saved, after a history, as long as no save is out.
-use Rattle.std.specs.Prelude.{◌≡◌, ◌⊎◌, ℕ, ◌+◌, ◌≤◌, List, [], ◌∷◌, Option, unwrap_or}
+use Rattle.std.specs.Prelude.{◌≡◌, ◌⊎◌, ℕ, ◌+◌, ◌≤◌, List, [], ◌∷◌, unwrap_or}
 use Rattle.spec_document.specs.Document.{Document}
 use Rattle.spec_history.specs.History.{Entry}
 use Rattle.xl_ports.specs.Shelf.{Content}

@@ -1,4 +1,4 @@
-ghost use Rattle.std.specs.Prelude.{◌≡◌, None, Some, [], refl};
+ghost use Rattle.std.specs.Prelude.{◌≡◌, None, Some, []};
 ghost use Rattle.xl_ports.specs.Faults.{last_count};
 
 use xl_ports::{Failed, Shelf};

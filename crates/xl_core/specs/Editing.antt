@@ -9,7 +9,6 @@ use Rattle.spec_history.specs.History.{Entry, starts, ends, replay, next_index, 
 use Rattle.spec_world.specs.World.{World, Job}
 use Rattle.spec_world.specs.Events.{submit, Event, finishes, after, finish_answer, end_reply}
 use Rattle.spec_world.specs.declared.SaveEnd.{SaveEnd}
-use Rattle.xl_ports.specs.Disk.{Disk}
 use Rattle.xl_ports.specs.State.{ShelfState}
 use Rattle.spec_saves.specs.Names.{version_out}
 use Rattle.spec_saves.specs.Shelf.{ShelfIsRight}

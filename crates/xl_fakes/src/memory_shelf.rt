@@ -1,4 +1,4 @@
-ghost use Rattle.std.specs.Prelude.{◌≡◌, refl, ◌⊎◌, ◌<◌, ◌≤◌, ◌++◌, ◌∷◌, [], Some, None, List, ℕ, true, false, length};
+ghost use Rattle.std.specs.Prelude.{◌≡◌, ◌⊎◌, ◌<◌, ◌≤◌, ◌++◌, ◌∷◌, [], Some, None, List, ℕ, true, false, length};
 ghost use Rattle.std.specs.Prelude.{take, min, ◌^◌, ◌-◌, map, IfOk, OnOk, OnErr, IsErr, is_err, is_ok, is_some, IsSome};
 ghost use Rattle.std.specs.Prelude.{option_copied, option_map, string_bytes, IfSome, if◌then◌else◌};
 ghost use Rattle.std.specs.Str.{bytes_eq};

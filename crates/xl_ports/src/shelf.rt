@@ -1,4 +1,4 @@
-ghost use Rattle.std.specs.Prelude.{◌≡◌, ◌<◌, ◌≤◌, ◌++◌, ℕ, List, [], Option, Bool, true, false, length, take, IfOk};
+ghost use Rattle.std.specs.Prelude.{◌≡◌, ◌<◌, ◌≤◌, ◌++◌, true, false, length, take, IfOk};
 ghost use Rattle.std.specs.Prelude.{IfSome, OnOk, OnErr, IsSome, Some};
 ghost use Rattle.xl_ports.specs.Faults.{Counted, HasCause};
 ghost use Rattle.xl_ports.specs.Shelf.{selected_content, GivesPart};
@@ -13,8 +13,9 @@ use crate::failed::Failed;
 /// the old file up to `swap_in`, the old or the new one from then on, and the new one alone once `settle` is done.
 ///
 /// A call that fails has raised its own count: `select` and `load` the reading faults, all others the saving faults.
-/// Both counts are as before otherwise. Each call of `load` is counted too. Only `select` changes the selection. The contents of the files, what a crash
-/// leaves of them and the draft's bytes are known of shelves in memory, and clauses on them hold where they are known.
+/// Both counts are as before otherwise. Each call of `load` is counted too. Only `select` changes the selection. The
+/// contents of the files, what a crash leaves of them and the draft's bytes are known of shelves in memory, and clauses
+/// on them hold where they are known.
 pub trait Shelf: Send + Drop {
     /// What is known of it. Its counts never fall.
     ghost state: { Self → ShelfState };

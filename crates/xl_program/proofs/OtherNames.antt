@@ -1,6 +1,6 @@
 -- Names other than that of the command's file stay, whatever a command comes to.
-use Rattle.std.proofs.Common.{◌≡◌, ◌⊎◌, inl, inr, ℕ, List, [], Some, None, ap, sym, subst}
-use Rattle.std.specs.Prelude.{Option, unwrap_or, option_map, Result, Ok, Err}
+use Rattle.std.proofs.Common.{◌≡◌, inl, inr, ℕ, List, [], Some, None, ap, sym, subst}
+use Rattle.std.specs.Prelude.{Option, unwrap_or, Result, Ok, Err}
 use Rattle.spec_command.specs.Arguments.{Asked, edit, render, info, make, pack, flatten, view, name_of}
 use Rattle.spec_document.specs.Document.{Document}
 use Rattle.spec_history.specs.History.{Entry}
@@ -12,10 +12,10 @@ use Rattle.xl_ports.specs.State.{ShelfState}
 use Rattle.xl_ports.proofs.Moments.{weaker, one_then, others_still, others_then, quiet_others, quiet_through, still}
 use Rattle.xl_save.specs.Save.{SavesOnly, HasSaved}
 use Rattle.xl_save.proofs.Others.{others_stay}
-use Rattle.xl_snapshot.specs.Saving.{IsSavedOn, Puts}
+use Rattle.xl_snapshot.specs.Saving.{Puts}
 use Rattle.xl_play.specs.Told.{NoneFailed, SomeFailed, AnyFailed}
 use Rattle.xl_program.specs.Making.{IsMadeHistory}
-use Rattle.xl_program.specs.Outcome.{Given, ComesTo, FailsAtShelf, IsHistory, IsOutput, IsUntouched, MayHaveSaved}
+use Rattle.xl_program.specs.Outcome.{Given, ComesTo, FailsAtShelf, IsOutput, IsUntouched, MayHaveSaved}
 use Rattle.xl_program.specs.Outcome.{opened, OtherNamesStay}
 use Rattle.xl_program.specs.declared.stopped.Stopped.{Stopped}
 use Rattle.xl_program.specs.declared.stopped.Stopped.TheVariants.{SourceFault, BadLine, ShelfFault, Refused, SaveFault}

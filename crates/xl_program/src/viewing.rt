@@ -1,4 +1,4 @@
-ghost use Rattle.std.specs.Prelude.{◌≡◌, ◌<◌, ◌^◌, ◌⊎◌, [], ◌∷◌, ℕ, List, length, Some, IfOk, OnOk, IsSome, string_bytes};
+ghost use Rattle.std.specs.Prelude.{◌≡◌, ◌<◌, ◌^◌, ◌⊎◌, [], ◌∷◌, length, Some, IfOk, OnOk, IsSome, string_bytes};
 ghost use Rattle.std.specs.List.{AllByRecursion};
 ghost use Rattle.spec_command.specs.Arguments.{view as view_of};
 ghost use Rattle.spec_document.specs.Limits.{IsDocument};
