@@ -8,14 +8,14 @@ ghost use Rattle.spec_edit.specs.Edit.{IsEdit};
 ghost use Rattle.spec_history.specs.Calls.{IsCall, most_edits};
 ghost use Rattle.spec_history.specs.Limited as limited;
 ghost use Rattle.spec_history.specs.Machine as machine;
-ghost use Rattle.spec_tables.specs.Agrees.{AreThere, AreAsked, IsPartUsed};
+ghost use Rattle.spec_tables.specs.Agrees.{AreThere, AreAsked, IsPartAfter};
 ghost use Rattle.spec_tables.specs.Tables.{edits_made};
 ghost use Rattle.spec_world.specs.World.{add_stacks, stack_ids};
 ghost use Rattle.xl_compose.specs.Job.{StandsFor};
 ghost use Rattle.xl_standing.specs.Needs.{TakesNoStep};
 ghost use Rattle.xl_standing.specs.Places.{place_of_job, place_done};
 ghost use Rattle.xl_standing.specs.Group.{HasIds};
-ghost use Rattle.xl_standing.specs.Now.{first_now, at_now, with_cache, accepted, edited, undone, taken_back, redone};
+ghost use Rattle.xl_standing.specs.Now.{first_now, at_now, with_cache, accepts, accepted, edited, undone, taken_back, redone};
 ghost use Rattle.xl_standing.specs.Now.{next_version, shown, peeked, top_of, response, Gives, ShowsTile, ShowsKept, ShowsNow};
 ghost use Rattle.xl_standing.specs.Now.{KeepsDesk, IsKeptNow, IsTileOf};
 ghost use Rattle.xl_standing.specs.Needs.{IsUndoOrRedo};
@@ -123,7 +123,7 @@ impl Standing {
     }
 
     /// Answers a call of a caller that has seen the versions up to `seen`. Only an answer that is a tile leaves its bytes in the
-    /// desk. After out of memory all is as before, but that the first filters of a group may have been asked.
+    /// desk. After out of memory all is as before, but that the first filters of a group that is accepted may have been asked.
     ///
     /// It asks what stands to be right and its numbers to be small, as they are where `Stands` holds of it and a history.
     pub fn answer<L: Ledger>(
@@ -150,8 +150,8 @@ impl Standing {
         ensures desk { IfOk result (λ a. KeepsDesk (reply_of a.reply) desk.old.out desk.new.out) }
         ensures steps { TakesNoStep self.old.cache (call_of call.now) → steps.new ≡ steps.old }
         ensures as_before { OnErr result (self.new ≡ self.old) }
-        ensures chest { OnErr result (IsPartUsed (states_in state desk.old.chest) (states_in state desk.new.chest)
-            (limited.edits_of (call_of call.now))) }
+        ensures chest { OnErr result (IsPartAfter (accepts self.old (call_of call.now))
+            (states_in state desk.old.chest) (states_in state desk.new.chest) (call_of call.now)) }
         ensures out_as_before { OnErr result (desk.new.out ≡ desk.old.out) }
         ensures succeeds { IsUndoOrRedo (call_of call.now) → IsOk result }
     {
@@ -198,7 +198,8 @@ impl Standing {
             AreAsked (states_in state chest.old) (states_in state chest.new)
             (edits_made (machine.edit guard (edits_of edits.now)) (reply_of a.reply)) a.tables) }
         ensures bytes { IfOk result (λ a. AllByRecursion AreBytes a.tables) }
-        ensures chest { OnErr result (IsPartUsed (states_in state chest.old) (states_in state chest.new) (edits_of edits.now)) }
+        ensures chest { OnErr result (IsPartAfter (accepts self.old (machine.edit guard (edits_of edits.now)))
+            (states_in state chest.old) (states_in state chest.new) (machine.edit guard (edits_of edits.now))) }
         ensures as_before { OnErr result (self.new ≡ self.old) }
     {
         if !is_named(guard, self.version) {

@@ -8,7 +8,7 @@ ghost use Rattle.spec_history.specs.Limited.{edits_of};
 ghost use Rattle.spec_history.specs.Machine as machine;
 ghost use Rattle.spec_tables.specs.Agrees.{Agrees, AreThere, IsAfter, IsPartAfter};
 ghost use Rattle.spec_tables.specs.Tables.{expected_tables};
-ghost use Rattle.xl_standing.specs.History.{Shows, NeedsNoStep};
+ghost use Rattle.xl_standing.specs.History.{is_accepted, Shows, NeedsNoStep};
 ghost use Rattle.xl_standing.specs.Now.{KeepsDesk};
 ghost use Rattle.xl_edit.specs.Calls.{call_of};
 ghost use Rattle.xl_edit.specs.Edits.{edits_of as edits_meant};
@@ -32,8 +32,8 @@ use xl_ports::Shelf;
 impl<D: Shelf> Studio<D> {
     /// Makes a call of a session in one hold of the turn. The calls below are this at one kind.
     ///
-    /// The filters that a group names are in the desk's chest. After out of memory nothing was made, but that the
-    /// filters of the group's first edits may have been asked.
+    /// The filters that a group names are in the desk's chest. After out of memory nothing was made, but that the filters of the
+    /// first edits of a group that is accepted may have been asked.
     pub fn call<W: Wait, L: Ledger>(
         &self,
         rt: &W,
@@ -70,7 +70,8 @@ impl<D: Shelf> Studio<D> {
             IsAfter (states_in state desk.old.chest) (states_in state desk.new.chest) (call_of call) (reply_of reply)) }
         ensures desk { IfOk result (λ reply. KeepsDesk (reply_of reply) desk.old.out desk.new.out) }
         ensures out_as_before { OnErr result (desk.new.out ≡ desk.old.out) }
-        ensures part { OnErr result (IsPartAfter (states_in state desk.old.chest) (states_in state desk.new.chest) (call_of call)) }
+        ensures part { OnErr result (IsPartAfter (is_accepted (history_of (base_of self.now) (front_of seat.new)) (call_of call))
+            (states_in state desk.old.chest) (states_in state desk.new.chest) (call_of call)) }
     {
         let mut held = self.lock.enter(rt, &mut seat.seat);
         let reply = held
@@ -84,7 +85,7 @@ impl<D: Shelf> Studio<D> {
 
     /// Makes a group of edits, all or none. The filters that the group names are in the desk's chest; they are asked where it is
     /// accepted, and their tables are in its entry. It takes no step. After out of memory there is no entry, and the filters of the
-    /// group's first edits may have been asked.
+    /// first edits of a group that is accepted may have been asked.
     pub fn edit<W: Wait, L: Ledger>(
         &self,
         rt: &W,
@@ -115,7 +116,8 @@ impl<D: Shelf> Studio<D> {
             (machine.edit group.guard (edits_meant group.edits)) (reply_of reply)) }
         ensures desk { IfOk result (λ reply. KeepsDesk (reply_of reply) desk.old.out desk.new.out) }
         ensures out_as_before { OnErr result (desk.new.out ≡ desk.old.out) }
-        ensures part { OnErr result (IsPartAfter (states_in state desk.old.chest) (states_in state desk.new.chest)
+        ensures part { OnErr result (IsPartAfter (is_accepted (history_of (base_of self.now) (front_of seat.new))
+            (machine.edit group.guard (edits_meant group.edits))) (states_in state desk.old.chest) (states_in state desk.new.chest)
             (machine.edit group.guard (edits_meant group.edits))) }
     {
         self.call(rt, alloc, seat, session, Call::Edit(group), desk, steps)
@@ -147,8 +149,8 @@ impl<D: Shelf> Studio<D> {
             IsAfter (states_in state desk.old.chest) (states_in state desk.new.chest) (machine.undo which) (reply_of reply)) }
         ensures desk { IfOk result (λ reply. KeepsDesk (reply_of reply) desk.old.out desk.new.out) }
         ensures out_as_before { OnErr result (desk.new.out ≡ desk.old.out) }
-        ensures part { OnErr result (IsPartAfter (states_in state desk.old.chest) (states_in state desk.new.chest)
-            (machine.undo which)) }
+        ensures part { OnErr result (IsPartAfter (is_accepted (history_of (base_of self.now) (front_of seat.new)) (machine.undo which))
+            (states_in state desk.old.chest) (states_in state desk.new.chest) (machine.undo which)) }
     {
         self.call(rt, alloc, seat, session, Call::Undo(which), desk, steps)
     }
@@ -178,7 +180,8 @@ impl<D: Shelf> Studio<D> {
             IsAfter (states_in state desk.old.chest) (states_in state desk.new.chest) (machine.redo) (reply_of reply)) }
         ensures desk { IfOk result (λ reply. KeepsDesk (reply_of reply) desk.old.out desk.new.out) }
         ensures out_as_before { OnErr result (desk.new.out ≡ desk.old.out) }
-        ensures part { OnErr result (IsPartAfter (states_in state desk.old.chest) (states_in state desk.new.chest) (machine.redo)) }
+        ensures part { OnErr result (IsPartAfter (is_accepted (history_of (base_of self.now) (front_of seat.new)) machine.redo)
+            (states_in state desk.old.chest) (states_in state desk.new.chest) machine.redo) }
     {
         self.call(rt, alloc, seat, session, Call::Redo, desk, steps)
     }
@@ -208,7 +211,8 @@ impl<D: Shelf> Studio<D> {
             IsAfter (states_in state desk.old.chest) (states_in state desk.new.chest) (machine.top) (reply_of reply)) }
         ensures desk { IfOk result (λ reply. KeepsDesk (reply_of reply) desk.old.out desk.new.out) }
         ensures out_as_before { OnErr result (desk.new.out ≡ desk.old.out) }
-        ensures part { OnErr result (IsPartAfter (states_in state desk.old.chest) (states_in state desk.new.chest) (machine.top)) }
+        ensures part { OnErr result (IsPartAfter (is_accepted (history_of (base_of self.now) (front_of seat.new)) machine.top)
+            (states_in state desk.old.chest) (states_in state desk.new.chest) machine.top) }
     {
         self.call(rt, alloc, seat, session, Call::Top, desk, steps)
     }
@@ -250,8 +254,8 @@ impl<D: Shelf> Studio<D> {
             IsAfter (states_in state desk.old.chest) (states_in state desk.new.chest) (machine.tile node.0 at) (reply_of reply)) }
         ensures desk { IfOk result (λ reply. KeepsDesk (reply_of reply) desk.old.out desk.new.out) }
         ensures out_as_before { OnErr result (desk.new.out ≡ desk.old.out) }
-        ensures part { OnErr result (IsPartAfter (states_in state desk.old.chest) (states_in state desk.new.chest)
-            (machine.tile node.0 at)) }
+        ensures part { OnErr result (IsPartAfter (is_accepted (history_of (base_of self.now) (front_of seat.new)) (machine.tile node.0 at))
+            (states_in state desk.old.chest) (states_in state desk.new.chest) (machine.tile node.0 at)) }
     {
         self.call(rt, alloc, seat, session, Call::Tile(node, at), desk, steps)
     }
@@ -288,8 +292,8 @@ impl<D: Shelf> Studio<D> {
             IsAfter (states_in state desk.old.chest) (states_in state desk.new.chest) (machine.peek node.0 at) (reply_of reply)) }
         ensures desk { IfOk result (λ reply. KeepsDesk (reply_of reply) desk.old.out desk.new.out) }
         ensures out_as_before { OnErr result (desk.new.out ≡ desk.old.out) }
-        ensures part { OnErr result (IsPartAfter (states_in state desk.old.chest) (states_in state desk.new.chest)
-            (machine.peek node.0 at)) }
+        ensures part { OnErr result (IsPartAfter (is_accepted (history_of (base_of self.now) (front_of seat.new)) (machine.peek node.0 at))
+            (states_in state desk.old.chest) (states_in state desk.new.chest) (machine.peek node.0 at)) }
     {
         self.call(rt, alloc, seat, session, Call::Peek(node, at), desk, steps)
     }

@@ -8,7 +8,7 @@ ghost use Rattle.spec_tables.specs.Agrees.{Agrees, AreThere, IsAfter, IsPartAfte
 ghost use Rattle.spec_tables.specs.Tables.{expected_tables};
 ghost use Rattle.spec_world.specs.Events.{IsOutOf};
 ghost use Rattle.xl_core.specs.Editing.{known, out_of, ComesBack};
-ghost use Rattle.xl_standing.specs.History.{version, is_full, Shows, NeedsNoStep};
+ghost use Rattle.xl_standing.specs.History.{version, is_full, is_accepted, Shows, NeedsNoStep};
 ghost use Rattle.xl_standing.specs.Now.{KeepsDesk};
 ghost use Rattle.xl_edit.specs.Calls.{call_of};
 ghost use Rattle.xl_edit.specs.Replies.{reply_of};
@@ -123,7 +123,8 @@ impl<D: Shelf> Shared<D> {
             IsAfter (states_in state desk.old.chest) (states_in state desk.new.chest) (call_of call) (reply_of reply)) }
         ensures desk { IfOk result (λ reply. KeepsDesk (reply_of reply) desk.old.out desk.new.out) }
         ensures out_as_before { OnErr result (desk.new.out ≡ desk.old.out) }
-        ensures part { OnErr result (IsPartAfter (states_in state desk.old.chest) (states_in state desk.new.chest) (call_of call)) }
+        ensures part { OnErr result (IsPartAfter (is_accepted self.old.core.history (call_of call))
+            (states_in state desk.old.chest) (states_in state desk.new.chest) (call_of call)) }
     {
         let reply = self.core.submit(alloc, session, call, seen, desk, steps);
         self.core.know_right();

@@ -10,7 +10,7 @@ use Rattle.xl_studio.specs.State.{moments_of}
 use Rattle.xl_studio.specs.Seats.{base_of, front_of}
 use Rattle.xl_studio.proofs.Seated.{seen_entered, start_within, call_may_leave, base_entered, begins_after}
 use Rattle.xl_studio.proofs.Seated.{front_after, called_after, shown_after}
-use Rattle.xl_studio.proofs.Stepless.{stepless_after, stepless_failed}
+use Rattle.xl_studio.proofs.Entered.{stepless_after, stepless_failed, part_failed}
 use Rattle.xl_studio.proofs.seat.Studio.call.Given as given
 use Rattle.xl_studio.proofs.seat.Studio.call.Goals as goal
 use Rattle.xl_studio.proofs.seat.Studio.call.Goals.{After-leave}
@@ -90,3 +90,10 @@ returns-clause-no_step_failed g c =
     stepless_failed c.submit-reply.result _ (base_of c.args.self.now) (call_of c.args.call) c.enter-held.result.value.core
     (moments_of c.submit-reply.new.self.core) _ (base_is g at) c.leave.ensures.front
     c.submit-reply.ensures.failed c.submit-reply.ensures.no_step
+
+pub returns-clause-part : goal.returns-clause-part
+returns-clause-part g c =
+    let at = (goal.at.returns-clause-part g c).After-leave in
+    part_failed c.submit-reply.result _ _ (base_of c.args.self.now) (call_of c.args.call) c.enter-held.result.value.core
+    (moments_of c.submit-reply.new.self.core) _ (base_is g at) c.leave.ensures.front
+    c.submit-reply.ensures.failed c.submit-reply.ensures.part
