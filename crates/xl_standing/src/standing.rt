@@ -149,6 +149,7 @@ impl Standing {
         ensures shown { IfOk result (λ a. ShowsNow self.new (call_of call.now) (reply_of a.reply) desk.new.out) }
         ensures desk { IfOk result (λ a. KeepsDesk (reply_of a.reply) desk.old.out desk.new.out) }
         ensures steps { TakesNoStep self.old.cache (call_of call.now) → steps.new ≡ steps.old }
+        ensures no_tile { IfOk result (λ a. machine.version_shown (reply_of a.reply) ≡ None → steps.new ≡ steps.old) }
         ensures as_before { OnErr result (self.new ≡ self.old) }
         ensures chest { OnErr result (IsPartAfter (accepts self.old (call_of call.now))
             (states_in state desk.old.chest) (states_in state desk.new.chest) (call_of call.now)) }
@@ -313,6 +314,7 @@ impl Standing {
         ensures shown { IfOk result (λ reply. ShowsTile self.new.document node.0 at (reply_of reply) out.new) }
         ensures desk { IfOk result (λ reply. KeepsDesk (reply_of reply) out.old out.new) }
         ensures steps { is_clean self.old.cache node.0 at ≡ true → steps.new ≡ steps.old }
+        ensures no_tile { IfOk result (λ reply. machine.version_shown (reply_of reply) ≡ None → steps.new ≡ steps.old) }
         ensures as_before { OnErr result (self.new ≡ self.old) }
         ensures out_as_before { OnErr result (out.new ≡ out.old) }
     {

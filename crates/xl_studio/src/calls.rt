@@ -1,4 +1,4 @@
-ghost use Rattle.std.specs.Prelude.{◌≡◌, ◌<◌, List, [], IfOk, OnErr};
+ghost use Rattle.std.specs.Prelude.{◌≡◌, ◌<◌, List, [], None, IfOk, OnErr};
 ghost use mathlib.Core.List.{IsPrefix};
 ghost use Rattle.spec_filters.specs.declared.FilterState.{FilterState};
 ghost use Rattle.spec_history.specs.Calls.{IsCall, IsGroupOfEdits};
@@ -64,6 +64,7 @@ impl<D: Shelf> Studio<D> {
         ensures steps { IsNoTile (call_of call) → steps.new ≡ steps.old }
         ensures no_step { IfOk result (λ _.
             NeedsNoStep (history_of (base_of self.now) (before_last (front_of seat.new))) (call_of call) → steps.new ≡ steps.old) }
+        ensures no_tile { IfOk result (λ reply. machine.version_shown (reply_of reply) ≡ None → steps.new ≡ steps.old) }
         ensures no_step_failed { OnErr result (NeedsNoStep (history_of (base_of self.now) (front_of seat.new)) (call_of call)
             → steps.new ≡ steps.old) }
         ensures chest { IfOk result (λ reply.
@@ -219,7 +220,7 @@ impl<D: Shelf> Studio<D> {
 
     /// The tile of a stack at the latest version, which is in the desk after `Tile`. Where the tile was kept at the
     /// latest version before the call's own entry, it takes no step; after out of memory, where there is no entry,
-    /// this holds of the front's latest version.
+    /// this holds of the front's latest version. With any other reply than `Tile` it takes none.
     pub fn tile<W: Wait, L: Ledger>(
         &self,
         rt: &W,
@@ -248,6 +249,7 @@ impl<D: Shelf> Studio<D> {
         ensures no_step { IfOk result (λ _.
             NeedsNoStep (history_of (base_of self.now) (before_last (front_of seat.new))) (machine.tile node.0 at)
             → steps.new ≡ steps.old) }
+        ensures no_tile { IfOk result (λ reply. machine.version_shown (reply_of reply) ≡ None → steps.new ≡ steps.old) }
         ensures no_step_failed { OnErr result
             (NeedsNoStep (history_of (base_of self.now) (front_of seat.new)) (machine.tile node.0 at) → steps.new ≡ steps.old) }
         ensures chest { IfOk result (λ reply.

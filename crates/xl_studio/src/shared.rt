@@ -1,9 +1,10 @@
-ghost use Rattle.std.specs.Prelude.{◌≡◌, ◌≤◌, ◌<◌, List, [], true, false, IfOk, OnErr, IsSome};
+ghost use Rattle.std.specs.Prelude.{◌≡◌, ◌≤◌, ◌<◌, List, [], true, false, None, IfOk, OnErr, IsSome};
 ghost use Rattle.spec_filters.specs.declared.FilterState.{FilterState};
 ghost use Rattle.spec_history.specs.Calls.{IsCall};
 ghost use Rattle.spec_history.specs.History.{asked};
 ghost use Rattle.spec_history.specs.Kept.{IsFreshReply, IsLegal};
 ghost use Rattle.spec_history.specs.Limited.{edits_of};
+ghost use Rattle.spec_history.specs.Machine.{version_shown};
 ghost use Rattle.spec_tables.specs.Agrees.{Agrees, AreThere, IsAfter, IsPartAfter};
 ghost use Rattle.spec_tables.specs.Tables.{expected_tables};
 ghost use Rattle.spec_world.specs.Events.{IsOutOf};
@@ -119,6 +120,7 @@ impl<D: Shelf> Shared<D> {
         ensures steps { IsNoTile (call_of call) → steps.new ≡ steps.old }
         ensures no_step { NeedsNoStep self.old.core.history (call_of call) → steps.new ≡ steps.old }
         ensures full { is_full self.old.core.history ≡ true → steps.new ≡ steps.old }
+        ensures no_tile { IfOk result (λ reply. version_shown (reply_of reply) ≡ None → steps.new ≡ steps.old) }
         ensures chest { IfOk result (λ reply.
             IsAfter (states_in state desk.old.chest) (states_in state desk.new.chest) (call_of call) (reply_of reply)) }
         ensures desk { IfOk result (λ reply. KeepsDesk (reply_of reply) desk.old.out desk.new.out) }

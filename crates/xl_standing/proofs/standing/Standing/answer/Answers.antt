@@ -21,3 +21,8 @@ returns-in_ok-tile-in-Tile-clause-response g c =
     subst (λ call. Gives (response c.args.self.now call c.args.seen c.without_filters-in-Tile.result.tables)
     (reply_of c.without_filters-in-Tile.result.reply) c.tile.new.self) (sym same)
     (ap reply_of c.without_filters-in-Tile.ensures.reply ∙ tile.0, tile.1)
+
+pub returns-in_ok-tile-in-Tile-clause-no_tile : goal.returns-in_ok-tile-in-Tile-clause-no_tile
+returns-in_ok-tile-in-Tile-clause-no_tile g c = λ none.
+    c.in_ok-tile-in-Tile.ensures.no_tile
+    (ap (λ r. machine.version_shown (reply_of r)) (sym c.without_filters-in-Tile.ensures.reply) ∙ none)
