@@ -12,6 +12,7 @@ pub mod Ids
 pub mod Making
 pub mod GoesOn
 pub mod Accepting
+pub mod Costs
 pub mod Pictures
 pub mod ByHistory
 pub mod SaveEntries

@@ -12,13 +12,12 @@ ghost use Rattle.spec_tables.specs.Agrees.{AreThere, AreAsked, IsPartAfter};
 ghost use Rattle.spec_tables.specs.Tables.{edits_made};
 ghost use Rattle.spec_world.specs.World.{add_stacks, stack_ids};
 ghost use Rattle.xl_compose.specs.Job.{StandsFor};
-ghost use Rattle.xl_standing.specs.Needs.{TakesNoStep};
+ghost use Rattle.xl_standing.specs.Needs.{TakesNoStep, IsUndoOrRedo, call_cost, tile_cost};
 ghost use Rattle.xl_standing.specs.Places.{place_of_job, place_done};
 ghost use Rattle.xl_standing.specs.Group.{HasIds};
 ghost use Rattle.xl_standing.specs.Now.{first_now, at_now, with_cache, accepts, accepted, edited, undone, taken_back, redone};
 ghost use Rattle.xl_standing.specs.Now.{next_version, shown, peeked, top_of, response, Gives, ShowsTile, ShowsKept, ShowsNow};
 ghost use Rattle.xl_standing.specs.Now.{KeepsDesk, IsKeptNow, IsTileOf};
-ghost use Rattle.xl_standing.specs.Needs.{IsUndoOrRedo};
 ghost use Rattle.xl_standing.specs.Steps.{IsChange};
 ghost use Rattle.xl_doc.specs.Numbered.{AreNumbered};
 ghost use Rattle.xl_edit.specs.Applied.{at};
@@ -149,6 +148,7 @@ impl Standing {
         ensures shown { IfOk result (λ a. ShowsNow self.new (call_of call.now) (reply_of a.reply) desk.new.out) }
         ensures desk { IfOk result (λ a. KeepsDesk (reply_of a.reply) desk.old.out desk.new.out) }
         ensures steps { TakesNoStep self.old.cache (call_of call.now) → steps.new ≡ steps.old }
+        ensures cost { steps.new ≤ steps.old + call_cost self.old.cache self.old.document (call_of call.now) }
         ensures no_tile { IfOk result (λ a. machine.version_shown (reply_of a.reply) ≡ None → steps.new ≡ steps.old) }
         ensures as_before { OnErr result (self.new ≡ self.old) }
         ensures chest { OnErr result (IsPartAfter (accepts self.old (call_of call.now))
@@ -314,6 +314,7 @@ impl Standing {
         ensures shown { IfOk result (λ reply. ShowsTile self.new.document node.0 at (reply_of reply) out.new) }
         ensures desk { IfOk result (λ reply. KeepsDesk (reply_of reply) out.old out.new) }
         ensures steps { is_clean self.old.cache node.0 at ≡ true → steps.new ≡ steps.old }
+        ensures cost { steps.new ≤ steps.old + tile_cost self.old.cache self.old.document node.0 at }
         ensures no_tile { IfOk result (λ reply. machine.version_shown (reply_of reply) ≡ None → steps.new ≡ steps.old) }
         ensures as_before { OnErr result (self.new ≡ self.old) }
         ensures out_as_before { OnErr result (out.new ≡ out.old) }

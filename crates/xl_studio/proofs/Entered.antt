@@ -1,5 +1,5 @@
 -- What is said of the history that was entered is said of the history that the seat knows then, but for the entry of its call.
-use Rattle.std.proofs.Common.{◌≡◌, ℕ, ◌-◌, Bool, true, false, List, [], ◌∷◌, ◌++◌, length, take, Option, None, refl}
+use Rattle.std.proofs.Common.{◌≡◌, ℕ, ◌+◌, ◌-◌, ◌≤◌, Bool, true, false, List, [], ◌∷◌, ◌++◌, length, take, Option, None, refl}
 use Rattle.std.proofs.Common.{sym, ap, ◌∙◌, subst, arith, length-append}
 use Rattle.std.specs.Prelude.{MatchBool, Result, Ok, Err, IfOk, OnErr}
 use Rattle.std.proofs.Math.Seq.{take-append_seam}
@@ -10,7 +10,9 @@ use Rattle.spec_filters.specs.declared.FilterState.{FilterState}
 use Rattle.spec_tables.specs.Agrees.{Agrees, IsPartAfter}
 use Rattle.spec_tables.specs.Tables.{expected_tables}
 use Rattle.spec_tables.proofs.Chests.{some_list}
-use Rattle.xl_standing.specs.History.{History, is_full, is_accepted, NeedsNoStep}
+use Rattle.xl_standing.specs.History.{History, document, is_full, is_accepted, NeedsNoStep}
+use Rattle.xl_standing.specs.Needs.{call_cost, most_cost}
+use Rattle.xl_standing.proofs.Costs.{steps_most}
 use Rattle.xl_core.specs.Editing.{Editing}
 use Rattle.xl_studio.specs.declared.moment.Moment.{Moment}
 use Rattle.xl_studio.specs.declared.moment.Moment.TheVariants.{Made}
@@ -111,3 +113,29 @@ module _ {K : Type 0} where
       → OnErr r (IsPartAfter (is_accepted (history_of base front) call) old new call)
   part_failed r old new base call held left front same is as_before part =
       said_failed r (λ h. IsPartAfter (is_accepted h call) old new call) base held left front same is as_before part
+
+  -- ---- a tile is composed once
+
+  pub cost_after : {E : Type 0} (R : Type 0) (reply_of : R
+      → Reply) (r : Result R E) (before steps : ℕ) (base : Document) (session : ℕ) (call : Call) (chest : List (Option FilterState))
+      (held : Editing K) (left front : List (Moment K))
+      → base ≡ held.history.base → front ≡ left
+      → ((filters : List FilterState) → Agrees chest filters
+      → IfOk r (λ reply. Adds held.history.base (moments_of held) session call
+      (expected_tables filters (asked call []) (reply_of reply)) (reply_of reply) left))
+      → steps ≤ before + call_cost held.cache (document held.history) call → (is_full held.history ≡ true → steps ≡ before)
+      → IfOk r (λ _. steps ≤ before + most_cost (document (history_of base (before_last front))) call)
+  cost_after R reply_of r before steps base session call chest held left front same is answered cost full =
+      said_after R reply_of r (λ h. steps ≤ before + most_cost (document h) call) base session call chest held left front same is
+      answered
+      (steps_most held.cache (document held.history) call before steps cost)
+      (λ e h. let stays = full e in omega (arith, stays))
+
+  pub cost_failed : {R E : Type 0} (r : Result R E) (before steps : ℕ) (base : Document) (call : Call) (held : Editing K)
+      (left front : List (Moment K)) → base ≡ held.history.base → front ≡ left
+      → OnErr r (left ≡ moments_of held) → steps ≤ before + call_cost held.cache (document held.history) call
+      → OnErr r (steps ≤ before + most_cost (document (history_of base front)) call)
+  cost_failed r before steps base call held left front same is as_before cost =
+      said_failed r (λ h. steps ≤ before + most_cost (document h) call) base held left front same is as_before
+      (on_err r (steps ≤ before + most_cost (document held.history) call)
+      (steps_most held.cache (document held.history) call before steps cost))

@@ -1,4 +1,4 @@
-ghost use Rattle.std.specs.Prelude.{◌≡◌, ◌<◌, List, [], None, IfOk, OnErr};
+ghost use Rattle.std.specs.Prelude.{◌≡◌, ◌+◌, ◌<◌, ◌≤◌, List, [], None, IfOk, OnErr};
 ghost use mathlib.Core.List.{IsPrefix};
 ghost use Rattle.spec_filters.specs.declared.FilterState.{FilterState};
 ghost use Rattle.spec_history.specs.Calls.{IsCall, IsGroupOfEdits};
@@ -8,7 +8,8 @@ ghost use Rattle.spec_history.specs.Limited.{edits_of};
 ghost use Rattle.spec_history.specs.Machine as machine;
 ghost use Rattle.spec_tables.specs.Agrees.{Agrees, AreThere, IsAfter, IsPartAfter};
 ghost use Rattle.spec_tables.specs.Tables.{expected_tables};
-ghost use Rattle.xl_standing.specs.History.{is_accepted, Shows, NeedsNoStep};
+ghost use Rattle.xl_standing.specs.History.{document, is_accepted, Shows, NeedsNoStep};
+ghost use Rattle.xl_standing.specs.Needs.{most_cost};
 ghost use Rattle.xl_standing.specs.Now.{KeepsDesk};
 ghost use Rattle.xl_edit.specs.Calls.{call_of};
 ghost use Rattle.xl_edit.specs.Edits.{edits_of as edits_meant};
@@ -64,6 +65,10 @@ impl<D: Shelf> Studio<D> {
         ensures steps { IsNoTile (call_of call) → steps.new ≡ steps.old }
         ensures no_step { IfOk result (λ _.
             NeedsNoStep (history_of (base_of self.now) (before_last (front_of seat.new))) (call_of call) → steps.new ≡ steps.old) }
+        ensures cost { IfOk result (λ _. steps.new
+            ≤ steps.old + most_cost (document (history_of (base_of self.now) (before_last (front_of seat.new)))) (call_of call)) }
+        ensures cost_failed { OnErr result
+            (steps.new ≤ steps.old + most_cost (document (history_of (base_of self.now) (front_of seat.new))) (call_of call)) }
         ensures no_tile { IfOk result (λ reply. machine.version_shown (reply_of reply) ≡ None → steps.new ≡ steps.old) }
         ensures no_step_failed { OnErr result (NeedsNoStep (history_of (base_of self.now) (front_of seat.new)) (call_of call)
             → steps.new ≡ steps.old) }
@@ -220,7 +225,8 @@ impl<D: Shelf> Studio<D> {
 
     /// The tile of a stack at the latest version, which is in the desk after `Tile`. Where the tile was kept at the
     /// latest version before the call's own entry, it takes no step; after out of memory, where there is no entry,
-    /// this holds of the front's latest version. With any other reply than `Tile` it takes none.
+    /// this holds of the front's latest version. With any other reply than `Tile` it takes none. At most it takes one step for each
+    /// pixel of the tile and each visible node below the stack: the tile is composed once.
     pub fn tile<W: Wait, L: Ledger>(
         &self,
         rt: &W,
@@ -249,6 +255,10 @@ impl<D: Shelf> Studio<D> {
         ensures no_step { IfOk result (λ _.
             NeedsNoStep (history_of (base_of self.now) (before_last (front_of seat.new))) (machine.tile node.0 at)
             → steps.new ≡ steps.old) }
+        ensures cost { IfOk result (λ _. steps.new
+            ≤ steps.old + most_cost (document (history_of (base_of self.now) (before_last (front_of seat.new)))) (machine.tile node.0 at)) }
+        ensures cost_failed { OnErr result
+            (steps.new ≤ steps.old + most_cost (document (history_of (base_of self.now) (front_of seat.new))) (machine.tile node.0 at)) }
         ensures no_tile { IfOk result (λ reply. machine.version_shown (reply_of reply) ≡ None → steps.new ≡ steps.old) }
         ensures no_step_failed { OnErr result
             (NeedsNoStep (history_of (base_of self.now) (front_of seat.new)) (machine.tile node.0 at) → steps.new ≡ steps.old) }

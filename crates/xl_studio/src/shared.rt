@@ -1,4 +1,4 @@
-ghost use Rattle.std.specs.Prelude.{◌≡◌, ◌≤◌, ◌<◌, List, [], true, false, None, IfOk, OnErr, IsSome};
+ghost use Rattle.std.specs.Prelude.{◌≡◌, ◌+◌, ◌≤◌, ◌<◌, List, [], true, false, None, IfOk, OnErr, IsSome};
 ghost use Rattle.spec_filters.specs.declared.FilterState.{FilterState};
 ghost use Rattle.spec_history.specs.Calls.{IsCall};
 ghost use Rattle.spec_history.specs.History.{asked};
@@ -9,7 +9,8 @@ ghost use Rattle.spec_tables.specs.Agrees.{Agrees, AreThere, IsAfter, IsPartAfte
 ghost use Rattle.spec_tables.specs.Tables.{expected_tables};
 ghost use Rattle.spec_world.specs.Events.{IsOutOf};
 ghost use Rattle.xl_core.specs.Editing.{known, out_of, ComesBack};
-ghost use Rattle.xl_standing.specs.History.{version, is_full, is_accepted, Shows, NeedsNoStep};
+ghost use Rattle.xl_standing.specs.History.{version, document, is_full, is_accepted, Shows, NeedsNoStep};
+ghost use Rattle.xl_standing.specs.Needs.{call_cost};
 ghost use Rattle.xl_standing.specs.Now.{KeepsDesk};
 ghost use Rattle.xl_edit.specs.Calls.{call_of};
 ghost use Rattle.xl_edit.specs.Replies.{reply_of};
@@ -120,6 +121,8 @@ impl<D: Shelf> Shared<D> {
         ensures steps { IsNoTile (call_of call) → steps.new ≡ steps.old }
         ensures no_step { NeedsNoStep self.old.core.history (call_of call) → steps.new ≡ steps.old }
         ensures full { is_full self.old.core.history ≡ true → steps.new ≡ steps.old }
+        ensures cost { steps.new ≤ steps.old
+            + call_cost self.old.core.cache (document self.old.core.history) (call_of call) }
         ensures no_tile { IfOk result (λ reply. version_shown (reply_of reply) ≡ None → steps.new ≡ steps.old) }
         ensures chest { IfOk result (λ reply.
             IsAfter (states_in state desk.old.chest) (states_in state desk.new.chest) (call_of call) (reply_of reply)) }

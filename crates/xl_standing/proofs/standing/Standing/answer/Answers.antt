@@ -1,7 +1,8 @@
 -- The edits of a group are those of its call; so is the tile.
-use Rattle.std.proofs.Common.{rules, ◌≡◌, sym, ◌∙◌, ap, subst}
+use Rattle.std.proofs.Common.{rules, ◌≡◌, ◌+◌, ◌≤◌, sym, ◌∙◌, ap, subst}
 use Rattle.spec_history.specs.Machine as machine
 use Rattle.std.specs.Prelude.{OnErr}
+use Rattle.xl_standing.specs.Needs.{call_cost}
 use Rattle.xl_standing.specs.Now.{accepts, response, Gives}
 use Rattle.xl_edit.specs.Replies.{reply_of}
 use Rattle.spec_tables.specs.Agrees.{IsPartAfter}
@@ -26,3 +27,15 @@ pub returns-in_ok-tile-in-Tile-clause-no_tile : goal.returns-in_ok-tile-in-Tile-
 returns-in_ok-tile-in-Tile-clause-no_tile g c = λ none.
     c.in_ok-tile-in-Tile.ensures.no_tile
     (ap (λ r. machine.version_shown (reply_of r)) (sym c.without_filters-in-Tile.ensures.reply) ∙ none)
+
+pub returns-in_ok-tile-in-Tile-clause-cost : goal.returns-in_ok-tile-in-Tile-clause-cost
+returns-in_ok-tile-in-Tile-clause-cost g c =
+    let same : call_of c.args.call.now ≡ machine.tile c.in-Tile.node.0 c.in-Tile.at = search rules in
+    subst (λ call. c.tile.new.steps ≤ c.args.steps.now + call_cost c.args.self.now.cache c.args.self.now.document call) (sym same)
+    c.tile.ensures.cost
+
+pub returns-in_err-tile-in-Tile-clause-cost : goal.returns-in_err-tile-in-Tile-clause-cost
+returns-in_err-tile-in-Tile-clause-cost g c =
+    let same : call_of c.args.call.now ≡ machine.tile c.in-Tile.node.0 c.in-Tile.at = search rules in
+    subst (λ call. c.tile.new.steps ≤ c.args.steps.now + call_cost c.args.self.now.cache c.args.self.now.document call) (sym same)
+    c.tile.ensures.cost
