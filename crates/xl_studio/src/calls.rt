@@ -16,7 +16,7 @@ ghost use Rattle.xl_edit.specs.Edits.{edits_of as edits_meant};
 ghost use Rattle.xl_edit.specs.Replies.{reply_of};
 ghost use Rattle.xl_filters.specs.Chests.{states_in};
 ghost use Rattle.xl_studio.specs.Calling.{IsCalled, HasHeard, IsNoTile, before_last};
-ghost use Rattle.xl_studio.specs.Jobs.{job_out};
+ghost use Rattle.xl_studio.specs.Jobs.{job_out, tally_of};
 ghost use Rattle.xl_studio.specs.Moments.{entries_in};
 ghost use Rattle.xl_studio.specs.Seats.{base_of, history_of, front_of, weight_of, known_by, IsSeatOf};
 
@@ -53,6 +53,8 @@ impl<D: Shelf> Studio<D> {
         ensures seat { IsSeatOf self.now seat.new }
         ensures weight { weight_of seat.new ≡ weight_of seat.old }
         ensures job { job_out seat.new ≡ job_out seat.old }
+        ensures closed { seat.new.closed ≡ seat.old.closed }
+        ensures tally { tally_of seat.new ≡ tally_of seat.old }
         ensures answered { (filters : List FilterState) → Agrees (states_in state desk.old.chest) filters
             → IfOk result (λ reply. IsCalled (base_of self.now) session (call_of call)
             (expected_tables filters (asked (call_of call) []) (reply_of reply)) (reply_of reply) (known_by seat.old)
@@ -110,6 +112,8 @@ impl<D: Shelf> Studio<D> {
         ensures seat { IsSeatOf self.now seat.new }
         ensures weight { weight_of seat.new ≡ weight_of seat.old }
         ensures job { job_out seat.new ≡ job_out seat.old }
+        ensures closed { seat.new.closed ≡ seat.old.closed }
+        ensures tally { tally_of seat.new ≡ tally_of seat.old }
         ensures answered { (filters : List FilterState) → Agrees (states_in state desk.old.chest) filters
             → IfOk result (λ reply. IsCalled (base_of self.now) session (machine.edit group.guard (edits_meant group.edits))
             (expected_tables filters (asked (machine.edit group.guard (edits_meant group.edits)) []) (reply_of reply))
@@ -146,6 +150,8 @@ impl<D: Shelf> Studio<D> {
         ensures seat { IsSeatOf self.now seat.new }
         ensures weight { weight_of seat.new ≡ weight_of seat.old }
         ensures job { job_out seat.new ≡ job_out seat.old }
+        ensures closed { seat.new.closed ≡ seat.old.closed }
+        ensures tally { tally_of seat.new ≡ tally_of seat.old }
         ensures made { IfOk result (λ reply.
             IsCalled (base_of self.now) session (machine.undo which) [] (reply_of reply) (known_by seat.old) (known_by seat.new)) }
         ensures begins { IsPrefix (front_of seat.old) (front_of seat.new) }
@@ -177,6 +183,8 @@ impl<D: Shelf> Studio<D> {
         ensures seat { IsSeatOf self.now seat.new }
         ensures weight { weight_of seat.new ≡ weight_of seat.old }
         ensures job { job_out seat.new ≡ job_out seat.old }
+        ensures closed { seat.new.closed ≡ seat.old.closed }
+        ensures tally { tally_of seat.new ≡ tally_of seat.old }
         ensures made { IfOk result (λ reply.
             IsCalled (base_of self.now) session (machine.redo) [] (reply_of reply) (known_by seat.old) (known_by seat.new)) }
         ensures begins { IsPrefix (front_of seat.old) (front_of seat.new) }
@@ -208,6 +216,8 @@ impl<D: Shelf> Studio<D> {
         ensures seat { IsSeatOf self.now seat.new }
         ensures weight { weight_of seat.new ≡ weight_of seat.old }
         ensures job { job_out seat.new ≡ job_out seat.old }
+        ensures closed { seat.new.closed ≡ seat.old.closed }
+        ensures tally { tally_of seat.new ≡ tally_of seat.old }
         ensures made { IfOk result (λ reply.
             IsCalled (base_of self.now) session (machine.top) [] (reply_of reply) (known_by seat.old) (known_by seat.new)) }
         ensures begins { IsPrefix (front_of seat.old) (front_of seat.new) }
@@ -244,6 +254,8 @@ impl<D: Shelf> Studio<D> {
         ensures seat { IsSeatOf self.now seat.new }
         ensures weight { weight_of seat.new ≡ weight_of seat.old }
         ensures job { job_out seat.new ≡ job_out seat.old }
+        ensures closed { seat.new.closed ≡ seat.old.closed }
+        ensures tally { tally_of seat.new ≡ tally_of seat.old }
         ensures made { IfOk result (λ reply.
             IsCalled (base_of self.now) session (machine.tile node.0 at) [] (reply_of reply) (known_by seat.old)
             (known_by seat.new)) }
@@ -291,6 +303,8 @@ impl<D: Shelf> Studio<D> {
         ensures seat { IsSeatOf self.now seat.new }
         ensures weight { weight_of seat.new ≡ weight_of seat.old }
         ensures job { job_out seat.new ≡ job_out seat.old }
+        ensures closed { seat.new.closed ≡ seat.old.closed }
+        ensures tally { tally_of seat.new ≡ tally_of seat.old }
         ensures made { IfOk result (λ reply.
             IsCalled (base_of self.now) session (machine.peek node.0 at) [] (reply_of reply) (known_by seat.old)
             (known_by seat.new)) }

@@ -30,6 +30,7 @@ impl<D: Shelf> Studio<D> {
         ensures made { IfOk result (λ r. made_of r.1 ≡ []) }
         ensures weight { IfOk result (λ r. weight_of r.1 ≡ 2 ^ 32) }
         ensures free { IfOk result (λ r. job_out r.1 ≡ None) }
+        ensures closed { IfOk result (λ r. r.1.closed ≡ false) }
         ensures tally { IfOk result (λ r. tally_of r.1 ≡ Tally.NONE) }
         ensures back { IfErr result (λ failed. failed.value ≡ core) }
     {
@@ -65,6 +66,7 @@ impl<D: Shelf> Studio<D> {
         ensures closed { result.closed ≡ false }
         ensures tally { tally_of result ≡ Tally.NONE }
         ensures job { job_out seat.new ≡ job_out seat.old }
+        ensures closed_stays { seat.new.closed ≡ seat.old.closed }
         ensures tally_stays { tally_of seat.new ≡ tally_of seat.old }
     {
         Seat {
@@ -90,6 +92,7 @@ impl<D: Shelf> Studio<D> {
         ensures apart { IsApart (made_of seat.old) (made_of other) }
         ensures weight { weight_of seat.new ≡ weight_of seat.old + weight_of other }
         ensures job { job_out seat.new ≡ job_out seat.old }
+        ensures closed { seat.new.closed ≡ seat.old.closed }
         ensures tally { tally_of seat.new ≡ tally_of seat.old }
     {
         let Seat {
