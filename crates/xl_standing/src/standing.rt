@@ -364,13 +364,15 @@ impl Standing {
         }
     }
 
-    /// A job for the next marked slot, which counts as taken. None where no slot is marked, which takes no memory.
+    /// A job for the next marked slot, which counts as taken: the kept picture of a clean group is taken as it is. None where no slot
+    /// is marked, which takes no memory.
     pub fn take_job(&mut self, alloc: Global) -> Result<Option<Job>, AllocError>
         requires kept { IsKeptNow self.old }
         requires place { IfSome (next_place self.old.cache) (IsTileOf self.old.document) }
         ensures place { IfOk result (λ job. option_map place_of_job job ≡ next_place self.old.cache) }
         ensures stands { IfOk result (λ job.
             IfSome job (λ j. StandsFor self.old.document j.stack j.at self.old.version j)) }
+        ensures cost { IfOk result (λ job. IfSome job (λ j. j.cost ≡ tile_cost self.old.cache self.old.document j.stack j.at)) }
         ensures what { self.new ≡ with_cache self.old (after_take self.old.cache) }
         ensures none { next_place self.old.cache ≡ None → IsOk result }
     {
