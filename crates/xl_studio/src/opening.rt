@@ -1,4 +1,4 @@
-ghost use Rattle.std.specs.Prelude.{◌≡◌, ◌+◌, ◌≤◌, ◌^◌, [], ◌++◌, length, false, None, IfOk, IfErr, IsSome};
+ghost use Rattle.std.specs.Prelude.{◌≡◌, ◌+◌, ◌≤◌, ◌^◌, [], ◌++◌, length, false, None, IfOk, IfErr};
 ghost use mathlib.Core.List.{IsPrefix};
 ghost use Rattle.spec_world.specs.Right.{IsRight};
 ghost use Rattle.xl_core.specs.Editing.{world};
@@ -19,10 +19,7 @@ impl<D: Shelf> Studio<D> {
     /// A studio over a core without entries, and its first seat, which has all the weight. The core comes back where
     /// memory ran out.
     pub fn open(alloc: Global, core: Core<D>) -> Result<(Studio<D>, Seat<D>), AllocFailed<Core<D>>>
-        requires empty { core.history.entries ≡ [] }
-        requires handed { core.handed ≡ [] }
-        requires right { IsRight core.history.base (world core) }
-        requires selected { IsSome (D.selected core.opening) }
+        requires { core.history.entries ≡ [] }
         ensures seat { IfOk result (λ r. IsSeatOf r.0 r.1) }
         ensures base { IfOk result (λ r. base_of r.0 ≡ core.history.base) }
         ensures shelf { IfOk result (λ r. opening_shelf r.0 ≡ core.opening) }
@@ -34,6 +31,8 @@ impl<D: Shelf> Studio<D> {
         ensures tally { IfOk result (λ r. tally_of r.1 ≡ Tally.NONE) }
         ensures back { IfErr result (λ failed. failed.value ≡ core) }
     {
+        core.know_right();
+        core.know_opening();
         match TurnLock::open(alloc, Shared::new(core)) {
             Ok((lock, seat)) => Ok((
                 Studio { lock },
