@@ -5,7 +5,7 @@ use Rattle.spec_fields.specs.declared.ReadRefused.{ReadRefused}
 use Rattle.spec_fields.specs.Kinds.{kind_number}
 use Rattle.spec_flat.specs.declared.FlatRefused.{FlatRefused}
 use Rattle.spec_flat.specs.Numbers.{flat_number}
-use Rattle.spec_history.specs.Machine.{Reply, save_fault, save_memory}
+use Rattle.spec_history.specs.Machine.{Reply, is_save_fault, is_save_memory}
 use Rattle.spec_command.specs.Arguments.{Asked, edit, render, info, make, pack, flatten, view}
 
 -- ---- before the work is done
@@ -82,14 +82,6 @@ first_stop (Some (flatten name)) f = first (file_stop f ∷ stop_of flat_refused
 first_stop (Some (view name cols rows)) f = script_stop f
 
 -- ---- after it
-
-abbrev pub is_save_fault : Reply → Bool
-is_save_fault (save_fault version) = true
-is_save_fault reply = false
-
-abbrev pub is_save_memory : Reply → Bool
-is_save_memory (save_memory version) = true
-is_save_memory reply = false
 
 -- The status when the sessions have ended: whether some of them or the making of the text found no memory, whether the sink had a
 -- fault, and the replies of all sessions. With 8 nothing is written, with 7 the first of the text, and else all of it.

@@ -1,6 +1,5 @@
--- Which arguments are a command: each name has a simple command of its own, and clap says which arguments are in
--- order for it. The name of
--- the file does not begin with a minus, behind -- either.
+-- Which arguments are a command: each name has a simple command of its own, and clap says which arguments are in order for it. The name
+-- of the file does not begin with a minus, behind -- either.
 use Rattle.std.specs.Prelude.{ℕ, ◌-◌, ◌^◌, Bool, true, false, pos, nat_abs, List, [], ◌∷◌, if◌then◌else◌, codes}
 use Rattle.std.specs.Prelude.{Option, Some, None, option_map, unwrap_or}
 use Rattle.std.specs.Str.{bytes_eq}

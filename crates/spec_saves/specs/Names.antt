@@ -4,7 +4,7 @@ use Rattle.std.specs.Prelude.{option_to_list}
 use Rattle.spec_document.specs.Document.{Document}
 use Rattle.spec_history.specs.Machine.{Reply, changed, refused, moved, nothing_to_undo, nothing_to_redo, not_top}
 use Rattle.spec_history.specs.Machine.{tile_of, stale, no_stack, outside_tile, top_is, saved, save_fault, save_memory}
-use Rattle.spec_history.specs.Machine.{history_full, Saving}
+use Rattle.spec_history.specs.Machine.{history_full, is_save_fault, Saving}
 use Rattle.spec_history.specs.History.{Kind, asked, starts, ends, Entry, replay}
 use Rattle.spec_saves.specs.Acknowledged.{version_saved}
 
@@ -71,27 +71,10 @@ versions_of ends reply = []
 abbrev pub saved_versions : List Entry → List ℕ
 saved_versions es = flat_map (λ e. versions_of e.kind e.reply) es
 
-abbrev pub is_fault : Reply → Bool
-is_fault (save_fault v) = true
-is_fault (saved v) = false
-is_fault (save_memory v) = false
-is_fault (changed new group next) = false
-is_fault (refused index cause) = false
-is_fault (moved now) = false
-is_fault nothing_to_undo = false
-is_fault nothing_to_redo = false
-is_fault (not_top top) = false
-is_fault (tile_of shown) = false
-is_fault (stale have seen) = false
-is_fault (no_stack node) = false
-is_fault outside_tile = false
-is_fault (top_is group now) = false
-is_fault history_full = false
-
 abbrev pub ends_by_fault : Kind → Reply → Bool
 ends_by_fault (asked call tables) reply = false
 ends_by_fault starts reply = false
-ends_by_fault ends reply = is_fault reply
+ends_by_fault ends reply = is_save_fault reply
 
 -- how many saves ended by a fault
 abbrev pub save_faults : List Entry → ℕ

@@ -11,6 +11,7 @@ pub mod Changed
 pub mod Taken
 pub mod Submitted
 pub mod AllRight
+mod Beside
 pub mod Marked
 pub mod Exact
 pub mod StaysExact

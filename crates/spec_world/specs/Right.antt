@@ -91,15 +91,24 @@ pub record IsRight (base : Document) (w : World) : Type 0 where
 abbrev pub WorldsAreRight : Document → Type 0
 WorldsAreRight base = (events : List Event) (w : World) → Happen base (first_world base) events w → IsRight base w
 
+-- ---- calls beside jobs
+
+-- a call leaves the jobs that are out, and is answered whatever they are
+abbrev pub CallsLeaveJobs : Document → Type 0
+CallsLeaveJobs base =
+    (w : World) (jobs : List Job) (session : ℕ) (call : Call) (seen : ℕ) (tables : List (List ℕ)) →
+    let alone = submit base w session call seen tables in
+    submit base (record w { jobs = jobs }) session call seen tables
+    ≡ record { reply = alone.reply; world = record alone.world { jobs = jobs } }
+
 -- ---- which slots a version marks
 
 -- what a version makes of a slot
 abbrev pub slot_after : Document → State → (stack : ℕ) → TileAt → Slot → Slot
 slot_after base s stack at slot = if marks base s stack at (latest s) then mark_slot (latest s) slot else slot
 
--- After a version, each slot of a stack that was there before is marked where that version marks it, and is as before
--- else; each slot of a
--- stack that came is blank.
+-- After a version, each slot of a stack that was there before is marked where that version marks it, and is as before else; each slot
+-- of a stack that came is blank.
 abbrev pub SlotIsMarked : Document → (s : State) → (stack : ℕ) → TileAt → Option Slot → (new : Slot) → Type 0
 SlotIsMarked base s stack at None new = new ≡ blank_slot (latest s)
 SlotIsMarked base s stack at (Some old) new = new ≡ slot_after base s stack at old

@@ -73,9 +73,8 @@ rects_of (Some c) stack = group_damage c.old c.edits c.tables stack
 abbrev pub mark_held : Option Cause → (version : ℕ) → Held → Held
 mark_held cause version h = record h { slots = mark_slots (rects_of cause h.stack) version h.slots }
 
--- Those of a group that went are dropped, those of a stack that stays are marked where the damage meets their tiles,
--- and those of a group
--- that came are blank.
+-- Those of a group that went are dropped, those of a stack that stays are marked where the damage meets their tiles, and those of a
+-- group that came are blank.
 abbrev pub cache_between : (base old new : Document) → Option Cause → (version : ℕ) → Cache → Cache
 cache_between base old new cause version cache =
     let stay = filter (λ h. has_stack new h.stack) cache.held in

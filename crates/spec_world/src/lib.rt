@@ -3,7 +3,7 @@
 
 ghost use Rattle.spec_document.specs.Document.{Document};
 ghost use Rattle.spec_document.specs.Limits.{IsDocument};
-ghost use Rattle.spec_world.specs.Right.{WorldsAreRight, CallsMarkExactly};
+ghost use Rattle.spec_world.specs.Right.{WorldsAreRight, CallsLeaveJobs, CallsMarkExactly};
 ghost use Rattle.spec_world.specs.Exact.{StartsExact, StaysExact, AnswersExactly};
 
 /// How a save ended.
@@ -20,6 +20,11 @@ pub enum SaveEnd {
 /// has to be kept; and the result of a job is installed only where the tile shows the same still.
 pub fn worlds_are_right()
     ensures { (base : Document) → IsDocument base → WorldsAreRight base }
+{}
+
+/// A call leaves the jobs that are out, and is answered whatever they are.
+pub fn calls_leave_jobs()
+    ensures { (base : Document) → CallsLeaveJobs base }
 {}
 
 /// A call that makes a version marks the slots of tiles that its damage meets, gives blank slots to each stack that has come, and

@@ -1,14 +1,14 @@
 -- A core as contracts see it: a document's history and the shelf on which it is saved.
-use Rattle.std.specs.Prelude.{◌≡◌, ℕ, ◌+◌, ◌<◌, ◌≤◌, true, List, [], ◌∷◌, ◌++◌, length, Option, Some, None, IsSome}
+use Rattle.std.specs.Prelude.{◌≡◌, ℕ, ◌+◌, ◌<◌, ◌≤◌, true, List, [], ◌∷◌, ◌++◌, length, slice_get, Option, Some, None, IsSome}
 use Rattle.spec_grid.specs.Grid.{is_on_grid}
 use Rattle.spec_picture.specs.Picture.{project}
+use Rattle.spec_cache.specs.declared.Finished.{Finished}
 use Rattle.spec_cache.specs.Cache.{Cache, after_take, install}
 use Rattle.spec_history.specs.Machine.{Call, Reply, saved, Saving, has_stack}
 use Rattle.spec_history.specs.History.{Entry, starts, ends, replay, next_index, document_of}
-use Rattle.spec_world.specs.World.{World}
-use Rattle.spec_world.specs.Events.{submit}
+use Rattle.spec_world.specs.World.{World, Job}
+use Rattle.spec_world.specs.Events.{submit, Event, finishes, after, finish_answer, end_reply}
 use Rattle.spec_world.specs.declared.SaveEnd.{SaveEnd}
-use Rattle.spec_world.specs.Events.{end_reply}
 use Rattle.xl_ports.specs.Disk.{Disk}
 use Rattle.spec_saves.specs.Names.{version_out}
 use Rattle.spec_saves.specs.Shelf.{Known, ShelfIsRight}
@@ -21,8 +21,7 @@ use Rattle.xl_compose.specs.declared.clean.Done.{Done}
 use Rattle.xl_core.specs.declared.saving.Begun.{Begun}
 use Rattle.xl_core.specs.declared.saving.Begun.TheVariants.{Snapshot, Out, Full}
 
--- The history and the pictures that are kept; the shelf as the document was opened, as each save's start has handed
--- it out, and as it
+-- The history and the pictures that are kept; the shelf as the document was opened, as each save's start has handed it out, and as it
 -- is where no save is out; and for how many calls, undos and redos among them, there is room without more memory.
 pub record Editing (K : Type 0) : Type 0 where
   pub history : History
@@ -37,6 +36,20 @@ pub record Editing (K : Type 0) : Type 0 where
 -- the history and the kept pictures as a world, apart from the jobs that are out
 abbrev pub world : {K : Type 0} → Editing K → World
 world c = world_of c.history.base c.history.entries c.cache
+
+-- and with these jobs out
+abbrev pub world_with : {K : Type 0} → Editing K → (jobs : List Job) → World
+world_with c jobs = record (world c) { jobs = jobs }
+
+-- where these jobs are out, the event leads from the world of the one core to that of the other, with the jobs that are out then
+abbrev pub HappensWith : {K : Type 0} → (jobs : List Job) → (old : Editing K) → Event → (new : Editing K) → Type 0
+HappensWith jobs old event new =
+    let next = after old.history.base (world_with old jobs) event in
+    (new.history.base ≡ old.history.base) × (world_with new next.jobs ≡ next)
+
+-- so it is, whatever jobs are out
+abbrev pub Happens : {K : Type 0} → (old : Editing K) → Event → (new : Editing K) → Type 0
+Happens old event new = (jobs : List Job) → HappensWith jobs old event new
 
 -- a session's call is the event of the world
 abbrev pub IsSubmitted : {K : Type 0} → (old : Editing K) → (session : ℕ) → Call → (seen : ℕ) → (tables : List (List ℕ)) → Reply
@@ -57,6 +70,16 @@ pub record IsPictureOf (h : History) (done : Done) : Type 0 where
   pub has : has_stack (document_of h.base h.entries done.version) done.node.0 ≡ true
   pub on_grid : is_on_grid h.base.width h.base.height done.at ≡ true
   pub picture : done.picture ≡ project (document_of h.base h.entries done.version) done.node.0 done.at
+
+-- the job that it is the picture of
+abbrev pub job_done : Done → Job
+job_done done = record { stack = done.node.0; at = done.at; version = done.version }
+
+-- A picture that is handed in is the result of its job, whatever jobs are out beside that, and is answered as that event is.
+abbrev pub IsFinished : {K : Type 0} → (old : Editing K) → Done → Finished → (new : Editing K) → Type 0
+IsFinished old done result new =
+    (jobs : List Job) (number : ℕ) → slice_get jobs number ≡ Some (job_done done)
+    → (result ≡ finish_answer (world_with old jobs) number) × HappensWith jobs old (finishes number) new
 
 -- it is handed in
 abbrev pub handed_in : {K : Type 0} → Editing K → Done → Editing K

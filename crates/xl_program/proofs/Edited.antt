@@ -6,12 +6,13 @@ use Rattle.spec_command.specs.Arguments.{edit}
 use Rattle.spec_document.specs.Document.{Document}
 use Rattle.spec_document.specs.Limits.{IsDocument}
 use Rattle.spec_saves.specs.Names.{save_faults}
+use Rattle.xl_play.specs.Told.{NoneFailed, SomeFailed, AnyFailed, WhetherFailed, IsPlayed}
 use Rattle.xl_program.specs.Files.{HoldsDocument}
 use Rattle.xl_program.specs.Outcome.{Given, HasLines, Shelved, opened, IsUntouched, IsHistory}
-use Rattle.xl_program.specs.Outcome.{IsReplies, NoneFailed, SomeFailed, AnyFailed, ComesTo}
+use Rattle.xl_program.specs.Outcome.{IsReplies, ComesTo}
 use Rattle.xl_ports.specs.Shelf.{Content}
-use Rattle.xl_program.specs.Parts.{Loads, ReadsScript, StopsEdit, WhetherFailed, IsPlayed, WritesReplies}
-use Rattle.xl_program.specs.declared.playing.Replies.{Replies}
+use Rattle.xl_program.specs.Parts.{Loads, ReadsScript, StopsEdit, WritesReplies}
+use Rattle.xl_play.specs.declared.playing.Replies.{Replies}
 use Rattle.xl_program.specs.declared.stopped.Stopped.{Stopped}
 use Rattle.xl_program.specs.declared.stopped.Stopped.TheVariants.{SourceFault, BadLine, ShelfFault, Refused, SaveFault}
 use Rattle.xl_program.specs.declared.stopped.Stopped.TheVariants.{NotFlattened, SinkFault, Memory}

@@ -21,7 +21,7 @@ use Rattle.spec_world.specs.Events.{submit}
 use Rattle.xl_core.specs.Editing.{Editing, world, IsSubmitted}
 use Rattle.xl_standing.specs.History.{document}
 use Rattle.xl_standing.specs.Now.{world_of}
-use Rattle.xl_program.proofs.Submitted.{AnswersBy}
+use Rattle.xl_play.proofs.Submitted.{AnswersBy}
 
 -- no edit asks a filter
 deleted_tables : (filters : List FilterState) (d : Document) (next : ℕ) (ids : List ℕ)

@@ -5,13 +5,13 @@ use Rattle.std.specs.Prelude.{fold, drop, is_some, Option}
 use Rattle.std.specs.List.{AllByRecursion, cons_option}
 use Rattle.std.proofs.lemmas.List.Sums.{sum_by-cons}
 use Rattle.spec_document.specs.Document.{Document}
-use Rattle.spec_history.specs.Machine.{Reply, saved, save_fault, save_memory, State, Saving, latest, initial}
+use Rattle.spec_history.specs.Machine.{is_save_fault, Reply, saved, save_fault, save_memory, State, Saving, latest, initial}
 use Rattle.spec_history.specs.History.{Entry, Kind, asked, starts, ends, EndsWith, MayEnd, MayBe, after_kind}
 use Rattle.spec_history.specs.History.{after_entry, replay_from, replay, RunFrom, latest_of}
 use Rattle.spec_history.specs.Kept.{IsLegal}
 use Rattle.spec_history.proofs.Versions.{latest_of-legal}
 use Rattle.spec_saves.specs.Names.{Named, version, the_old, after_end, after_kind as named_after, after_one, names}
-use Rattle.spec_saves.specs.Names.{is_fault, ends_by_fault, save_faults}
+use Rattle.spec_saves.specs.Names.{ends_by_fault, save_faults}
 use Rattle.spec_merged.specs.Fills.{EndsWithSave}
 use Rattle.spec_script.specs.Script.{Line, call, save, forget}
 use Rattle.spec_text.specs.Text.{made_by, is_save_memory}
@@ -38,7 +38,7 @@ nothing_more base s earlier (e ∷ es) out run none = go e.kind refl run.0 where
   go starts is may = absurd (line_is_there (made_by e.kind) save (calls_along es) (ap made_by is) none)
   go ends is may = absurd (subst (λ (o : Option Saving). MayEnd o e.session e.index e.reply) out may)
 
-well_end : (v : ℕ) (ns : List Named) (r : Reply) → EndsWith v r → is_save_memory r ≡ false → is_fault r ≡ false
+well_end : (v : ℕ) (ns : List Named) (r : Reply) → EndsWith v r → is_save_memory r ≡ false → is_save_fault r ≡ false
     → after_end ns r ≡ version v ∷ []
 well_end v ns (saved w) same memory fault = ap (λ (n : ℕ). version n ∷ []) same
 well_end v ns (save_fault w) same memory fault = let bad : true ≡ false = fault in cc
@@ -58,7 +58,7 @@ ends_well base s earlier (e ∷ es) ns o out at run last none well = go e.kind r
   go ends is may =
       let with : MayEnd (Some o) e.session e.index e.reply =
       subst (λ (x : Option Saving). MayEnd x e.session e.index e.reply) out may in
-      let fault : is_fault e.reply ≡ false = subst (λ (k : Kind). ends_by_fault k e.reply ≡ false) is well.0.fault in
+      let fault : is_save_fault e.reply ≡ false = subst (λ (k : Kind). ends_by_fault k e.reply ≡ false) is well.0.fault in
       let state : after_entry base s e ≡ record s { out = None } = ap (after_kind base s e) is in
       let rest : calls_along es ≡ [] = subst (λ (k : Kind). cons_option (made_by k) (calls_along es) ≡ []) is none in
       let over : es ≡ [] =

@@ -24,23 +24,22 @@ use Rattle.spec_text.specs.Text.{IsTextOf, made_by, printed}
 use Rattle.spec_world.specs.declared.SaveEnd.TheVariants.{Done}
 use Rattle.xl_ports.specs.Shelf.{Content}
 use Rattle.xl_ports.specs.Disk.{Disk, MayLeave, Between}
-use Rattle.xl_doc.specs.Numbered.{AreNumbered}
-use Rattle.xl_report.proofs.MadeNumbered.{made_is_numbered}
+use Rattle.xl_play.specs.Told.{NoneFailed, SomeFailed, AnyFailed, WhetherFailed}
 use Rattle.xl_program.specs.Making.{IsMadeHistory, IsRunOf, IsSummary}
 use Rattle.xl_sessions.specs.Outcomes.{states_of}
-use Rattle.xl_program.specs.Outcome.{Comes, NoneFailed, SomeFailed, AnyFailed, ShelfCauseOf}
+use Rattle.xl_program.specs.Outcome.{Comes, ShelfCauseOf}
 use Rattle.xl_core.specs.Editing.{Editing, IsRight}
 use Rattle.xl_standing.specs.History.{document as last_document}
-use Rattle.xl_program.specs.Parts.{IsSummedUp, StopsMaking, SumsUp, WhetherFailed, WritesReplies}
-use Rattle.xl_program.specs.Versions.{AreWithin}
+use Rattle.xl_program.specs.Parts.{IsSummedUp, StopsMaking, SumsUp, WritesReplies}
+use Rattle.xl_play.specs.Versions.{AreWithin}
 use Rattle.xl_snapshot.specs.Saving.{IsSavedOn}
-use Rattle.xl_program.specs.declared.playing.Replies.{Replies}
+use Rattle.xl_play.specs.declared.playing.Replies.{Replies}
 use Rattle.xl_program.specs.declared.stopped.Stopped.{Stopped}
 use Rattle.xl_program.specs.declared.stopped.Stopped.TheVariants.{SourceFault, BadLine, ShelfFault, Refused, SaveFault}
 use Rattle.xl_program.specs.declared.stopped.Stopped.TheVariants.{NotFlattened, SinkFault, Memory}
 use Rattle.xl_program.proofs.Edited.{none_failed, some_failed}
 use Rattle.xl_program.proofs.MadeFiles.{last_is_saved}
-use Rattle.xl_program.proofs.VersionsWithin.{first_within}
+use Rattle.xl_play.proofs.VersionsWithin.{first_within}
 
 -- ---- the run
 

@@ -10,11 +10,12 @@ use Rattle.spec_flat.specs.declared.FlatRefused.{FlatRefused}
 use Rattle.xl_ports.specs.Faults.{Rose}
 use Rattle.xl_ports.specs.Shelf.{Content}
 use Rattle.xl_ports.specs.Sink.{appended}
+use Rattle.xl_play.specs.Told.{SomeFailed}
 use Rattle.xl_program.specs.Command.{IsFlatten, ReadsFile, ReadsSource}
 use Rattle.xl_program.specs.Files.{CannotBeFlat, HasFault}
 use Rattle.xl_program.specs.Lines.{WritesLine}
 use Rattle.xl_program.specs.Outcome.{Given, InGrammar, IsBadLineOf, Keeps, Shelved, ComesTo, IsOutput}
-use Rattle.xl_program.specs.Outcome.{ShelfCauseOf, ShelfFails, SomeFailed, WritesLineOr, WritesStop, WritesSome}
+use Rattle.xl_program.specs.Outcome.{ShelfCauseOf, ShelfFails, WritesLineOr, WritesStop, WritesSome}
 use Rattle.xl_program.specs.Parts.{StopsFor}
 use Rattle.xl_program.specs.declared.stopped.Stopped.{Stopped}
 use Rattle.xl_program.specs.declared.stopped.Stopped.TheVariants.{SourceFault, BadLine, ShelfFault, Refused, SaveFault}

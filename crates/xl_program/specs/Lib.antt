@@ -7,7 +7,4 @@ pub mod Making
 pub mod Outcome
 pub mod Packing
 pub mod Parts
-pub mod Playing
-pub mod Versions
 pub mod Viewing
-pub mod Windows

@@ -13,7 +13,7 @@ use Rattle.spec_world.specs.declared.SaveEnd.TheVariants.{Done, Fault}
 use Rattle.xl_ports.specs.Shelf.{Content}
 use Rattle.xl_ports.specs.Disk.{Disk, MayLeave}
 use Rattle.xl_snapshot.specs.Saving.{IsSavedOn}
-use Rattle.xl_program.specs.Versions.{AreWithin}
+use Rattle.xl_play.specs.Versions.{AreWithin}
 
 -- a fault stopped the first save, that of the document as it is made
 abbrev pub FailsAtFirst : (opening now : Known) → Document → Type 0

@@ -1,5 +1,5 @@
 -- What a command writes, and why it may stop.
-use Rattle.std.specs.Prelude.{◌≡◌, ◌⊎◌, ◌<◌, ◌==◌, ℕ, List, [], ◌∷◌, length, map, Option, Some, None, IfSome, IsTrue}
+use Rattle.std.specs.Prelude.{◌≡◌, ◌⊎◌, ◌==◌, ℕ, List, [], ◌∷◌, length, map, Option, Some, None, IfSome, IsTrue}
 use Rattle.std.specs.Prelude.{Result, Ok, Err, Vec}
 use Rattle.std.specs.declared.alloc.Global.{Global}
 use Rattle.std.specs.List.{list_any}
@@ -18,6 +18,9 @@ use Rattle.spec_saves.specs.Names.{save_faults}
 use Rattle.spec_saves.specs.Shelf.{Known, ShelfIsRight}
 use Rattle.spec_text.specs.Text.{IsTextOf, Alone}
 use Rattle.xl_core.specs.Editing.{known}
+use Rattle.xl_play.specs.Playing.{AreOfFirst}
+use Rattle.xl_play.specs.Told.{NoneFailed, SomeFailed, AnyFailed}
+use Rattle.xl_play.specs.Versions.{AreWithin}
 use Rattle.xl_ports.specs.Disk.{Disk, Between, IsQuiet}
 use Rattle.xl_ports.specs.Faults.{Rose}
 use Rattle.xl_ports.specs.Shelf.{Content}
@@ -28,10 +31,8 @@ use Rattle.xl_program.specs.Files.{HoldsDocument}
 use Rattle.xl_program.specs.Flattening.{IsFlattened, MayBeFlattened}
 use Rattle.xl_program.specs.LastSaved.{HasLastSaved}
 use Rattle.xl_program.specs.Lines.{WritesLine}
-use Rattle.xl_program.specs.Playing.{AreOfFirst}
 use Rattle.xl_program.specs.Making.{FailsAtFirst, IsMadeHistory, IsSummary}
 use Rattle.xl_program.specs.Packing.{IsPacked, MayBePacked}
-use Rattle.xl_program.specs.Versions.{AreWithin}
 use Rattle.xl_program.specs.Viewing.{IsBadViewLine, IsViewed, IsViewScript}
 use Rattle.xl_program.specs.declared.stopped.Stopped.{Stopped}
 use Rattle.xl_program.specs.declared.stopped.Stopped.TheVariants.{SourceFault, BadLine, ShelfFault, Refused, SaveFault}
@@ -94,16 +95,6 @@ pub record IsUntouched (old new : Shelved) : Type 0 where
   pub contents : new.content ≡ old.content
   pub quiet : Between old.known.disk new.known.disk IsQuiet
   pub saving : new.known.saving ≡ old.known.saving
-
--- how many saves of a run may have failed
-abbrev pub NoneFailed : (faults : ℕ) → Type 0
-NoneFailed faults = faults ≡ 0
-
-abbrev pub SomeFailed : (faults : ℕ) → Type 0
-SomeFailed faults = 0 < faults
-
-abbrev pub AnyFailed : (faults : ℕ) → Type 0
-AnyFailed faults = Unit {0}
 
 -- ---- what is written
 
@@ -213,15 +204,40 @@ module _ {K : Type 0} (held : K → Option (List ℕ)) (faults : K → ℕ) wher
 
 -- ---- why a command stopped
 
+-- whose fault stopped the command
+pub data FaultOf : Type 0 where
+  of_source : FaultOf
+  of_shelf : FaultOf
+  of_neither : FaultOf
+
+abbrev pub fault_of : {A : Type 0} → Result A Stopped → FaultOf
+fault_of (Ok a) = of_neither
+fault_of (Err SourceFault) = of_source
+fault_of (Err (BadLine number)) = of_neither
+fault_of (Err ShelfFault) = of_shelf
+fault_of (Err (Refused why)) = of_neither
+fault_of (Err (NotFlattened why)) = of_neither
+fault_of (Err SaveFault) = of_neither
+fault_of (Err SinkFault) = of_neither
+fault_of (Err Memory) = of_neither
+
+abbrev pub IfSource : FaultOf → (then_so else_so : Type 0) → Type 0
+IfSource of_source then_so else_so = then_so
+IfSource of_shelf then_so else_so = else_so
+IfSource of_neither then_so else_so = else_so
+
+abbrev pub IfShelf : FaultOf → (then_so else_so : Type 0) → Type 0
+IfShelf of_source then_so else_so = else_so
+IfShelf of_shelf then_so else_so = then_so
+IfShelf of_neither then_so else_so = else_so
+
 -- the source's faults rise only where they stop the command
 abbrev pub SourceCause : {A : Type 0} → (before after : ℕ) → Result A Stopped → Type 0
-SourceCause before after (Err SourceFault) = Rose before after
-SourceCause before after result = after ≡ before
+SourceCause before after result = IfSource (fault_of result) (Rose before after) (after ≡ before)
 
 -- the shelf's reading faults rise only where they stop the command
 abbrev pub ShelfCause : {A : Type 0} → (before after : ℕ) → Result A Stopped → Type 0
-ShelfCause before after (Err ShelfFault) = Rose before after
-ShelfCause before after result = after ≡ before
+ShelfCause before after result = IfShelf (fault_of result) (Rose before after) (after ≡ before)
 
 -- the faults rose that may stop the command: those of reading, and of saving for the one save of a command, or the first of what is
 -- made
@@ -236,8 +252,8 @@ FaultsRose before after (view name cols rows) = Rose before.reading after.readin
 
 -- the same of a command; the reading faults stay where none stops it
 abbrev pub ShelfCauseOf : (before after : Known) → Asked → Result (Unit {0}) Stopped → Type 0
-ShelfCauseOf before after command (Err ShelfFault) = FaultsRose before after command
-ShelfCauseOf before after command result = after.reading ≡ before.reading
+ShelfCauseOf before after command result =
+    IfShelf (fault_of result) (FaultsRose before after command) (after.reading ≡ before.reading)
 
 -- the script of an edit or a view is in its grammar
 abbrev pub InGrammar : Given → Option Asked → Type 0

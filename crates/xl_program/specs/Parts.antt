@@ -1,26 +1,26 @@
 -- What the parts of a command come to.
-use Rattle.std.specs.Prelude.{◌≡◌, ℕ, Bool, true, false, List, Option, IfSome, IfOk, Result, Ok, Err, string_bytes}
+use Rattle.std.specs.Prelude.{◌≡◌, ℕ, true, false, List, Option, IfSome, IfOk, Result, Ok, Err, String, string_bytes}
 use Rattle.std.specs.declared.alloc.AllocError.{AllocError}
+use Rattle.std.specs.declared.alloc.Global.{Global}
 use Rattle.spec_command.specs.Arguments.{Asked, edit, render, info, make, pack, flatten, view}
 use Rattle.spec_document.specs.Document.{Document}
-use Rattle.spec_filters.specs.declared.FilterState.{FilterState}
 use Rattle.spec_generated.specs.Summary.{outcome, summary_of}
 use Rattle.spec_script.specs.Script as script
+use Rattle.spec_script.specs.Script.{list_at}
 use Rattle.spec_history.specs.History.{Entry}
 use Rattle.spec_history.specs.Kept.{IsLegal}
 use Rattle.spec_saves.specs.Names.{save_faults}
 use Rattle.spec_saves.specs.Shelf.{Known, ShelfIsRight}
-use Rattle.spec_text.specs.Text.{IsTextOf, Alone}
+use Rattle.xl_play.specs.Told.{WhetherFailed}
+use Rattle.xl_play.specs.Versions.{AreWithin}
+use Rattle.xl_play.specs.declared.playing.Replies.{Replies}
 use Rattle.xl_ports.specs.Shelf.{Content}
 use Rattle.xl_ports.specs.Sink.{WritesAll, WritesPart}
 use Rattle.xl_program.specs.Making.{IsRunOf}
 use Rattle.xl_program.specs.Files.{CannotBeFlat, HasFault, HasLength, HoldsDocument}
-use Rattle.xl_program.specs.Outcome.{first_filters, Given, HasLines, IsScript, IsBadLine, NoneFailed, SomeFailed}
-use Rattle.xl_program.specs.Playing.{AreOfFirst}
-use Rattle.xl_program.specs.Versions.{AreWithin}
-use Rattle.xl_program.specs.Viewing.{IsBadViewLine, IsViewScript}
+use Rattle.xl_program.specs.Outcome.{first_filters, Given, HasLines, IsScript, IsBadLine}
+use Rattle.xl_program.specs.Viewing.{HasViewLines, IsBadViewLine, IsViewScript}
 use Rattle.xl_program.specs.declared.loading.Loaded.{Loaded}
-use Rattle.xl_program.specs.declared.playing.Replies.{Replies}
 use Rattle.xl_program.specs.declared.stopped.Stopped.{Stopped}
 use Rattle.xl_program.specs.declared.stopped.Stopped.TheVariants.{SourceFault, BadLine, ShelfFault, Refused, SaveFault}
 use Rattle.xl_program.specs.declared.stopped.Stopped.TheVariants.{NotFlattened, SinkFault, Memory}
@@ -48,29 +48,13 @@ ReadsScript given (Err SourceFault) = Unit {0}
 ReadsScript given (Err Memory) = Unit {0}
 ReadsScript given (Err stopped) = ⊥
 
--- whether a save failed
-abbrev pub WhetherFailed : Bool → (faults : ℕ) → Type 0
-WhetherFailed true faults = SomeFailed faults
-WhetherFailed false faults = NoneFailed faults
-
--- The text of these entries for these lines, and whether a save failed. Where no worker was asked for, all lines are of session 0
--- and no save failed, it is that of one session alone.
-pub record IsToldOf
-    (document : Document) (lists : List (List script.Line)) (chests : List (List FilterState)) (workers : ℕ) (entries : List Entry)
-    (told : Replies) : Type 0 where
-  pub text : IsTextOf (string_bytes told.text) document lists chests entries
-  pub alone : workers ≡ 0 → AreOfFirst lists → save_faults entries ≡ 0 → Alone (string_bytes told.text) document lists chests
-  pub failed : WhetherFailed told.save_failed (save_faults entries)
-
--- a legal history, its versions within the limits, the shelf after its saves, and its text unless memory ran out
-pub record IsPlayed
-    (opening now : Known) (document : Document) (lists : List (List script.Line)) (chests : List (List FilterState)) (workers : ℕ)
-    (replies : Result Replies AllocError) : Type 0 where
-  pub entries : List Entry
-  pub legal : IsLegal document entries
-  pub versions : AreWithin document entries
-  pub shelf : ShelfIsRight opening document entries now
-  pub told : IfOk replies (IsToldOf document lists chests workers entries)
+-- the same of a script that may be viewed
+abbrev pub ReadsViewed : Given → Result (List (List Line)) Stopped → Type 0
+ReadsViewed given (Ok lists) = HasViewLines given.left (first_filters given) (list_at (lists_of lists) 0)
+ReadsViewed given (Err (BadLine number)) = IsBadViewLine given.left (first_filters given) number
+ReadsViewed given (Err SourceFault) = Unit {0}
+ReadsViewed given (Err Memory) = Unit {0}
+ReadsViewed given (Err stopped) = ⊥
 
 -- the line that sums up a history of the calls of these sessions, and whether a save failed
 pub record SumsUp (document : Document) (lists : List (List script.Line)) (entries : List Entry) (told : Replies) : Type 0 where
@@ -100,6 +84,13 @@ module _ {K : Type 0} (held : K → Option (List ℕ)) (faults : K → ℕ) wher
   abbrev pub WritesReplies : (old new : K) → Result Replies AllocError → Result (Unit {0}) Stopped → Type 0
   WritesReplies old new (Ok replies) result = WritesText old new replies result
   WritesReplies old new (Err e) result = (result ≡ Err Memory) × (new ≡ old)
+
+  -- the text was written, or a fault of the sink came; without memory for a text nothing was
+  abbrev pub WritesViewed : (old new : K) → Result (String Global) AllocError → Result (Unit {0}) Stopped → Type 0
+  WritesViewed old new (Ok text) (Ok x) = WritesAll held faults old new (string_bytes text)
+  WritesViewed old new (Ok text) (Err SinkFault) = WritesPart held faults old new (string_bytes text)
+  WritesViewed old new (Ok text) (Err stopped) = ⊥
+  WritesViewed old new (Err e) result = (result ≡ Err Memory) × (new ≡ old)
 
 -- why a command that reads a file, and no script, stops
 abbrev pub StopsReport : Option Content → Result (Unit {0}) Stopped → Type 0

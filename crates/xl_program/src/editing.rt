@@ -10,13 +10,12 @@ ghost use Rattle.xl_sessions.specs.Outcomes.{states_of};
 
 use crate::ended::Done;
 use crate::loading::read_document;
-use crate::playing::Replies;
-use crate::script_runs::run_script;
 use crate::stopped::Stopped;
 use std::alloc::{AllocError, Global};
 use std::sync::Wait;
 use std::thread::Threads;
 use xl_filters::PointFilter;
+use xl_play::{Replies, run_script};
 use xl_ports::{FailedOrMemory, Gate, Shelf, Sink, Source, read_all, write_all};
 use xl_script::{BadLineOrMemory, Script, parse};
 

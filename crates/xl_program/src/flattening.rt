@@ -11,7 +11,6 @@ ghost use Rattle.xl_program.specs.Parts.{StopsFlatten};
 
 use crate::ended::Done;
 use crate::loading::read_document;
-use crate::opening::open_core;
 use crate::stopped::Stopped;
 use std::alloc::{AllocError, Global};
 use std::marker::Brand;
@@ -21,6 +20,7 @@ use xl_core::Core;
 use xl_doc::Document;
 use xl_edit::{Call, Group};
 use xl_flat::{FlatRefusedOrMemory, flatten as flat_group};
+use xl_play::open_core;
 use xl_ports::{Shelf, Sink, write_all};
 use xl_rle::Greedy;
 use xl_sessions::desk_of;

@@ -18,17 +18,12 @@ mod line;
 mod loading;
 mod making;
 mod obeying;
-mod opening;
 mod packing;
-mod playing;
 mod rendering;
 mod running;
-mod saving;
-mod script_runs;
 mod stop_lines;
 mod stopped;
 mod viewing;
-mod windows;
 
 pub use running::{Ended, run};
 pub use stopped::Stopped;

@@ -1,4 +1,4 @@
-ghost use Rattle.std.specs.Prelude.{◌≡◌, ◌<◌, ◌≤◌, ◌^◌, ◌⊎◌, [], ◌∷◌, ℕ, List, length, Some, IfOk, OnOk, IsSome, string_bytes};
+ghost use Rattle.std.specs.Prelude.{◌≡◌, ◌<◌, ◌^◌, ◌⊎◌, [], ◌∷◌, ℕ, List, length, Some, IfOk, OnOk, IsSome, string_bytes};
 ghost use Rattle.std.specs.List.{AllByRecursion};
 ghost use Rattle.spec_command.specs.Arguments.{view as view_of};
 ghost use Rattle.spec_document.specs.Limits.{IsDocument};
@@ -10,20 +10,18 @@ ghost use Rattle.xl_command.specs.Asking.{IsWindowSize};
 ghost use Rattle.xl_doc.specs.Numbered.{AreNumbered};
 ghost use Rattle.xl_ports.specs.Source.{led_by, IsEnded};
 ghost use Rattle.xl_program.specs.Outcome.{given_of, ComesTo, ReadsToEnd, SourceCause, ShelfCause, shelved};
-ghost use Rattle.xl_program.specs.Parts.{StopsView};
-ghost use Rattle.xl_program.specs.Windows.{ReadsViewed, WritesViewed};
+ghost use Rattle.xl_program.specs.Parts.{ReadsViewed, StopsView, WritesViewed};
 ghost use Rattle.xl_script.specs.Lines.{lists_of};
 ghost use Rattle.xl_sessions.specs.Outcomes.{states_of};
 
 use crate::editing::MOST_BYTES;
 use crate::ended::Done;
 use crate::loading::read_document;
-use crate::opening::open_core;
 use crate::stopped::Stopped;
-use crate::windows::view_script;
 use std::alloc::{AllocError, Global};
 use xl_doc::Document;
 use xl_filters::PointFilter;
+use xl_play::{open_core, view_script};
 use xl_ports::{FailedOrMemory, Shelf, Sink, Source, read_all, write_all};
 use xl_script::{BadLineOrMemory, Script, parse_viewed};
 

@@ -1,9 +1,10 @@
 -- What a line of a session makes.
 use Rattle.std.specs.Prelude.{◌≡◌, ℕ, ◌<◌, Bool, true, if◌then◌else◌, List, [], ◌∷◌, length, slice_set, Option, None, IsTrue}
+use Rattle.std.specs.Prelude.{option_map, unwrap_or}
 use Rattle.spec_document.specs.Document.{Document}
 use Rattle.spec_filters.specs.declared.FilterState.{FilterState}
 use Rattle.spec_filters.specs.Slots.{has_slot}
-use Rattle.spec_history.specs.Machine.{Call, Reply, tile_of}
+use Rattle.spec_history.specs.Machine.{Call, Reply, version_shown}
 use Rattle.spec_history.specs.Calls.{IsCall}
 use Rattle.spec_history.specs.History.{asked, latest_of}
 use Rattle.spec_history.specs.Kept.{IsFreshReply}
@@ -37,8 +38,7 @@ HasAll chest = (slot : ℕ) → slot < length chest → has_slot chest slot ≡ 
 
 -- the digest of the bytes, where a tile was asked for and is the reply
 abbrev pub said : (asks : Bool) → Reply → (bytes : List ℕ) → List (List ℕ)
-said asks (tile_of version) bytes = if asks then digest_of bytes ∷ [] else []
-said asks reply bytes = []
+said asks reply bytes = unwrap_or (option_map (λ version. if asks then digest_of bytes ∷ [] else []) (version_shown reply)) []
 
 -- ---- a line
 

@@ -150,6 +150,7 @@ impl Standing {
         ensures steps { TakesNoStep self.old.cache (call_of call.now) → steps.new ≡ steps.old }
         ensures cost { steps.new ≤ steps.old + call_cost self.old.cache self.old.document (call_of call.now) }
         ensures no_tile { IfOk result (λ a. machine.version_shown (reply_of a.reply) ≡ None → steps.new ≡ steps.old) }
+        ensures steps_as_before { OnErr result (steps.new ≡ steps.old) }
         ensures as_before { OnErr result (self.new ≡ self.old) }
         ensures chest { OnErr result (IsPartAfter (accepts self.old (call_of call.now))
             (states_in state desk.old.chest) (states_in state desk.new.chest) (call_of call.now)) }
@@ -316,6 +317,7 @@ impl Standing {
         ensures steps { is_clean self.old.cache node.0 at ≡ true → steps.new ≡ steps.old }
         ensures cost { steps.new ≤ steps.old + tile_cost self.old.cache self.old.document node.0 at }
         ensures no_tile { IfOk result (λ reply. machine.version_shown (reply_of reply) ≡ None → steps.new ≡ steps.old) }
+        ensures steps_as_before { OnErr result (steps.new ≡ steps.old) }
         ensures as_before { OnErr result (self.new ≡ self.old) }
         ensures out_as_before { OnErr result (out.new ≡ out.old) }
     {

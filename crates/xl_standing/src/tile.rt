@@ -70,6 +70,7 @@ pub(crate) fn show<L: Ledger>(
         ≡ change_stack node.0 (change_slot at (show_slot (project document.now node.0 at))) cache.old) }
     ensures steps { is_clean cache.old node.0 at ≡ true → steps.new ≡ steps.old }
     ensures cost { steps.new ≤ steps.old + tile_cost cache.old document.now node.0 at }
+    ensures steps_as_before { OnErr result (steps.new ≡ steps.old) }
     ensures as_before { OnErr result (cache.new ≡ cache.old) }
     ensures out_as_before { OnErr result (out.new ≡ out.old) }
 {

@@ -77,11 +77,6 @@ module _ {K : Type 0} where
       let es : entries_in front ≡ held.history.entries = ap entries_in (is ∙ as_before) ∙ back held in
       subst Said (λ i. record { base = sym same i; entries = sym es i }) said
 
-  -- an error, whatever it is
-  on_err : {R E : Type 0} (r : Result R E) (P : Type 0) → P → OnErr r P
-  on_err (Ok x) P p = tt
-  on_err (Err e) P p = p
-
   -- ---- a call that needs no step takes none
 
   pub stepless_after : {E : Type 0} (R : Type 0) (reply_of : R
@@ -96,14 +91,6 @@ module _ {K : Type 0} where
   stepless_after R reply_of r S base session call chest held left front same is answered none full =
       said_after R reply_of r (λ h. NeedsNoStep h call → S) base session call chest held left front same is answered none
       (λ e h needs. full e)
-
-  pub stepless_failed : {R E : Type 0} (r : Result R E) (S : Type 0) (base : Document) (call : Call) (held : Editing K)
-      (left front : List (Moment K)) → base ≡ held.history.base → front ≡ left
-      → OnErr r (left ≡ moments_of held) → (NeedsNoStep held.history call → S)
-      → OnErr r (NeedsNoStep (history_of base front) call → S)
-  stepless_failed r S base call held left front same is as_before none =
-      said_failed r (λ h. NeedsNoStep h call → S) base held left front same is as_before
-      (on_err r (NeedsNoStep held.history call → S) none)
 
   -- ---- only the filters of a group that is accepted are asked
 
@@ -130,12 +117,3 @@ module _ {K : Type 0} where
       answered
       (steps_most held.cache (document held.history) call before steps cost)
       (λ e h. let stays = full e in omega (arith, stays))
-
-  pub cost_failed : {R E : Type 0} (r : Result R E) (before steps : ℕ) (base : Document) (call : Call) (held : Editing K)
-      (left front : List (Moment K)) → base ≡ held.history.base → front ≡ left
-      → OnErr r (left ≡ moments_of held) → steps ≤ before + call_cost held.cache (document held.history) call
-      → OnErr r (steps ≤ before + most_cost (document (history_of base front)) call)
-  cost_failed r before steps base call held left front same is as_before cost =
-      said_failed r (λ h. steps ≤ before + most_cost (document h) call) base held left front same is as_before
-      (on_err r (steps ≤ before + most_cost (document held.history) call)
-      (steps_most held.cache (document held.history) call before steps cost))

@@ -12,9 +12,8 @@ pub record State (K : Type 0) : Type 0 where
   pub core : Editing K
   pub closing : Bool
 
--- what a core keeps at every moment: its history and its pictures are right, each start has handed a shelf out, and
--- where the shelf is in no
--- save is out
+-- what a core keeps at every moment: its history and its pictures are right, each start has handed a shelf out, and where the shelf is
+-- in no save is out
 pub record IsKept {K : Type 0} (c : Editing K) : Type 0 where
   pub right : IsRight c.history.base (world c)
   pub few : length c.history.entries ≤ most_entries

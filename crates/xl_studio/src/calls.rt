@@ -69,11 +69,8 @@ impl<D: Shelf> Studio<D> {
             NeedsNoStep (history_of (base_of self.now) (before_last (front_of seat.new))) (call_of call) → steps.new ≡ steps.old) }
         ensures cost { IfOk result (λ _. steps.new
             ≤ steps.old + most_cost (document (history_of (base_of self.now) (before_last (front_of seat.new)))) (call_of call)) }
-        ensures cost_failed { OnErr result
-            (steps.new ≤ steps.old + most_cost (document (history_of (base_of self.now) (front_of seat.new))) (call_of call)) }
+        ensures steps_as_before { OnErr result (steps.new ≡ steps.old) }
         ensures no_tile { IfOk result (λ reply. machine.version_shown (reply_of reply) ≡ None → steps.new ≡ steps.old) }
-        ensures no_step_failed { OnErr result (NeedsNoStep (history_of (base_of self.now) (front_of seat.new)) (call_of call)
-            → steps.new ≡ steps.old) }
         ensures chest { IfOk result (λ reply.
             IsAfter (states_in state desk.old.chest) (states_in state desk.new.chest) (call_of call) (reply_of reply)) }
         ensures desk { IfOk result (λ reply. KeepsDesk (reply_of reply) desk.old.out desk.new.out) }
@@ -233,10 +230,9 @@ impl<D: Shelf> Studio<D> {
         self.call(rt, alloc, seat, session, Call::Top, desk, steps)
     }
 
-    /// The tile of a stack at the latest version, which is in the desk after `Tile`. Where the tile was kept at the
-    /// latest version before the call's own entry, it takes no step; after out of memory, where there is no entry,
-    /// this holds of the front's latest version. With any other reply than `Tile` it takes none. At most it takes one step for each
-    /// pixel of the tile and each visible node below the stack: the tile is composed once.
+    /// The tile of a stack at the latest version, which is in the desk after `Tile`. Where the tile was kept at the latest version
+    /// before the call's own entry, it takes no step, nor with any other reply than `Tile`, nor after out of memory. Else the tile is
+    /// composed once: that takes at most one step for each pixel of the tile and each visible node below the stack.
     pub fn tile<W: Wait, L: Ledger>(
         &self,
         rt: &W,
@@ -269,11 +265,8 @@ impl<D: Shelf> Studio<D> {
             → steps.new ≡ steps.old) }
         ensures cost { IfOk result (λ _. steps.new
             ≤ steps.old + most_cost (document (history_of (base_of self.now) (before_last (front_of seat.new)))) (machine.tile node.0 at)) }
-        ensures cost_failed { OnErr result
-            (steps.new ≤ steps.old + most_cost (document (history_of (base_of self.now) (front_of seat.new))) (machine.tile node.0 at)) }
+        ensures steps_as_before { OnErr result (steps.new ≡ steps.old) }
         ensures no_tile { IfOk result (λ reply. machine.version_shown (reply_of reply) ≡ None → steps.new ≡ steps.old) }
-        ensures no_step_failed { OnErr result
-            (NeedsNoStep (history_of (base_of self.now) (front_of seat.new)) (machine.tile node.0 at) → steps.new ≡ steps.old) }
         ensures chest { IfOk result (λ reply.
             IsAfter (states_in state desk.old.chest) (states_in state desk.new.chest) (machine.tile node.0 at) (reply_of reply)) }
         ensures desk { IfOk result (λ reply. KeepsDesk (reply_of reply) desk.old.out desk.new.out) }

@@ -121,6 +121,7 @@ impl<D: Shelf> Shared<D> {
         ensures steps { IsNoTile (call_of call) → steps.new ≡ steps.old }
         ensures no_step { NeedsNoStep self.old.core.history (call_of call) → steps.new ≡ steps.old }
         ensures full { is_full self.old.core.history ≡ true → steps.new ≡ steps.old }
+        ensures steps_as_before { OnErr result (steps.new ≡ steps.old) }
         ensures cost { steps.new ≤ steps.old
             + call_cost self.old.core.cache (document self.old.core.history) (call_of call) }
         ensures no_tile { IfOk result (λ reply. version_shown (reply_of reply) ≡ None → steps.new ≡ steps.old) }

@@ -1,3 +1,4 @@
+-- A seat and a lock as callers see them: what a seat knows, whether it waits or holds the list, and what it may leave.
 use Rattle.std.specs.Prelude.{◌≡◌, ◌⊎◌, ℕ, ◌+◌, ◌-◌, ◌%◌, ◌^◌, ◌<◌, ◌≤◌, cond, ltb, List, [], ◌∷◌, ◌++◌, length, Option, None}
 use Rattle.xl_turn.specs.declared.seat.Seat.{Seat}
 use Rattle.xl_turn.specs.declared.seat.TurnLock.{TurnLock}

@@ -1,3 +1,4 @@
+-- What a seat knows of the turns, and the one rule that holds of all seats and the history.
 use Rattle.std.specs.Prelude.{◌≡◌, ℕ, ◌+◌, ◌-◌, ◌%◌, ◌^◌, ◌<◌, cond, ltb, List, [], ◌∷◌, ◌++◌, length, take, Option, Some}
 use mathlib.Core.Option.{some, none}
 use mathlib.Core.List.{IsPrefix}

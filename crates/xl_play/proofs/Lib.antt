@@ -1,0 +1,18 @@
+pub mod Submitted
+pub mod VersionsWithin
+mod Alone
+mod Answered
+mod Chests
+mod Keeping
+mod OfFirst
+mod Plain
+mod Played
+mod Saved
+mod ScriptPlayed
+mod Seen
+mod Stays
+mod UnderWay
+mod ViewTexts
+mod ViewUnderWay
+mod WholeText
+mod Windowed

@@ -1,0 +1,4 @@
+pub mod Playing
+pub mod Told
+pub mod Versions
+pub mod Windows

@@ -1,0 +1,48 @@
+-- What is told of a script that was played.
+use Rattle.std.specs.Prelude.{◌≡◌, ◌<◌, ℕ, Bool, true, false, List, IfOk, Result, string_bytes}
+use Rattle.std.specs.declared.alloc.AllocError.{AllocError}
+use Rattle.spec_document.specs.Document.{Document}
+use Rattle.spec_filters.specs.declared.FilterState.{FilterState}
+use Rattle.spec_script.specs.Script as script
+use Rattle.spec_history.specs.History.{Entry}
+use Rattle.spec_history.specs.Kept.{IsLegal}
+use Rattle.spec_saves.specs.Names.{save_faults}
+use Rattle.spec_saves.specs.Shelf.{Known, ShelfIsRight}
+use Rattle.spec_text.specs.Text.{IsTextOf, Alone}
+use Rattle.xl_play.specs.Playing.{AreOfFirst}
+use Rattle.xl_play.specs.Versions.{AreWithin}
+use Rattle.xl_play.specs.declared.playing.Replies.{Replies}
+
+-- how many saves of a run may have failed
+abbrev pub NoneFailed : (faults : ℕ) → Type 0
+NoneFailed faults = faults ≡ 0
+
+abbrev pub SomeFailed : (faults : ℕ) → Type 0
+SomeFailed faults = 0 < faults
+
+abbrev pub AnyFailed : (faults : ℕ) → Type 0
+AnyFailed faults = Unit {0}
+
+-- whether a save failed
+abbrev pub WhetherFailed : Bool → (faults : ℕ) → Type 0
+WhetherFailed true faults = SomeFailed faults
+WhetherFailed false faults = NoneFailed faults
+
+-- The text of these entries for these lines, and whether a save failed. Where no worker was asked for, all lines are of session 0
+-- and no save failed, it is that of one session alone.
+pub record IsToldOf
+    (document : Document) (lists : List (List script.Line)) (chests : List (List FilterState)) (workers : ℕ) (entries : List Entry)
+    (told : Replies) : Type 0 where
+  pub text : IsTextOf (string_bytes told.text) document lists chests entries
+  pub alone : workers ≡ 0 → AreOfFirst lists → save_faults entries ≡ 0 → Alone (string_bytes told.text) document lists chests
+  pub failed : WhetherFailed told.save_failed (save_faults entries)
+
+-- a legal history, its versions within the limits, the shelf after its saves, and its text unless memory ran out
+pub record IsPlayed
+    (opening now : Known) (document : Document) (lists : List (List script.Line)) (chests : List (List FilterState)) (workers : ℕ)
+    (replies : Result Replies AllocError) : Type 0 where
+  pub entries : List Entry
+  pub legal : IsLegal document entries
+  pub versions : AreWithin document entries
+  pub shelf : ShelfIsRight opening document entries now
+  pub told : IfOk replies (IsToldOf document lists chests workers entries)

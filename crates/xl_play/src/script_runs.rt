@@ -1,0 +1,166 @@
+ghost use Rattle.std.specs.Prelude.{◌≡◌, ◌<◌, ◌≤◌, ◌^◌, true, false, [], length, map, Ok, IfOk, IsSome};
+ghost use Rattle.std.specs.List.{AllByRecursion};
+ghost use Rattle.spec_document.specs.Limits.{IsDocument};
+ghost use Rattle.spec_saves.specs.Names.{save_faults};
+ghost use Rattle.spec_script.specs.Fits.{FitsFilters};
+ghost use Rattle.spec_world.specs.Right as worlds;
+ghost use Rattle.xl_core.specs.Editing.{known, world};
+ghost use Rattle.xl_doc.specs.Numbered.{AreNumbered};
+ghost use Rattle.xl_play.specs.Told.{IsPlayed, WhetherFailed};
+ghost use Rattle.xl_play.specs.Playing.{AreOfFirst, KeepsExactly};
+ghost use Rattle.xl_script.specs.Lines.{lists_of};
+ghost use Rattle.xl_sessions.specs.Outcomes.{states_of};
+
+use crate::opening::open_core;
+use crate::playing::{Replies, has_save_fault, play};
+use std::alloc::{AllocError, Global};
+use std::sync::Wait;
+use std::thread::Threads;
+use xl_core::Core;
+use xl_doc::Document;
+use xl_filters::PointFilter;
+use xl_ports::{Gate, Shelf};
+use xl_script::{SESSIONS, Script};
+use xl_sessions::{PlayedBeside, play_beside};
+
+/// The replies of a run, and the shelf on which its saves were made.
+#[derive(Drop)]
+pub struct Played<D> {
+    pub replies: Result<Replies, AllocError>,
+    pub shelf: D,
+}
+
+// Tells contracts that a script has the lines of eight sessions, as its type keeps it.
+fn know_eight(script: Script) -> Script
+    ensures same { lists_of result ≡ lists_of script }
+    ensures eight { length (lists_of result) ≡ 8 }
+{
+    Script::of(script.into_lists())
+}
+
+// Whether session 0 is alone, without a worker.
+fn is_alone(script: &Script, workers: u8) -> bool
+    requires { length (lists_of script.now) ≡ 8 }
+    ensures alone { result ≡ true → (workers ≡ 0) × AreOfFirst (lists_of script.now) }
+    ensures together { result ≡ false → workers ≡ 0 → AreOfFirst (lists_of script.now) → ⊥ }
+{
+    if workers > 0 {
+        return false;
+    }
+    for session in 1..SESSIONS {
+        if !script.lines(session).is_empty() {
+            return false;
+        }
+    }
+    true
+}
+
+// Makes the calls and saves of session 0, which is alone, without a worker.
+fn play_alone<D: Shelf, G: Gate>(
+    alloc: Global,
+    mut core: Core<D>,
+    script: Script,
+    chest: Vec<Vec<Box<dyn PointFilter + Send>>>,
+    gate: &G,
+) -> Played<D>
+    requires first { AreOfFirst (lists_of script) }
+    requires fresh { core.history.entries ≡ [] }
+    requires kept { KeepsExactly core }
+    requires inside { IsSome core.shelf }
+    requires selected { IsSome (D.selected core.opening) }
+    requires boxes { AllByRecursion (λ boxes. length boxes.items < 2 ^ 32) chest.items }
+    requires fits { FitsFilters (map length (states_of (λ b. state b) chest.items)) (lists_of script) }
+    ensures { IsPlayed (known D.selected D.disk D.reading_faults D.saving_faults core.opening)
+        (known D.selected D.disk D.reading_faults D.saving_faults result.shelf)
+        core.history.base (lists_of script) (states_of (λ b. state b) chest.items) 0 result.replies }
+{
+    let replies = play(alloc, &mut core, gate, script, chest);
+    core.know_versions();
+    Played {
+        replies,
+        shelf: core.into_shelf(),
+    }
+}
+
+// The text of a run, and whether one of its saves failed.
+fn replies_of<D: Shelf>(
+    core: &Core<D>,
+    text: Result<String, AllocError>,
+) -> Result<Replies, AllocError>
+    ensures text { IfOk result (λ replies. text ≡ Ok replies.text) }
+    ensures failed { IfOk result (λ replies. WhetherFailed replies.save_failed (save_faults core.now.history.entries)) }
+{
+    let text = text?;
+    Ok(Replies {
+        text,
+        save_failed: has_save_fault(core.entries()),
+    })
+}
+
+// Makes the calls and saves of the sessions beside each other, and beside workers.
+fn play_together<R: Threads + Wait + Sync, D: Shelf, G: Gate>(
+    rt: &R,
+    alloc: Global,
+    core: Core<D>,
+    script: Script,
+    chest: Vec<Vec<Box<dyn PointFilter + Send>>>,
+    workers: u8,
+    gate: &G,
+) -> Played<D>
+    requires fresh { core.history.entries ≡ [] }
+    requires handed { core.handed ≡ [] }
+    requires right { worlds.IsRight core.history.base (world core) }
+    requires inside { IsSome core.shelf }
+    requires selected { IsSome (D.selected core.opening) }
+    requires boxes { AllByRecursion (λ boxes. length boxes.items < 2 ^ 32) chest.items }
+    requires fits { FitsFilters (map length (states_of (λ b. state b) chest.items)) (lists_of script) }
+    requires eight { length (lists_of script) ≡ 8 }
+    requires workers { workers ≤ 8 }
+    requires together { workers ≡ 0 → AreOfFirst (lists_of script) → ⊥ }
+    ensures { IsPlayed (known D.selected D.disk D.reading_faults D.saving_faults core.opening)
+        (known D.selected D.disk D.reading_faults D.saving_faults result.shelf)
+        core.history.base (lists_of script) (states_of (λ b. state b) chest.items) workers result.replies }
+{
+    let PlayedBeside { core, text } = play_beside(rt, alloc, core, script, chest, workers, gate);
+    core.know_versions();
+    Played {
+        replies: replies_of(&core, text),
+        shelf: core.into_shelf(),
+    }
+}
+
+/// Makes the calls and saves of a script: without threads where session 0 is alone and no worker is asked for, and else beside
+/// workers.
+pub fn run_script<R: Threads + Wait + Sync, D: Shelf, G: Gate>(
+    rt: &R,
+    alloc: Global,
+    document: Document,
+    script: Script,
+    chest: Vec<Vec<Box<dyn PointFilter + Send>>>,
+    workers: u8,
+    shelf: D,
+    gate: &G,
+) -> Played<D>
+    requires limits { IsDocument document }
+    requires numbered { AreNumbered document.nodes }
+    requires selected { IsSome (D.selected shelf) }
+    requires boxes { AllByRecursion (λ boxes. length boxes.items < 2 ^ 32) chest.items }
+    requires fits { FitsFilters (map length (states_of (λ b. state b) chest.items)) (lists_of script) }
+    requires workers { workers ≤ 8 }
+    ensures { IsPlayed (known D.selected D.disk D.reading_faults D.saving_faults shelf)
+        (known D.selected D.disk D.reading_faults D.saving_faults result.shelf)
+        document (lists_of script) (states_of (λ b. state b) chest.items) workers result.replies }
+{
+    let core = match open_core(alloc, document, shelf) {
+        Ok(core) => core,
+        Err(shelf) => return Played {
+            replies: Err(AllocError),
+            shelf,
+        },
+    };
+    let script = know_eight(script);
+    if is_alone(&script, workers) {
+        return play_alone(alloc, core, script, chest, gate);
+    }
+    play_together(rt, alloc, core, script, chest, workers, gate)
+}
