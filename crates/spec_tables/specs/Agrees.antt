@@ -1,5 +1,5 @@
 -- A chest of filters, from which some were forgotten, beside the list of all filters of its session.
-use Rattle.std.specs.Prelude.{◌≡◌, ℕ, List, [], ◌∷◌, map, take, Option, Some, None, is_some, IsTrue}
+use Rattle.std.specs.Prelude.{◌≡◌, ℕ, Bool, if◌then◌else◌, List, [], ◌∷◌, map, take, Option, Some, None, is_some, IsTrue}
 use Rattle.spec_edit.specs.Edit as edits
 use Rattle.spec_edit.specs.Edit.{Edit}
 use Rattle.spec_history.specs.Machine.{Call, Reply}
@@ -44,6 +44,7 @@ IsAfter old new call reply = IsUsed old new (edits_made call reply)
 abbrev pub IsPartUsed : (old new : List (Option FilterState)) → List Edit → Type 0
 IsPartUsed old new es = (count : ℕ) × IsUsed old new (take count es)
 
--- Where memory runs out in it, the filters of the first edits of a group may have been asked.
-abbrev pub IsPartAfter : (old new : List (Option FilterState)) → Call → Type 0
-IsPartAfter old new call = IsPartUsed old new (edits_of call)
+-- What a call leaves of a chest where memory runs out in it: the filters of the first edits of a group that is accepted may have been
+-- asked, and no others.
+abbrev pub IsPartAfter : (accepted : Bool) → (old new : List (Option FilterState)) → Call → Type 0
+IsPartAfter accepted old new call = IsPartUsed old new (if accepted then edits_of call else [])

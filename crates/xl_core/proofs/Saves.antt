@@ -98,6 +98,7 @@ module _ {K : Type 0} (see : K → ShelfState) (base : Document) (entries : List
       record {
         place_is = subst (IsPlace place) (sym out) holds.place_is;
         right = stays_right (see opening) (see (at_hand opening handed place)) base entries e stands.legal.run refl holds.right;
+        selected = holds.selected;
         each_start = holds.each_start ∙ sym (saves_started-snoc entries e ∙ add-zero (saves_started entries));
         room_owed = omega (arith, owed, len, enough);
       }
@@ -117,6 +118,7 @@ module _ {K : Type 0} (see : K → ShelfState) (base : Document) (entries : List
         place_is = subst (λ (t : State). IsPlace {K = K} (Out index version) t.out) (sym state) (refl, last);
         right = subst (λ (x : K). ShelfIsRight (see opening) base (entries ++ e ∷ []) (see x)) (sym (last-snoc opening handed k))
             (stays_right (see opening) (see k) base entries e stands.legal.run refl holds.right);
+        selected = holds.selected;
         each_start = length-append handed (k ∷ []) ∙ (ap (λ n. n + 1) each ∙ sym (saves_started-snoc entries e));
         room_owed = omega (arith, owed, len, enough);
       }
@@ -151,6 +153,7 @@ module _ {K : Type 0} (see : K → ShelfState) (base : Document) (entries : List
             (some_out (replay base entries).out session out)
             (subst (λ (x : K). ShelfIsRight (see opening) base entries (see x))
             (out_handed place (replay base entries).out session holds.place_is out) holds.right) back;
+        selected = holds.selected;
         each_start = holds.each_start ∙ sym (saves_started-snoc entries e ∙ add-zero (saves_started entries));
         room_owed = omega (arith, owed, len, enough, before);
       }

@@ -1,5 +1,5 @@
 -- How a core keeps its shelf: it is in, or out for a save.
-use Rattle.std.specs.Prelude.{◌≡◌, ℕ, ◌+◌, ◌≤◌, List, length, map, Option, Some, None}
+use Rattle.std.specs.Prelude.{◌≡◌, ℕ, ◌+◌, ◌≤◌, List, length, map, Option, Some, None, IsSome}
 use Rattle.std.specs.declared.snapshot.Snapshot.{Snapshot}
 use Rattle.spec_document.specs.Document.{Document}
 use Rattle.spec_history.specs.Machine.{Saving}
@@ -33,10 +33,12 @@ IsPlace (In k) (Some out) = ⊥
 IsPlace (Out index version) None = ⊥
 IsPlace (Out index version) (Some out) = (index ≡ out.index) × (version ≡ out.version)
 
--- The shelf is in its place and is right, or was as it was handed out; and there is room for the entry that a save owes.
+-- The shelf is in its place and is right, or was as it was handed out; a name was selected when the document was opened; and there is
+-- room for the entry that a save owes.
 pub record Holds {K : Type 0} (see : K
     → ShelfState) (base : Document) (entries : List Entry) (opening : K) (handed : List K) (place : Place K) (room : ℕ) : Type 0 where
   pub place_is : IsPlace place (replay base entries).out
   pub right : ShelfIsRight (see opening) base entries (see (at_hand opening handed place))
+  pub selected : IsSome (see opening).selected
   pub each_start : length handed ≡ saves_started entries
   pub room_owed : length entries + entries_owed (replay base entries).out ≤ room

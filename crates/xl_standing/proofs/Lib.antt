@@ -11,6 +11,8 @@ pub mod Opened
 pub mod Ids
 pub mod Making
 pub mod GoesOn
+pub mod Accepting
+pub mod Costs
 pub mod Pictures
 pub mod ByHistory
 pub mod SaveEntries

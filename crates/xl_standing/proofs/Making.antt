@@ -1,6 +1,6 @@
 -- A group is made with the tables of its filters where it is made with any.
-use Rattle.std.proofs.Common.{◌≡◌, ℕ, List, [], ◌∷◌, length, take, refl, sym, ◌∙◌, ap, subst, arith, take_all}
-use Rattle.std.specs.Prelude.{Option, Some, None, Result, Ok, Err, OnErr}
+use Rattle.std.proofs.Common.{◌≡◌, ℕ, Bool, true, false, cond, List, [], ◌∷◌, length, take, refl, sym, ◌∙◌, ap, subst, arith, take_all}
+use Rattle.std.specs.Prelude.{Option, Some, None, Result, Ok, Err, OnErr, is_ok, ◌&&◌}
 use Rattle.spec_edit.specs.Edit.{Edit}
 use Rattle.spec_edit.specs.Apply as apply
 use Rattle.spec_edit.specs.Apply.{At, apply_group}
@@ -9,7 +9,7 @@ use Rattle.spec_tables.proofs.Accepted.{same_refused}
 use Rattle.spec_filters.specs.declared.FilterState.{FilterState}
 use Rattle.spec_tables.specs.Agrees.{IsUsed, AreAsked, IsPartUsed}
 use Rattle.spec_tables.proofs.Asked.{unused}
-use Rattle.xl_standing.specs.Group.{IsRefusal, LeavesChest}
+use Rattle.xl_standing.specs.Group.{is_allowed, IsRefusal, LeavesChest}
 use Rattle.xl_standing.specs.declared.group.GroupRefusedOrMemory.{GroupRefusedOrMemory}
 use Rattle.xl_standing.specs.declared.group.GroupRefusedOrMemory.TheVariants.{Memory, Refused}
 
@@ -38,19 +38,43 @@ accepted_same old new edits tables others e = sym (same_refused 0 old old edits 
 pub not_refused : (a : Result At apply.Refused) (r : apply.Refused) → refused_in a ≡ None → a ≡ Err r → ⊥
 not_refused a r allowed e = let wrong : Some r ≡ None = ap refused_in (sym e) ∙ allowed in cc
 
+-- then it is allowed
+pub allowed_where : (old : At) (edits : List Edit) → refused_in (apply_group old edits []) ≡ None → is_allowed old edits ≡ true
+allowed_where old edits none = go (apply_group old edits []) none
+  where
+    go : (a : Result At apply.Refused) → refused_in a ≡ None → is_ok a ≡ true
+    go (Ok new) h = refl
+    go (Err r) h = cc
+
+pub allowed_made : (old new : At) (edits : List Edit) (tables : List (List ℕ)) → apply_group old edits tables ≡ Ok new
+    → is_allowed old edits ≡ true
+allowed_made old new edits tables e = allowed_where old edits (accepted_same old new edits tables [] e)
+
 pub no_tables : (tables : List (List ℕ)) → length tables ≡ 0 → tables ≡ []
 no_tables [] e = refl
 no_tables (t ∷ ts) e = cc
 
+-- the first filters of a group that is allowed were asked
+pub part_allowed : (b : Bool) (chest after : List (Option FilterState)) (edits : List Edit) → b ≡ true
+    → IsPartUsed chest after edits → IsPartUsed chest after (cond b edits [])
+part_allowed b chest after edits is part = subst (λ x. IsPartUsed chest after (cond x edits [])) (sym is) part
+
+-- and its guard has not moved
+pub part_named : (named allowed : Bool) (chest after : List (Option FilterState)) (edits : List Edit) → named ≡ true
+    → IsPartUsed chest after (cond allowed edits []) → IsPartUsed chest after (cond (named && allowed) edits [])
+part_named named allowed chest after edits is part =
+    subst (λ b. IsPartUsed chest after (cond (b && allowed) edits [])) (sym is) part
+
 -- a group that was accepted is not made where memory runs out, and then all its filters were asked
 pub leaves : (chest after : List (Option FilterState)) (old : At) (edits : List Edit) (tables : List (List ℕ))
     (e : GroupRefusedOrMemory)
-    → refused_in (apply_group old edits tables) ≡ None → AreAsked chest after edits tables → IsRefusal old edits tables e
-    → LeavesChest chest after edits e
+    → ((others : List (List ℕ)) → refused_in (apply_group old edits others) ≡ None) → AreAsked chest after edits tables
+    → IsRefusal old edits tables e → LeavesChest chest after old edits e
 leaves chest after old edits tables Memory allowed asked h =
+    part_allowed (is_allowed old edits) chest after edits (allowed_where old edits (allowed []))
     (length edits, subst (IsUsed chest after) (sym (take_all (length edits) edits (omega arith))) asked.used)
 leaves chest after old edits tables (Refused index cause) allowed asked h =
-    absurd (not_refused (apply_group old edits tables) (record { index = index; cause = cause }) allowed h)
+    absurd (not_refused (apply_group old edits tables) (record { index = index; cause = cause }) (allowed tables) h)
 
 -- all of the filters were asked
 pub all_part : (chest after : List (Option FilterState)) (edits : List Edit) (tables : List (List ℕ))
@@ -64,12 +88,6 @@ none_part chest edits = (0, subst (IsUsed chest chest) (sym (take_none edits)) (
   take_none : (edits : List Edit) → take 0 edits ≡ []
   take_none [] = refl
   take_none (e ∷ es) = refl
-
--- the edits under another name
-pub part_same : {A E : Type 0} (r : Result A E) (old new : List (Option FilterState)) (edits others : List Edit) → edits ≡ others
-    → OnErr r (IsPartUsed old new others)
-    → OnErr r (IsPartUsed old new edits)
-part_same r old new edits others same part = subst (λ es. OnErr r (IsPartUsed old new es)) (sym same) part
 
 -- an error, whatever it is
 pub on_err : {A E : Type 0} (P : Type 0) (r : Result A E) → P → OnErr r P

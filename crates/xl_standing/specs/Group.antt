@@ -1,5 +1,5 @@
 -- What the making of a group of edits comes to.
-use Rattle.std.specs.Prelude.{◌≡◌, ℕ, ◌+◌, ◌-◌, ◌^◌, ◌<◌, List, Option, Result, Ok, Err}
+use Rattle.std.specs.Prelude.{◌≡◌, ℕ, ◌+◌, ◌-◌, ◌^◌, ◌<◌, Bool, if◌then◌else◌, List, [], Option, Result, Ok, Err, is_ok}
 use Rattle.spec_filters.specs.declared.FilterState.{FilterState}
 use Rattle.spec_edit.specs.Edit.{Edit}
 use Rattle.spec_edit.specs.Apply.{At, apply, apply_group}
@@ -34,8 +34,12 @@ abbrev pub IsRefusal : (old : At) → List Edit → (tables : List (List ℕ)) �
 IsRefusal old edits tables (Refused index cause) = apply_group old edits tables ≡ Err (record { index = index; cause = cause })
 IsRefusal old edits tables Memory = Unit {0}
 
--- what a group that is not made leaves of a chest: all where it is refused; where memory ran out its first filters
--- may have been asked
-abbrev pub LeavesChest : (old new : List (Option FilterState)) → List Edit → GroupRefusedOrMemory → Type 0
-LeavesChest old new edits (Refused index cause) = new ≡ old
-LeavesChest old new edits Memory = IsPartUsed old new edits
+-- no edit of the group is refused, which no table decides (`acceptance_looks_at_no_table` of `spec_tables`)
+abbrev pub is_allowed : (old : At) → List Edit → Bool
+is_allowed old edits = is_ok (apply_group old edits [])
+
+-- What a group that is not made leaves of a chest: all where it is refused; where memory ran out the first filters of a
+-- group of which no edit is refused may have been asked.
+abbrev pub LeavesChest : (old new : List (Option FilterState)) → At → List Edit → GroupRefusedOrMemory → Type 0
+LeavesChest old new at edits (Refused index cause) = new ≡ old
+LeavesChest old new at edits Memory = IsPartUsed old new (if is_allowed at edits then edits else [])

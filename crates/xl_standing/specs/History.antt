@@ -1,5 +1,5 @@
 -- A history: the document with which it began, and its entries.
-use Rattle.std.specs.Prelude.{◌≡◌, ℕ, ◌+◌, Bool, nat_le, List, [], ◌∷◌, ◌++◌, length, Option, Some, IfSome, MatchBool}
+use Rattle.std.specs.Prelude.{◌≡◌, ℕ, ◌+◌, Bool, not, ◌&&◌, nat_le, List, [], ◌∷◌, ◌++◌, length, Option, Some, IfSome, MatchBool}
 use Rattle.spec_grid.specs.declared.TileAt.{TileAt}
 use Rattle.spec_document.specs.Document.{Document}
 use Rattle.spec_picture.specs.Picture.{project}
@@ -7,7 +7,7 @@ use Rattle.spec_history.specs.Machine as machine
 use Rattle.spec_history.specs.Machine.{Call, Reply, answer}
 use Rattle.spec_world.specs.World.{entries_owed}
 use Rattle.spec_history.specs.Calls.{most_entries}
-use Rattle.spec_history.specs.History.{Entry, asked, replay, next_index, latest_of, document_of}
+use Rattle.spec_history.specs.History.{Entry, asked, is_changed, replay, next_index, latest_of, document_of}
 use Rattle.spec_history.specs.Kept.{kept}
 
 pub record History : Type 0 where
@@ -36,6 +36,11 @@ with_call h session call tables reply = record h {
 -- no entry is free beside the end that is owed where a save is out
 abbrev pub is_full : History → Bool
 is_full h = nat_le most_entries (length h.entries + entries_owed (replay h.base h.entries).out)
+
+-- The history is not full, and the machine answers the call by a change. It does so with no tables where it does with any
+-- (`acceptance_looks_at_no_table` of `spec_tables`).
+abbrev pub is_accepted : History → Call → Bool
+is_accepted h call = not (is_full h) && is_changed (reply_to h call [])
 
 -- The call is answered as the machine answers it with these tables, and is the last entry with them; a full history stays as it is.
 abbrev pub Answers : (old : History) → (session : ℕ) → Call → (tables : List (List ℕ)) → Reply → (new : History) → Type 0

@@ -1,5 +1,5 @@
 -- What stands now, as far as calls ask for it.
-use Rattle.std.specs.Prelude.{◌≡◌, ℕ, ◌+◌, ◌-◌, ◌^◌, ◌≤◌, ◌<◌, not, if◌then◌else◌, List, [], ◌∷◌, true, false, length}
+use Rattle.std.specs.Prelude.{◌≡◌, ℕ, ◌+◌, ◌-◌, ◌^◌, ◌≤◌, ◌<◌, Bool, not, ◌&&◌, if◌then◌else◌, List, [], ◌∷◌, true, false, length}
 use Rattle.std.specs.Prelude.{map, slice_index, slice_get, Option, Some, None, IsSomeAnd, IfSome, Result, Ok, Err}
 use Rattle.std.specs.List.{AllByRecursion}
 use Rattle.spec_grid.specs.declared.TileAt.{TileAt}
@@ -26,6 +26,7 @@ use Rattle.spec_world.specs.Events.{peek_reply, show_slot}
 use Rattle.spec_world.specs.Standing.{IsStanding}
 use Rattle.xl_marks.specs.Change.{IsCacheOf, gone_along}
 use Rattle.xl_marks.specs.Group.{damage_along}
+use Rattle.xl_standing.specs.Group.{is_allowed}
 use Rattle.xl_standing.specs.Steps.{Step, change_of, stepped}
 
 -- The last document, the groups that can be undone and redone with the steps over them, the next one first, the next numbers, and the
@@ -54,6 +55,15 @@ first_now d = record {
 -- what the next edit begins with
 abbrev pub at_now : Now → At
 at_now now = record { document = now.document; next = now.next_id }
+
+-- the call is a group of edits of which none is refused, and its guard has not moved
+abbrev pub accepts : Now → Call → Bool
+accepts now (machine.edit guard edits) = names guard now.version && is_allowed (at_now now) edits
+accepts now (machine.undo named) = false
+accepts now machine.redo = false
+accepts now (machine.tile stack at) = false
+accepts now (machine.peek stack at) = false
+accepts now machine.top = false
 
 -- ---- replies
 

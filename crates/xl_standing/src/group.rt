@@ -70,7 +70,8 @@ pub(crate) fn make_group(
         AreAsked (states_in state chest.old) (states_in state chest.new) (edits_of edits.now) made.tables) }
 
     ensures refused { IfErr result (IsRefusal (at document.now next_id) (edits_of edits.now) []) }
-    ensures chest { IfErr result (LeavesChest (states_in state chest.old) (states_in state chest.new) (edits_of edits.now)) }
+    ensures chest { IfErr result (LeavesChest (states_in state chest.old) (states_in state chest.new)
+        (at document.now next_id) (edits_of edits.now)) }
 {
     let blank = blank_tables(alloc, edits)?;
     if blank.as_slice().is_empty() {

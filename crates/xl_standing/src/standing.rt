@@ -8,17 +8,16 @@ ghost use Rattle.spec_edit.specs.Edit.{IsEdit};
 ghost use Rattle.spec_history.specs.Calls.{IsCall, most_edits};
 ghost use Rattle.spec_history.specs.Limited as limited;
 ghost use Rattle.spec_history.specs.Machine as machine;
-ghost use Rattle.spec_tables.specs.Agrees.{AreThere, AreAsked, IsPartUsed};
+ghost use Rattle.spec_tables.specs.Agrees.{AreThere, AreAsked, IsPartAfter};
 ghost use Rattle.spec_tables.specs.Tables.{edits_made};
 ghost use Rattle.spec_world.specs.World.{add_stacks, stack_ids};
 ghost use Rattle.xl_compose.specs.Job.{StandsFor};
-ghost use Rattle.xl_standing.specs.Needs.{TakesNoStep};
+ghost use Rattle.xl_standing.specs.Needs.{TakesNoStep, IsUndoOrRedo, call_cost, tile_cost};
 ghost use Rattle.xl_standing.specs.Places.{place_of_job, place_done};
 ghost use Rattle.xl_standing.specs.Group.{HasIds};
-ghost use Rattle.xl_standing.specs.Now.{first_now, at_now, with_cache, accepted, edited, undone, taken_back, redone};
+ghost use Rattle.xl_standing.specs.Now.{first_now, at_now, with_cache, accepts, accepted, edited, undone, taken_back, redone};
 ghost use Rattle.xl_standing.specs.Now.{next_version, shown, peeked, top_of, response, Gives, ShowsTile, ShowsKept, ShowsNow};
 ghost use Rattle.xl_standing.specs.Now.{KeepsDesk, IsKeptNow, IsTileOf};
-ghost use Rattle.xl_standing.specs.Needs.{IsUndoOrRedo};
 ghost use Rattle.xl_standing.specs.Steps.{IsChange};
 ghost use Rattle.xl_doc.specs.Numbered.{AreNumbered};
 ghost use Rattle.xl_edit.specs.Applied.{at};
@@ -123,7 +122,7 @@ impl Standing {
     }
 
     /// Answers a call of a caller that has seen the versions up to `seen`. Only an answer that is a tile leaves its bytes in the
-    /// desk. After out of memory all is as before, but that the first filters of a group may have been asked.
+    /// desk. After out of memory all is as before, but that the first filters of a group that is accepted may have been asked.
     ///
     /// It asks what stands to be right and its numbers to be small, as they are where `Stands` holds of it and a history.
     pub fn answer<L: Ledger>(
@@ -149,10 +148,12 @@ impl Standing {
         ensures shown { IfOk result (λ a. ShowsNow self.new (call_of call.now) (reply_of a.reply) desk.new.out) }
         ensures desk { IfOk result (λ a. KeepsDesk (reply_of a.reply) desk.old.out desk.new.out) }
         ensures steps { TakesNoStep self.old.cache (call_of call.now) → steps.new ≡ steps.old }
+        ensures cost { steps.new ≤ steps.old + call_cost self.old.cache self.old.document (call_of call.now) }
+        ensures no_tile { IfOk result (λ a. machine.version_shown (reply_of a.reply) ≡ None → steps.new ≡ steps.old) }
         ensures steps_as_before { OnErr result (steps.new ≡ steps.old) }
         ensures as_before { OnErr result (self.new ≡ self.old) }
-        ensures chest { OnErr result (IsPartUsed (states_in state desk.old.chest) (states_in state desk.new.chest)
-            (limited.edits_of (call_of call.now))) }
+        ensures chest { OnErr result (IsPartAfter (accepts self.old (call_of call.now))
+            (states_in state desk.old.chest) (states_in state desk.new.chest) (call_of call.now)) }
         ensures out_as_before { OnErr result (desk.new.out ≡ desk.old.out) }
         ensures succeeds { IsUndoOrRedo (call_of call.now) → IsOk result }
     {
@@ -199,7 +200,8 @@ impl Standing {
             AreAsked (states_in state chest.old) (states_in state chest.new)
             (edits_made (machine.edit guard (edits_of edits.now)) (reply_of a.reply)) a.tables) }
         ensures bytes { IfOk result (λ a. AllByRecursion AreBytes a.tables) }
-        ensures chest { OnErr result (IsPartUsed (states_in state chest.old) (states_in state chest.new) (edits_of edits.now)) }
+        ensures chest { OnErr result (IsPartAfter (accepts self.old (machine.edit guard (edits_of edits.now)))
+            (states_in state chest.old) (states_in state chest.new) (machine.edit guard (edits_of edits.now))) }
         ensures as_before { OnErr result (self.new ≡ self.old) }
     {
         if !is_named(guard, self.version) {
@@ -313,6 +315,8 @@ impl Standing {
         ensures shown { IfOk result (λ reply. ShowsTile self.new.document node.0 at (reply_of reply) out.new) }
         ensures desk { IfOk result (λ reply. KeepsDesk (reply_of reply) out.old out.new) }
         ensures steps { is_clean self.old.cache node.0 at ≡ true → steps.new ≡ steps.old }
+        ensures cost { steps.new ≤ steps.old + tile_cost self.old.cache self.old.document node.0 at }
+        ensures no_tile { IfOk result (λ reply. machine.version_shown (reply_of reply) ≡ None → steps.new ≡ steps.old) }
         ensures steps_as_before { OnErr result (steps.new ≡ steps.old) }
         ensures as_before { OnErr result (self.new ≡ self.old) }
         ensures out_as_before { OnErr result (out.new ≡ out.old) }
@@ -362,13 +366,15 @@ impl Standing {
         }
     }
 
-    /// A job for the next marked slot, which counts as taken. None where no slot is marked, which takes no memory.
+    /// A job for the next marked slot, which counts as taken: the kept picture of a clean group is taken as it is. None where no slot
+    /// is marked, which takes no memory.
     pub fn take_job(&mut self, alloc: Global) -> Result<Option<Job>, AllocError>
         requires kept { IsKeptNow self.old }
         requires place { IfSome (next_place self.old.cache) (IsTileOf self.old.document) }
         ensures place { IfOk result (λ job. option_map place_of_job job ≡ next_place self.old.cache) }
         ensures stands { IfOk result (λ job.
             IfSome job (λ j. StandsFor self.old.document j.stack j.at self.old.version j)) }
+        ensures cost { IfOk result (λ job. IfSome job (λ j. j.cost ≡ tile_cost self.old.cache self.old.document j.stack j.at)) }
         ensures what { self.new ≡ with_cache self.old (after_take self.old.cache) }
         ensures none { next_place self.old.cache ≡ None → IsOk result }
     {

@@ -1,5 +1,5 @@
 //! Showing tiles.
-ghost use Rattle.std.specs.Prelude.{◌≡◌, true, false, is_some, IfSome, IsSome, IsTrue, OnOk, OnErr};
+ghost use Rattle.std.specs.Prelude.{◌≡◌, ◌+◌, ◌≤◌, true, false, is_some, IfSome, IsSome, IsTrue, OnOk, OnErr};
 ghost use Rattle.spec_cache.specs.Cache.{clean_tile, is_clean, kept, change_stack};
 ghost use Rattle.spec_cache.specs.Slots.{change_slot};
 ghost use Rattle.spec_forest.specs.Forest.{stack_at};
@@ -7,6 +7,7 @@ ghost use Rattle.spec_grid.specs.Grid.{is_on_grid};
 ghost use Rattle.spec_history.specs.Machine.{has_stack as document_has_stack};
 ghost use Rattle.spec_picture.specs.Picture.{project};
 ghost use Rattle.spec_world.specs.Events.{peek_reply, show_slot};
+ghost use Rattle.xl_standing.specs.Needs.{tile_cost};
 ghost use Rattle.xl_standing.specs.Now.{IsKept, KeepsDesk, ShowsKept};
 ghost use Rattle.xl_edit.specs.Replies.{reply_of};
 
@@ -49,8 +50,8 @@ fn copy_clean(cache: &Cache, node: NodeId, at: TileAt, out: &mut Picture) -> boo
     }
 }
 
-/// Leaves the picture of a tile in `out`. Where its slot is marked the picture is composed, and kept. After out of memory all is as
-/// before.
+/// Leaves the picture of a tile in `out`. Where its slot is marked the picture is composed once, and kept. After out of memory all is
+/// as before.
 pub(crate) fn show<L: Ledger>(
     alloc: Global,
     document: &Document,
@@ -68,6 +69,7 @@ pub(crate) fn show<L: Ledger>(
     ensures cache { OnOk result (cache.new
         ≡ change_stack node.0 (change_slot at (show_slot (project document.now node.0 at))) cache.old) }
     ensures steps { is_clean cache.old node.0 at ≡ true → steps.new ≡ steps.old }
+    ensures cost { steps.new ≤ steps.old + tile_cost cache.old document.now node.0 at }
     ensures steps_as_before { OnErr result (steps.new ≡ steps.old) }
     ensures as_before { OnErr result (cache.new ≡ cache.old) }
     ensures out_as_before { OnErr result (out.new ≡ out.old) }

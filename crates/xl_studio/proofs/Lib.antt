@@ -2,7 +2,7 @@ pub mod Grown
 pub mod StillOut
 pub mod Called
 pub mod Seated
-pub mod Stepless
+pub mod Entered
 pub mod Joined
 pub mod Started
 pub mod Handed

@@ -6,6 +6,7 @@ use Rattle.xl_core.specs.declared.jobs.Taken.{Taken}
 use Rattle.xl_core.specs.declared.jobs.Taken.TheVariants as takes
 use Rattle.xl_standing.specs.History.{version, document}
 use Rattle.xl_core.specs.Editing.{Editing}
+use Rattle.xl_standing.specs.Needs.{tile_cost}
 use Rattle.xl_standing.specs.Places.{place_of_job}
 use Rattle.xl_standing.specs.Now.{IsTileOf}
 use Rattle.xl_studio.specs.State.{State, IsKept, moments_of}
@@ -20,10 +21,11 @@ abbrev pub AnswersJob : {E : Type 0} → Result (Option Job) E → Result Taken 
 AnswersJob job answer = answer ≡ answer_of job
 
 module _ {K : Type 0} where
-  -- the job is that of the next marked slot, at the last version
+  -- the job is that of the next marked slot, at the last version, and takes the kept pictures of clean groups as they are
   pub record IsJobNow (c : Editing K) (job : Job) : Type 0 where
     pub place : next_place c.cache ≡ Some (place_of_job job)
     pub stands : StandsFor (document c.history) job.stack job.at (version c.history) job
+    pub cost : job.cost ≡ tile_cost c.cache (document c.history) job.stack job.at
     pub there : IsTileOf (document c.history) (place_of_job job)
 
   -- Where it is closing no job is given out; otherwise the next one, if any slot is marked.

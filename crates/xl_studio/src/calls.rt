@@ -1,4 +1,4 @@
-ghost use Rattle.std.specs.Prelude.{◌≡◌, ◌<◌, List, [], IfOk, OnErr};
+ghost use Rattle.std.specs.Prelude.{◌≡◌, ◌+◌, ◌<◌, ◌≤◌, List, [], None, IfOk, OnErr};
 ghost use mathlib.Core.List.{IsPrefix};
 ghost use Rattle.spec_filters.specs.declared.FilterState.{FilterState};
 ghost use Rattle.spec_history.specs.Calls.{IsCall, IsGroupOfEdits};
@@ -8,14 +8,15 @@ ghost use Rattle.spec_history.specs.Limited.{edits_of};
 ghost use Rattle.spec_history.specs.Machine as machine;
 ghost use Rattle.spec_tables.specs.Agrees.{Agrees, AreThere, IsAfter, IsPartAfter};
 ghost use Rattle.spec_tables.specs.Tables.{expected_tables};
-ghost use Rattle.xl_standing.specs.History.{Shows, NeedsNoStep};
+ghost use Rattle.xl_standing.specs.History.{document, is_accepted, Shows, NeedsNoStep};
+ghost use Rattle.xl_standing.specs.Needs.{most_cost};
 ghost use Rattle.xl_standing.specs.Now.{KeepsDesk};
 ghost use Rattle.xl_edit.specs.Calls.{call_of};
 ghost use Rattle.xl_edit.specs.Edits.{edits_of as edits_meant};
 ghost use Rattle.xl_edit.specs.Replies.{reply_of};
 ghost use Rattle.xl_filters.specs.Chests.{states_in};
 ghost use Rattle.xl_studio.specs.Calling.{IsCalled, HasHeard, IsNoTile, before_last};
-ghost use Rattle.xl_studio.specs.Jobs.{job_out};
+ghost use Rattle.xl_studio.specs.Jobs.{job_out, tally_of};
 ghost use Rattle.xl_studio.specs.Moments.{entries_in};
 ghost use Rattle.xl_studio.specs.Seats.{base_of, history_of, front_of, weight_of, known_by, IsSeatOf};
 
@@ -32,8 +33,8 @@ use xl_ports::Shelf;
 impl<D: Shelf> Studio<D> {
     /// Makes a call of a session in one hold of the turn. The calls below are this at one kind.
     ///
-    /// The filters that a group names are in the desk's chest. After out of memory nothing was made, but that the
-    /// filters of the group's first edits may have been asked.
+    /// The filters that a group names are in the desk's chest. After out of memory nothing was made, but that the filters of the
+    /// first edits of a group that is accepted may have been asked.
     pub fn call<W: Wait, L: Ledger>(
         &self,
         rt: &W,
@@ -52,6 +53,8 @@ impl<D: Shelf> Studio<D> {
         ensures seat { IsSeatOf self.now seat.new }
         ensures weight { weight_of seat.new ≡ weight_of seat.old }
         ensures job { job_out seat.new ≡ job_out seat.old }
+        ensures closed { seat.new.closed ≡ seat.old.closed }
+        ensures tally { tally_of seat.new ≡ tally_of seat.old }
         ensures answered { (filters : List FilterState) → Agrees (states_in state desk.old.chest) filters
             → IfOk result (λ reply. IsCalled (base_of self.now) session (call_of call)
             (expected_tables filters (asked (call_of call) []) (reply_of reply)) (reply_of reply) (known_by seat.old)
@@ -64,13 +67,16 @@ impl<D: Shelf> Studio<D> {
         ensures steps { IsNoTile (call_of call) → steps.new ≡ steps.old }
         ensures no_step { IfOk result (λ _.
             NeedsNoStep (history_of (base_of self.now) (before_last (front_of seat.new))) (call_of call) → steps.new ≡ steps.old) }
-        ensures no_step_failed { OnErr result (NeedsNoStep (history_of (base_of self.now) (front_of seat.new)) (call_of call)
-            → steps.new ≡ steps.old) }
+        ensures cost { IfOk result (λ _. steps.new
+            ≤ steps.old + most_cost (document (history_of (base_of self.now) (before_last (front_of seat.new)))) (call_of call)) }
+        ensures steps_as_before { OnErr result (steps.new ≡ steps.old) }
+        ensures no_tile { IfOk result (λ reply. machine.version_shown (reply_of reply) ≡ None → steps.new ≡ steps.old) }
         ensures chest { IfOk result (λ reply.
             IsAfter (states_in state desk.old.chest) (states_in state desk.new.chest) (call_of call) (reply_of reply)) }
         ensures desk { IfOk result (λ reply. KeepsDesk (reply_of reply) desk.old.out desk.new.out) }
         ensures out_as_before { OnErr result (desk.new.out ≡ desk.old.out) }
-        ensures part { OnErr result (IsPartAfter (states_in state desk.old.chest) (states_in state desk.new.chest) (call_of call)) }
+        ensures part { OnErr result (IsPartAfter (is_accepted (history_of (base_of self.now) (front_of seat.new)) (call_of call))
+            (states_in state desk.old.chest) (states_in state desk.new.chest) (call_of call)) }
     {
         let mut held = self.lock.enter(rt, &mut seat.seat);
         let reply = held
@@ -84,7 +90,7 @@ impl<D: Shelf> Studio<D> {
 
     /// Makes a group of edits, all or none. The filters that the group names are in the desk's chest; they are asked where it is
     /// accepted, and their tables are in its entry. It takes no step. After out of memory there is no entry, and the filters of the
-    /// group's first edits may have been asked.
+    /// first edits of a group that is accepted may have been asked.
     pub fn edit<W: Wait, L: Ledger>(
         &self,
         rt: &W,
@@ -103,6 +109,8 @@ impl<D: Shelf> Studio<D> {
         ensures seat { IsSeatOf self.now seat.new }
         ensures weight { weight_of seat.new ≡ weight_of seat.old }
         ensures job { job_out seat.new ≡ job_out seat.old }
+        ensures closed { seat.new.closed ≡ seat.old.closed }
+        ensures tally { tally_of seat.new ≡ tally_of seat.old }
         ensures answered { (filters : List FilterState) → Agrees (states_in state desk.old.chest) filters
             → IfOk result (λ reply. IsCalled (base_of self.now) session (machine.edit group.guard (edits_meant group.edits))
             (expected_tables filters (asked (machine.edit group.guard (edits_meant group.edits)) []) (reply_of reply))
@@ -115,7 +123,8 @@ impl<D: Shelf> Studio<D> {
             (machine.edit group.guard (edits_meant group.edits)) (reply_of reply)) }
         ensures desk { IfOk result (λ reply. KeepsDesk (reply_of reply) desk.old.out desk.new.out) }
         ensures out_as_before { OnErr result (desk.new.out ≡ desk.old.out) }
-        ensures part { OnErr result (IsPartAfter (states_in state desk.old.chest) (states_in state desk.new.chest)
+        ensures part { OnErr result (IsPartAfter (is_accepted (history_of (base_of self.now) (front_of seat.new))
+            (machine.edit group.guard (edits_meant group.edits))) (states_in state desk.old.chest) (states_in state desk.new.chest)
             (machine.edit group.guard (edits_meant group.edits))) }
     {
         self.call(rt, alloc, seat, session, Call::Edit(group), desk, steps)
@@ -138,6 +147,8 @@ impl<D: Shelf> Studio<D> {
         ensures seat { IsSeatOf self.now seat.new }
         ensures weight { weight_of seat.new ≡ weight_of seat.old }
         ensures job { job_out seat.new ≡ job_out seat.old }
+        ensures closed { seat.new.closed ≡ seat.old.closed }
+        ensures tally { tally_of seat.new ≡ tally_of seat.old }
         ensures made { IfOk result (λ reply.
             IsCalled (base_of self.now) session (machine.undo which) [] (reply_of reply) (known_by seat.old) (known_by seat.new)) }
         ensures begins { IsPrefix (front_of seat.old) (front_of seat.new) }
@@ -147,8 +158,8 @@ impl<D: Shelf> Studio<D> {
             IsAfter (states_in state desk.old.chest) (states_in state desk.new.chest) (machine.undo which) (reply_of reply)) }
         ensures desk { IfOk result (λ reply. KeepsDesk (reply_of reply) desk.old.out desk.new.out) }
         ensures out_as_before { OnErr result (desk.new.out ≡ desk.old.out) }
-        ensures part { OnErr result (IsPartAfter (states_in state desk.old.chest) (states_in state desk.new.chest)
-            (machine.undo which)) }
+        ensures part { OnErr result (IsPartAfter (is_accepted (history_of (base_of self.now) (front_of seat.new)) (machine.undo which))
+            (states_in state desk.old.chest) (states_in state desk.new.chest) (machine.undo which)) }
     {
         self.call(rt, alloc, seat, session, Call::Undo(which), desk, steps)
     }
@@ -169,6 +180,8 @@ impl<D: Shelf> Studio<D> {
         ensures seat { IsSeatOf self.now seat.new }
         ensures weight { weight_of seat.new ≡ weight_of seat.old }
         ensures job { job_out seat.new ≡ job_out seat.old }
+        ensures closed { seat.new.closed ≡ seat.old.closed }
+        ensures tally { tally_of seat.new ≡ tally_of seat.old }
         ensures made { IfOk result (λ reply.
             IsCalled (base_of self.now) session (machine.redo) [] (reply_of reply) (known_by seat.old) (known_by seat.new)) }
         ensures begins { IsPrefix (front_of seat.old) (front_of seat.new) }
@@ -178,7 +191,8 @@ impl<D: Shelf> Studio<D> {
             IsAfter (states_in state desk.old.chest) (states_in state desk.new.chest) (machine.redo) (reply_of reply)) }
         ensures desk { IfOk result (λ reply. KeepsDesk (reply_of reply) desk.old.out desk.new.out) }
         ensures out_as_before { OnErr result (desk.new.out ≡ desk.old.out) }
-        ensures part { OnErr result (IsPartAfter (states_in state desk.old.chest) (states_in state desk.new.chest) (machine.redo)) }
+        ensures part { OnErr result (IsPartAfter (is_accepted (history_of (base_of self.now) (front_of seat.new)) machine.redo)
+            (states_in state desk.old.chest) (states_in state desk.new.chest) machine.redo) }
     {
         self.call(rt, alloc, seat, session, Call::Redo, desk, steps)
     }
@@ -199,6 +213,8 @@ impl<D: Shelf> Studio<D> {
         ensures seat { IsSeatOf self.now seat.new }
         ensures weight { weight_of seat.new ≡ weight_of seat.old }
         ensures job { job_out seat.new ≡ job_out seat.old }
+        ensures closed { seat.new.closed ≡ seat.old.closed }
+        ensures tally { tally_of seat.new ≡ tally_of seat.old }
         ensures made { IfOk result (λ reply.
             IsCalled (base_of self.now) session (machine.top) [] (reply_of reply) (known_by seat.old) (known_by seat.new)) }
         ensures begins { IsPrefix (front_of seat.old) (front_of seat.new) }
@@ -208,14 +224,15 @@ impl<D: Shelf> Studio<D> {
             IsAfter (states_in state desk.old.chest) (states_in state desk.new.chest) (machine.top) (reply_of reply)) }
         ensures desk { IfOk result (λ reply. KeepsDesk (reply_of reply) desk.old.out desk.new.out) }
         ensures out_as_before { OnErr result (desk.new.out ≡ desk.old.out) }
-        ensures part { OnErr result (IsPartAfter (states_in state desk.old.chest) (states_in state desk.new.chest) (machine.top)) }
+        ensures part { OnErr result (IsPartAfter (is_accepted (history_of (base_of self.now) (front_of seat.new)) machine.top)
+            (states_in state desk.old.chest) (states_in state desk.new.chest) machine.top) }
     {
         self.call(rt, alloc, seat, session, Call::Top, desk, steps)
     }
 
-    /// The tile of a stack at the latest version, which is in the desk after `Tile`. Where the tile was kept at the
-    /// latest version before the call's own entry, it takes no step; after out of memory, where there is no entry,
-    /// this holds of the front's latest version.
+    /// The tile of a stack at the latest version, which is in the desk after `Tile`. Where the tile was kept at the latest version
+    /// before the call's own entry, it takes no step, nor with any other reply than `Tile`, nor after out of memory. Else the tile is
+    /// composed once: that takes at most one step for each pixel of the tile and each visible node below the stack.
     pub fn tile<W: Wait, L: Ledger>(
         &self,
         rt: &W,
@@ -233,6 +250,8 @@ impl<D: Shelf> Studio<D> {
         ensures seat { IsSeatOf self.now seat.new }
         ensures weight { weight_of seat.new ≡ weight_of seat.old }
         ensures job { job_out seat.new ≡ job_out seat.old }
+        ensures closed { seat.new.closed ≡ seat.old.closed }
+        ensures tally { tally_of seat.new ≡ tally_of seat.old }
         ensures made { IfOk result (λ reply.
             IsCalled (base_of self.now) session (machine.tile node.0 at) [] (reply_of reply) (known_by seat.old)
             (known_by seat.new)) }
@@ -244,14 +263,16 @@ impl<D: Shelf> Studio<D> {
         ensures no_step { IfOk result (λ _.
             NeedsNoStep (history_of (base_of self.now) (before_last (front_of seat.new))) (machine.tile node.0 at)
             → steps.new ≡ steps.old) }
-        ensures no_step_failed { OnErr result
-            (NeedsNoStep (history_of (base_of self.now) (front_of seat.new)) (machine.tile node.0 at) → steps.new ≡ steps.old) }
+        ensures cost { IfOk result (λ _. steps.new
+            ≤ steps.old + most_cost (document (history_of (base_of self.now) (before_last (front_of seat.new)))) (machine.tile node.0 at)) }
+        ensures steps_as_before { OnErr result (steps.new ≡ steps.old) }
+        ensures no_tile { IfOk result (λ reply. machine.version_shown (reply_of reply) ≡ None → steps.new ≡ steps.old) }
         ensures chest { IfOk result (λ reply.
             IsAfter (states_in state desk.old.chest) (states_in state desk.new.chest) (machine.tile node.0 at) (reply_of reply)) }
         ensures desk { IfOk result (λ reply. KeepsDesk (reply_of reply) desk.old.out desk.new.out) }
         ensures out_as_before { OnErr result (desk.new.out ≡ desk.old.out) }
-        ensures part { OnErr result (IsPartAfter (states_in state desk.old.chest) (states_in state desk.new.chest)
-            (machine.tile node.0 at)) }
+        ensures part { OnErr result (IsPartAfter (is_accepted (history_of (base_of self.now) (front_of seat.new)) (machine.tile node.0 at))
+            (states_in state desk.old.chest) (states_in state desk.new.chest) (machine.tile node.0 at)) }
     {
         self.call(rt, alloc, seat, session, Call::Tile(node, at), desk, steps)
     }
@@ -275,6 +296,8 @@ impl<D: Shelf> Studio<D> {
         ensures seat { IsSeatOf self.now seat.new }
         ensures weight { weight_of seat.new ≡ weight_of seat.old }
         ensures job { job_out seat.new ≡ job_out seat.old }
+        ensures closed { seat.new.closed ≡ seat.old.closed }
+        ensures tally { tally_of seat.new ≡ tally_of seat.old }
         ensures made { IfOk result (λ reply.
             IsCalled (base_of self.now) session (machine.peek node.0 at) [] (reply_of reply) (known_by seat.old)
             (known_by seat.new)) }
@@ -288,8 +311,8 @@ impl<D: Shelf> Studio<D> {
             IsAfter (states_in state desk.old.chest) (states_in state desk.new.chest) (machine.peek node.0 at) (reply_of reply)) }
         ensures desk { IfOk result (λ reply. KeepsDesk (reply_of reply) desk.old.out desk.new.out) }
         ensures out_as_before { OnErr result (desk.new.out ≡ desk.old.out) }
-        ensures part { OnErr result (IsPartAfter (states_in state desk.old.chest) (states_in state desk.new.chest)
-            (machine.peek node.0 at)) }
+        ensures part { OnErr result (IsPartAfter (is_accepted (history_of (base_of self.now) (front_of seat.new)) (machine.peek node.0 at))
+            (states_in state desk.old.chest) (states_in state desk.new.chest) (machine.peek node.0 at)) }
     {
         self.call(rt, alloc, seat, session, Call::Peek(node, at), desk, steps)
     }

@@ -1,7 +1,7 @@
 ghost use Rattle.std.specs.Prelude.{◌≡◌, option_map};
 ghost use Rattle.xl_core.specs.Jobs.{says_closing};
 ghost use Rattle.xl_studio.specs.Calling.{HasHeard};
-ghost use Rattle.xl_studio.specs.Jobs.{job_out, out_of, out_after};
+ghost use Rattle.xl_studio.specs.Jobs.{job_out, out_of, out_after, tally_of};
 ghost use Rattle.xl_studio.specs.Seats.{weight_of, known_by, IsSeatOf};
 
 use crate::seat::{Away, Seat, Studio};
@@ -131,6 +131,8 @@ impl<D: Shelf> Studio<D> {
         ensures seat { IsSeatOf self.now seat.new }
         ensures weight { weight_of seat.new ≡ weight_of seat.old }
         ensures job { job_out seat.new ≡ job_out seat.old }
+        ensures closed { seat.new.closed ≡ seat.old.closed }
+        ensures tally { tally_of seat.new ≡ tally_of seat.old }
         ensures heard { HasHeard (known_by seat.old) (known_by seat.new) }
     {
         let mut held = self.lock.enter(rt, &mut seat.seat);

@@ -1,4 +1,4 @@
-ghost use Rattle.std.specs.Prelude.{◌≡◌, ◌+◌, ◌≤◌, ◌^◌, [], ◌++◌, length, false, None, IfOk, IfErr, IsSome};
+ghost use Rattle.std.specs.Prelude.{◌≡◌, ◌+◌, ◌≤◌, ◌^◌, [], ◌++◌, length, false, None, IfOk, IfErr};
 ghost use mathlib.Core.List.{IsPrefix};
 ghost use Rattle.spec_world.specs.Right.{IsRight};
 ghost use Rattle.xl_core.specs.Editing.{world};
@@ -19,10 +19,7 @@ impl<D: Shelf> Studio<D> {
     /// A studio over a core without entries, and its first seat, which has all the weight. The core comes back where
     /// memory ran out.
     pub fn open(alloc: Global, core: Core<D>) -> Result<(Studio<D>, Seat<D>), AllocFailed<Core<D>>>
-        requires empty { core.history.entries ≡ [] }
-        requires handed { core.handed ≡ [] }
-        requires right { IsRight core.history.base (world core) }
-        requires selected { IsSome (D.state core.opening).selected }
+        requires { core.history.entries ≡ [] }
         ensures seat { IfOk result (λ r. IsSeatOf r.0 r.1) }
         ensures base { IfOk result (λ r. base_of r.0 ≡ core.history.base) }
         ensures shelf { IfOk result (λ r. opening_shelf r.0 ≡ core.opening) }
@@ -30,9 +27,12 @@ impl<D: Shelf> Studio<D> {
         ensures made { IfOk result (λ r. made_of r.1 ≡ []) }
         ensures weight { IfOk result (λ r. weight_of r.1 ≡ 2 ^ 32) }
         ensures free { IfOk result (λ r. job_out r.1 ≡ None) }
+        ensures closed { IfOk result (λ r. r.1.closed ≡ false) }
         ensures tally { IfOk result (λ r. tally_of r.1 ≡ Tally.NONE) }
         ensures back { IfErr result (λ failed. failed.value ≡ core) }
     {
+        core.know_right();
+        core.know_opening();
         match TurnLock::open(alloc, Shared::new(core)) {
             Ok((lock, seat)) => Ok((
                 Studio { lock },
@@ -65,6 +65,7 @@ impl<D: Shelf> Studio<D> {
         ensures closed { result.closed ≡ false }
         ensures tally { tally_of result ≡ Tally.NONE }
         ensures job { job_out seat.new ≡ job_out seat.old }
+        ensures closed_stays { seat.new.closed ≡ seat.old.closed }
         ensures tally_stays { tally_of seat.new ≡ tally_of seat.old }
     {
         Seat {
@@ -90,6 +91,7 @@ impl<D: Shelf> Studio<D> {
         ensures apart { IsApart (made_of seat.old) (made_of other) }
         ensures weight { weight_of seat.new ≡ weight_of seat.old + weight_of other }
         ensures job { job_out seat.new ≡ job_out seat.old }
+        ensures closed { seat.new.closed ≡ seat.old.closed }
         ensures tally { tally_of seat.new ≡ tally_of seat.old }
     {
         let Seat {

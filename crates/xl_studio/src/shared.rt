@@ -1,14 +1,16 @@
-ghost use Rattle.std.specs.Prelude.{◌≡◌, ◌≤◌, ◌<◌, List, [], true, false, IfOk, OnErr, IsSome};
+ghost use Rattle.std.specs.Prelude.{◌≡◌, ◌+◌, ◌≤◌, ◌<◌, List, [], true, false, None, IfOk, OnErr, IsSome};
 ghost use Rattle.spec_filters.specs.declared.FilterState.{FilterState};
 ghost use Rattle.spec_history.specs.Calls.{IsCall};
 ghost use Rattle.spec_history.specs.History.{asked};
 ghost use Rattle.spec_history.specs.Kept.{IsFreshReply, IsLegal};
 ghost use Rattle.spec_history.specs.Limited.{edits_of};
+ghost use Rattle.spec_history.specs.Machine.{version_shown};
 ghost use Rattle.spec_tables.specs.Agrees.{Agrees, AreThere, IsAfter, IsPartAfter};
 ghost use Rattle.spec_tables.specs.Tables.{expected_tables};
 ghost use Rattle.spec_world.specs.Events.{IsOutOf};
 ghost use Rattle.xl_core.specs.Editing.{out_of, ComesBack};
-ghost use Rattle.xl_standing.specs.History.{version, is_full, Shows, NeedsNoStep};
+ghost use Rattle.xl_standing.specs.History.{version, document, is_full, is_accepted, Shows, NeedsNoStep};
+ghost use Rattle.xl_standing.specs.Needs.{call_cost};
 ghost use Rattle.xl_standing.specs.Now.{KeepsDesk};
 ghost use Rattle.xl_edit.specs.Calls.{call_of};
 ghost use Rattle.xl_edit.specs.Replies.{reply_of};
@@ -119,11 +121,16 @@ impl<D: Shelf> Shared<D> {
         ensures steps { IsNoTile (call_of call) → steps.new ≡ steps.old }
         ensures no_step { NeedsNoStep self.old.core.history (call_of call) → steps.new ≡ steps.old }
         ensures full { is_full self.old.core.history ≡ true → steps.new ≡ steps.old }
+        ensures steps_as_before { OnErr result (steps.new ≡ steps.old) }
+        ensures cost { steps.new ≤ steps.old
+            + call_cost self.old.core.cache (document self.old.core.history) (call_of call) }
+        ensures no_tile { IfOk result (λ reply. version_shown (reply_of reply) ≡ None → steps.new ≡ steps.old) }
         ensures chest { IfOk result (λ reply.
             IsAfter (states_in state desk.old.chest) (states_in state desk.new.chest) (call_of call) (reply_of reply)) }
         ensures desk { IfOk result (λ reply. KeepsDesk (reply_of reply) desk.old.out desk.new.out) }
         ensures out_as_before { OnErr result (desk.new.out ≡ desk.old.out) }
-        ensures part { OnErr result (IsPartAfter (states_in state desk.old.chest) (states_in state desk.new.chest) (call_of call)) }
+        ensures part { OnErr result (IsPartAfter (is_accepted self.old.core.history (call_of call))
+            (states_in state desk.old.chest) (states_in state desk.new.chest) (call_of call)) }
     {
         let reply = self.core.submit(alloc, session, call, seen, desk, steps);
         self.core.know_right();

@@ -1,5 +1,5 @@
 -- A clean slot's picture is the document's.
-use Rattle.std.proofs.Common.{sym, ◌∙◌, true≢false}
+use Rattle.std.proofs.Common.{◌+◌, ◌≤◌, sym, ◌∙◌, subst, true≢false}
 use Rattle.xl_standing.proofs.CleanTiles.{are_clean, copied_is, marked-where, shows-clean, shows-done}
 use Rattle.xl_standing.proofs.tile.show.Goals as goal
 
@@ -32,3 +32,7 @@ pub returns-clause-steps : goal.returns-clause-steps
 returns-clause-steps g c = λ clean.
     absurd (true≢false (sym clean ∙ marked-where c.args.document.now c.args.cache.now c.args.version c.args.node.0 c.args.at
     c.requires.kept (sym c.copy_clean.ensures.found ∙ c.if-copy_clean.false)))
+
+pub returns-clause-cost : goal.returns-clause-cost
+returns-clause-cost g c =
+    subst (λ n. c.compose-done.new.steps ≤ c.args.steps.now + n) c.in_ok-job.ensures.cost c.compose-done.ensures.cost

@@ -1,19 +1,19 @@
 -- The edits of a group are those of its call; so is the tile.
-use Rattle.std.proofs.Common.{rules, ◌≡◌, sym, ◌∙◌, ap, subst}
+use Rattle.std.proofs.Common.{rules, ◌≡◌, ◌+◌, ◌≤◌, sym, ◌∙◌, ap, subst}
 use Rattle.spec_history.specs.Machine as machine
-use Rattle.xl_standing.specs.Now.{response, Gives}
+use Rattle.std.specs.Prelude.{OnErr}
+use Rattle.xl_standing.specs.Needs.{call_cost}
+use Rattle.xl_standing.specs.Now.{accepts, response, Gives}
 use Rattle.xl_edit.specs.Replies.{reply_of}
-use Rattle.spec_history.specs.Limited as limited
+use Rattle.spec_tables.specs.Agrees.{IsPartAfter}
 use Rattle.xl_edit.specs.Calls.{call_of}
 use Rattle.xl_edit.specs.Edits.{edits_of}
-use Rattle.xl_standing.proofs.Making.{part_same}
 use Rattle.xl_standing.proofs.standing.Standing.answer.Goals as goal
 
 pub returns-in-Edit-clause-chest : goal.returns-in-Edit-clause-chest
 returns-in-Edit-clause-chest g c =
-    let same : limited.edits_of (call_of c.args.call.now) ≡ edits_of c.as_slice-edits.result.now = search rules in
-    part_same c.edit.result _ _ (limited.edits_of (call_of c.args.call.now))
-    (edits_of c.as_slice-edits.result.now) same c.edit.ensures.chest
+    let same : call_of c.args.call.now ≡ machine.edit c.in-Edit.group.guard (edits_of c.as_slice-edits.result.now) = search rules in
+    subst (λ call. OnErr c.edit.result (IsPartAfter (accepts c.args.self.now call) _ _ call)) (sym same) c.edit.ensures.chest
 
 pub returns-in_ok-tile-in-Tile-clause-response : goal.returns-in_ok-tile-in-Tile-clause-response
 returns-in_ok-tile-in-Tile-clause-response g c =
@@ -22,3 +22,20 @@ returns-in_ok-tile-in-Tile-clause-response g c =
     subst (λ call. Gives (response c.args.self.now call c.args.seen c.without_filters-in-Tile.result.tables)
     (reply_of c.without_filters-in-Tile.result.reply) c.tile.new.self) (sym same)
     (ap reply_of c.without_filters-in-Tile.ensures.reply ∙ tile.0, tile.1)
+
+pub returns-in_ok-tile-in-Tile-clause-no_tile : goal.returns-in_ok-tile-in-Tile-clause-no_tile
+returns-in_ok-tile-in-Tile-clause-no_tile g c = λ none.
+    c.in_ok-tile-in-Tile.ensures.no_tile
+    (ap (λ r. machine.version_shown (reply_of r)) (sym c.without_filters-in-Tile.ensures.reply) ∙ none)
+
+pub returns-in_ok-tile-in-Tile-clause-cost : goal.returns-in_ok-tile-in-Tile-clause-cost
+returns-in_ok-tile-in-Tile-clause-cost g c =
+    let same : call_of c.args.call.now ≡ machine.tile c.in-Tile.node.0 c.in-Tile.at = search rules in
+    subst (λ call. c.tile.new.steps ≤ c.args.steps.now + call_cost c.args.self.now.cache c.args.self.now.document call) (sym same)
+    c.tile.ensures.cost
+
+pub returns-in_err-tile-in-Tile-clause-cost : goal.returns-in_err-tile-in-Tile-clause-cost
+returns-in_err-tile-in-Tile-clause-cost g c =
+    let same : call_of c.args.call.now ≡ machine.tile c.in-Tile.node.0 c.in-Tile.at = search rules in
+    subst (λ call. c.tile.new.steps ≤ c.args.steps.now + call_cost c.args.self.now.cache c.args.self.now.document call) (sym same)
+    c.tile.ensures.cost

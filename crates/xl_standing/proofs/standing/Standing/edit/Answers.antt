@@ -1,9 +1,14 @@
 -- The canvas stays; and where the change cannot be made all filters were asked.
-use Rattle.std.proofs.Common.{ap, sym, ◌∙◌, subst}
+use Rattle.std.proofs.Common.{◌≡◌, true, ap, sym, ◌∙◌, subst}
+use Rattle.std.specs.Prelude.{reverse}
+use Rattle.spec_history.specs.Machine as machine
+use Rattle.spec_history.specs.Machine.{names}
+use Rattle.spec_tables.specs.Agrees.{IsPartAfter}
 use Rattle.xl_marks.specs.Change.{Change, change_between}
 use Rattle.xl_edit.specs.Applied.{at}
 use Rattle.xl_edit.specs.Edits.{edits_of}
-use Rattle.xl_standing.proofs.Making.{all_part, on_err}
+use Rattle.xl_standing.specs.Now.{Now, accepts}
+use Rattle.xl_standing.proofs.Making.{allowed_made, all_part, part_allowed, part_named, on_err}
 use Rattle.xl_standing.proofs.Sides.{sides_same}
 use Rattle.xl_standing.specs.Steps.{IsChange}
 use Rattle.xl_standing.proofs.standing.Standing.edit.Goals as goal
@@ -20,8 +25,40 @@ new-requires-clause-height g c =
 
 pub returns-in_err-change-clause-chest : goal.returns-in_err-change-clause-chest
 returns-in_err-change-clause-chest g c =
+    let old : Now = record {
+      document = c.self.inside.document;
+      undo = reverse c.self.inside.undo;
+      redo = reverse c.self.inside.redo;
+      next_id = c.self.inside.next_id;
+      next_group = c.self.inside.next_group;
+      version = c.self.inside.version;
+      cache = c.self.inside.cache;
+    } in
+    let edits = edits_of c.args.edits.now in
+    let named : names c.args.guard old.version ≡ true = sym c.is_named.ensures ∙ c.if-not-is_named.false in
+    let allowed = allowed_made (at old.document old.next_id) (at c.in-Ok.made.document c.in-Ok.made.next_id) edits
+    c.in-Ok.made.tables c.in-Ok.ensures.made in
     on_err _ c.from_residual.result
-    (all_part _ _ (edits_of c.args.edits.now) c.in-Ok.made.tables c.in-Ok.ensures.asked)
+    (subst (λ (n : Now). IsPartAfter (accepts n (machine.edit c.args.guard edits)) _ _ (machine.edit c.args.guard edits))
+    c.self.view_is
+    (part_named _ _ _ _ edits named
+    (part_allowed _ _ _ edits allowed (all_part _ _ edits c.in-Ok.made.tables c.in-Ok.ensures.asked))))
+
+pub returns-in-Err-in-Memory-clause-chest : goal.returns-in-Err-in-Memory-clause-chest
+returns-in-Err-in-Memory-clause-chest g c =
+    let old : Now = record {
+      document = c.self.inside.document;
+      undo = reverse c.self.inside.undo;
+      redo = reverse c.self.inside.redo;
+      next_id = c.self.inside.next_id;
+      next_group = c.self.inside.next_group;
+      version = c.self.inside.version;
+      cache = c.self.inside.cache;
+    } in
+    let edits = edits_of c.args.edits.now in
+    let named : names c.args.guard old.version ≡ true = sym c.is_named.ensures ∙ c.if-not-is_named.false in
+    subst (λ (n : Now). IsPartAfter (accepts n (machine.edit c.args.guard edits)) _ _ (machine.edit c.args.guard edits))
+    c.self.view_is (part_named _ _ _ _ edits named c.in-Err-in-Memory.ensures.chest)
 
 pub accept-reply-requires-clause-change : goal.accept-reply-requires-clause-change
 accept-reply-requires-clause-change g c =

@@ -1,7 +1,8 @@
 -- The slot of the tile is clean from then on.
-use Rattle.std.proofs.Common.{not, sym, ◌∙◌, ap, subst}
-use Rattle.std.specs.Prelude.{reverse}
+use Rattle.std.proofs.Common.{◌≡◌, ◌+◌, ◌≤◌, not, sym, ◌∙◌, ap, subst}
+use Rattle.std.specs.Prelude.{reverse, Some, None}
 use Rattle.spec_history.specs.Machine as machine
+use Rattle.xl_standing.specs.Needs.{tile_cost}
 use Rattle.xl_standing.specs.Now.{Now, Gives, with_cache, shown}
 use Rattle.xl_standing.proofs.CleanTiles.{response-tile}
 use Rattle.xl_standing.proofs.standing.Standing.tile.Goals as goal
@@ -21,3 +22,16 @@ returns-clause-response g c =
     (with_cache what c.show.new.cache)) c.self.view_is
     (response-tile what c.show.new.cache c.args.node.0 c.args.at (ap not (sym c.has_stack.ensures ∙ c.if-not-has_stack.false))
     (ap not (sym c.has_tile.ensures ∙ c.if-not-has_tile.false)) c.in_ok-show.ensures.cache)
+
+pub returns-clause-no_tile : goal.returns-clause-no_tile
+returns-clause-no_tile g c = λ none. let wrong : Some c.self.inside.version ≡ None = none in cc
+
+pub returns-clause-cost : goal.returns-clause-cost
+returns-clause-cost g c =
+    subst (λ (n : Now). c.show.new.steps ≤ c.args.steps.now + tile_cost n.cache n.document c.args.node.0 c.args.at) c.self.view_is
+    c.show.ensures.cost
+
+pub returns-in_err-show-clause-cost : goal.returns-in_err-show-clause-cost
+returns-in_err-show-clause-cost g c =
+    subst (λ (n : Now). c.show.new.steps ≤ c.args.steps.now + tile_cost n.cache n.document c.args.node.0 c.args.at) c.self.view_is
+    c.show.ensures.cost

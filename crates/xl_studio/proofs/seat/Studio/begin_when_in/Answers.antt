@@ -11,6 +11,8 @@ returns-in_default g c =
       seat = c.begin.ensures.seat;
       weight = c.begin.ensures.weight ∙ i.4;
       job = c.begin.ensures.job ∙ i.5;
+      closed = c.begin.ensures.closed ∙ i.6;
+      tally = c.begin.ensures.tally ∙ i.7;
       begins = prefix_trans _ _ _ i.3.begins c.begin.ensures.begins;
       begun = after_wait g.D.Shelf.state
           (opening_shelf c.args.self.now) (base_of c.args.self.now) c.args.session

@@ -10,7 +10,7 @@ use Rattle.xl_studio.specs.State.{moments_of}
 use Rattle.xl_studio.specs.Seats.{base_of, front_of}
 use Rattle.xl_studio.proofs.Seated.{seen_entered, start_within, call_may_leave, base_entered, begins_after}
 use Rattle.xl_studio.proofs.Seated.{front_after, called_after, shown_after}
-use Rattle.xl_studio.proofs.Stepless.{stepless_after, stepless_failed}
+use Rattle.xl_studio.proofs.Entered.{stepless_after, part_failed, cost_after}
 use Rattle.xl_studio.proofs.seat.Studio.call.Given as given
 use Rattle.xl_studio.proofs.seat.Studio.call.Goals as goal
 use Rattle.xl_studio.proofs.seat.Studio.call.Goals.{After-leave}
@@ -84,9 +84,16 @@ returns-clause-no_step g c =
     (call_of c.args.call) _ c.enter-held.result.value.core (moments_of c.submit-reply.new.self.core) _ (base_is g at)
     c.leave.ensures.front c.submit-reply.ensures.answered c.submit-reply.ensures.no_step c.submit-reply.ensures.full
 
-pub returns-clause-no_step_failed : goal.returns-clause-no_step_failed
-returns-clause-no_step_failed g c =
-    let at = (goal.at.returns-clause-no_step_failed g c).After-leave in
-    stepless_failed c.submit-reply.result _ (base_of c.args.self.now) (call_of c.args.call) c.enter-held.result.value.core
+pub returns-clause-part : goal.returns-clause-part
+returns-clause-part g c =
+    let at = (goal.at.returns-clause-part g c).After-leave in
+    part_failed c.submit-reply.result _ _ (base_of c.args.self.now) (call_of c.args.call) c.enter-held.result.value.core
     (moments_of c.submit-reply.new.self.core) _ (base_is g at) c.leave.ensures.front
-    c.submit-reply.ensures.failed c.submit-reply.ensures.no_step
+    c.submit-reply.ensures.failed c.submit-reply.ensures.part
+
+pub returns-clause-cost : goal.returns-clause-cost
+returns-clause-cost g c =
+    let at = (goal.at.returns-clause-cost g c).After-leave in
+    cost_after _ reply_of c.submit-reply.result _ _ (base_of c.args.self.now) c.args.session
+    (call_of c.args.call) _ c.enter-held.result.value.core (moments_of c.submit-reply.new.self.core) _ (base_is g at)
+    c.leave.ensures.front c.submit-reply.ensures.answered c.submit-reply.ensures.cost c.submit-reply.ensures.full

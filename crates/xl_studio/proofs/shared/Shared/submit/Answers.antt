@@ -1,6 +1,8 @@
-use Rattle.std.proofs.Common.{◌≡◌, ◌+◌, true, ap, refl, sym, subst, length}
-use Rattle.std.specs.Prelude.{IsSome}
-use Rattle.xl_standing.specs.History.{is_full, NeedsNoStep}
+use Rattle.std.proofs.Common.{◌≡◌, ◌+◌, ◌≤◌, true, ap, refl, sym, subst, length}
+use Rattle.std.specs.Prelude.{IsSome, OnErr}
+use Rattle.spec_tables.specs.Agrees.{IsPartAfter}
+use Rattle.xl_standing.specs.History.{document, is_full, is_accepted, NeedsNoStep}
+use Rattle.xl_standing.specs.Needs.{call_cost}
 use Rattle.xl_edit.specs.Calls.{call_of}
 use Rattle.xl_edit.specs.Replies.{reply_of}
 use Rattle.xl_studio.specs.State.{State, moments_of, IsKept}
@@ -64,3 +66,16 @@ returns-clause-no_step g c = λ needs.
 pub returns-clause-full : goal.returns-clause-full
 returns-clause-full g c =
     λ full. c.submit-reply.ensures.full (subst (λ (s : State _). is_full s.core.history ≡ true) (sym c.self.view_is) full)
+
+pub returns-clause-part : goal.returns-clause-part
+returns-clause-part g c =
+    let call = call_of c.args.call in
+    subst (λ (s : State _). OnErr c.submit-reply.result (IsPartAfter (is_accepted s.core.history call) _ _ call))
+    c.self.view_is c.submit-reply.ensures.part
+
+pub returns-clause-cost : goal.returns-clause-cost
+returns-clause-cost g c =
+    let old = c.args.steps.now in
+    let new = c.submit-reply.new.steps in
+    subst (λ (s : State _). new ≤ old + call_cost s.core.cache (document s.core.history) (call_of c.args.call))
+    c.self.view_is c.submit-reply.ensures.cost
