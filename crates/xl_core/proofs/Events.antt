@@ -58,10 +58,9 @@ out_happens c session out there = λ jobs.
     let w = world_with c jobs in
     happens_by jobs c (begins_save session) c w (ap (start_where c.history.base w session) (sym there)) refl refl
 
--- nor where fewer than two entries are free
-pub full_happens : {K : Type 0} (c : Editing K) (session : ℕ) → out_of c.history ≡ None
+none_free : {K : Type 0} (c : Editing K) (session : ℕ) → out_of c.history ≡ None
     → most_entries < length c.history.entries + 2 → Happens c (begins_save session) c
-full_happens c session none full = λ jobs.
+none_free c session none full = λ jobs.
     let base = c.history.base in
     let w = world_with c jobs in
     let owed : entries_owed w.state.out ≡ 0 = ap entries_owed none in
@@ -69,6 +68,15 @@ full_happens c session none full = λ jobs.
     let test : nat_lt (free_entries w) 2 ≡ true = grind (arith, nat_tests, few) in
     happens_by jobs c (begins_save session) c w
     (sym (ap (λ b. cond b w (save_starts base w session)) test) ∙ ap (start_where base w session) (sym none)) refl refl
+
+-- nor where fewer than two entries are free
+pub full_happens : {K : Type 0} (c : Editing K) (session : ℕ) → most_entries < length c.history.entries + 2
+    → Happens c (begins_save session) c
+full_happens c session full = go (out_of c.history) refl
+  where
+    go : (o : Option Saving) → out_of c.history ≡ o → Happens c (begins_save session) c
+    go None none = none_free c session none full
+    go (Some out) there = out_happens c session out there
 
 pub started_happens : {K : Type 0} (old new : Editing K) (session : ℕ) (k : K) (spare : ℕ)
     → IsLegal old.history.base old.history.entries → out_of old.history ≡ None
