@@ -1,7 +1,5 @@
 ghost use Rattle.std.specs.Prelude.{◌≡◌, [], IfOk, IfErr, IsSome, Some};
 ghost use Rattle.spec_document.specs.Limits.{IsDocument};
-ghost use Rattle.spec_world.specs.Right.{IsRight};
-ghost use Rattle.xl_core.specs.Editing.{world};
 ghost use Rattle.xl_doc.specs.Numbered.{AreNumbered};
 ghost use Rattle.xl_play.specs.Playing.{KeepsExactly};
 
@@ -19,10 +17,8 @@ pub fn open_core<D: Shelf>(alloc: Global, document: Document, shelf: D) -> Resul
     ensures fresh { IfOk result (λ core. core.history.entries ≡ []) }
     ensures shelf { IfOk result (λ core. core.shelf ≡ Some shelf) }
     ensures opening { IfOk result (λ core. core.opening ≡ shelf) }
-    ensures handed { IfOk result (λ core. core.handed ≡ []) }
     ensures inside { IfOk result (λ core. IsSome core.shelf) }
     ensures selected { IfOk result (λ core. IsSome (D.state core.opening).selected) }
-    ensures right { IfOk result (λ core. IsRight core.history.base (world core)) }
     ensures kept { IfOk result (λ core. KeepsExactly core) }
     ensures back { IfErr result (λ back. back ≡ shelf) }
 {

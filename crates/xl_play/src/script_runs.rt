@@ -3,8 +3,6 @@ ghost use Rattle.std.specs.List.{AllByRecursion};
 ghost use Rattle.spec_document.specs.Limits.{IsDocument};
 ghost use Rattle.spec_saves.specs.Names.{save_faults};
 ghost use Rattle.spec_script.specs.Fits.{FitsFilters};
-ghost use Rattle.spec_world.specs.Right as worlds;
-ghost use Rattle.xl_core.specs.Editing.{world};
 ghost use Rattle.xl_doc.specs.Numbered.{AreNumbered};
 ghost use Rattle.xl_play.specs.Told.{IsPlayed, WhetherFailed};
 ghost use Rattle.xl_play.specs.Playing.{AreOfFirst, KeepsExactly};
@@ -108,10 +106,7 @@ fn play_together<R: Threads + Wait + Sync, D: Shelf, G: Gate>(
     gate: &G,
 ) -> Played<D>
     requires fresh { core.history.entries ≡ [] }
-    requires handed { core.handed ≡ [] }
-    requires right { worlds.IsRight core.history.base (world core) }
     requires inside { IsSome core.shelf }
-    requires selected { IsSome (D.state core.opening).selected }
     requires boxes { AllByRecursion (λ boxes. length boxes.items < 2 ^ 32) chest.items }
     requires fits { FitsFilters (map length (states_of (λ b. state b) chest.items)) (lists_of script) }
     requires eight { length (lists_of script) ≡ 8 }

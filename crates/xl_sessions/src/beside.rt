@@ -8,11 +8,9 @@ ghost use Rattle.spec_script.specs.Script.{Line as Plain};
 ghost use Rattle.spec_seats.specs.Digests.{digests_in};
 ghost use Rattle.spec_seats.specs.Ended.{AreEnded};
 ghost use Rattle.spec_text.specs.Text.{IsTextOf, printed};
-ghost use Rattle.spec_world.specs.Right.{IsRight};
 ghost use Rattle.std.specs.List.{AllByRecursion};
 ghost use Rattle.std.specs.Prelude.{◌≡◌, ℕ, true, ◌+◌, ◌<◌, ◌≤◌, ◌^◌, List, [], length, map, None, is_none, IfOk, IsSome};
 ghost use Rattle.std.specs.Prelude.{string_bytes, vec_capacity};
-ghost use Rattle.xl_core.specs.Editing.{world};
 ghost use Rattle.xl_script.specs.Lines.{lists_of};
 ghost use Rattle.xl_sessions.specs.Full.{IsNotFull};
 ghost use Rattle.xl_sessions.specs.Outcomes.{states_of, texts_of};
@@ -207,10 +205,7 @@ fn play_in<R: Threads + Wait + Sync, D: Shelf, G: Gate>(
     gate: &G,
 ) -> PlayedBeside<D>
     requires fresh { core.history.entries ≡ [] }
-    requires handed { core.handed ≡ [] }
-    requires right { IsRight core.history.base (world core) }
     requires inside { IsSome core.shelf }
-    requires selected { IsSome (D.state core.opening).selected }
     requires few { number ≤ 8 }
     requires fit { AreFitParts (in_slots state) room.parts.items }
     requires script { AreOfAScript (in_slots state) room.parts.items }
@@ -224,6 +219,7 @@ fn play_in<R: Threads + Wait + Sync, D: Shelf, G: Gate>(
         → AreBrought (in_slots state) chests lists 0 room.parts.items
         → IfOk result.text (λ text. IsTextOf (string_bytes text) core.history.base lists chests result.core.history.entries) }
 {
+    core.know_right();
     match Studio::open(alloc, core) {
         Ok((studio, own)) => play_opened(rt, alloc, studio, own, room, number, gate),
         Err(failed) => PlayedBeside {
@@ -250,10 +246,7 @@ pub fn play_beside<R: Threads + Wait + Sync, D: Shelf, G: Gate>(
     gate: &G,
 ) -> PlayedBeside<D>
     requires fresh { core.history.entries ≡ [] }
-    requires handed { core.handed ≡ [] }
-    requires right { IsRight core.history.base (world core) }
     requires inside { IsSome core.shelf }
-    requires selected { IsSome (D.state core.opening).selected }
     requires boxes { AllByRecursion (λ boxes. length boxes.items < 2 ^ 32) chest.items }
     requires fits { FitsFilters (map length (states_of (λ b. state b) chest.items)) (lists_of script) }
     requires eight { length (lists_of script) ≡ 8 }
@@ -267,6 +260,7 @@ pub fn play_beside<R: Threads + Wait + Sync, D: Shelf, G: Gate>(
         IsTextOf (string_bytes text) core.history.base (lists_of script) (states_of (λ b. state b) chest.items)
         result.core.history.entries) }
 {
+    core.know_right();
     match room_for(alloc, script, chest, workers) {
         Ok(room) => play_in(rt, alloc, core, room, workers, gate),
         Err(error) => PlayedBeside {

@@ -7,10 +7,6 @@ pub returns-in-Ok-clause-selected : goal.returns-in-Ok-clause-selected
 returns-in-Ok-clause-selected g c =
     subst (λ (o : Option (List ℕ)). IsSome o) (sym (ap (λ k. (g.D.Shelf.state k.opening).selected) c.in-Ok.ensures.ok)) c.requires.selected
 
-pub returns-in-Ok-clause-right : goal.returns-in-Ok-clause-right
-returns-in-Ok-clause-right g c =
-    (opened_keeps c.in-Ok.core c.args.document c.args.shelf c.in-Ok.ensures.ok c.requires.limits c.in-Ok.ensures.right).right
-
 pub returns-in-Ok-clause-kept : goal.returns-in-Ok-clause-kept
 returns-in-Ok-clause-kept g c =
     opened_keeps c.in-Ok.core c.args.document c.args.shelf c.in-Ok.ensures.ok c.requires.limits c.in-Ok.ensures.right
