@@ -61,3 +61,6 @@ returns-clause-ended g c = ended_anyhow (g.S.Source.left c.read_script.new.sourc
 pub returns-clause-few_loads : goal.returns-clause-few_loads
 returns-clause-few_loads g c =
     omega (arith, c.in-Ok-read_document.ensures.few_loads, c.run_script-played.ensures.shelf.loads)
+
+pub returns-in-Err-clause-few_loads : goal.returns-in-Err-clause-few_loads
+returns-in-Err-clause-few_loads g c = omega arith

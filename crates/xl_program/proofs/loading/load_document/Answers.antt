@@ -78,3 +78,21 @@ returns-clause-untouched g c =
     c.select.new.self c.load_all.new.shelf
     c.select.ensures.contents c.select.ensures.quiet c.select.ensures.saving c.load_all.ensures.contents c.load_all.ensures.quiet
     c.load_all.ensures.saving
+
+pub returns-in-Err-Failed-clause-few_loads : goal.returns-in-Err-Failed-clause-few_loads
+returns-in-Err-Failed-clause-few_loads g c = omega (arith, c.select.ensures.loads, c.load_all.ensures.loads)
+
+pub returns-in-Err-Memory-clause-few_loads : goal.returns-in-Err-Memory-clause-few_loads
+returns-in-Err-Memory-clause-few_loads g c = omega (arith, c.select.ensures.loads, c.load_all.ensures.loads)
+
+pub returns-in_default-clause-few_loads : goal.returns-in_default-clause-few_loads
+returns-in_default-clause-few_loads g c = omega (arith, c.select.ensures.loads, c.load_all.ensures.loads)
+
+pub returns-in-Ok-decode-clause-few_loads : goal.returns-in-Ok-decode-clause-few_loads
+returns-in-Ok-decode-clause-few_loads g c = omega (arith, c.select.ensures.loads, c.load_all.ensures.loads)
+
+pub returns-in-Err-Refused-clause-few_loads : goal.returns-in-Err-Refused-clause-few_loads
+returns-in-Err-Refused-clause-few_loads g c = omega (arith, c.select.ensures.loads, c.load_all.ensures.loads)
+
+pub returns-clause-few_loads : goal.returns-clause-few_loads
+returns-clause-few_loads g c = omega (arith, c.select.ensures.loads, c.load_all.ensures.loads)

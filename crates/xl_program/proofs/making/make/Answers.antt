@@ -95,3 +95,9 @@ pub returns-clause-few_loads : goal.returns-clause-few_loads
 returns-clause-few_loads g c =
     let run = c.run_made-played.ensures c.args.seed c.in-Ok.ensures.document c.in-Ok.ensures.script in
     omega (arith, run.shelf.loads, c.save_first.ensures.loads)
+
+pub returns-in_default-clause-few_loads : goal.returns-in_default-clause-few_loads
+returns-in_default-clause-few_loads g c = omega arith
+
+pub returns-then-is_err-clause-few_loads : goal.returns-then-is_err-clause-few_loads
+returns-then-is_err-clause-few_loads g c = omega (arith, c.save_first.ensures.loads)

@@ -1,4 +1,4 @@
-use Rattle.std.proofs.Common.{refl, sym, ◌∙◌}
+use Rattle.std.proofs.Common.{refl, sym, ◌∙◌, arith}
 use Rattle.xl_program.proofs.FirstSaves.{ok_at, err_at}
 use Rattle.xl_program.proofs.PackSaves.{IsPackRead, is_packed, may_be_packed, save_rose, text_moved, smallest_moved}
 use Rattle.xl_program.proofs.PackSaves.{rose_at, stays_at}
@@ -108,3 +108,12 @@ returns-clause-comes g c = λ given.
       wrote_all g.K.Sink.held g.K.Sink.faults c.args.sink.now c.write_all.new.sink c.deref-2.result.now c.write_all.result
           (sym c.is_err-2.ensures.value ∙ c.if-is_err-2.false) c.write_all.ensures,
     )
+
+pub returns-then-is_err-clause-few_loads : goal.returns-then-is_err-clause-few_loads
+returns-then-is_err-clause-few_loads g c = omega (arith, c.in_ok-loaded.ensures.few_loads, c.save_smallest.ensures.loads)
+
+pub returns-then-is_err-2-clause-few_loads : goal.returns-then-is_err-2-clause-few_loads
+returns-then-is_err-2-clause-few_loads g c = omega (arith, c.in_ok-loaded.ensures.few_loads, c.save_smallest.ensures.loads)
+
+pub returns-clause-few_loads : goal.returns-clause-few_loads
+returns-clause-few_loads g c = omega (arith, c.in_ok-loaded.ensures.few_loads, c.save_smallest.ensures.loads)

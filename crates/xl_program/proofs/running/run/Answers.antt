@@ -166,3 +166,12 @@ returns-clause-other_names g c =
     let after : ShelfState = g.D.Shelf.state c.obey-done.result.shelf in
     subst (λ (o : Option Asked). OtherNamesStay before after o) is
     (names_stay g.K.Sink.held g.K.Sink.faults _ before after command _ _ c.obey-done.result.result c.obey-done.ensures.comes)
+
+pub returns-in_default-asked-clause-other_names : goal.returns-in_default-asked-clause-other_names
+returns-in_default-asked-clause-other_names g c = all_stay (g.D.Shelf.state c.args.shelf) (asked_in (arguments_of c.args.words.now))
+
+pub returns-in_default-clause-few_loads : goal.returns-in_default-clause-few_loads
+returns-in_default-clause-few_loads g c = omega arith
+
+pub returns-in_default-asked-clause-few_loads : goal.returns-in_default-asked-clause-few_loads
+returns-in_default-asked-clause-few_loads g c = omega arith

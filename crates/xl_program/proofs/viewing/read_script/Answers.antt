@@ -1,4 +1,4 @@
-use Rattle.std.proofs.Common.{[], ◌∷◌, ap}
+use Rattle.std.proofs.Common.{[], ◌∷◌, ap, arith}
 use Rattle.spec_view.specs.Script.{first_session}
 use Rattle.xl_program.proofs.Scripts.{same_fits}
 use Rattle.xl_program.proofs.Viewed.{first_same, view_reads}
@@ -23,3 +23,18 @@ pub returns-in-Ok-parse_viewed-clause-fits : goal.returns-in-Ok-parse_viewed-cla
 returns-in-Ok-parse_viewed-clause-fits g c =
     let count = first_same _ _ c.args.chest.now.items _ c.deref-2.ensures.value c.first_count.ensures in
     same_fits _ _ _ (ap (λ n. n ∷ []) count) c.in-Ok-parse_viewed.ensures.fits
+
+pub returns-in-Err-Failed-clause-takes : goal.returns-in-Err-Failed-clause-takes
+returns-in-Err-Failed-clause-takes g c = (c.in-Err-Failed.ensures.some, omega (arith, c.read_all.ensures.reads))
+
+pub returns-in-Err-Memory-clause-takes : goal.returns-in-Err-Memory-clause-takes
+returns-in-Err-Memory-clause-takes g c = (c.in-Err-Memory.ensures.some, omega (arith, c.read_all.ensures.reads))
+
+pub returns-in-Ok-parse_viewed-clause-takes : goal.returns-in-Ok-parse_viewed-clause-takes
+returns-in-Ok-parse_viewed-clause-takes g c = ((c.in-Ok.text.items, c.in-Ok.ensures.given), omega (arith, c.read_all.ensures.reads))
+
+pub returns-in-Err-Refused-clause-takes : goal.returns-in-Err-Refused-clause-takes
+returns-in-Err-Refused-clause-takes g c = ((c.in-Ok.text.items, c.in-Ok.ensures.given), omega (arith, c.read_all.ensures.reads))
+
+pub returns-clause-takes : goal.returns-clause-takes
+returns-clause-takes g c = ((c.in-Ok.text.items, c.in-Ok.ensures.given), omega (arith, c.read_all.ensures.reads))

@@ -1,4 +1,4 @@
-use Rattle.std.proofs.Common.{ap, subst, sym}
+use Rattle.std.proofs.Common.{ap, subst, sym, arith}
 use Rattle.std.specs.Prelude.{Err}
 use Rattle.xl_program.specs.Outcome.{Given, given_of, LoadsFew}
 use Rattle.xl_program.proofs.ScriptEnded.{ended_anyhow}
@@ -79,3 +79,6 @@ returns-clause-few_loads g c =
     let see = g.D.Shelf.state in
     subst (λ (k : _). LoadsFew (see c.args.shelf) (see k)) (sym c.view_document-viewed.ensures.shelf)
     c.in-Ok-read_document.ensures.few_loads
+
+pub returns-in-Err-clause-few_loads : goal.returns-in-Err-clause-few_loads
+returns-in-Err-clause-few_loads g c = omega arith
