@@ -1,11 +1,11 @@
 -- A source that was not read.
 use Rattle.std.proofs.Common.{◌≡◌, ℕ, List, [], Option, Some, None, inl, refl}
-use Rattle.spec_command.specs.Arguments.{Asked, edit, render, info, make, pack, flatten, view}
+use Rattle.spec_command.specs.Arguments.{Asked, edit, render, info, make, pack, flatten, view, audit}
 use Rattle.xl_ports.specs.Source.{led_by}
 use Rattle.xl_ports.proofs.Moments.{still}
 use Rattle.xl_program.specs.Outcome.{Takes, Shelved, IsUntouched, MaySave}
 
-led_by_nothing : (left : Option (List ℕ)) → left ≡ led_by [] left
+pub led_by_nothing : (left : Option (List ℕ)) → left ≡ led_by [] left
 led_by_nothing None = refl
 led_by_nothing (Some more) = refl
 
@@ -20,6 +20,7 @@ nothing_taken left faults s (Some (make name seed)) = (refl, refl)
 nothing_taken left faults s (Some (pack name with_plans)) = (refl, refl)
 nothing_taken left faults s (Some (flatten name)) = (refl, refl)
 nothing_taken left faults s (Some (view name cols rows)) = ([], led_by_nothing (left s))
+nothing_taken left faults s (Some (audit name)) = ([], led_by_nothing (left s))
 
 pub untouched : (s : Shelved) → IsUntouched s s
 untouched s = record { contents = refl; quiet = still s.known.disk; saving = refl }
@@ -34,3 +35,4 @@ nothing_saved s (Some (edit name workers)) = inl (untouched s)
 nothing_saved s (Some (pack name with_plans)) = untouched s
 nothing_saved s (Some (flatten name)) = untouched s
 nothing_saved s (Some (view name cols rows)) = untouched s
+nothing_saved s (Some (audit name)) = untouched s

@@ -1,0 +1,98 @@
+ghost use Rattle.std.specs.Prelude.{◌≡◌, ◌<◌, ◌≤◌, ◌^◌, ◌⊎◌, ℕ, List, length, map, Some, IfOk, OnOk};
+ghost use Rattle.std.specs.List.{AllByRecursion};
+ghost use Rattle.spec_audit.specs.Limited.{AreNumbers};
+ghost use Rattle.spec_command.specs.Arguments.{audit as audit_of};
+ghost use Rattle.spec_script.specs.Fits.{FitsFilters};
+ghost use Rattle.xl_ports.specs.Source.{led_by, IsEnded};
+ghost use Rattle.xl_program.specs.Outcome.{given_of, ComesTo, ReadsToEnd, SourceCause, ShelfCause, shelved};
+ghost use Rattle.xl_program.specs.Parts.{ReadsSourceOf, StopsAudit, WritesVerdict};
+ghost use Rattle.xl_script.specs.Lines.{lists_of};
+ghost use Rattle.xl_sessions.specs.Outcomes.{states_of};
+
+use crate::editing::filter_counts;
+use crate::loading::read_document;
+use crate::stopped::Stopped;
+use std::alloc::{AllocError, Global};
+use xl_filters::PointFilter;
+use xl_ports::{Shelf, Sink, Source, write_all};
+use xl_verdict::{Audit, Unread, Verdict, find_verdict, read_audit, rejection_of, verdict_line};
+
+/// Judges whether a printed run is one of an edit of a file by a script, with the filters of the sessions, and writes the verdict.
+/// Both stand in the source, behind a head that says how long the script is.
+///
+/// The source is read before the file, and the line is made before its first byte is written. Nothing is saved.
+pub fn audit<S: Source, K: Sink, D: Shelf>(
+    alloc: Global,
+    name: &str,
+    source: &mut S,
+    sink: &mut K,
+    shelf: &mut D,
+    chest: Vec<Vec<Box<dyn PointFilter + Send>>>,
+) -> Result<(), Stopped>
+    requires lists { length chest.items ≤ 8 }
+    requires boxes { AllByRecursion (λ boxes. length boxes.items < 2 ^ 32) chest.items }
+    ensures comes { ComesTo K.held K.faults (given_of (S.left source.old) (λ b. state b) chest.items)
+        (shelved D.content D.selected D.disk D.reading_faults D.saving_faults shelf.old)
+        (shelved D.content D.selected D.disk D.reading_faults D.saving_faults shelf.new)
+        (audit_of name.now) sink.old sink.new result }
+    ensures stops { StopsAudit (given_of (S.left source.old) (λ b. state b) chest.items) (D.content shelf.old name.now) result }
+    ensures takes { (bytes : List ℕ) × (S.left source.old ≡ led_by bytes (S.left source.new)) }
+    ensures ended { ReadsToEnd (S.left source.new) result }
+    ensures source_cause { SourceCause (S.faults source.old) (S.faults source.new) result }
+    ensures shelf_cause { ShelfCause (D.reading_faults shelf.old) (D.reading_faults shelf.new) result }
+    ensures selected { (D.selected shelf.new ≡ D.selected shelf.old) ⊎ (D.selected shelf.new ≡ Some name.now) }
+{
+    let given = read_source(alloc, source, &chest)?;
+    let document = read_document(alloc, name, shelf)?;
+    write_verdict(alloc, sink, find_verdict(alloc, document, &given, chest))
+}
+
+// The script and the output behind the head of the source.
+fn read_source<S: Source>(
+    alloc: Global,
+    source: &mut S,
+    chest: &Vec<Vec<Box<dyn PointFilter + Send>>>,
+) -> Result<Audit, Stopped>
+    requires { AllByRecursion (λ boxes. length boxes.items < 2 ^ 32) chest.now.items }
+    ensures reads { ReadsSourceOf (given_of (S.left source.old) (λ b. state b) chest.now.items) result }
+    ensures fits { IfOk result (λ audit.
+        FitsFilters (map length (states_of (λ b. state b) chest.now.items)) (lists_of audit.script)) }
+    ensures numbers { IfOk result (λ audit. AreNumbers (lists_of audit.script)) }
+    ensures takes { (bytes : List ℕ) × (S.left source.old ≡ led_by bytes (S.left source.new)) }
+    ensures ended { OnOk result (IsEnded (S.left source.new)) }
+    ensures cause { SourceCause (S.faults source.old) (S.faults source.new) result }
+{
+    let Ok(counts) = filter_counts(alloc, chest) else {
+        return Err(Stopped::Memory);
+    };
+    match read_audit(alloc, source, &counts) {
+        Ok(audit) => Ok(audit),
+        Err(Unread::SourceFault) => Err(Stopped::SourceFault),
+        Err(Unread::BadHead) => Err(Stopped::BadHead),
+        Err(Unread::BadLine(number)) => Err(Stopped::BadLine(number)),
+        Err(Unread::Memory) => Err(Stopped::Memory),
+    }
+}
+
+// Writes the line of a verdict.
+fn write_verdict<K: Sink>(
+    alloc: Global,
+    sink: &mut K,
+    verdict: Result<Verdict, AllocError>,
+) -> Result<(), Stopped>
+    ensures { WritesVerdict K.held K.faults sink.old sink.new verdict result }
+{
+    let Ok(verdict) = verdict else {
+        return Err(Stopped::Memory);
+    };
+    let Ok(line) = verdict_line(alloc, verdict) else {
+        return Err(Stopped::Memory);
+    };
+    if write_all(sink, line.as_bytes()).is_err() {
+        return Err(Stopped::SinkFault);
+    }
+    match rejection_of(verdict) {
+        None => Ok(()),
+        Some(why) => Err(Stopped::Rejected(why)),
+    }
+}

@@ -1,0 +1,27 @@
+ghost use Rattle.std.specs.Prelude.{◌≡◌, string_bytes, IfOk};
+ghost use Rattle.spec_audit.specs.Answers.{rejection_of, verdict_line};
+
+use spec_audit::{Rejection, Verdict};
+use std::alloc::{AllocError, Global};
+
+/// The line that tells of a verdict.
+pub fn verdict_line(alloc: Global, verdict: Verdict) -> Result<String, AllocError>
+    ensures { IfOk result (λ text. string_bytes text ≡ verdict_line verdict) }
+{
+    match verdict {
+        Verdict::Accepted => String::from_str(alloc, "accepted\n"),
+        Verdict::Shape => String::from_str(alloc, "rejected 1\n"),
+        Verdict::Reply { session, index } => { format!(in alloc; "rejected 2 {session}.{index}\n") }
+    }
+}
+
+/// Why an output is not accepted, where it is not.
+pub fn rejection_of(verdict: Verdict) -> Option<Rejection>
+    ensures { result ≡ rejection_of verdict }
+{
+    match verdict {
+        Verdict::Accepted => None,
+        Verdict::Shape => Some(Rejection::Shape),
+        Verdict::Reply { session, index } => Some(Rejection::Reply { session, index }),
+    }
+}
