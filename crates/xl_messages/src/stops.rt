@@ -1,11 +1,11 @@
 use crate::faults::fault_text;
 use crate::lines::cause_text;
-use spec_audit::Rejection;
 use spec_fields::ReadRefused;
 use std::alloc::{AllocError, Global};
 use xl_command::{Command, command_of};
 use xl_printed::split_source;
 use xl_program::Stopped;
+use xl_verdict::Rejection;
 use xl_why::{cause_of, cause_of_viewed};
 
 const USAGE: &str =

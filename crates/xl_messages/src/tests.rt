@@ -1,10 +1,10 @@
 use crate::faults::fault_text;
 use crate::message;
-use spec_audit::Rejection;
 use spec_fields::{Kind, ReadRefused};
 use std::alloc::{AllocError, Global};
 use std::test::Fail;
 use xl_program::Stopped;
+use xl_verdict::Rejection;
 
 // The sentence on a file that is edited.
 fn of_edit(alloc: Global, status: u8, cause: Stopped) -> Result<String, AllocError> {

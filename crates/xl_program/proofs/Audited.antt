@@ -2,7 +2,7 @@
 use Rattle.std.proofs.Common.{◌≡◌, ℕ, List, ap, sym, subst, refl}
 use Rattle.std.specs.Prelude.{Option, IfSome, IfOk, Result, Ok, Err}
 use Rattle.std.specs.declared.alloc.AllocError.{AllocError}
-use Rattle.spec_audit.specs.Answers.{verdict_line}
+use Rattle.xl_verdict.specs.Answers.{verdict_line}
 use Rattle.spec_audit.specs.Verdicts.{IsExact}
 use Rattle.spec_audit.specs.declared.Verdict.{Verdict}
 use Rattle.spec_command.specs.Arguments.{audit}

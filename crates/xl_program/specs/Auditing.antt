@@ -1,6 +1,6 @@
 -- What is told of an output that is audited.
 use Rattle.std.specs.Prelude.{◌≡◌, ℕ, List, length, map, Option, IfSome, Ok}
-use Rattle.spec_audit.specs.Answers.{verdict_line}
+use Rattle.xl_verdict.specs.Answers.{verdict_line}
 use Rattle.spec_audit.specs.Verdicts.{IsExact}
 use Rattle.spec_audit.specs.declared.Verdict.{Verdict}
 use Rattle.spec_audit.specs.declared.Verdict.TheVariants.{Accepted}

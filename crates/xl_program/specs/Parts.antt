@@ -2,7 +2,7 @@
 use Rattle.std.specs.Prelude.{◌≡◌, ℕ, true, false, List, Option, IfSome, IfOk, Result, Ok, Err, String, string_bytes}
 use Rattle.std.specs.declared.alloc.AllocError.{AllocError}
 use Rattle.std.specs.declared.alloc.Global.{Global}
-use Rattle.spec_audit.specs.Answers.{verdict_line}
+use Rattle.xl_verdict.specs.Answers.{verdict_line}
 use Rattle.spec_audit.specs.declared.Verdict.{Verdict}
 use Rattle.spec_audit.specs.declared.Verdict.TheVariants.{Accepted}
 use Rattle.spec_command.specs.Arguments.{Asked, edit, render, info, make, pack, flatten, view, audit}

@@ -1,6 +1,6 @@
-use spec_audit::Rejection;
 use spec_fields::ReadRefused;
 use spec_flat::FlatRefused;
+use xl_verdict::Rejection;
 
 /// Why a command did not end well.
 #[derive(Clone, Copy, Debug, PartialEq, Eq)]

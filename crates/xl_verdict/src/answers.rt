@@ -1,8 +1,17 @@
 ghost use Rattle.std.specs.Prelude.{◌≡◌, string_bytes, IfOk};
-ghost use Rattle.spec_audit.specs.Answers.{rejection_of, verdict_line};
+ghost use Rattle.xl_verdict.specs.Answers.{rejection_of, verdict_line};
 
-use spec_audit::{Rejection, Verdict};
+use spec_audit::Verdict;
 use std::alloc::{AllocError, Global};
+
+/// Why an output is not accepted.
+#[derive(Clone, Copy, Debug, PartialEq, Eq)]
+pub enum Rejection {
+    /// It has not the shape of an output of the script.
+    Shape,
+    /// The first reply that may not stand there is that of this call.
+    Reply { session: u8, index: u32 },
+}
 
 /// The line that tells of a verdict.
 pub fn verdict_line(alloc: Global, verdict: Verdict) -> Result<String, AllocError>

@@ -5,7 +5,7 @@ mod answers;
 mod judging;
 mod reading;
 
-pub use answers::{rejection_of, verdict_line};
+pub use answers::{Rejection, rejection_of, verdict_line};
 pub use judging::find_verdict;
 pub use reading::{Audit, Unread, read_audit};
-pub use spec_audit::{Rejection, Verdict};
+pub use spec_audit::Verdict;
