@@ -19,7 +19,7 @@ use Rattle.xl_program.specs.declared.stopped.Stopped.{Stopped}
 use Rattle.xl_program.specs.declared.stopped.Stopped.TheVariants.{SourceFault, BadHead, BadLine, ShelfFault, Refused}
 use Rattle.xl_program.specs.declared.stopped.Stopped.TheVariants.{NotFlattened, SaveFault, Rejected, SinkFault, Memory}
 use Rattle.xl_verdict.specs.Judging.{started}
-use Rattle.xl_verdict.specs.Reading.{ReadsAudit, output_of}
+use Rattle.xl_verdict.specs.Reading.{ReadsAudit}
 use Rattle.xl_verdict.specs.declared.reading.Audit.{Audit}
 use Rattle.xl_verdict.specs.declared.reading.Unread.{Unread}
 use Rattle.xl_program.proofs.Taken.{untouched}
@@ -36,12 +36,12 @@ pub record IsAuditOpened (given : Given) (before mid : Shelved) (name : List ℕ
 module _ (given : Given) {before mid : Shelved} {name : List ℕ} {d : Document} {found : Audit}
     (then : IsAuditOpened given before mid name d found) where
   is_audited : (ending : Ending) (verdict : Verdict)
-      → IsExact (started d (lists_of found.script) given.chests) (output_of found) verdict → HasVerdict ending verdict
+      → IsExact (started d (lists_of found.script) given.chests) found.output.items verdict → HasVerdict ending verdict
       → IsAudited given.left given.chests (before.content name) ending (verdict_line verdict)
   is_audited ending verdict exact ends = record {
     document = d;
     lists = lists_of found.script;
-    output = output_of found;
+    output = found.output.items;
     verdict = verdict;
     held = then.holds;
     within = then.within;
@@ -54,7 +54,7 @@ module _ (given : Given) {before mid : Shelved} {name : List ℕ} {d : Document}
   -- what is written, and the shelf
   pub audit_comes : {K : Type 0} (held : K → Option (List ℕ)) (faults : K → ℕ) (old new : K) (verdict : Result Verdict AllocError)
       (result : Result (Unit {0}) Stopped)
-      → IfOk verdict (IsExact (started d (lists_of found.script) given.chests) (output_of found))
+      → IfOk verdict (IsExact (started d (lists_of found.script) given.chests) found.output.items)
       → WritesVerdict held faults old new verdict result → ComesTo held faults given before mid (audit name) old new result
   audit_comes held faults old new (Ok verdict) (Ok x) exact writes =
       (verdict_line verdict, (is_audited well verdict exact writes.1, then.untouched), writes.0)
@@ -110,8 +110,8 @@ pub audit_file_stops : (given : Given) (content : Option Content) (found : Audit
 audit_file_stops given content found SourceFault has loads = absurd loads
 audit_file_stops given content found BadHead has loads = absurd loads
 audit_file_stops given content found (BadLine number) has loads = absurd loads
-audit_file_stops given content found ShelfFault has loads = (lists_of found.script, output_of found, has)
-audit_file_stops given content found (Refused why) has loads = ((lists_of found.script, output_of found, has), loads)
+audit_file_stops given content found ShelfFault has loads = (lists_of found.script, found.output.items, has)
+audit_file_stops given content found (Refused why) has loads = ((lists_of found.script, found.output.items, has), loads)
 audit_file_stops given content found (NotFlattened why) has loads = absurd loads
 audit_file_stops given content found SaveFault has loads = absurd loads
 audit_file_stops given content found (Rejected why) has loads = absurd loads

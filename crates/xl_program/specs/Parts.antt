@@ -30,7 +30,7 @@ use Rattle.xl_program.specs.declared.stopped.Stopped.TheVariants.{SourceFault, B
 use Rattle.xl_program.specs.declared.stopped.Stopped.TheVariants.{NotFlattened, SaveFault, Rejected, SinkFault, Memory}
 use Rattle.xl_script.specs.Lines.{lists_of}
 use Rattle.xl_script.specs.declared.script.Line.{Line}
-use Rattle.xl_verdict.specs.Reading.{IsBadHead, output_of}
+use Rattle.xl_verdict.specs.Reading.{IsBadHead}
 use Rattle.xl_verdict.specs.declared.reading.Audit.{Audit}
 
 -- the document of the file, or its first fault
@@ -64,7 +64,7 @@ ReadsViewed given (Err stopped) = ⊥
 
 -- the script and the output of an audit, or why there are none
 abbrev pub ReadsSourceOf : Given → Result Audit Stopped → Type 0
-ReadsSourceOf given (Ok found) = HasAudit given.left given.chests (lists_of found.script) (output_of found)
+ReadsSourceOf given (Ok found) = HasAudit given.left given.chests (lists_of found.script) found.output.items
 ReadsSourceOf given (Err SourceFault) = Unit {0}
 ReadsSourceOf given (Err BadHead) = IsBadHead given.left
 ReadsSourceOf given (Err (BadLine number)) = IsBadAuditLine given.left given.chests number

@@ -1,39 +1,16 @@
 -- A source that is read up to one byte more than it may have is read as a whole.
-use Rattle.std.proofs.Common.{◌≡◌, ◌⊎◌, inl, inr, ℕ, ◌+◌, ◌-◌, ◌^◌, List, [], ◌∷◌, ◌++◌, length, drop, refl, sym, ◌∙◌, ap, subst, arith}
-use Rattle.std.proofs.Common.{append_assoc, append-nil, decimal, length-append}
-use Rattle.std.specs.Prelude.{Option, Some, None, IfOk, OnOk, Result, Ok, Err, codes}
+use Rattle.std.proofs.Common.{◌≡◌, ◌⊎◌, inl, inr, ℕ, ◌+◌, ◌-◌, ◌^◌, List, [], ◌++◌, length, sym, ◌∙◌, ap, subst, arith}
+use Rattle.std.proofs.Common.{append-nil, length-append}
+use Rattle.std.specs.Prelude.{Option, Some, None, IfOk, OnOk, Result, Ok, Err}
 use Rattle.spec_audit.specs.Limited.{AreNumbers}
 use Rattle.spec_audit.specs.Source.{IsSource}
 use Rattle.spec_audit.proofs.Names.{script_numbers}
 use Rattle.xl_ports.specs.Source.{led_by, IsEnded}
 use Rattle.xl_script.specs.Lines.{lists_of}
-use Rattle.xl_verdict.specs.Reading.{HasParts, IsBadHead, ReadsAudit, output_of}
+use Rattle.xl_verdict.specs.Reading.{HasParts, IsBadHead, ReadsAudit}
 use Rattle.xl_verdict.specs.declared.reading.Audit.{Audit}
 use Rattle.xl_verdict.specs.declared.reading.Unread.{Unread}
 use Rattle.xl_verdict.specs.declared.reading.Unread.TheVariants.{SourceFault, BadHead, BadLine, Memory}
-
--- ---- the output
-
-dropped : (xs ys : List ℕ) → drop (length xs) (xs ++ ys) ≡ ys
-dropped [] ys = refl
-dropped (x ∷ xs) ys = dropped xs ys
-
--- the output is what stands at the end
-behind : (bytes text output : List ℕ) → IsSource bytes text output → drop (length bytes - length output) bytes ≡ output
-behind bytes text output is =
-    let front = (codes "script " ++ decimal (length text)) ++ 10 ∷ text in
-    let whole : bytes ≡ front ++ output =
-    is.text ∙ sym (append_assoc (codes "script " ++ decimal (length text)) (10 ∷ text) output) in
-    let long = ap length whole ∙ length-append front output in
-    let at : length bytes - length output ≡ length front = omega (arith, long) in
-    ap (λ (n : ℕ). drop n bytes) at ∙ (ap (λ (bs : List ℕ). drop (length front) bs) whole ∙ dropped front output)
-
-pub source_parted : (bytes text output : List ℕ) (from : ℕ) → from ≡ length bytes - length output → IsSource bytes text output
-    → IsSource bytes text (drop from bytes)
-source_parted bytes text output from at is =
-    subst (λ (out : List ℕ). IsSource bytes text out) (sym (ap (λ (n : ℕ). drop n bytes) at ∙ behind bytes text output is)) is
-
--- ---- the whole source
 
 front_has : (front more text output : List ℕ) → (length front ≡ 2 ^ 28 + 1) ⊎ (more ≡ []) → IsSource front text output
     → IsSource (front ++ more) text output
@@ -62,7 +39,7 @@ bad_head_led before (Some more) front led how none = rw led (front_has_none fron
 pub audit_led : (before after : Option (List ℕ)) (front counts : List ℕ) (r : Result Audit Unread) → before ≡ led_by front after
     → (length front ≡ 2 ^ 28 + 1) ⊎ IsEnded after → ReadsAudit (Some front) counts r → ReadsAudit before counts r
 audit_led before after front counts (Ok audit) led how reads =
-    (reads.0, parts_led before after front reads.0 (output_of audit) led how reads.1, reads.2)
+    (reads.0, parts_led before after front reads.0 audit.output.items led how reads.1, reads.2)
 audit_led before after front counts (Err SourceFault) led how reads = tt
 audit_led before after front counts (Err BadHead) led how reads = bad_head_led before after front led how reads
 audit_led before after front counts (Err (BadLine number)) led how reads =

@@ -1,5 +1,5 @@
 -- What is read of the source of an audit.
-use Rattle.std.specs.Prelude.{◌≡◌, ℕ, List, drop, Option, IfSome, Result, Ok, Err}
+use Rattle.std.specs.Prelude.{◌≡◌, ℕ, List, Option, IfSome, Result, Ok, Err}
 use Rattle.spec_audit.specs.Source.{IsSource}
 use Rattle.spec_script.specs.Script.{script}
 use Rattle.xl_ports.specs.Faults.{Rose}
@@ -21,13 +21,10 @@ abbrev pub IsBadLineBehind : (left : Option (List ℕ)) → (counts : List ℕ) 
 IsBadLineBehind left counts number =
     (text : List ℕ) × (output : List ℕ) × HasParts left text output × (script text counts ≡ Err number)
 
-abbrev pub output_of : Audit → List ℕ
-output_of audit = drop audit.from audit.bytes.items
-
 -- the script with its lines and the output, or why there are none
 abbrev pub ReadsAudit : (left : Option (List ℕ)) → (counts : List ℕ) → Result Audit Unread → Type 0
 ReadsAudit left counts (Ok audit) =
-    (text : List ℕ) × HasParts left text (output_of audit) × (script text counts ≡ Ok (lists_of audit.script))
+    (text : List ℕ) × HasParts left text audit.output.items × (script text counts ≡ Ok (lists_of audit.script))
 ReadsAudit left counts (Err SourceFault) = Unit {0}
 ReadsAudit left counts (Err BadHead) = IsBadHead left
 ReadsAudit left counts (Err (BadLine number)) = IsBadLineBehind left counts number

@@ -9,7 +9,6 @@ ghost use Rattle.xl_filters.specs.Chests.{states_in};
 ghost use Rattle.xl_script.specs.Lines.{lists_of};
 ghost use Rattle.xl_audit.specs.Auditing.{start_of, IsFull};
 ghost use Rattle.xl_verdict.specs.Judging.{filters_of, full_chests, started};
-ghost use Rattle.xl_verdict.specs.Reading.{output_of};
 
 use crate::reading::Audit;
 use spec_audit::Verdict;
@@ -64,14 +63,14 @@ fn judge<L: Ledger>(
     requires full { AllByRecursion IsFull (map (λ c. states_in state c) chests.items) }
     requires fits { FitsFilters (map length (map (λ c. states_in state c) chests.items)) (lists_of given.now.script) }
     ensures { IfOk result (IsVerdict (start_of document (lists_of given.now.script) (map (λ c. states_in state c) chests.items))
-        (output_of given.now)) }
+        given.now.output.items) }
 {
     let mut steps = Steps::<L>::new(blank);
     audit(
         alloc,
         document,
         &given.script,
-        given.output(),
+        given.output.as_slice(),
         chests,
         &mut steps,
     )
@@ -91,7 +90,7 @@ pub fn find_verdict(
     requires fits { FitsFilters (map length (filters_of (λ b. state b) lists.items)) (lists_of given.now.script) }
     requires numbers { AreNumbers (lists_of given.now.script) }
     ensures { IfOk result (IsExact (started document (lists_of given.now.script) (filters_of (λ b. state b) lists.items))
-        (output_of given.now)) }
+        given.now.output.items) }
 {
     let chests = chests_of(alloc, lists)?;
     judge::<Brand>(alloc, document, given, chests, Blank::new(1))

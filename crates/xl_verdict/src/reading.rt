@@ -3,7 +3,7 @@ ghost use Rattle.spec_audit.specs.Limited.{AreNumbers};
 ghost use Rattle.spec_script.specs.Fits.{FitsFilters};
 ghost use Rattle.xl_ports.specs.Source.{led_by, IsEnded};
 ghost use Rattle.xl_script.specs.Lines.{lists_of};
-ghost use Rattle.xl_verdict.specs.Reading.{output_of, HasCause, ReadsAudit};
+ghost use Rattle.xl_verdict.specs.Reading.{HasCause, ReadsAudit};
 
 use std::alloc::Global;
 use xl_audit::split_source;
@@ -17,10 +17,7 @@ const MOST_BYTES: usize = (1 << 28) + 1;
 #[derive(Drop)]
 pub struct Audit {
     pub script: Script,
-    // The whole source.
-    bytes: Vec<u8>,
-    // The output stands from here on.
-    from: usize,
+    pub output: Vec<u8>,
 }
 
 /// Why a source is no audit.
@@ -34,32 +31,22 @@ pub enum Unread {
     Memory,
 }
 
-impl Audit {
-    /// The bytes behind the script.
-    pub fn output(&self) -> &[u8]
-        ensures { result.now ≡ output_of self.now }
-    {
-        &self.bytes[self.from..]
-    }
-}
-
-// The script and the output of a whole source. `counts` are the numbers of the sessions' filters.
-fn parse_audit(alloc: Global, bytes: Vec<u8>, counts: &[u32]) -> Result<Audit, Unread>
-    ensures reads { ReadsAudit (Some bytes.items) counts.now result }
+// The script and a copy of the output of a whole source. `counts` are the numbers of the sessions' filters.
+fn parse_audit(alloc: Global, bytes: &[u8], counts: &[u32]) -> Result<Audit, Unread>
+    ensures reads { ReadsAudit (Some bytes.now) counts.now result }
     ensures fits { IfOk result (λ audit. FitsFilters counts.now (lists_of audit.script)) }
 {
-    let Some((script, output)) = split_source(&bytes) else {
+    let Some((script, output)) = split_source(bytes) else {
         return Err(Unread::BadHead);
     };
-    let from = bytes.len() - output.len();
-    match parse(alloc, script, counts) {
-        Ok(script) => Ok(Audit {
-            script,
-            bytes,
-            from,
-        }),
-        Err(BadLineOrMemory::Refused(bad)) => Err(Unread::BadLine(bad.line)),
-        Err(BadLineOrMemory::Memory) => Err(Unread::Memory),
+    let script = match parse(alloc, script, counts) {
+        Ok(script) => script,
+        Err(BadLineOrMemory::Refused(bad)) => return Err(Unread::BadLine(bad.line)),
+        Err(BadLineOrMemory::Memory) => return Err(Unread::Memory),
+    };
+    match output.to_vec(alloc) {
+        Ok(output) => Ok(Audit { script, output }),
+        Err(_) => Err(Unread::Memory),
     }
 }
 
@@ -79,5 +66,5 @@ pub fn read_audit<S: Source>(alloc: Global, source: &mut S, counts: &[u32]) -> R
         Err(FailedOrMemory::Failed) => return Err(Unread::SourceFault),
         Err(FailedOrMemory::Memory) => return Err(Unread::Memory),
     };
-    parse_audit(alloc, bytes, counts)
+    parse_audit(alloc, bytes.as_slice(), counts)
 }
