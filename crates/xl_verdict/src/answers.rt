@@ -1,4 +1,5 @@
-ghost use Rattle.std.specs.Prelude.{◌≡◌, string_bytes, IfOk};
+ghost use Rattle.std.specs.Prelude.{◌≡◌, string_bytes, IfOk, MatchOption};
+ghost use Rattle.spec_audit.specs.declared.Verdict.TheVariants.{Accepted};
 ghost use Rattle.xl_verdict.specs.Answers.{rejection_of, verdict_line};
 
 use spec_audit::Verdict;
@@ -26,7 +27,8 @@ pub fn verdict_line(alloc: Global, verdict: Verdict) -> Result<String, AllocErro
 
 /// Why an output is not accepted, where it is not.
 pub fn rejection_of(verdict: Verdict) -> Option<Rejection>
-    ensures { result ≡ rejection_of verdict }
+    ensures rejection { result ≡ rejection_of verdict }
+    ensures accepted { MatchOption result (verdict ≡ Accepted) (λ _. verdict ≡ Accepted → ⊥) }
 {
     match verdict {
         Verdict::Accepted => None,

@@ -5,7 +5,7 @@ ghost use Rattle.spec_audit.specs.Verdicts.{IsExact, IsVerdict};
 ghost use Rattle.spec_document.specs.Limits.{IsDocument};
 ghost use Rattle.spec_script.specs.Fits.{FitsFilters};
 ghost use Rattle.xl_doc.specs.Numbered.{AreNumbered};
-ghost use Rattle.xl_filters.specs.Chests.{states_in};
+ghost use Rattle.xl_filters.specs.Chests.{states, states_in};
 ghost use Rattle.xl_script.specs.Lines.{lists_of};
 ghost use Rattle.xl_audit.specs.Auditing.{start_of, IsFull};
 ghost use Rattle.xl_verdict.specs.Judging.{filters_of, full_chests, started};
@@ -23,7 +23,7 @@ use xl_filters::{Chest, PointFilter};
 // `Chest::new` gives back the boxes where memory runs out; here they go with the rest.
 fn chest_of(alloc: Global, boxes: Vec<Box<dyn PointFilter + Send>>) -> Result<Chest, AllocError>
     requires { length boxes.items < 2 ^ 32 }
-    ensures { IfOk result (λ chest. states_in state chest ≡ map (λ b. Some (state b)) boxes.items) }
+    ensures { IfOk result (λ chest. states (λ s. state s.filter) chest ≡ map (λ b. Some (state b)) boxes.items) }
 {
     match Chest::new(alloc, boxes) {
         Ok(chest) => Ok(chest),
@@ -37,7 +37,7 @@ fn chests_of(
     lists: Vec<Vec<Box<dyn PointFilter + Send>>>,
 ) -> Result<Vec<Chest>, AllocError>
     requires { AllByRecursion (λ boxes. length boxes.items < 2 ^ 32) lists.items }
-    ensures { IfOk result (λ chests. map (λ c. states_in state c) chests.items
+    ensures { IfOk result (λ chests. map (λ c. states (λ s. state s.filter) c) chests.items
         ≡ full_chests (filters_of (λ b. state b) lists.items)) }
 {
     let mut chests = Vec::new(alloc);

@@ -35,6 +35,7 @@ pub enum Unread {
 fn parse_audit(alloc: Global, bytes: &[u8], counts: &[u32]) -> Result<Audit, Unread>
     ensures reads { ReadsAudit (Some bytes.now) counts.now result }
     ensures fits { IfOk result (λ audit. FitsFilters counts.now (lists_of audit.script)) }
+    ensures cause { (faults : ℕ) → HasCause faults faults result }
 {
     let Some((script, output)) = split_source(bytes) else {
         return Err(Unread::BadHead);

@@ -9,7 +9,7 @@ loop-boxes-init g c =
     c.new-chests.ensures.items c.into_iter-boxes-iterator.ensures.into_iter_gives.0 c.requires
 
 pub chest_of-requires : goal.chest_of-requires
-chest_of-requires g c κs within =
+chest_of-requires g c =
     chests_short _ _ _ c.loop-boxes.chests.items c.loop-boxes.boxes-iterator.rest.items c.next.new.self.rest.items c.args.lists.items
     c.in-Some.boxes c.loop-boxes.invariant c.in-Some.ensures.steps.0
 

@@ -5,13 +5,13 @@ use Rattle.xl_verdict.proofs.Exactly.{found_exactly}
 use Rattle.xl_verdict.proofs.judging.find_verdict.Goals as goal
 
 pub judge-requires-clause-few : goal.judge-requires-clause-few
-judge-requires-clause-few g c κs within = few_chests _ _ _ _ c.in_ok-chests.ensures c.requires.few
+judge-requires-clause-few g c = few_chests _ _ _ _ c.in_ok-chests.ensures c.requires.few
 
 pub judge-requires-clause-full : goal.judge-requires-clause-full
-judge-requires-clause-full g c κs within = are_full _ _ c.in_ok-chests.ensures
+judge-requires-clause-full g c = are_full _ _ c.in_ok-chests.ensures
 
 pub judge-requires-clause-fits : goal.judge-requires-clause-fits
-judge-requires-clause-fits g c κs within = full_fit _ _ _ c.in_ok-chests.ensures c.requires.fits
+judge-requires-clause-fits g c = full_fit _ _ _ c.in_ok-chests.ensures c.requires.fits
 
 pub returns : goal.returns
 returns g c =
