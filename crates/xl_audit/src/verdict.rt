@@ -1,0 +1,141 @@
+//! The verdict on a printed output.
+ghost use Rattle.std.specs.Prelude.{◌≡◌, ◌≤◌, [], length, map, IfOk, OnOk, MatchOption};
+ghost use Rattle.std.specs.List.{AllByRecursion};
+ghost use Rattle.spec_script.specs.Fits.{FitsFilters};
+ghost use Rattle.spec_audit.specs.Output.{IsMerge};
+ghost use Rattle.spec_audit.specs.Verdicts.{IsVerdict};
+ghost use Rattle.spec_audit.specs.Walk.{AllPass, FailsAt};
+ghost use Rattle.xl_audit.specs.Auditing.{ArePrintable, IsFull, padded, start_of};
+ghost use Rattle.xl_doc.specs.Numbered.{AreNumbered};
+ghost use Rattle.xl_filters.specs.Chests.{states, states_in};
+ghost use Rattle.xl_script.specs.Lines.{lists_of};
+
+use crate::beginning::first_walk;
+use crate::calls::script_calls;
+use crate::versions::wanted;
+use spec_audit::Verdict;
+use std::alloc::{AllocError, Global};
+use std::sync::ledger::Ledger;
+use xl_blend::Steps;
+use xl_compose::Picture;
+use xl_doc::Document;
+use xl_filters::{Chest, PointFilter};
+use xl_printed::{Output, read_shaped};
+use xl_script::{OrderWord, SESSIONS, Script};
+use xl_standing::Desk;
+
+// A desk without filters; the boxes are none.
+fn desk_without(alloc: Global, boxes: Vec<Box<dyn PointFilter + Send>>) -> Result<Desk, AllocError>
+    requires { boxes.items ≡ [] }
+    ensures { IfOk result (λ desk. states (λ s. state s.filter) desk.chest ≡ []) }
+{
+    let Ok(chest) = Chest::new(alloc, boxes) else {
+        return Err(AllocError);
+    };
+    match Desk::new(alloc, chest) {
+        Ok(desk) => Ok(desk),
+        Err(_) => Err(AllocError),
+    }
+}
+
+// `Desk::new` gives back the filters where memory runs out; here they go with the rest.
+fn desk_of(alloc: Global, chest: Chest) -> Result<Desk, AllocError>
+    ensures { IfOk result (λ desk. desk.chest ≡ chest) }
+{
+    let out = Picture::blank(alloc)?;
+    Ok(Desk { chest, out })
+}
+
+// Desks with these chests, session by session.
+fn desks_of(alloc: Global, chests: Vec<Chest>) -> Result<Vec<Desk>, AllocError>
+    requires { length chests.items ≤ 8 }
+    ensures { IfOk result (λ desks.
+        map (λ d. states_in state d.chest) desks.items ≡ map (λ c. states_in state c) chests.items) }
+{
+    let mut desks = Vec::new(alloc);
+    for chest in chests {
+        desks.push(desk_of(alloc, chest)?)?;
+    }
+    Ok(desks)
+}
+
+// Desks without filters, until there is one for each session.
+fn add_desks(alloc: Global, desks: &mut Vec<Desk>) -> Result<(), AllocError>
+    requires { length desks.old.items ≤ 8 }
+    ensures { OnOk result (map (λ d. states_in state d.chest) desks.new.items
+        ≡ padded (map (λ d. states_in state d.chest) desks.old.items)) }
+{
+    while desks.len() < usize::from(SESSIONS) {
+        desks.push(desk_without(alloc, Vec::new(alloc))?)?;
+    }
+    Ok(())
+}
+
+// The first word of the order that fails.
+fn judge<L: Ledger>(
+    alloc: Global,
+    base: Document,
+    script: &Script,
+    output: &Output,
+    chests: Vec<Chest>,
+    steps: &mut Steps<L>,
+) -> Result<Option<OrderWord>, AllocError>
+    requires numbered { AreNumbered base.nodes }
+    requires few { length chests.items ≤ 8 }
+    requires full { AllByRecursion IsFull (map (λ c. states_in state c) chests.items) }
+    requires fits { FitsFilters (map length (map (λ c. states_in state c) chests.items)) (lists_of script.now) }
+    requires merge { IsMerge (lists_of script.now) output.now.order }
+    requires prints { ArePrintable output.now }
+    ensures { IfOk result (λ found. MatchOption found
+        (AllPass (start_of base (lists_of script.now) (map (λ c. states_in state c) chests.items)) output.now [] output.now.order)
+        (λ w. FailsAt (start_of base (lists_of script.now) (map (λ c. states_in state c) chests.items)) output.now []
+        output.now.order w.session w.index)) }
+{
+    let calls = script_calls(alloc, script)?;
+    let wanted = wanted(alloc, calls.as_slice(), output)?;
+    let mut walk = first_walk(alloc, base, wanted)?;
+    let mut desks = desks_of(alloc, chests)?;
+    add_desks(alloc, &mut desks)?;
+    for word in output.order.as_slice() {
+        let desk = &mut desks[word.session as usize];
+        if !walk.word(alloc, calls.as_slice(), output, *word, desk, steps)? {
+            return Ok(Some(*word));
+        }
+    }
+    Ok(None)
+}
+
+/// The verdict on an output of a run of the script, which started with this document and these filters.
+///
+/// The replies are walked along the order, each beside what the machine answers and the digest of the tile that it shows. The script
+/// has to be one that was read for these chests, from which nothing was taken.
+///
+/// At most one verdict is that of an output, and for a script that was read it is exact, by `verdict_is_exact` of `spec_audit`:
+/// accepted just where the output is a text of the script, shape just where it has not the shape of one, and reply just at the call
+/// of the first word that fails.
+#[tactic(auto, using(crate::proofs::Along::shape_prints))]
+pub fn audit<L: Ledger>(
+    alloc: Global,
+    base: Document,
+    script: &Script,
+    output: &[u8],
+    chests: Vec<Chest>,
+    steps: &mut Steps<L>,
+) -> Result<Verdict, AllocError>
+    requires numbered { AreNumbered base.nodes }
+    requires few { length chests.items ≤ 8 }
+    requires full { AllByRecursion IsFull (map (λ c. states_in state c) chests.items) }
+    requires fits { FitsFilters (map length (map (λ c. states_in state c) chests.items)) (lists_of script.now) }
+    ensures { IfOk result (IsVerdict (start_of base (lists_of script.now) (map (λ c. states_in state c) chests.items)) output.now) }
+{
+    let Some(output) = read_shaped(alloc, script, output)? else {
+        return Ok(Verdict::Shape);
+    };
+    match judge(alloc, base, script, &output, chests, steps)? {
+        None => Ok(Verdict::Accepted),
+        Some(word) => Ok(Verdict::Reply {
+            session: word.session,
+            index: word.index,
+        }),
+    }
+}
