@@ -42,8 +42,14 @@ pub fn audit<S: Source, K: Sink, D: Shelf>(
     ensures shelf_cause { ShelfCause (D.reading_faults shelf.old) (D.reading_faults shelf.new) result }
     ensures selected { (D.selected shelf.new ≡ D.selected shelf.old) ⊎ (D.selected shelf.new ≡ Some name.now) }
 {
-    let given = read_source(alloc, source, &chest)?;
-    let document = read_document(alloc, name, shelf)?;
+    let given = match read_source(alloc, source, &chest) {
+        Ok(given) => given,
+        Err(stopped) => return Err(stopped),
+    };
+    let document = match read_document(alloc, name, shelf) {
+        Ok(document) => document,
+        Err(stopped) => return Err(stopped),
+    };
     write_verdict(alloc, sink, find_verdict(alloc, document, &given, chest))
 }
 
