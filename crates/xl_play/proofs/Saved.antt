@@ -26,7 +26,7 @@ use Rattle.xl_edit.specs.declared.reply.Reply.TheVariants.{SaveMemory, HistoryFu
 use Rattle.xl_edit.specs.Replies.{reply_of}
 use Rattle.xl_script.specs.Printed.{HasText}
 use Rattle.xl_play.specs.Playing.{ArePlayed, IsBetweenLines, with_save}
-use Rattle.xl_play.proofs.Played.{played_save}
+use Rattle.xl_play.proofs.Grown.{played_save}
 
 -- the save that is out after its start
 pub out_after_start : (h : History) (session : ℕ)
