@@ -2,12 +2,15 @@
 """Runs random scripts of several sessions beside each other, and audits each printed run by a model that keeps nothing.
 
     audit_runs.py --binary BIN [--corpus FOLDER] [--runs N] [--lines N] [--seed S] [--first K] [--jobs J]
+    audit_runs.py --binary BIN --beside [--changes N] [the same]
     audit_runs.py --audit FILE SCRIPT TEXT [--left FILE] [--status N]
 
 BIN is the program. Files of at most 60,000 bytes of the corpus, else those of crates/written_files, are edited, each by a script
 of one to eight sessions of up to N lines (24), with 0 to 4 workers. The printed order is replayed as xcf_audit.py says, and the
 file afterwards has to be that of the last acknowledged save, with no draft beside it. J processes run scripts at a time (1).
 The scripts of runs K to K + N - 1 (from 0, 100 of them) of a seed are always the same; what the sessions make of one is not.
+With --beside the program's own audit is asked too, of what it printed and of that text with one thing changed, N times (8): a
+digit of a digest, a number or a word of the order. Where its answer is not that of xcf_verdicts.py, both are told.
 With --audit one run is audited that was made before: the file, the script and the printed text, with --left the file afterwards
 and with --status the exit status.
 The exit status is 1 where a run is refused. What the first of them was made of is kept, and its path is told.
@@ -29,6 +32,7 @@ from xcf_audit import Refused, audited, refusal_of
 from xcf_edits import History
 from xcf_reading import read
 from xcf_script import SESSIONS
+from xcf_verdicts import changed, verdict_of
 
 HERE = os.path.dirname(os.path.abspath(__file__))
 CORPUS = os.path.join(HERE, "..", "crates", "written_files", "data")
@@ -105,9 +109,42 @@ def one_run(given, number):
     return number, Counter(), why, made_of
 
 
+def judged(program, data, script, text):
+    """What the program's audit answers, and its status."""
+    with tempfile.TemporaryDirectory() as folder:
+        put_file(folder, "f.xcf", data)
+        source = b"script %d\n" % len(script) + script + text.encode("latin-1")
+        done = subprocess.run([program, "audit", "f.xcf"], input=source, stdout=subprocess.PIPE, stderr=subprocess.DEVNULL, cwd=folder,
+                              check=False, timeout=SECONDS)
+        return done.stdout.decode("latin-1"), done.returncode
+
+
+def other_verdict(given, data, doc, script, text):
+    """What the program's audit and the replay answer to a text, and where they differ a sentence on it."""
+    plain = verdict_of(doc, script, text)
+    said, status = judged(given.binary, data, script, text)
+    held = (said, status) == (plain + "\n", 0 if plain == "accepted" else 10)
+    return plain, None if held else "the program: %s (status %d), the replay: %s" % (said.strip(), status, plain)
+
+
+def one_beside(given, number):
+    """The same of a run whose text and changed texts are judged by both."""
+    draw = random.Random("%d %d" % (given.seed, number))
+    data, doc = draw.choice(documents_of(given.corpus))
+    script, workers = random_script(draw, doc, given.lines), draw.randint(0, 4)
+    printed = by_program(given.binary, data, script, workers)[1].decode("latin-1")
+    counts = Counter()
+    for text in [printed] + [changed(draw, printed) for _ in range(given.changes)]:
+        plain, why = other_verdict(given, data, doc, script, text)
+        counts[" ".join(plain.split(" ")[:2])] += 1
+        if why is not None:
+            return number, counts, why, {"f.xcf": data, "script": script, "text": text.encode("latin-1"), "why": why.encode()}
+    return number, counts, None, None
+
+
 def all_runs(given):
     """The runs in their order."""
-    numbers, run = range(given.first, given.first + given.runs), functools.partial(one_run, given)
+    numbers, run = range(given.first, given.first + given.runs), functools.partial(one_beside if given.beside else one_run, given)
     if given.jobs == 1:
         yield from map(run, numbers)
         return
@@ -132,6 +169,10 @@ def audit_random(given):
         done = number - given.first + 1
         if done % 1000 == 0:
             print("%d runs, %d refused" % (done, refused), file=sys.stderr, flush=True)
+    if given.beside:
+        print("%d runs judged by both, %d otherwise; %d texts accepted, %d rejected by their shape, %d at a reply"
+              % tuple([given.runs, refused] + [total[each] for each in ("accepted", "rejected 1", "rejected 2")]))
+        return refused
     print("%d runs audited, %d refused; in %d the sessions' calls were interleaved" % (given.runs, refused, total["merged"]))
     print("%d calls; %d peeks, of which %d showed a later version than had to be kept, and %d were stale; "
           "%d saves, of which %d had calls of other sessions between start and end"
@@ -158,6 +199,8 @@ def arguments():
     parser.add_argument("--corpus", default=CORPUS, metavar="FOLDER")
     for name, plain, letter in (("runs", 100, "N"), ("lines", 24, "N"), ("seed", 1, "S"), ("first", 0, "K"), ("jobs", 1, "J")):
         parser.add_argument("--" + name, type=int, default=plain, metavar=letter)
+    parser.add_argument("--beside", action="store_true")
+    parser.add_argument("--changes", type=int, default=8, metavar="N")
     parser.add_argument("--audit", nargs=3, metavar=("FILE", "SCRIPT", "TEXT"))
     parser.add_argument("--left", metavar="FILE")
     parser.add_argument("--status", type=int, metavar="N")

@@ -103,6 +103,17 @@ def rows_of_view():
     yield "%s, write 1" % words, (7, "o", cut(nothing, 7, 1))
 
 
+def rows_of_audit():
+    # 40 bytes in pieces of seven, and then the end
+    rejected = "rejected 2 0.0\n"
+    yield "audit f", (10, "o", rejected)
+    for read in range(7):
+        yield "audit f, read %d" % read, (5, "o", "source fault\n")
+    for call in (SELECT, *LOADS):
+        yield "audit f, call %d" % call, SHELF_FAULT
+    yield "audit f, write 1", (7, "o", cut(rejected, 7, 1))
+
+
 def write_saved(folder):
     """The files that `pack` and `flatten` leave."""
     with open(os.path.join(folder, "data", "one.xcf"), "rb") as file:
@@ -153,7 +164,7 @@ def main():
         packed = rows_of_one_save("pack f", "p", "packed 193 197 planes 4\n")
         flat = rows_of_one_save("flatten f", "f", "flattened 1\n")
         plans = rows_of_plans()
-        for rows in (rows_of_saves(), rows_of_streams(), rows_of_loads(), flat, packed, plans, rows_of_view()):
+        for rows in (rows_of_saves(), rows_of_streams(), rows_of_loads(), flat, packed, plans, rows_of_view(), rows_of_audit()):
             for head, (status, left, text) in rows:
                 out.write("== %s: status %d left %s\n%s\n" % (head, status, left, text))
         for head, told in rows_of_files():

@@ -228,6 +228,13 @@ const VIEW: Asked<'static> = Asked {
     step: 1 << 20,
 };
 
+// The printed version is wrong.
+const AUDIT: Asked<'static> = Asked {
+    words: &["audit", NAME],
+    script: "script 6\n0 top\n0.0 top none 1\norder 0.0\n",
+    step: 1 << 20,
+};
+
 // The words with a space between two.
 fn joined(alloc: Global, words: &[&str]) -> Result<String, AllocError> {
     let mut text = String::new(alloc);
@@ -439,28 +446,28 @@ impl<'a, R: Threads + Wait + Sync> Shown<'a, R> {
         self.show(PLANS, failing)
     }
 
-    // A view of which a read of the script, a load or a write fails.
-    fn show_view(&self) -> io::Result<()> {
-        self.show(VIEW, NONE)?;
-        for number in 0..4 {
+    // A command that reads the source and saves nothing, of which one of these reads, a load or a write fails.
+    fn show_unsaved(&self, asked: Asked<'_>, reads: u32) -> io::Result<()> {
+        self.show(asked, NONE)?;
+        for number in 0..reads {
             let failing = Failing {
                 read: Some(number),
                 ..NONE
             };
-            self.show(VIEW, failing)?;
+            self.show(asked, failing)?;
         }
         for call in 0..FIRST_SAVE {
             let failing = Failing {
                 call: Some(call),
                 ..NONE
             };
-            self.show(VIEW, failing)?;
+            self.show(asked, failing)?;
         }
         let failing = Failing {
             write: Some(1),
             ..NONE
         };
-        self.show(Asked { step: 7, ..VIEW }, failing)
+        self.show(Asked { step: 7, ..asked }, failing)
     }
 }
 
@@ -480,7 +487,8 @@ fn show_all<R: Threads + Wait + Sync>(rt: &HostRuntime, threads: &R) -> io::Resu
     shown.show_one_save(FLATTEN)?;
     shown.show_one_save(PACK)?;
     shown.show_plans()?;
-    shown.show_view()?;
+    shown.show_unsaved(VIEW, 4)?;
+    shown.show_unsaved(AUDIT, 7)?;
     shown.show_damaged()
 }
 

@@ -8,7 +8,7 @@ use std::sync::Wait;
 use std::thread::Threads;
 
 // A script of 100 fills by session 0 of layer 1, and of 100 by session 1 of layer 2.
-fn fills_of_two(alloc: Global) -> Result<Vec<u8>, AllocError> {
+pub(crate) fn fills_of_two(alloc: Global) -> Result<Vec<u8>, AllocError> {
     let mut script = Vec::new(alloc);
     for _ in 0..100 {
         script.extend_from_slice(b"0 fill 1 0 0 1 1 07\n1 fill 2 0 0 1 1 09\n")?;

@@ -73,18 +73,17 @@ fn shelf_with(alloc: Global, file: &[u8]) -> Result<MemoryShelf, AllocError> {
     MemoryShelf::new(alloc, files, Vec::new(alloc), None)
 }
 
-// Plays a script on a shelf.
-fn play_on<R: Threads + Wait + Sync>(
+// Does what the words ask for, on a shelf, with these bytes in the source.
+fn run_words<R: Threads + Wait + Sync>(
     rt: &R,
     alloc: Global,
+    words: &[&str],
     shelf: MemoryShelf,
-    script: Vec<u8>,
-    workers: &str,
+    bytes: Vec<u8>,
     gate: &HoldGate,
 ) -> Outcome {
-    let mut source = MemorySource::new(script, 1 << 16, Vec::new(alloc));
+    let mut source = MemorySource::new(bytes, 1 << 16, Vec::new(alloc));
     let mut sink = MemorySink::new(alloc, 1 << 20, Vec::new(alloc));
-    let words = ["edit", "f", "--workers", workers];
     let Ended {
         status,
         cause: _,
@@ -92,7 +91,7 @@ fn play_on<R: Threads + Wait + Sync>(
     } = run(
         rt,
         alloc,
-        &words,
+        words,
         &mut source,
         &mut sink,
         shelf,
@@ -118,7 +117,8 @@ fn play_at<R: Threads + Wait + Sync>(
 ) -> Result<Outcome, AllocError> {
     let script = script.to_vec(alloc)?;
     let shelf = shelf_with(alloc, file)?;
-    Ok(play_on(rt, alloc, shelf, script, workers, gate))
+    let words = ["edit", "f", "--workers", workers];
+    Ok(run_words(rt, alloc, &words, shelf, script, gate))
 }
 
 /// Plays a script on a file, with so many workers. The first pass of each pair waits for the second one.
@@ -132,4 +132,29 @@ pub(crate) fn play<R: Threads + Wait + Sync>(
 ) -> Result<Outcome, AllocError> {
     let gate = gate_with(alloc, pairs)?;
     play_at(rt, alloc, file, script, workers, &gate)
+}
+
+// The source of an audit: a head with the length of the script, the script, and what was printed.
+fn source_of(alloc: Global, script: &[u8], output: &[u8]) -> Result<Vec<u8>, AllocError> {
+    let len = script.len();
+    let head = format!(in alloc; "script {len}\n")?;
+    let mut source = head.as_bytes().to_vec(alloc)?;
+    source.extend_from_slice(script)?;
+    source.extend_from_slice(output)?;
+    Ok(source)
+}
+
+/// Judges what was printed for a script on a file.
+pub(crate) fn audit<R: Threads + Wait + Sync>(
+    rt: &R,
+    alloc: Global,
+    file: &[u8],
+    script: &[u8],
+    output: &[u8],
+) -> Result<Outcome, AllocError> {
+    let source = source_of(alloc, script, output)?;
+    let shelf = shelf_with(alloc, file)?;
+    let gate = gate_with(alloc, &[])?;
+    let words = ["audit", "f"];
+    Ok(run_words(rt, alloc, &words, shelf, source, &gate))
 }

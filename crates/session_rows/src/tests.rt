@@ -1,3 +1,4 @@
+use crate::audits::{accepts_fills, first_rejected};
 use crate::fills::fault_in_fills;
 use crate::gates::GATE_ROWS;
 use crate::looks::LOOK_ROWS;
@@ -27,5 +28,17 @@ fn fills_of_two_sessions_are_read_back_by_their_order(rt: HostRuntime) -> Result
 #[test]
 fn saves_beside_fills_leave_the_version_saved_last(rt: HostRuntime) -> Result<(), Fail> {
     assert_eq!(rt; fault_in_saves(&rt, rt.alloc())?, None);
+    Ok(())
+}
+
+#[test]
+fn what_two_sessions_print_beside_workers_is_accepted(rt: HostRuntime) -> Result<(), Fail> {
+    assert!(rt; accepts_fills(&rt, rt.alloc())?);
+    Ok(())
+}
+
+#[test]
+fn tiles_and_peeks_are_accepted(rt: HostRuntime) -> Result<(), Fail> {
+    assert_eq!(rt; first_rejected(&rt, rt.alloc())?, None);
     Ok(())
 }

@@ -7,10 +7,10 @@ use Rattle.clap.specs.Faults.{walk_fault, flags_fault, defaults_fault}
 use Rattle.spec_fields.specs.declared.Kind.TheVariants.{Truncated}
 use Rattle.spec_history.specs.Machine.{changed, saved, save_fault, save_memory}
 use Rattle.spec_flat.specs.declared.FlatRefused.TheVariants.{Selected, TooMany}
-use Rattle.spec_command.specs.Arguments.{Argument, Asked, edit, render, info, make, pack, flatten, view}
+use Rattle.spec_command.specs.Arguments.{Argument, Asked, edit, render, info, make, pack, flatten, view, audit}
 use Rattle.spec_command.specs.Grammar.{asked_in}
 use Rattle.spec_command.proofs.Shapes.{asked_by_shape}
-use Rattle.spec_command.specs.Ends.{Found, first_stop, usage, source_fault, bad_line, shelf_fault, refused, flat_refused}
+use Rattle.spec_command.specs.Ends.{Found, first_stop, usage, source_fault, bad_head, bad_line, shelf_fault, refused, flat_refused}
 use Rattle.spec_command.specs.Ends.{stop_line, end_status}
 
 -- ---- arguments that are a command; each computed apart from the definitions
@@ -48,6 +48,8 @@ commands =
     ∷ (codes "flatten" ∷ codes "f" ∷ [])
     ∷ (codes "view" ∷ codes "f" ∷ codes "--cols" ∷ codes "1" ∷ codes "--rows" ∷ codes "16" ∷ [])
     ∷ (codes "view" ∷ codes "--rows=2" ∷ codes "--cols=03" ∷ codes "f" ∷ [])
+    ∷ (codes "audit" ∷ codes "f" ∷ [])
+    ∷ (codes "audit" ∷ codes "--" ∷ codes "f" ∷ [])
     ∷ []
 
 abbrev wanted : List (Option Asked)
@@ -83,6 +85,8 @@ wanted =
     ∷ Some (flatten (codes "f"))
     ∷ Some (view (codes "f") 1 16)
     ∷ Some (view (codes "f") 3 2)
+    ∷ Some (audit (codes "f"))
+    ∷ Some (audit (codes "f"))
     ∷ []
 
 commands_by_shape : map asked_by_shape commands ≡ wanted
@@ -144,6 +148,9 @@ others =
     ∷ (codes "view" ∷ codes "f" ∷ codes "--cols" ∷ codes "1" ∷ codes "--rows" ∷ codes "17" ∷ [])
     ∷ (codes "view" ∷ codes "f" ∷ codes "--cols" ∷ codes "--rows" ∷ codes "1" ∷ [])
     ∷ (codes "view" ∷ codes "f" ∷ codes "--cols=1" ∷ codes "--rows=1" ∷ codes "--cols=1" ∷ [])
+    ∷ (codes "audit" ∷ [])
+    ∷ (codes "audit" ∷ codes "f" ∷ codes "g" ∷ [])
+    ∷ (codes "audit" ∷ codes "f" ∷ codes "--workers" ∷ codes "2" ∷ [])
     ∷ (codes "help" ∷ [])
     ∷ (codes "help" ∷ codes "edit" ∷ [])
     ∷ (codes "--help" ∷ [])
@@ -211,11 +218,12 @@ others_ask_nothing = refl
 -- ---- ends
 
 abbrev fine : Found
-fine = record { source_fails = false; bad = None; shelf_fails = false; fault = None; flat = None }
+fine = record { source_fails = false; head_fails = false; bad = None; shelf_fails = false; fault = None; flat = None }
 
 abbrev all_wrong : Found
 all_wrong = record {
   source_fails = true;
+  head_fails = true;
   bad = Some 2;
   shelf_fails = true;
   fault = Some (record { kind = Truncated; at = 38; value = 0 });
@@ -239,6 +247,16 @@ other_stops : first_stop (Some (render (codes "f"))) all_wrong
     ≡ Some shelf_fault ∷ None ∷ []
 other_stops = refl
 
+abbrev an_audit : Option Asked
+an_audit = Some (audit (codes "f"))
+
+-- an audit looks for its head before it reads its script
+audit_stops : first_stop an_audit all_wrong ∷ first_stop an_audit (record all_wrong { source_fails = false })
+    ∷ first_stop an_audit (record all_wrong { source_fails = false; head_fails = false })
+    ∷ first_stop an_audit (record all_wrong { source_fails = false; head_fails = false; bad = None }) ∷ first_stop an_audit fine ∷ []
+    ≡ Some source_fault ∷ Some bad_head ∷ Some (bad_line 2) ∷ Some shelf_fault ∷ None ∷ []
+audit_stops = refl
+
 abbrev read_well : Found
 read_well = record all_wrong { shelf_fails = false; fault = None }
 
@@ -250,9 +268,9 @@ flat_stops : first_stop (Some (flatten (codes "f"))) all_wrong
     ≡ Some shelf_fault ∷ Some (flat_refused Selected) ∷ None ∷ None ∷ Some (bad_line 2) ∷ []
 flat_stops = refl
 
-lines : map stop_line (usage ∷ source_fault ∷ bad_line 2 ∷ shelf_fault ∷ refused (record { kind = Truncated; at = 38; value = 0 })
-    ∷ flat_refused (TooMany 1023) ∷ [])
-    ≡ (codes "usage" ++ 10 ∷ []) ∷ (codes "source fault" ++ 10 ∷ []) ∷ (codes "bad line 2" ++ 10 ∷ [])
+lines : map stop_line (usage ∷ source_fault ∷ bad_head ∷ bad_line 2 ∷ shelf_fault
+    ∷ refused (record { kind = Truncated; at = 38; value = 0 }) ∷ flat_refused (TooMany 1023) ∷ [])
+    ≡ (codes "usage" ++ 10 ∷ []) ∷ (codes "source fault" ++ 10 ∷ []) ∷ (codes "bad head" ++ 10 ∷ []) ∷ (codes "bad line 2" ++ 10 ∷ [])
     ∷ (codes "shelf fault" ++ 10 ∷ [])
     ∷ (codes "file refused 3 at 38" ++ 10 ∷ []) ∷ (codes "flatten refused 3" ++ 10 ∷ []) ∷ []
 unfolding digits

@@ -5,7 +5,7 @@ use Rattle.std.specs.Prelude.{option_and_then, option_map, is_some}
 use Rattle.std.specs.List.{list_all, starts_with}
 use Rattle.std.specs.Str.{bytes_eq}
 use Rattle.std.specs.Str.Parse.{digits_value, without_leading_sign, starts_with_minus}
-use Rattle.spec_command.specs.Arguments.{Argument, Asked, edit, render, info, make, pack, flatten, view}
+use Rattle.spec_command.specs.Arguments.{Argument, Asked, edit, render, info, make, pack, flatten, view, audit}
 
 -- ---- the arguments behind a command's name
 
@@ -168,4 +168,5 @@ asked_by_shape (verb ∷ arguments) =
     if bytes_eq verb (codes "make") then make_shape arguments else
     if bytes_eq verb (codes "pack") then pack_shape arguments else
     if bytes_eq verb (codes "flatten") then plain_shape flatten arguments else
-    if bytes_eq verb (codes "view") then view_shape arguments else None
+    if bytes_eq verb (codes "view") then view_shape arguments else
+    if bytes_eq verb (codes "audit") then plain_shape audit arguments else None

@@ -14,6 +14,7 @@ pub data Asked : Type 0 where
   pack : (name : Argument) (with_plans : Bool) → Asked
   flatten : (name : Argument) → Asked
   view : (name : Argument) (cols rows : ℕ) → Asked
+  audit : (name : Argument) → Asked
 
 abbrev pub name_of : Asked → Argument
 name_of (edit name workers) = name
@@ -23,3 +24,4 @@ name_of (make name seed) = name
 name_of (pack name with_plans) = name
 name_of (flatten name) = name
 name_of (view name cols rows) = name
+name_of (audit name) = name

@@ -6,7 +6,7 @@ use Rattle.spec_fields.specs.Kinds.{kind_number}
 use Rattle.spec_flat.specs.declared.FlatRefused.{FlatRefused}
 use Rattle.spec_flat.specs.Numbers.{flat_number}
 use Rattle.spec_history.specs.Machine.{Reply, is_save_fault, is_save_memory}
-use Rattle.spec_command.specs.Arguments.{Asked, edit, render, info, make, pack, flatten, view}
+use Rattle.spec_command.specs.Arguments.{Asked, edit, render, info, make, pack, flatten, view, audit}
 
 -- ---- before the work is done
 
@@ -14,6 +14,7 @@ use Rattle.spec_command.specs.Arguments.{Asked, edit, render, info, make, pack, 
 pub data Stop : Type 0 where
   usage : Stop
   source_fault : Stop
+  bad_head : Stop
   bad_line : (number : ℕ) → Stop
   shelf_fault : Stop
   refused : ReadRefused → Stop
@@ -22,6 +23,7 @@ pub data Stop : Type 0 where
 abbrev pub stop_status : Stop → ℕ
 stop_status usage = 2
 stop_status source_fault = 5
+stop_status bad_head = 3
 stop_status (bad_line number) = 3
 stop_status shelf_fault = 6
 stop_status (refused why) = 4
@@ -30,6 +32,7 @@ stop_status (flat_refused why) = 9
 abbrev pub stop_text : Stop → List ℕ
 stop_text usage = codes "usage"
 stop_text source_fault = codes "source fault"
+stop_text bad_head = codes "bad head"
 stop_text (bad_line number) = codes "bad line " ++ decimal number
 stop_text shelf_fault = codes "shelf fault"
 stop_text (refused why) = codes "file refused " ++ (decimal (kind_number why.kind) ++ (codes " at " ++ decimal why.at))
@@ -38,10 +41,11 @@ stop_text (flat_refused why) = codes "flatten refused " ++ decimal (flat_number 
 abbrev pub stop_line : Stop → List ℕ
 stop_line stop = stop_text stop ++ 10 ∷ []
 
--- What is found on the way: whether the source has a fault, the line at which the script is refused, whether the shelf has a fault,
--- the first fault of the file, and what keeps its document from being made flat.
+-- What is found on the way: whether the source has a fault, whether what is audited has no head, the line at which the script is
+-- refused, whether the shelf has a fault, the first fault of the file, and what keeps its document from being made flat.
 pub record Found : Type 0 where
   pub source_fails : Bool
+  pub head_fails : Bool
   pub bad : Option ℕ
   pub shelf_fails : Bool
   pub fault : Option ReadRefused
@@ -70,7 +74,13 @@ script_stop f =
     first (stop_if f.source_fails source_fault ∷ stop_of bad_line f.bad ∷ stop_if f.shelf_fails shelf_fault
     ∷ stop_of refused f.fault ∷ [])
 
--- The first stop. Only an edit and a view read the source, and what is made needs no file.
+-- that of an audit, whose script stands behind a head
+abbrev pub audit_stop : Found → Option Stop
+audit_stop f =
+    first (stop_if f.source_fails source_fault ∷ stop_if f.head_fails bad_head ∷ stop_of bad_line f.bad
+    ∷ stop_if f.shelf_fails shelf_fault ∷ stop_of refused f.fault ∷ [])
+
+-- The first stop. Only an edit, a view and an audit read the source, and what is made needs no file.
 abbrev pub first_stop : Option Asked → Found → Option Stop
 first_stop None f = Some usage
 first_stop (Some (edit name workers)) f = script_stop f
@@ -80,6 +90,7 @@ first_stop (Some (make name seed)) f = stop_if f.shelf_fails shelf_fault
 first_stop (Some (pack name with_plans)) f = file_stop f
 first_stop (Some (flatten name)) f = first (file_stop f ∷ stop_of flat_refused f.flat ∷ [])
 first_stop (Some (view name cols rows)) f = script_stop f
+first_stop (Some (audit name)) f = audit_stop f
 
 -- ---- after it
 

@@ -9,7 +9,7 @@ use Rattle.clap.specs.Simple.{App, new_rule, new_app, with_rule, matches_of}
 use Rattle.clap.specs.Faults.{fault_of}
 use Rattle.clap.specs.declared.builder.action.ArgAction.TheVariants as action
 use Rattle.clap.specs.declared.builder.value_parser.ValueParser.TheVariants as parser
-use Rattle.spec_command.specs.Arguments.{Argument, Asked, edit, render, info, make, pack, flatten, view}
+use Rattle.spec_command.specs.Arguments.{Argument, Asked, edit, render, info, make, pack, flatten, view, audit}
 
 -- an argument without an option's name, which has to be there
 abbrev pub file_rule : Rule
@@ -88,4 +88,5 @@ asked_in (verb ∷ arguments) =
     if bytes_eq verb (codes "make") then asked_where make_app (verb ∷ arguments) make_of else
     if bytes_eq verb (codes "pack") then asked_where pack_app (verb ∷ arguments) pack_of else
     if bytes_eq verb (codes "flatten") then asked_where (plain_app verb) (verb ∷ arguments) (plain_of flatten) else
-    if bytes_eq verb (codes "view") then asked_where view_app (verb ∷ arguments) view_of else None
+    if bytes_eq verb (codes "view") then asked_where view_app (verb ∷ arguments) view_of else
+    if bytes_eq verb (codes "audit") then asked_where (plain_app verb) (verb ∷ arguments) (plain_of audit) else None

@@ -9,7 +9,7 @@ fn command<'a>(alloc: Global, arguments: &'a [&'a str]) -> Result<Option<Command
 }
 
 /// Arguments, and the command that they are.
-const ARGUMENTS: [(&'static [&'static str], Option<Command<'static>>); 7] = [
+const ARGUMENTS: [(&'static [&'static str], Option<Command<'static>>); 8] = [
     (&["edit", "f"], Some(Command::Edit("f", 2))),
     (
         &["edit", "f", "--workers", "8"],
@@ -18,6 +18,7 @@ const ARGUMENTS: [(&'static [&'static str], Option<Command<'static>>); 7] = [
     (&["render", "f"], Some(Command::Render("f"))),
     (&["info", "--", "f"], Some(Command::Info("f"))),
     (&["make", "f", "--seed=7"], Some(Command::Make("f", 7))),
+    (&["audit", "f"], Some(Command::Audit("f"))),
     // too many workers
     (&["edit", "f", "--workers", "9"], None),
     // an option in place of a file

@@ -1,7 +1,8 @@
 //! `xcfedit render FILE` writes a file of GIMP's as a PAM to the standard output, `xcfedit info FILE` its layers as a line of
 //! JSON. `xcfedit edit FILE` makes the calls and saves of a script from the standard input on such a file, and writes the replies;
-//! `xcfedit view FILE` makes the calls of one and shows windows. `xcfedit make FILE` saves what a seed makes, `xcfedit pack FILE` the
-//! smallest file, and `xcfedit flatten FILE` one layer in the place of all.
+//! `xcfedit view FILE` makes the calls of one and shows windows, and `xcfedit audit FILE` judges what an edit is said to have printed.
+//! `xcfedit make FILE` saves what a seed makes, `xcfedit pack FILE` the smallest file, and `xcfedit flatten FILE` one layer in the
+//! place of all.
 //! Where a command stops, a sentence on the standard error says why.
 #![tactic(auto)]
 

@@ -82,19 +82,21 @@ pub none_asked : (arguments : List Argument) (verb : Argument) → slice_get arg
     → bytes_eq verb (codes "edit") ≡ false → bytes_eq verb (codes "render") ≡ false
     → bytes_eq verb (codes "info") ≡ false → bytes_eq verb (codes "make") ≡ false
     → bytes_eq verb (codes "pack") ≡ false → bytes_eq verb (codes "flatten") ≡ false
-    → bytes_eq verb (codes "view") ≡ false → None ≡ asked_in arguments
-none_asked [] verb has e r i m p f v = refl
-none_asked (w ∷ arguments) verb has e r i m p f v =
+    → bytes_eq verb (codes "view") ≡ false → bytes_eq verb (codes "audit") ≡ false → None ≡ asked_in arguments
+none_asked [] verb has e r i m p f v a = refl
+none_asked (w ∷ arguments) verb has e r i m p f v a =
     let same : w ≡ verb = ap (λ (o : Option Argument). unwrap_or o w) has in
-    subst (λ v. None ≡ asked_in (v ∷ arguments)) (sym same) (rw (e, r, i, m, p, f, v) refl)
+    subst (λ v. None ≡ asked_in (v ∷ arguments)) (sym same) (rw (e, r, i, m, p, f, v, a) refl)
 
 pub none_among : (arguments : List (Bor Argument)) (verb : Bor Argument) → slice_get arguments 0 ≡ Some verb
     → bytes_eq verb.now (codes "edit") ≡ false → bytes_eq verb.now (codes "render") ≡ false
     → bytes_eq verb.now (codes "info") ≡ false → bytes_eq verb.now (codes "make") ≡ false
     → bytes_eq verb.now (codes "pack") ≡ false → bytes_eq verb.now (codes "flatten") ≡ false
-    → bytes_eq verb.now (codes "view") ≡ false → None ≡ asked_in (arguments_of arguments)
-none_among [] verb has e r i m p f v = refl
-none_among (w ∷ arguments) verb has e r i m p f v = none_asked (arguments_of (w ∷ arguments)) verb.now (ap text_of has) e r i m p f v
+    → bytes_eq verb.now (codes "view") ≡ false → bytes_eq verb.now (codes "audit") ≡ false
+    → None ≡ asked_in (arguments_of arguments)
+none_among [] verb has e r i m p f v a = refl
+none_among (w ∷ arguments) verb has e r i m p f v a =
+    none_asked (arguments_of (w ∷ arguments)) verb.now (ap text_of has) e r i m p f v a
 
 pub differ_in_bytes : (a b : Argument) → (a ≡ b → ⊥) → bytes_eq a b ≡ false
 differ_in_bytes a b differs = go (bytes_eq a b) refl

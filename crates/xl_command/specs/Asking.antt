@@ -2,7 +2,7 @@
 use Rattle.std.specs.Prelude.{◌≤◌, ℕ, List, Option, Some, None, map, if◌then◌else◌}
 use denote.Ref.{Bor}
 use Rattle.std.specs.Str.Parse.{starts_with_minus}
-use Rattle.spec_command.specs.Arguments.{Argument, Asked, edit, render, info, make, pack, flatten, view}
+use Rattle.spec_command.specs.Arguments.{Argument, Asked, edit, render, info, make, pack, flatten, view, audit}
 use Rattle.xl_command.specs.declared.command.Command.{Command}
 use Rattle.xl_command.specs.declared.command.Command.TheVariants as code
 
@@ -23,6 +23,7 @@ asked_of (code.Make name seed) = make name.now seed
 asked_of (code.Pack name with_plans) = pack name.now with_plans
 asked_of (code.Flatten name) = flatten name.now
 asked_of (code.View name cols rows) = view name.now cols rows
+asked_of (code.Audit name) = audit name.now
 
 -- a window has 1 to 16 columns and rows
 pub record IsWindowSize (cols rows : ℕ) : Type 0 where
@@ -40,3 +41,4 @@ IsInRange (make name seed) = Unit {0}
 IsInRange (pack name with_plans) = Unit {0}
 IsInRange (flatten name) = Unit {0}
 IsInRange (view name cols rows) = IsWindowSize cols rows
+IsInRange (audit name) = Unit {0}

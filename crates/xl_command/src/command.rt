@@ -15,4 +15,6 @@ pub enum Command<'a> {
     Flatten(&'a str),
     /// Shows windows of a file, of so many columns and rows of tiles.
     View(&'a str, u32, u32),
+    /// Judges a printed run of a script on a file.
+    Audit(&'a str),
 }

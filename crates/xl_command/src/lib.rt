@@ -1,4 +1,4 @@
-//! The arguments of the program, read by clap: seven commands, each with the name of a file.
+//! The arguments of the program, read by clap: eight commands, each with the name of a file.
 //!
 //! Each command is a simple command of clap's own, picked by the first argument.
 #![tactic(auto)]

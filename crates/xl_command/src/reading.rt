@@ -211,6 +211,21 @@ fn view<'a>(alloc: Global, arguments: &'a [&'a str]) -> Result<Option<Command<'a
     Ok(Some(Command::View(name, cols, rows)))
 }
 
+fn audit<'a>(
+    alloc: Global,
+    verb: &'a str,
+    arguments: &'a [&'a str],
+) -> Result<Option<Command<'a>>, AllocError>
+    ensures asked { IfOk result (λ command. option_map asked_of command
+        ≡ asked_where (plain_app verb.entry.now) (arguments_of arguments.entry.now) (plain_of definition.audit)) }
+    ensures range { IfOk result (λ command. IfSome command (λ command. IsInRange (asked_of command))) }
+{
+    match plain_file(alloc, verb, arguments)? {
+        Some(name) => Ok(Some(Command::Audit(name))),
+        None => Ok(None),
+    }
+}
+
 /// The command that the arguments are. No other arguments are one.
 pub fn command_of<'a>(
     alloc: Global,
@@ -230,6 +245,7 @@ pub fn command_of<'a>(
         "pack" => pack(alloc, arguments),
         "flatten" => flatten(alloc, *verb, arguments),
         "view" => view(alloc, arguments),
+        "audit" => audit(alloc, *verb, arguments),
         _ => Ok(None),
     }
 }

@@ -3,11 +3,16 @@ use crate::lines::cause_text;
 use spec_fields::ReadRefused;
 use std::alloc::{AllocError, Global};
 use xl_command::{Command, command_of};
+use xl_printed::split_source;
 use xl_program::Stopped;
+use xl_verdict::Rejection;
 use xl_why::{cause_of, cause_of_viewed};
 
 const USAGE: &str =
-    "these words are no command; the commands are\n  xcfedit render FILE              writes the picture of FILE as a PAM\n  xcfedit info FILE                writes the layers of FILE as a line of JSON\n  xcfedit edit FILE [--workers N]  runs a script from standard input on FILE, N from 0 to 8\n  xcfedit make FILE --seed N       saves the document of the seed N, runs the seed's script on FILE and sums the run up in a line\n  xcfedit pack FILE [--plan]       saves FILE as small as it can be with run-length coded tiles\n  xcfedit flatten FILE             puts one layer in the place of all nodes of FILE\n  xcfedit view FILE --cols W --rows H  runs a script of session 0 on FILE, a tile with its neighbours, W and H from 1 to 16";
+    "these words are no command; the commands are\n  xcfedit render FILE              writes the picture of FILE as a PAM\n  xcfedit info FILE                writes the layers of FILE as a line of JSON\n  xcfedit edit FILE [--workers N]  runs a script from standard input on FILE, N from 0 to 8\n  xcfedit make FILE --seed N       saves the document of the seed N, runs the seed's script on FILE and sums the run up in a line\n  xcfedit pack FILE [--plan]       saves FILE as small as it can be with run-length coded tiles\n  xcfedit flatten FILE             puts one layer in the place of all nodes of FILE\n  xcfedit view FILE --cols W --rows H  runs a script of session 0 on FILE, a tile with its neighbours, W and H from 1 to 16\n  xcfedit audit FILE               judges a script and what an edit of FILE by it is said to have printed, from standard input";
+
+const HEAD: &str =
+    "the input is no line \"script N\" with N bytes of a script behind it, N from 0 to 16777216, and the output; it has 268435456 bytes at most";
 
 /// The version of the program, which stands in the manual page and in the changelog too.
 pub const VERSION: &str = "0.1.0";
@@ -16,13 +21,13 @@ pub const VERSION: &str = "0.1.0";
 const MEMORY: u8 = 8;
 
 /// A sentence on how the words came to this status, other than 0: which file, what is wrong and where. `cause` is that of
-/// [`xl_program::Ended`], and `script` what was read of the script, for its bad line to be quoted. It has no newline at its end.
+/// [`xl_program::Ended`], and `source` what was read of the source, for the bad line of its script to be quoted. It has no newline at its end.
 pub fn message<'a>(
     alloc: Global,
     words: &'a [&'a str],
     status: u8,
     cause: Option<Stopped>,
-    script: &[u8],
+    source: &[u8],
 ) -> Result<String, AllocError> {
     if status == MEMORY {
         return String::from_str(alloc, "out of memory");
@@ -30,14 +35,14 @@ pub fn message<'a>(
     let (Some(command), Some(stopped)) = (command_of(alloc, words)?, cause) else {
         return format!(in alloc; "xcfedit {VERSION}: {USAGE}");
     };
-    stop_text(alloc, command, stopped, script)
+    stop_text(alloc, command, stopped, source)
 }
 
 // The name of a command's file.
 fn file_of(command: Command<'_>) -> &str {
     match command {
         Command::Edit(name, _) | Command::Make(name, _) => name,
-        Command::Render(name) | Command::Info(name) => name,
+        Command::Render(name) | Command::Info(name) | Command::Audit(name) => name,
         Command::Pack(name, _) | Command::Flatten(name) | Command::View(name, _, _) => name,
     }
 }
@@ -46,20 +51,30 @@ fn stop_text(
     alloc: Global,
     command: Command<'_>,
     stopped: Stopped,
-    script: &[u8],
+    source: &[u8],
 ) -> Result<String, AllocError> {
     let name = file_of(command);
     match stopped {
         Stopped::SourceFault => String::from_str(alloc, "the script cannot be read"),
-        Stopped::BadLine(number) => line_text(alloc, command, script, number),
+        Stopped::BadHead => String::from_str(alloc, HEAD),
+        Stopped::BadLine(number) => line_text(alloc, command, source, number),
         Stopped::ShelfFault => shelf_text(alloc, command),
         Stopped::Refused(refused) => refusal_text(alloc, name, refused),
         Stopped::NotFlattened(why) => format!(in alloc;
             "{name}: the image cannot be made flat: {why}"
         ),
         Stopped::SaveFault => format!(in alloc; "{name}: a save failed"),
+        Stopped::Rejected(why) => rejection_text(alloc, name, why),
         Stopped::SinkFault => String::from_str(alloc, "the output cannot be written"),
         Stopped::Memory => String::from_str(alloc, "out of memory"),
+    }
+}
+
+// The script that an audit has behind its head.
+fn script_behind(source: &[u8]) -> &[u8] {
+    match split_source(source) {
+        Some((script, _)) => script,
+        None => &[],
     }
 }
 
@@ -67,12 +82,13 @@ fn stop_text(
 fn line_text(
     alloc: Global,
     command: Command<'_>,
-    script: &[u8],
+    source: &[u8],
     number: u32,
 ) -> Result<String, AllocError> {
     let cause = match command {
-        Command::View(_, _, _) => cause_of_viewed(script, number),
-        _ => cause_of(script, number),
+        Command::View(_, _, _) => cause_of_viewed(source, number),
+        Command::Audit(_) => cause_of(script_behind(source), number),
+        _ => cause_of(source, number),
     };
     let fault = cause_text(alloc, cause)?;
     format!(in alloc; "script line {number}: {fault}")
@@ -83,11 +99,26 @@ fn shelf_text(alloc: Global, command: Command<'_>) -> Result<String, AllocError>
     let name = file_of(command);
     let done = match command {
         Command::Make(_, _) => "saved",
-        Command::Edit(_, _) | Command::Render(_) | Command::Info(_) | Command::View(_, _, _) =>
-            "read",
+        Command::Edit(_, _)
+        | Command::Render(_)
+        | Command::Info(_)
+        | Command::View(_, _, _)
+        | Command::Audit(_) => "read",
         Command::Pack(_, _) | Command::Flatten(_) => "read or saved",
     };
     format!(in alloc; "{name}: the file cannot be {done}")
+}
+
+// Why what was printed is none of the script's runs.
+fn rejection_text(alloc: Global, name: &str, why: Rejection) -> Result<String, AllocError> {
+    match why {
+        Rejection::Shape => format!(in alloc;
+            "{name}: the output is not one line for each call of the script and the line of their order"
+        ),
+        Rejection::Reply { session, index } => format!(in alloc;
+            "{name}: the reply of call {index} of session {session}, both counted from 0, is none that may stand there"
+        ),
+    }
 }
 
 fn refusal_text(alloc: Global, name: &str, refused: ReadRefused) -> Result<String, AllocError> {

@@ -4,6 +4,7 @@ use spec_fields::{Kind, ReadRefused};
 use std::alloc::{AllocError, Global};
 use std::test::Fail;
 use xl_program::Stopped;
+use xl_verdict::Rejection;
 
 // The sentence on a file that is edited.
 fn of_edit(alloc: Global, status: u8, cause: Stopped) -> Result<String, AllocError> {
@@ -171,6 +172,48 @@ fn the_output_and_memory(rt: HostRuntime) -> Result<(), Fail> {
     Ok(())
 }
 
+// The sentence on an audit.
+fn of_audit(
+    alloc: Global,
+    status: u8,
+    cause: Stopped,
+    source: &[u8],
+) -> Result<String, AllocError> {
+    let words = ["audit", "photo.xcf"];
+    message(alloc, words.as_slice(), status, Some(cause), source)
+}
+
+#[test]
+fn an_audit_is_told_of(rt: HostRuntime) -> Result<(), Fail> {
+    let alloc = rt.alloc();
+    assert!(rt;
+        of_audit(alloc, 3, Stopped::BadHead, &[])?
+            .as_str()
+            .starts_with("the input is no line \"script N\"")
+    );
+    assert_eq!(rt;
+        of_audit(alloc, 3, Stopped::BadLine(1), b"script 7\n0 blur\norder\n")?.as_str(),
+        "script line 1: unknown word \"blur\""
+    );
+    assert_eq!(rt;
+        of_audit(alloc, 10, Stopped::Rejected(Rejection::Shape), &[])?.as_str(),
+        "photo.xcf: the output is not one line for each call of the script and the line of their order"
+    );
+    let reply = Rejection::Reply {
+        session: 2,
+        index: 5,
+    };
+    assert_eq!(rt;
+        of_audit(alloc, 10, Stopped::Rejected(reply), &[])?.as_str(),
+        "photo.xcf: the reply of call 5 of session 2, both counted from 0, is none that may stand there"
+    );
+    assert_eq!(rt;
+        of_audit(alloc, 6, Stopped::ShelfFault, &[])?.as_str(),
+        "photo.xcf: the file cannot be read"
+    );
+    Ok(())
+}
+
 #[test]
 fn the_commands_are_listed(rt: HostRuntime) -> Result<(), Fail> {
     let alloc = rt.alloc();
@@ -178,7 +221,7 @@ fn the_commands_are_listed(rt: HostRuntime) -> Result<(), Fail> {
     let text = message(alloc, words.as_slice(), 2, None, &[])?;
     let front = format!(in alloc; "xcfedit {VERSION}: these words are no command;")?;
     assert!(rt; text.as_str().starts_with(front.as_str()));
-    assert_eq!(rt; text.as_str().lines().count(), 8);
+    assert_eq!(rt; text.as_str().lines().count(), 9);
     Ok(())
 }
 

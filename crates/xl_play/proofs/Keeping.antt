@@ -19,7 +19,7 @@ use Rattle.xl_core.specs.Editing.{Editing, world, Begins, Ends, start_of, end_of
 use Rattle.xl_standing.specs.History.{History}
 use Rattle.xl_core.specs.declared.saving.Begun.TheVariants.{Snapshot}
 use Rattle.xl_play.specs.Playing.{KeepsExactly}
-use Rattle.xl_play.proofs.Played.{run_behind}
+use Rattle.xl_play.proofs.Grown.{run_behind}
 
 -- a core keeps nothing as its document is opened
 pub opened_keeps : {D : Type 0} (core : Editing D) (d : Document) (k : D)

@@ -6,7 +6,7 @@ mod Chests
 mod Keeping
 mod OfFirst
 mod Plain
-mod Played
+mod Grown
 mod Saved
 mod ScriptPlayed
 mod Seen

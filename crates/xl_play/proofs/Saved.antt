@@ -25,7 +25,7 @@ use Rattle.xl_edit.specs.declared.reply.Reply.TheVariants.{SaveMemory, HistoryFu
 use Rattle.xl_edit.specs.Replies.{reply_of}
 use Rattle.xl_script.specs.Printed.{HasText}
 use Rattle.xl_play.specs.Playing.{ArePlayed, IsBetweenLines, with_save}
-use Rattle.xl_play.proofs.Played.{played_save}
+use Rattle.xl_play.proofs.Grown.{played_save}
 use Rattle.xl_ports.specs.State.{ShelfState}
 
 -- the save that is out after its start

@@ -37,7 +37,7 @@ use Rattle.xl_script.specs.Printed.{HasText}
 use Rattle.xl_play.specs.Playing.{ArePlayed, IsCalled, KeepsExactly, shown_of}
 use Rattle.xl_play.proofs.Alone.{alone_peek}
 use Rattle.xl_play.proofs.Answered.{IsSaid, reply_said}
-use Rattle.xl_play.proofs.Played.{played_call}
+use Rattle.xl_play.proofs.Grown.{played_call}
 
 -- ---- what is shown
 

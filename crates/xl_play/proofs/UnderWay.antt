@@ -26,7 +26,7 @@ use Rattle.xl_play.proofs.Plain.{filters_now, filters_more, tables_more}
 use Rattle.xl_play.proofs.Chests.{full_stocked}
 use Rattle.xl_sessions.proofs.Brought.{full_agrees}
 use Rattle.xl_sessions.proofs.Chests.{IsStocked, line_fits, stocked_after, agrees_without, stocked_without}
-use Rattle.xl_play.proofs.Played.{calls_behind, played_none}
+use Rattle.xl_play.proofs.Grown.{calls_behind, played_none}
 
 -- ---- indices
 

@@ -27,7 +27,7 @@ use Rattle.xl_core.specs.Editing.{Editing}
 use Rattle.xl_standing.specs.History.{History, version, document, Shows, with_call}
 use Rattle.xl_play.specs.Playing.{ArePlayed, KeepsExactly, lines_in, shown_of}
 use Rattle.xl_play.specs.Windows.{AreShown, IsLastTile, Place, asks_for, window_digest}
-use Rattle.xl_play.proofs.Played.{next_entry, played_none}
+use Rattle.xl_play.proofs.Grown.{next_entry, played_none}
 use Rattle.xl_play.proofs.Stays.{IsTold, each_told}
 use Rattle.xl_play.proofs.Submitted.{AnswersBy, HasRoom, chest_printed, chest_taken}
 

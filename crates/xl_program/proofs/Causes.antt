@@ -5,8 +5,8 @@ use Rattle.xl_ports.specs.Faults.{Rose}
 use Rattle.xl_ports.specs.State.{ShelfState}
 use Rattle.xl_program.specs.Outcome.{FaultsRose, ShelfCause, ShelfCauseOf}
 use Rattle.xl_program.specs.declared.stopped.Stopped.{Stopped}
-use Rattle.xl_program.specs.declared.stopped.Stopped.TheVariants.{SourceFault, BadLine, ShelfFault, Refused, SaveFault}
-use Rattle.xl_program.specs.declared.stopped.Stopped.TheVariants.{NotFlattened, SinkFault, Memory}
+use Rattle.xl_program.specs.declared.stopped.Stopped.TheVariants.{SourceFault, BadHead, BadLine, ShelfFault, Refused}
+use Rattle.xl_program.specs.declared.stopped.Stopped.TheVariants.{NotFlattened, SaveFault, Rejected, SinkFault, Memory}
 
 -- the cause of a command that a fault of reading stops
 pub cause_of : (before after : ShelfState) (command : Asked) (result : Result (Unit {0}) Stopped)
@@ -14,10 +14,12 @@ pub cause_of : (before after : ShelfState) (command : Asked) (result : Result (U
     → ShelfCause before.reading after.reading result → ShelfCauseOf before after command result
 cause_of before after command (Ok x) rises cause = cause
 cause_of before after command (Err SourceFault) rises cause = cause
+cause_of before after command (Err BadHead) rises cause = cause
 cause_of before after command (Err (BadLine number)) rises cause = cause
 cause_of before after command (Err ShelfFault) rises cause = rises cause
 cause_of before after command (Err (Refused why)) rises cause = cause
 cause_of before after command (Err (NotFlattened why)) rises cause = cause
 cause_of before after command (Err SaveFault) rises cause = cause
+cause_of before after command (Err (Rejected why)) rises cause = cause
 cause_of before after command (Err SinkFault) rises cause = cause
 cause_of before after command (Err Memory) rises cause = cause

@@ -16,8 +16,8 @@ use Rattle.xl_ports.specs.Disk.{read_at}
 use Rattle.xl_program.specs.Parts.{Loads, ReadsScript, StopsEdit, WritesReplies}
 use Rattle.xl_play.specs.declared.playing.Replies.{Replies}
 use Rattle.xl_program.specs.declared.stopped.Stopped.{Stopped}
-use Rattle.xl_program.specs.declared.stopped.Stopped.TheVariants.{SourceFault, BadLine, ShelfFault, Refused, SaveFault}
-use Rattle.xl_program.specs.declared.stopped.Stopped.TheVariants.{NotFlattened, SinkFault, Memory}
+use Rattle.xl_program.specs.declared.stopped.Stopped.TheVariants.{SourceFault, BadHead, BadLine, ShelfFault, Refused}
+use Rattle.xl_program.specs.declared.stopped.Stopped.TheVariants.{NotFlattened, SaveFault, Rejected, SinkFault, Memory}
 use Rattle.spec_script.specs.Script.{Line}
 use Rattle.xl_program.proofs.Earlier.{right_earlier}
 use Rattle.xl_program.proofs.LastFile.{has_last}
@@ -82,9 +82,11 @@ module _ {given : Given} {before mid : ShelfState} {name : List ℕ} {d : Docume
       (string_bytes replies.text, replies_of replies NoneFailed played (none_failed replies.save_failed writes.1), writes.0)
   played_comes held faults old new (Ok replies) (Err SaveFault) played writes =
       (string_bytes replies.text, replies_of replies SomeFailed played (some_failed replies.save_failed writes.1), writes.0)
+  played_comes held faults old new (Ok replies) (Err (Rejected why)) played writes = absurd writes
   played_comes held faults old new (Ok replies) (Err SinkFault) played writes =
       (string_bytes replies.text, replies_of replies AnyFailed played (λ n h. tt), writes)
   played_comes held faults old new (Ok replies) (Err SourceFault) played writes = absurd writes
+  played_comes held faults old new (Ok replies) (Err BadHead) played writes = absurd writes
   played_comes held faults old new (Ok replies) (Err (BadLine number)) played writes = absurd writes
   played_comes held faults old new (Ok replies) (Err ShelfFault) played writes = absurd writes
   played_comes held faults old new (Ok replies) (Err (Refused refused)) played writes = absurd writes
@@ -101,11 +103,13 @@ pub read_stopped : {K : Type 0} (held : K → Option (List ℕ)) (faults : K →
     (sink : K) (why : Stopped) → ReadsScript given (Err why)
     → (workers : ℕ) → ComesTo held faults given s s (edit name workers) sink sink (Err why)
 read_stopped held faults given s name sink SourceFault reads workers = ((refl, refl), untouched s)
+read_stopped held faults given s name sink BadHead reads workers = absurd reads
 read_stopped held faults given s name sink (BadLine number) reads workers = ((refl, refl), untouched s)
 read_stopped held faults given s name sink ShelfFault reads workers = absurd reads
 read_stopped held faults given s name sink (Refused refused) reads workers = absurd reads
 read_stopped held faults given s name sink (NotFlattened cause) reads workers = absurd reads
 read_stopped held faults given s name sink SaveFault reads workers = absurd reads
+read_stopped held faults given s name sink (Rejected why) reads workers = absurd reads
 read_stopped held faults given s name sink SinkFault reads workers = absurd reads
 read_stopped held faults given s name sink Memory reads workers = ((refl, refl), inl (untouched s))
 
@@ -113,11 +117,13 @@ read_stopped held faults given s name sink Memory reads workers = ((refl, refl),
 pub load_stops : (given : Given) (content : Option Content) (lists : List (List Line)) (why : Stopped) → HasLines given lists
     → Loads content (Err why) → StopsEdit given content (Err why)
 load_stops given content lists SourceFault has loads = absurd loads
+load_stops given content lists BadHead has loads = absurd loads
 load_stops given content lists (BadLine number) has loads = absurd loads
 load_stops given content lists ShelfFault has loads = (lists, has)
 load_stops given content lists (Refused refused) has loads = ((lists, has), loads)
 load_stops given content lists (NotFlattened cause) has loads = absurd loads
 load_stops given content lists SaveFault has loads = absurd loads
+load_stops given content lists (Rejected why) has loads = absurd loads
 load_stops given content lists SinkFault has loads = absurd loads
 load_stops given content lists Memory has loads = tt
 
@@ -127,11 +133,13 @@ pub play_stops : {K : Type 0} (held : K → Option (List ℕ)) (faults : K → �
     → HasLines given lists → WritesReplies held faults old new replies result → StopsEdit given content result
 play_stops held faults old new given content lists (Ok replies) (Ok x) has writes = tt
 play_stops held faults old new given content lists (Ok replies) (Err SourceFault) has writes = absurd writes
+play_stops held faults old new given content lists (Ok replies) (Err BadHead) has writes = absurd writes
 play_stops held faults old new given content lists (Ok replies) (Err (BadLine number)) has writes = absurd writes
 play_stops held faults old new given content lists (Ok replies) (Err ShelfFault) has writes = absurd writes
 play_stops held faults old new given content lists (Ok replies) (Err (Refused refused)) has writes = absurd writes
 play_stops held faults old new given content lists (Ok replies) (Err (NotFlattened why)) has writes = absurd writes
 play_stops held faults old new given content lists (Ok replies) (Err SaveFault) has writes = (lists, has)
+play_stops held faults old new given content lists (Ok replies) (Err (Rejected why)) has writes = absurd writes
 play_stops held faults old new given content lists (Ok replies) (Err SinkFault) has writes = tt
 play_stops held faults old new given content lists (Ok replies) (Err Memory) has writes = absurd writes
 play_stops held faults old new given content lists (Err e) result has writes = subst (StopsEdit given content) (sym writes.0) tt

@@ -1,5 +1,5 @@
 -- What a run comes to that makes the image of a file flat.
-use Rattle.std.proofs.Common.{◌≡◌, inl, inr, ℕ, List, [], ◌∷◌, ◌++◌, Some, None, ap, refl, sym, ◌∙◌, subst}
+use Rattle.std.proofs.Common.{◌≡◌, inr, ℕ, List, Some, None, ap, refl, sym, ◌∙◌, subst}
 use Rattle.std.specs.Prelude.{Option, unwrap_or, IfSome, Result, Ok, Err}
 use Rattle.spec_command.specs.Arguments.{flatten}
 use Rattle.spec_document.specs.Document.{Document}
@@ -21,8 +21,8 @@ use Rattle.xl_program.specs.Flattening.{SavesAndTells}
 use Rattle.xl_program.specs.Outcome.{ComesTo, Given, IsUntouched, opened, ShelfCauseOf}
 use Rattle.xl_program.specs.Parts.{StopsFlatten}
 use Rattle.xl_program.specs.declared.stopped.Stopped.{Stopped}
-use Rattle.xl_program.specs.declared.stopped.Stopped.TheVariants.{SourceFault, BadLine, ShelfFault, Refused, SaveFault}
-use Rattle.xl_program.specs.declared.stopped.Stopped.TheVariants.{NotFlattened, SinkFault, Memory}
+use Rattle.xl_program.specs.declared.stopped.Stopped.TheVariants.{SourceFault, BadHead, BadLine, ShelfFault, Refused}
+use Rattle.xl_program.specs.declared.stopped.Stopped.TheVariants.{NotFlattened, SaveFault, Rejected, SinkFault, Memory}
 use Rattle.xl_program.proofs.FirstSaves.{saved_first, failed_first}
 use Rattle.xl_save.specs.Save.{SavesOnly, HasSaved}
 use Rattle.xl_snapshot.specs.Saving.{IsSavedOn}
@@ -97,10 +97,12 @@ module _ {before mid : ShelfState} {name : List ℕ} {d : Document} (known_then 
   flat_comes held faults given old new (Err ShelfFault) saves =
       ((ap held saves.1, ap faults saves.1), inr (failed_save saves.0))
   flat_comes held faults given old new (Err SourceFault) saves = absurd saves
+  flat_comes held faults given old new (Err BadHead) saves = absurd saves
   flat_comes held faults given old new (Err (BadLine number)) saves = absurd saves
   flat_comes held faults given old new (Err (Refused why)) saves = absurd saves
   flat_comes held faults given old new (Err (NotFlattened why)) saves = absurd saves
   flat_comes held faults given old new (Err SaveFault) saves = absurd saves
+  flat_comes held faults given old new (Err (Rejected why)) saves = absurd saves
   flat_comes held faults given old new (Err Memory) saves = absurd saves
 
   pub flat_cause : {K : Type 0} (held : K → Option (List ℕ)) (faults : K → ℕ) (old new : K)
@@ -110,10 +112,12 @@ module _ {before mid : ShelfState} {name : List ℕ} {d : Document} (known_then 
   flat_cause held faults old new (Err SinkFault) saves = saves.0.reading ∙ known_then.reading
   flat_cause held faults old new (Err ShelfFault) saves = inr (failed_save saves.0).saved.saving
   flat_cause held faults old new (Err SourceFault) saves = absurd saves
+  flat_cause held faults old new (Err BadHead) saves = absurd saves
   flat_cause held faults old new (Err (BadLine number)) saves = absurd saves
   flat_cause held faults old new (Err (Refused why)) saves = absurd saves
   flat_cause held faults old new (Err (NotFlattened why)) saves = absurd saves
   flat_cause held faults old new (Err SaveFault) saves = absurd saves
+  flat_cause held faults old new (Err (Rejected why)) saves = absurd saves
   flat_cause held faults old new (Err Memory) saves = absurd saves
 
 -- ---- of the shelves of a run
@@ -162,8 +166,10 @@ flat_stops held faults d opening now old new content (Ok x) saves = tt
 flat_stops held faults d opening now old new content (Err SinkFault) saves = tt
 flat_stops held faults d opening now old new content (Err ShelfFault) saves = tt
 flat_stops held faults d opening now old new content (Err SourceFault) saves = absurd saves
+flat_stops held faults d opening now old new content (Err BadHead) saves = absurd saves
 flat_stops held faults d opening now old new content (Err (BadLine number)) saves = absurd saves
 flat_stops held faults d opening now old new content (Err (Refused why)) saves = absurd saves
 flat_stops held faults d opening now old new content (Err (NotFlattened why)) saves = absurd saves
 flat_stops held faults d opening now old new content (Err SaveFault) saves = absurd saves
+flat_stops held faults d opening now old new content (Err (Rejected why)) saves = absurd saves
 flat_stops held faults d opening now old new content (Err Memory) saves = absurd saves

@@ -26,6 +26,7 @@ use Rattle.xl_ports.specs.Shelf.{Content}
 use Rattle.xl_ports.specs.Disk.{Disk, MayLeave, Between}
 use Rattle.xl_ports.specs.State.{ShelfState}
 use Rattle.xl_play.specs.Told.{NoneFailed, SomeFailed, AnyFailed, WhetherFailed}
+use Rattle.xl_program.specs.Endings.{HaveFailed}
 use Rattle.xl_program.specs.Making.{IsMadeHistory, IsRunOf, IsSummary}
 use Rattle.xl_sessions.specs.Outcomes.{states_of}
 use Rattle.xl_program.specs.Outcome.{Comes, opened, ShelfCauseOf}
@@ -36,8 +37,8 @@ use Rattle.xl_play.specs.Versions.{AreWithin}
 use Rattle.xl_snapshot.specs.Saving.{IsSavedOn}
 use Rattle.xl_play.specs.declared.playing.Replies.{Replies}
 use Rattle.xl_program.specs.declared.stopped.Stopped.{Stopped}
-use Rattle.xl_program.specs.declared.stopped.Stopped.TheVariants.{SourceFault, BadLine, ShelfFault, Refused, SaveFault}
-use Rattle.xl_program.specs.declared.stopped.Stopped.TheVariants.{NotFlattened, SinkFault, Memory}
+use Rattle.xl_program.specs.declared.stopped.Stopped.TheVariants.{SourceFault, BadHead, BadLine, ShelfFault, Refused}
+use Rattle.xl_program.specs.declared.stopped.Stopped.TheVariants.{NotFlattened, SaveFault, Rejected, SinkFault, Memory}
 use Rattle.xl_program.proofs.Edited.{none_failed, some_failed}
 use Rattle.xl_program.proofs.MadeFiles.{last_is_saved}
 use Rattle.xl_play.proofs.VersionsWithin.{first_within}
@@ -202,15 +203,17 @@ module _ (d : Document) (lists : List (List Line)) (sessions : IsMade d lists) (
   pub made_comes : {K : Type 0} (held : K → Option (List ℕ)) (faults : K → ℕ) (Untouched Failed : Type 0) (old new : K)
       (told : Result Replies AllocError) (result : Result (Unit {0}) Stopped)
       → IsSummedUp first now d lists told → WritesReplies held faults old new told result
-      → Comes held faults (IsSummary opening now d lists) Untouched Failed
+      → Comes held faults (λ ending out. IsSummary opening now d lists (HaveFailed ending) out) Untouched Failed
       (Untouched ⊎ ((entries : List Entry) × IsMadeHistory opening now d entries)) old new result
   made_comes held faults U F old new (Ok told) (Ok x) summed_up writes =
       (string_bytes told.text, summary_is told NoneFailed summed_up (none_failed told.save_failed writes.1), writes.0)
   made_comes held faults U F old new (Ok told) (Err SaveFault) summed_up writes =
       (string_bytes told.text, summary_is told SomeFailed summed_up (some_failed told.save_failed writes.1), writes.0)
+  made_comes held faults U F old new (Ok told) (Err (Rejected why)) summed_up writes = absurd writes
   made_comes held faults U F old new (Ok told) (Err SinkFault) summed_up writes =
       (string_bytes told.text, summary_is told AnyFailed summed_up (λ n h. tt), writes)
   made_comes held faults U F old new (Ok told) (Err SourceFault) summed_up writes = absurd writes
+  made_comes held faults U F old new (Ok told) (Err BadHead) summed_up writes = absurd writes
   made_comes held faults U F old new (Ok told) (Err (BadLine number)) summed_up writes = absurd writes
   made_comes held faults U F old new (Ok told) (Err ShelfFault) summed_up writes = absurd writes
   made_comes held faults U F old new (Ok told) (Err (Refused refused)) summed_up writes = absurd writes
@@ -218,8 +221,8 @@ module _ (d : Document) (lists : List (List Line)) (sessions : IsMade d lists) (
   made_comes held faults U F old new (Ok told) (Err Memory) summed_up writes = absurd writes
   made_comes held faults U F old new (Err e) result summed_up writes =
       subst (λ (r : Result (Unit {0}) Stopped).
-      Comes held faults (IsSummary opening now d lists) U F (U ⊎ ((entries : List Entry) × IsMadeHistory opening now d entries))
-      old new r) (sym writes.0)
+      Comes held faults (λ ending out. IsSummary opening now d lists (HaveFailed ending) out) U F
+      (U ⊎ ((entries : List Entry) × IsMadeHistory opening now d entries)) old new r) (sym writes.0)
       ((ap held writes.1, ap faults writes.1), inr (summed_up.entries, made_history (Err e) summed_up))
 
 -- ---- why it stops
@@ -229,11 +232,13 @@ pub made_stops : {K : Type 0} (held : K → Option (List ℕ)) (faults : K → �
     → WritesReplies held faults old new told result → StopsMaking result
 made_stops held faults old new (Ok told) (Ok x) writes = tt
 made_stops held faults old new (Ok told) (Err SourceFault) writes = absurd writes
+made_stops held faults old new (Ok told) (Err BadHead) writes = absurd writes
 made_stops held faults old new (Ok told) (Err (BadLine number)) writes = absurd writes
 made_stops held faults old new (Ok told) (Err ShelfFault) writes = absurd writes
 made_stops held faults old new (Ok told) (Err (Refused refused)) writes = absurd writes
 made_stops held faults old new (Ok told) (Err (NotFlattened why)) writes = absurd writes
 made_stops held faults old new (Ok told) (Err SaveFault) writes = tt
+made_stops held faults old new (Ok told) (Err (Rejected why)) writes = absurd writes
 made_stops held faults old new (Ok told) (Err SinkFault) writes = tt
 made_stops held faults old new (Ok told) (Err Memory) writes = absurd writes
 made_stops held faults old new (Err e) result writes = subst StopsMaking (sym writes.0) tt
@@ -244,11 +249,13 @@ pub made_cause : {K : Type 0} (held : K → Option (List ℕ)) (faults : K → �
     → ShelfCauseOf before after (make name seed) result
 made_cause held faults old new before after name seed (Ok told) (Ok x) same writes = same
 made_cause held faults old new before after name seed (Ok told) (Err SourceFault) same writes = absurd writes
+made_cause held faults old new before after name seed (Ok told) (Err BadHead) same writes = absurd writes
 made_cause held faults old new before after name seed (Ok told) (Err (BadLine number)) same writes = absurd writes
 made_cause held faults old new before after name seed (Ok told) (Err ShelfFault) same writes = absurd writes
 made_cause held faults old new before after name seed (Ok told) (Err (Refused refused)) same writes = absurd writes
 made_cause held faults old new before after name seed (Ok told) (Err (NotFlattened why)) same writes = absurd writes
 made_cause held faults old new before after name seed (Ok told) (Err SaveFault) same writes = same
+made_cause held faults old new before after name seed (Ok told) (Err (Rejected why)) same writes = same
 made_cause held faults old new before after name seed (Ok told) (Err SinkFault) same writes = same
 made_cause held faults old new before after name seed (Ok told) (Err Memory) same writes = absurd writes
 made_cause held faults old new before after name seed (Err e) result same writes =

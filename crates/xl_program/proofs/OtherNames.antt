@@ -1,7 +1,7 @@
 -- Names other than that of the command's file stay, whatever a command comes to.
 use Rattle.std.proofs.Common.{◌≡◌, inl, inr, ℕ, List, [], Some, None, ap, sym, subst}
 use Rattle.std.specs.Prelude.{Option, unwrap_or, Result, Ok, Err}
-use Rattle.spec_command.specs.Arguments.{Asked, edit, render, info, make, pack, flatten, view, name_of}
+use Rattle.spec_command.specs.Arguments.{Asked, edit, render, info, make, pack, flatten, view, audit, name_of}
 use Rattle.spec_document.specs.Document.{Document}
 use Rattle.spec_history.specs.History.{Entry}
 use Rattle.spec_saves.specs.Shelf.{file_name, ShelfIsRight, DiskIsRight}
@@ -13,13 +13,13 @@ use Rattle.xl_ports.proofs.Moments.{weaker, one_then, others_still, others_then,
 use Rattle.xl_save.specs.Save.{SavesOnly, HasSaved}
 use Rattle.xl_save.proofs.Others.{others_stay}
 use Rattle.xl_snapshot.specs.Saving.{Puts}
-use Rattle.xl_play.specs.Told.{NoneFailed, SomeFailed, AnyFailed}
+use Rattle.xl_program.specs.Endings.{Ending, well, unsaved, rejected, in_part}
 use Rattle.xl_program.specs.Making.{IsMadeHistory}
 use Rattle.xl_program.specs.Outcome.{Given, ComesTo, FailsAtShelf, IsOutput, IsUntouched, MayHaveSaved}
 use Rattle.xl_program.specs.Outcome.{opened, OtherNamesStay}
 use Rattle.xl_program.specs.declared.stopped.Stopped.{Stopped}
-use Rattle.xl_program.specs.declared.stopped.Stopped.TheVariants.{SourceFault, BadLine, ShelfFault, Refused, SaveFault}
-use Rattle.xl_program.specs.declared.stopped.Stopped.TheVariants.{NotFlattened, SinkFault, Memory}
+use Rattle.xl_program.specs.declared.stopped.Stopped.TheVariants.{SourceFault, BadHead, BadLine, ShelfFault, Refused}
+use Rattle.xl_program.specs.declared.stopped.Stopped.TheVariants.{NotFlattened, SaveFault, Rejected, SinkFault, Memory}
 
 -- every name but this one stays
 abbrev pub Others : (name : List ℕ) → (old new : ShelfState) → Type 0
@@ -62,17 +62,18 @@ others_made opening now d es made =
 
 -- ---- by what a command comes to
 
-others_output : (given : Given) (old new : ShelfState) (command : Asked) (P : ℕ → Type 0) (out : List ℕ)
-    → IsOutput given old new command P out → Others (name_of command) old new
-others_output given old new (render name) P out is = others_untouched name old new is.1
-others_output given old new (info name) P out is = others_untouched name old new is.1
-others_output given old new (make name seed) P out is = others_made (opened old new name) new _ _ is.history
-others_output given old new (edit name workers) P out is = others_right (opened old new name) new _ _ is.history.shelf
-others_output given old new (pack name with_plans) P out is =
+others_output : (given : Given) (old new : ShelfState) (command : Asked) (ending : Ending) (out : List ℕ)
+    → IsOutput given old new command ending out → Others (name_of command) old new
+others_output given old new (render name) ending out is = others_untouched name old new is.1
+others_output given old new (info name) ending out is = others_untouched name old new is.1
+others_output given old new (make name seed) ending out is = others_made (opened old new name) new _ _ is.history
+others_output given old new (edit name workers) ending out is = others_right (opened old new name) new _ _ is.history.shelf
+others_output given old new (pack name with_plans) ending out is =
     weaker (SavesOnly name is.0.saved.file) (OthersStay name) (λ b a saved. others_stay name is.0.saved.file b a saved)
     old.disk new.disk is.0.saved.moments
-others_output given old new (flatten name) P out is = others_put Done _ name old.disk new.disk is.0.flat.saved.contents
-others_output given old new (view name cols rows) P out is = others_untouched name old new is.1
+others_output given old new (flatten name) ending out is = others_put Done _ name old.disk new.disk is.0.flat.saved.contents
+others_output given old new (view name cols rows) ending out is = others_untouched name old new is.1
+others_output given old new (audit name) ending out is = others_untouched name old new is.1
 
 others_failed : (old new : ShelfState) (command : Asked) → FailsAtShelf old new command → Others (name_of command) old new
 others_failed old new (render name) same = others_untouched name old new same
@@ -87,6 +88,7 @@ others_failed old new (pack name with_plans) (inr packed) =
 others_failed old new (flatten name) (inl same) = others_untouched name old new same
 others_failed old new (flatten name) (inr flat) = others_put Fault _ name old.disk new.disk flat.saved.contents
 others_failed old new (view name cols rows) same = others_untouched name old new same
+others_failed old new (audit name) same = others_untouched name old new same
 
 others_saved : (old new : ShelfState) (command : Asked) → MayHaveSaved old new command → Others (name_of command) old new
 others_saved old new (render name) same = others_untouched name old new same
@@ -98,18 +100,21 @@ others_saved old new (edit name workers) (inr edited) = others_right (opened old
 others_saved old new (pack name with_plans) same = others_untouched name old new same
 others_saved old new (flatten name) same = others_untouched name old new same
 others_saved old new (view name cols rows) same = others_untouched name old new same
+others_saved old new (audit name) same = others_untouched name old new same
 
 others_come : {K : Type 0} (held : K → Option (List ℕ)) (faults : K → ℕ) (given : Given) (old new : ShelfState) (command : Asked)
     (before after : K) (result : Result (Unit {0}) Stopped) → ComesTo held faults given old new command before after result
     → Others (name_of command) old new
 others_come held faults given old new command before after (Ok x) comes =
-    others_output given old new command NoneFailed comes.0 comes.1
+    others_output given old new command well comes.0 comes.1
 others_come held faults given old new command before after (Err SaveFault) comes =
-    others_output given old new command SomeFailed comes.0 comes.1
+    others_output given old new command unsaved comes.0 comes.1
 others_come held faults given old new command before after (Err SinkFault) comes =
-    others_output given old new command AnyFailed comes.0 comes.1
+    others_output given old new command in_part comes.0 comes.1
 others_come held faults given old new command before after (Err Memory) comes = others_saved old new command comes.1
 others_come held faults given old new command before after (Err SourceFault) comes =
+    others_untouched (name_of command) old new comes.1
+others_come held faults given old new command before after (Err BadHead) comes =
     others_untouched (name_of command) old new comes.1
 others_come held faults given old new command before after (Err (BadLine number)) comes =
     others_untouched (name_of command) old new comes.1
@@ -118,6 +123,8 @@ others_come held faults given old new command before after (Err (Refused why)) c
     others_untouched (name_of command) old new comes.1
 others_come held faults given old new command before after (Err (NotFlattened why)) comes =
     others_untouched (name_of command) old new comes.1
+others_come held faults given old new command before after (Err (Rejected why)) comes =
+    others_output given old new command rejected comes.0 comes.1
 
 -- ---- by the words
 

@@ -3,24 +3,24 @@ use Rattle.std.proofs.Common.{◌≡◌, ◌⊎◌, inl, inr, ℕ, List, Option,
 use Rattle.std.specs.Prelude.{IfSome, IfOk, MatchResult, String, string_bytes}
 use Rattle.std.specs.declared.alloc.AllocError.{AllocError}
 use Rattle.std.specs.declared.alloc.Global.{Global}
-use Rattle.spec_command.specs.Arguments.{Asked, render, edit, info, make, pack, flatten, view, name_of}
-use Rattle.spec_command.specs.Ends.{Stop, source_fault, bad_line, shelf_fault, refused, flat_refused, stop_line, stop_status}
+use Rattle.spec_command.specs.Arguments.{Asked, render, edit, info, make, pack, flatten, view, audit, name_of}
+use Rattle.spec_command.specs.Ends.{Stop, source_fault, bad_head, bad_line, shelf_fault, refused, flat_refused, stop_line, stop_status}
 use Rattle.spec_fields.specs.declared.ReadRefused.{ReadRefused}
 use Rattle.spec_flat.specs.declared.FlatRefused.{FlatRefused}
 use Rattle.xl_ports.specs.Faults.{Rose}
 use Rattle.xl_ports.specs.Shelf.{Content}
 use Rattle.xl_ports.specs.Sink.{appended}
 use Rattle.xl_ports.specs.State.{ShelfState}
-use Rattle.xl_play.specs.Told.{SomeFailed}
 use Rattle.xl_program.specs.Command.{IsFlatten, ReadsFile, ReadsSource}
+use Rattle.xl_program.specs.Endings.{unsaved, rejected}
 use Rattle.xl_program.specs.Files.{CannotBeFlat, HasFault}
 use Rattle.xl_program.specs.Lines.{WritesLine}
-use Rattle.xl_program.specs.Outcome.{Given, InGrammar, IsBadLineOf, Keeps, ComesTo, IsOutput}
-use Rattle.xl_program.specs.Outcome.{ShelfCauseOf, ShelfFails, WritesLineOr, WritesStop, WritesSome}
+use Rattle.xl_program.specs.Outcome.{Given, InGrammar, IsBadHeadOf, IsBadLineOf, Keeps, ComesTo, IsOutput, RefusesSource}
+use Rattle.xl_program.specs.Outcome.{ShelfCauseOf, ShelfFails, WritesLineOr, WritesRejection, WritesStop, WritesSome}
 use Rattle.xl_program.specs.Parts.{StopsFor}
 use Rattle.xl_program.specs.declared.stopped.Stopped.{Stopped}
-use Rattle.xl_program.specs.declared.stopped.Stopped.TheVariants.{SourceFault, BadLine, ShelfFault, Refused, SaveFault}
-use Rattle.xl_program.specs.declared.stopped.Stopped.TheVariants.{NotFlattened, SinkFault, Memory}
+use Rattle.xl_program.specs.declared.stopped.Stopped.TheVariants.{SourceFault, BadHead, BadLine, ShelfFault, Refused}
+use Rattle.xl_program.specs.declared.stopped.Stopped.TheVariants.{NotFlattened, SaveFault, Rejected, SinkFault, Memory}
 
 module _ {K : Type 0} (held : K → Option (List ℕ)) (faults : K → ℕ) where
   -- a line that was made is written, and else nothing
@@ -52,8 +52,10 @@ IsLate ShelfFault = Unit {0}
 IsLate SaveFault = Unit {0}
 IsLate (Refused why) = Unit {0}
 IsLate SourceFault = ⊥
+IsLate BadHead = ⊥
 IsLate (BadLine number) = ⊥
 IsLate (NotFlattened why) = ⊥
+IsLate (Rejected why) = ⊥
 IsLate SinkFault = ⊥
 IsLate Memory = ⊥
 
@@ -66,14 +68,18 @@ module _ {K : Type 0} (held : K → Option (List ℕ)) (faults : K → ℕ) wher
   is_late (Refused why) status last mid new same which told = tt
   is_late SourceFault status last mid new same (inl four) told = absurd (omega (arith, same, four, told.0))
   is_late SourceFault status last mid new same (inr six) told = absurd (omega (arith, same, six, told.0))
+  is_late BadHead status last mid new same (inl four) told = absurd (omega (arith, same, four, told.0))
   is_late (BadLine number) status last mid new same (inl four) (inl told) = absurd (omega (arith, same, four, told.0))
   is_late (BadLine number) status last mid new same (inl four) (inr told) = absurd (omega (arith, same, four, told.0))
+  is_late BadHead status last mid new same (inr six) told = absurd (omega (arith, same, six, told.0))
   is_late (BadLine number) status last mid new same (inr six) (inl told) = absurd (omega (arith, same, six, told.0))
   is_late (BadLine number) status last mid new same (inr six) (inr told) = absurd (omega (arith, same, six, told.0))
   is_late (NotFlattened why) status last mid new same (inl four) (inl told) = absurd (omega (arith, same, four, told.0))
   is_late (NotFlattened why) status last mid new same (inl four) (inr told) = absurd (omega (arith, same, four, told.0))
   is_late (NotFlattened why) status last mid new same (inr six) (inl told) = absurd (omega (arith, same, six, told.0))
   is_late (NotFlattened why) status last mid new same (inr six) (inr told) = absurd (omega (arith, same, six, told.0))
+  is_late (Rejected why) status last mid new same (inl four) told = absurd (omega (arith, same, four, told.0))
+  is_late (Rejected why) status last mid new same (inr six) told = absurd (omega (arith, same, six, told.0))
   is_late SinkFault status last mid new same (inl four) told = absurd (omega (arith, same, four, told.0))
   is_late SinkFault status last mid new same (inr six) told = absurd (omega (arith, same, six, told.0))
   is_late Memory status last mid new same (inl four) told = absurd (omega (arith, same, four, told.0))
@@ -91,18 +97,32 @@ module _ (given : Given) (content : List ℕ → Option Content) where
   late_in_grammar (edit name workers) SaveFault late stops = stops
   late_in_grammar (edit name workers) (Refused why) late stops = stops.0
   late_in_grammar (edit name workers) SourceFault late stops = absurd late
+  late_in_grammar (edit name workers) BadHead late stops = absurd late
   late_in_grammar (edit name workers) (BadLine number) late stops = absurd late
   late_in_grammar (edit name workers) (NotFlattened why) late stops = absurd late
+  late_in_grammar (edit name workers) (Rejected why) late stops = absurd late
   late_in_grammar (edit name workers) SinkFault late stops = absurd late
   late_in_grammar (edit name workers) Memory late stops = absurd late
   late_in_grammar (view name cols rows) ShelfFault late stops = stops
   late_in_grammar (view name cols rows) SaveFault late stops = absurd stops
+  late_in_grammar (view name cols rows) (Rejected why) late stops = absurd stops
   late_in_grammar (view name cols rows) (Refused why) late stops = stops.0
   late_in_grammar (view name cols rows) SourceFault late stops = absurd late
+  late_in_grammar (view name cols rows) BadHead late stops = absurd late
   late_in_grammar (view name cols rows) (BadLine number) late stops = absurd late
   late_in_grammar (view name cols rows) (NotFlattened why) late stops = absurd late
   late_in_grammar (view name cols rows) SinkFault late stops = absurd late
   late_in_grammar (view name cols rows) Memory late stops = absurd late
+  late_in_grammar (audit name) ShelfFault late stops = stops
+  late_in_grammar (audit name) SaveFault late stops = absurd stops
+  late_in_grammar (audit name) (Refused why) late stops = stops.0
+  late_in_grammar (audit name) SourceFault late stops = absurd late
+  late_in_grammar (audit name) BadHead late stops = absurd late
+  late_in_grammar (audit name) (BadLine number) late stops = absurd late
+  late_in_grammar (audit name) (NotFlattened why) late stops = absurd late
+  late_in_grammar (audit name) (Rejected why) late stops = absurd late
+  late_in_grammar (audit name) SinkFault late stops = absurd late
+  late_in_grammar (audit name) Memory late stops = absurd late
 
   -- where a file is refused or the shelf failed, the script is in the grammar
   pub script_in_grammar : {K : Type 0} (held : K → Option (List ℕ)) (faults : K → ℕ) (command : Asked) (stopped : Stopped)
@@ -122,6 +142,18 @@ module _ (given : Given) (content : List ℕ → Option Content) where
   bad_line_of (flatten name) number stops = absurd stops
   bad_line_of (edit name workers) number stops = stops
   bad_line_of (view name cols rows) number stops = stops
+  bad_line_of (audit name) number stops = stops
+
+  -- and what a refused head does
+  bad_head_of : (command : Asked) → StopsFor given content command (Err BadHead) → IsBadHeadOf given (Some command)
+  bad_head_of (render name) stops = absurd stops
+  bad_head_of (info name) stops = absurd stops
+  bad_head_of (make name seed) stops = absurd stops
+  bad_head_of (pack name with_plans) stops = absurd stops
+  bad_head_of (flatten name) stops = absurd stops
+  bad_head_of (edit name workers) stops = absurd stops
+  bad_head_of (view name cols rows) stops = absurd stops
+  bad_head_of (audit name) stops = stops
 
   -- what a refused file says of each command
   fault_of : (command : Asked) (why : ReadRefused) → StopsFor given content command (Err (Refused why))
@@ -133,6 +165,7 @@ module _ (given : Given) (content : List ℕ → Option Content) where
   fault_of (pack name with_plans) why stops = stops
   fault_of (flatten name) why stops = stops
   fault_of (view name cols rows) why stops = stops.1
+  fault_of (audit name) why stops = stops.1
 
   -- a command whose file is refused reads one
   reads_file : (command : Asked) (why : ReadRefused) → StopsFor given content command (Err (Refused why)) → ReadsFile (Some command)
@@ -143,6 +176,7 @@ module _ (given : Given) (content : List ℕ → Option Content) where
   reads_file (pack name with_plans) why stops = tt
   reads_file (flatten name) why stops = tt
   reads_file (view name cols rows) why stops = tt
+  reads_file (audit name) why stops = tt
 
   -- only one command asks whether the image can be made flat
   flat_of : (command : Asked) (why : FlatRefused) → StopsFor given content command (Err (NotFlattened why))
@@ -154,8 +188,9 @@ module _ (given : Given) (content : List ℕ → Option Content) where
   flat_of (pack name with_plans) why stops = absurd stops
   flat_of (flatten name) why stops = (tt, stops)
   flat_of (view name cols rows) why stops = absurd stops
+  flat_of (audit name) why stops = absurd stops
 
-  -- only an edit and a view read the source
+  -- only an edit, a view and an audit read the source
   reads_source : (command : Asked) → StopsFor given content command (Err SourceFault) → ReadsSource (Some command)
   reads_source (render name) stops = absurd stops
   reads_source (info name) stops = absurd stops
@@ -164,29 +199,35 @@ module _ (given : Given) (content : List ℕ → Option Content) where
   reads_source (flatten name) stops = absurd stops
   reads_source (edit name workers) stops = tt
   reads_source (view name cols rows) stops = tt
+  reads_source (audit name) stops = tt
 
 module _ {K : Type 0} (held : K → Option (List ℕ)) (faults : K → ℕ) (given : Given) (content : List ℕ → Option Content)
     (before after : ShelfState) where
-  -- status 3 tells the line of the script that is refused
-  pub bad_line_written : (command : Asked) (stopped : Stopped) (status : ℕ) (old mid new : K) → status ≡ 3
+  -- status 3 tells that the head of the source is refused, or the line of its script that is
+  pub bad_source_written : (command : Asked) (stopped : Stopped) (status : ℕ) (old mid new : K) → status ≡ 3
       → ComesTo held faults given before after command old mid (Err stopped)
       → StopsFor given content command (Err stopped) → WritesStop held faults mid new stopped status
-      → (number : ℕ) × IsBadLineOf given (Some command) number × WritesLine held faults old new (stop_line (bad_line number))
-  bad_line_written command (BadLine number) status old mid new three kept stops (inl told) = (
+      → RefusesSource held faults given (Some command) old new
+  bad_source_written command BadHead status old mid new three kept stops told = inl (
+    bad_head_of given content command stops,
+    kept_then_written held faults old mid new (stop_line bad_head) kept.0 told.1,
+  )
+  bad_source_written command (BadLine number) status old mid new three kept stops (inl told) = inr (
     number,
     bad_line_of given content command number stops,
     kept_then_written held faults old mid new (stop_line (bad_line number)) kept.0 told.1,
   )
-  bad_line_written command (BadLine number) status old mid new three kept stops (inr told) = absurd (omega (arith, three, told.0))
-  bad_line_written command SourceFault status old mid new three kept stops told = absurd (omega (arith, three, told.0))
-  bad_line_written command ShelfFault status old mid new three kept stops told = absurd (omega (arith, three, told.0))
-  bad_line_written command (Refused why) status old mid new three kept stops (inl told) = absurd (omega (arith, three, told.0))
-  bad_line_written command (Refused why) status old mid new three kept stops (inr told) = absurd (omega (arith, three, told.0))
-  bad_line_written command (NotFlattened why) status old mid new three kept stops (inl told) = absurd (omega (arith, three, told.0))
-  bad_line_written command (NotFlattened why) status old mid new three kept stops (inr told) = absurd (omega (arith, three, told.0))
-  bad_line_written command SaveFault status old mid new three kept stops told = absurd (omega (arith, three, told.0))
-  bad_line_written command SinkFault status old mid new three kept stops told = absurd (omega (arith, three, told.0))
-  bad_line_written command Memory status old mid new three kept stops told = absurd (omega (arith, three, told.0))
+  bad_source_written command (BadLine number) status old mid new three kept stops (inr told) = absurd (omega (arith, three, told.0))
+  bad_source_written command SourceFault status old mid new three kept stops told = absurd (omega (arith, three, told.0))
+  bad_source_written command ShelfFault status old mid new three kept stops told = absurd (omega (arith, three, told.0))
+  bad_source_written command (Refused why) status old mid new three kept stops (inl told) = absurd (omega (arith, three, told.0))
+  bad_source_written command (Refused why) status old mid new three kept stops (inr told) = absurd (omega (arith, three, told.0))
+  bad_source_written command (NotFlattened why) status old mid new three kept stops (inl told) = absurd (omega (arith, three, told.0))
+  bad_source_written command (NotFlattened why) status old mid new three kept stops (inr told) = absurd (omega (arith, three, told.0))
+  bad_source_written command SaveFault status old mid new three kept stops told = absurd (omega (arith, three, told.0))
+  bad_source_written command (Rejected why) status old mid new three kept stops told = absurd (omega (arith, three, told.0))
+  bad_source_written command SinkFault status old mid new three kept stops told = absurd (omega (arith, three, told.0))
+  bad_source_written command Memory status old mid new three kept stops told = absurd (omega (arith, three, told.0))
 
   -- status 4 tells the first fault of the file that a command reads
   pub refusal_written : (command : Asked) (stopped : Stopped) (status : ℕ) (old mid new : K) → status ≡ 4
@@ -201,6 +242,7 @@ module _ {K : Type 0} (held : K → Option (List ℕ)) (faults : K → ℕ) (giv
     kept_then_written held faults old mid new (stop_line (refused why)) kept.0 told.1,
   )
   refusal_written command (Refused why) status old mid new four kept stops (inr told) = absurd (omega (arith, four, told.0))
+  refusal_written command BadHead status old mid new four kept stops told = absurd (omega (arith, four, told.0))
   refusal_written command (BadLine number) status old mid new four kept stops (inl told) = absurd (omega (arith, four, told.0))
   refusal_written command (BadLine number) status old mid new four kept stops (inr told) = absurd (omega (arith, four, told.0))
   refusal_written command (NotFlattened why) status old mid new four kept stops (inl told) = absurd (omega (arith, four, told.0))
@@ -208,6 +250,7 @@ module _ {K : Type 0} (held : K → Option (List ℕ)) (faults : K → ℕ) (giv
   refusal_written command SourceFault status old mid new four kept stops told = absurd (omega (arith, four, told.0))
   refusal_written command ShelfFault status old mid new four kept stops told = absurd (omega (arith, four, told.0))
   refusal_written command SaveFault status old mid new four kept stops told = absurd (omega (arith, four, told.0))
+  refusal_written command (Rejected why) status old mid new four kept stops told = absurd (omega (arith, four, told.0))
   refusal_written command SinkFault status old mid new four kept stops told = absurd (omega (arith, four, told.0))
   refusal_written command Memory status old mid new four kept stops told = absurd (omega (arith, four, told.0))
 
@@ -222,6 +265,7 @@ module _ {K : Type 0} (held : K → Option (List ℕ)) (faults : K → ℕ) (giv
       (why, flat.0, flat.1, kept_then_written held faults old mid new (stop_line (flat_refused why)) kept.0 told.1)
   flat_refusal_written command (NotFlattened why) status old mid new nine kept stops (inr told) =
       absurd (omega (arith, nine, told.0))
+  flat_refusal_written command BadHead status old mid new nine kept stops told = absurd (omega (arith, nine, told.0))
   flat_refusal_written command (BadLine number) status old mid new nine kept stops (inl told) = absurd (omega (arith, nine, told.0))
   flat_refusal_written command (BadLine number) status old mid new nine kept stops (inr told) = absurd (omega (arith, nine, told.0))
   flat_refusal_written command (Refused why) status old mid new nine kept stops (inl told) = absurd (omega (arith, nine, told.0))
@@ -229,6 +273,7 @@ module _ {K : Type 0} (held : K → Option (List ℕ)) (faults : K → ℕ) (giv
   flat_refusal_written command SourceFault status old mid new nine kept stops told = absurd (omega (arith, nine, told.0))
   flat_refusal_written command ShelfFault status old mid new nine kept stops told = absurd (omega (arith, nine, told.0))
   flat_refusal_written command SaveFault status old mid new nine kept stops told = absurd (omega (arith, nine, told.0))
+  flat_refusal_written command (Rejected why) status old mid new nine kept stops told = absurd (omega (arith, nine, told.0))
   flat_refusal_written command SinkFault status old mid new nine kept stops told = absurd (omega (arith, nine, told.0))
   flat_refusal_written command Memory status old mid new nine kept stops told = absurd (omega (arith, nine, told.0))
 
@@ -242,16 +287,18 @@ module _ {K : Type 0} (held : K → Option (List ℕ)) (faults : K → ℕ) (giv
   shelf_fault_written command SaveFault status old mid new six comes cause told =
       inr (
         cause,
-        subst (λ (k : K). WritesSome held faults (IsOutput given before after command SomeFailed) old k) (sym told.1)
+        subst (λ (k : K). WritesSome held faults (IsOutput given before after command unsaved) old k) (sym told.1)
             comes,
       )
   shelf_fault_written command SourceFault status old mid new six comes cause told = absurd (omega (arith, six, told.0))
+  shelf_fault_written command BadHead status old mid new six comes cause told = absurd (omega (arith, six, told.0))
   shelf_fault_written command (BadLine number) status old mid new six comes cause (inl told) = absurd (omega (arith, six, told.0))
   shelf_fault_written command (BadLine number) status old mid new six comes cause (inr told) = absurd (omega (arith, six, told.0))
   shelf_fault_written command (Refused why) status old mid new six comes cause (inl told) = absurd (omega (arith, six, told.0))
   shelf_fault_written command (Refused why) status old mid new six comes cause (inr told) = absurd (omega (arith, six, told.0))
   shelf_fault_written command (NotFlattened why) status old mid new six comes cause (inl told) = absurd (omega (arith, six, told.0))
   shelf_fault_written command (NotFlattened why) status old mid new six comes cause (inr told) = absurd (omega (arith, six, told.0))
+  shelf_fault_written command (Rejected why) status old mid new six comes cause told = absurd (omega (arith, six, told.0))
   shelf_fault_written command SinkFault status old mid new six comes cause told = absurd (omega (arith, six, told.0))
   shelf_fault_written command Memory status old mid new six comes cause told = absurd (omega (arith, six, told.0))
 
@@ -275,6 +322,7 @@ module _ {K : Type 0} (held : K → Option (List ℕ)) (faults : K → ℕ) (giv
     reads_source given content command stops,
     kept_then_written held faults old mid new (stop_line source_fault) kept.0 told.1,
   )
+  source_fault_written command BadHead status old mid new five kept stops told = absurd (omega (arith, five, told.0))
   source_fault_written command (BadLine number) status old mid new five kept stops (inl told) = absurd (omega (arith, five, told.0))
   source_fault_written command (BadLine number) status old mid new five kept stops (inr told) = absurd (omega (arith, five, told.0))
   source_fault_written command ShelfFault status old mid new five kept stops told = absurd (omega (arith, five, told.0))
@@ -283,5 +331,35 @@ module _ {K : Type 0} (held : K → Option (List ℕ)) (faults : K → ℕ) (giv
   source_fault_written command (NotFlattened why) status old mid new five kept stops (inl told) = absurd (omega (arith, five, told.0))
   source_fault_written command (NotFlattened why) status old mid new five kept stops (inr told) = absurd (omega (arith, five, told.0))
   source_fault_written command SaveFault status old mid new five kept stops told = absurd (omega (arith, five, told.0))
+  source_fault_written command (Rejected why) status old mid new five kept stops told = absurd (omega (arith, five, told.0))
   source_fault_written command SinkFault status old mid new five kept stops told = absurd (omega (arith, five, told.0))
   source_fault_written command Memory status old mid new five kept stops told = absurd (omega (arith, five, told.0))
+
+  -- status 10 tells that what was audited is rejected
+  pub rejection_written : (command : Asked) (stopped : Stopped) (status : ℕ) (old mid new : K) → status ≡ 10
+      → ComesTo held faults given before after command old mid (Err stopped) → WritesStop held faults mid new stopped status
+      → WritesRejection held faults given before after (Some command) old new
+  rejection_written command (Rejected why) status old mid new ten comes told =
+      subst (λ (k : K). WritesSome held faults (IsOutput given before after command rejected) old k) (sym told.1) comes
+  rejection_written command SourceFault status old mid new ten comes told = absurd (omega (arith, ten, told.0))
+  rejection_written command BadHead status old mid new ten comes told = absurd (omega (arith, ten, told.0))
+  rejection_written command (BadLine number) status old mid new ten comes (inl told) = absurd (omega (arith, ten, told.0))
+  rejection_written command (BadLine number) status old mid new ten comes (inr told) = absurd (omega (arith, ten, told.0))
+  rejection_written command ShelfFault status old mid new ten comes told = absurd (omega (arith, ten, told.0))
+  rejection_written command (Refused why) status old mid new ten comes (inl told) = absurd (omega (arith, ten, told.0))
+  rejection_written command (Refused why) status old mid new ten comes (inr told) = absurd (omega (arith, ten, told.0))
+  rejection_written command (NotFlattened why) status old mid new ten comes (inl told) = absurd (omega (arith, ten, told.0))
+  rejection_written command (NotFlattened why) status old mid new ten comes (inr told) = absurd (omega (arith, ten, told.0))
+  rejection_written command SaveFault status old mid new ten comes told = absurd (omega (arith, ten, told.0))
+  rejection_written command SinkFault status old mid new ten comes told = absurd (omega (arith, ten, told.0))
+  rejection_written command Memory status old mid new ten comes told = absurd (omega (arith, ten, told.0))
+
+  -- so it does of the words' command, whatever the sink is called afterwards
+  pub rejection_asked : (command : Asked) (stopped : Stopped) (status : ℕ) (old mid new : K) → status ≡ 10
+      → ComesTo held faults given before after command old mid (Err stopped) → WritesStop held faults mid new stopped status
+      → {asked : Option Asked} → Some command ≡ asked → {last : K} → new ≡ last
+      → WritesRejection held faults given before after asked old last
+  rejection_asked command stopped status old mid new ten comes told is {last} same =
+      subst (λ (o : Option Asked). WritesRejection held faults given before after o old last) is
+      (subst (λ (k : K). WritesRejection held faults given before after (Some command) old k) same
+      (rejection_written command stopped status old mid new ten comes told))

@@ -1,12 +1,12 @@
 -- A source that was not read.
 use Rattle.std.proofs.Common.{◌≡◌, ℕ, List, [], Option, Some, None, inl, refl, arith}
-use Rattle.spec_command.specs.Arguments.{Asked, edit, render, info, make, pack, flatten, view}
+use Rattle.spec_command.specs.Arguments.{Asked, edit, render, info, make, pack, flatten, view, audit}
 use Rattle.xl_ports.specs.Source.{led_by}
 use Rattle.xl_ports.specs.State.{ShelfState}
 use Rattle.xl_ports.proofs.Moments.{still}
 use Rattle.xl_program.specs.Outcome.{Takes, IsUntouched, MaySave}
 
-led_by_nothing : (left : Option (List ℕ)) → left ≡ led_by [] left
+pub led_by_nothing : (left : Option (List ℕ)) → left ≡ led_by [] left
 led_by_nothing None = refl
 led_by_nothing (Some more) = refl
 
@@ -21,6 +21,7 @@ nothing_taken left faults reads s (Some (make name seed)) = (refl, refl, refl)
 nothing_taken left faults reads s (Some (pack name with_plans)) = (refl, refl, refl)
 nothing_taken left faults reads s (Some (flatten name)) = (refl, refl, refl)
 nothing_taken left faults reads s (Some (view name cols rows)) = (([], led_by_nothing (left s)), omega arith)
+nothing_taken left faults reads s (Some (audit name)) = (([], led_by_nothing (left s)), omega arith)
 
 pub untouched : (s : ShelfState) → IsUntouched s s
 untouched s = record { contents = refl; quiet = still s.disk; saving = refl }
@@ -35,3 +36,4 @@ nothing_saved s (Some (edit name workers)) = inl (untouched s)
 nothing_saved s (Some (pack name with_plans)) = untouched s
 nothing_saved s (Some (flatten name)) = untouched s
 nothing_saved s (Some (view name cols rows)) = untouched s
+nothing_saved s (Some (audit name)) = untouched s

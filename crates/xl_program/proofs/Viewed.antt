@@ -24,8 +24,8 @@ use Rattle.xl_program.specs.Outcome.{Given, first_filters, ComesTo, IsUntouched,
 use Rattle.xl_program.specs.Parts.{Loads, ReadsViewed, StopsView, WritesViewed}
 use Rattle.xl_program.specs.Viewing.{IsViewed}
 use Rattle.xl_program.specs.declared.stopped.Stopped.{Stopped}
-use Rattle.xl_program.specs.declared.stopped.Stopped.TheVariants.{SourceFault, BadLine, ShelfFault, Refused, SaveFault}
-use Rattle.xl_program.specs.declared.stopped.Stopped.TheVariants.{NotFlattened, SinkFault, Memory}
+use Rattle.xl_program.specs.declared.stopped.Stopped.TheVariants.{SourceFault, BadHead, BadLine, ShelfFault, Refused}
+use Rattle.xl_program.specs.declared.stopped.Stopped.TheVariants.{NotFlattened, SaveFault, Rejected, SinkFault, Memory}
 use Rattle.xl_program.proofs.Scripts.{same_line}
 use Rattle.xl_program.proofs.Taken.{untouched}
 
@@ -60,11 +60,13 @@ module _ (given : Given) {before mid : ShelfState} {name : List ℕ} {d : Docume
   viewed_comes held faults old new (Ok text) (Err SinkFault) shows writes =
       (string_bytes text, (is_viewed (string_bytes text) shows, left_alone, tt), writes)
   viewed_comes held faults old new (Ok text) (Err SourceFault) shows writes = absurd writes
+  viewed_comes held faults old new (Ok text) (Err BadHead) shows writes = absurd writes
   viewed_comes held faults old new (Ok text) (Err (BadLine number)) shows writes = absurd writes
   viewed_comes held faults old new (Ok text) (Err ShelfFault) shows writes = absurd writes
   viewed_comes held faults old new (Ok text) (Err (Refused why)) shows writes = absurd writes
   viewed_comes held faults old new (Ok text) (Err (NotFlattened why)) shows writes = absurd writes
   viewed_comes held faults old new (Ok text) (Err SaveFault) shows writes = absurd writes
+  viewed_comes held faults old new (Ok text) (Err (Rejected why)) shows writes = absurd writes
   viewed_comes held faults old new (Ok text) (Err Memory) shows writes = absurd writes
   viewed_comes held faults old new (Err e) result shows writes =
       subst (λ (r : Result (Unit {0}) Stopped). ComesTo held faults given before after (view name cols rows) old new r) (sym writes.0)
@@ -77,22 +79,26 @@ pub view_stopped : {K : Type 0} (held : K → Option (List ℕ)) (faults : K →
     (cols rows : ℕ) (sink : K) (why : Stopped) → ReadsViewed given (Err why)
     → ComesTo held faults given s s (view name cols rows) sink sink (Err why)
 view_stopped held faults given s name cols rows sink SourceFault reads = ((refl, refl), untouched s)
+view_stopped held faults given s name cols rows sink BadHead reads = absurd reads
 view_stopped held faults given s name cols rows sink (BadLine number) reads = ((refl, refl), untouched s)
 view_stopped held faults given s name cols rows sink ShelfFault reads = absurd reads
 view_stopped held faults given s name cols rows sink (Refused why) reads = absurd reads
 view_stopped held faults given s name cols rows sink (NotFlattened why) reads = absurd reads
 view_stopped held faults given s name cols rows sink SaveFault reads = absurd reads
+view_stopped held faults given s name cols rows sink (Rejected why) reads = absurd reads
 view_stopped held faults given s name cols rows sink SinkFault reads = absurd reads
 view_stopped held faults given s name cols rows sink Memory reads = ((refl, refl), untouched s)
 
 pub script_stops : (given : Given) (content : Option Content) (why : Stopped) → ReadsViewed given (Err why)
     → StopsView given content (Err why)
 script_stops given content SourceFault reads = tt
+script_stops given content BadHead reads = absurd reads
 script_stops given content (BadLine number) reads = reads
 script_stops given content ShelfFault reads = absurd reads
 script_stops given content (Refused why) reads = absurd reads
 script_stops given content (NotFlattened why) reads = absurd reads
 script_stops given content SaveFault reads = absurd reads
+script_stops given content (Rejected why) reads = absurd reads
 script_stops given content SinkFault reads = absurd reads
 script_stops given content Memory reads = tt
 
@@ -100,11 +106,13 @@ script_stops given content Memory reads = tt
 pub file_stops : (given : Given) (content : Option Content) (lists : List (List code.Line)) (why : Stopped)
     → ReadsViewed given (Ok lists) → Loads content (Err why) → StopsView given content (Err why)
 file_stops given content lists SourceFault has loads = absurd loads
+file_stops given content lists BadHead has loads = absurd loads
 file_stops given content lists (BadLine number) has loads = absurd loads
 file_stops given content lists ShelfFault has loads = (list_at (lists_of lists) 0, has)
 file_stops given content lists (Refused why) has loads = ((list_at (lists_of lists) 0, has), loads)
 file_stops given content lists (NotFlattened why) has loads = absurd loads
 file_stops given content lists SaveFault has loads = absurd loads
+file_stops given content lists (Rejected why) has loads = absurd loads
 file_stops given content lists SinkFault has loads = absurd loads
 file_stops given content lists Memory has loads = tt
 
@@ -114,11 +122,13 @@ pub text_stops : {K : Type 0} (held : K → Option (List ℕ)) (faults : K → �
     → ReadsViewed given (Ok lists) → WritesViewed held faults old new text result → StopsView given content result
 text_stops held faults old new given content lists (Ok text) (Ok x) reads writes = tt
 text_stops held faults old new given content lists (Ok text) (Err SourceFault) reads writes = absurd writes
+text_stops held faults old new given content lists (Ok text) (Err BadHead) reads writes = absurd writes
 text_stops held faults old new given content lists (Ok text) (Err (BadLine number)) reads writes = absurd writes
 text_stops held faults old new given content lists (Ok text) (Err ShelfFault) reads writes = absurd writes
 text_stops held faults old new given content lists (Ok text) (Err (Refused why)) reads writes = absurd writes
 text_stops held faults old new given content lists (Ok text) (Err (NotFlattened why)) reads writes = absurd writes
 text_stops held faults old new given content lists (Ok text) (Err SaveFault) reads writes = absurd writes
+text_stops held faults old new given content lists (Ok text) (Err (Rejected why)) reads writes = absurd writes
 text_stops held faults old new given content lists (Ok text) (Err SinkFault) reads writes = tt
 text_stops held faults old new given content lists (Ok text) (Err Memory) reads writes = absurd writes
 text_stops held faults old new given content lists (Err e) result reads writes = subst (StopsView given content) (sym writes.0) tt
@@ -127,11 +137,13 @@ text_stops held faults old new given content lists (Err e) result reads writes =
 pub unread_view : (given : Given) (left : Option (List ℕ)) (why : Stopped) → ReadsViewed given (Err why)
     → ReadsToEnd left (Err why)
 unread_view given left SourceFault reads = tt
+unread_view given left BadHead reads = tt
 unread_view given left (BadLine number) reads = tt
 unread_view given left ShelfFault reads = absurd reads
 unread_view given left (Refused why) reads = absurd reads
 unread_view given left (NotFlattened why) reads = absurd reads
 unread_view given left SaveFault reads = absurd reads
+unread_view given left (Rejected why) reads = absurd reads
 unread_view given left SinkFault reads = absurd reads
 unread_view given left Memory reads = tt
 

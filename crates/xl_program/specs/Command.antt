@@ -1,6 +1,6 @@
--- Commands that read a script, those that read a file, and the one that makes it flat.
+-- Commands that read the source, those that read a file, and the one that makes it flat.
 use Rattle.std.specs.Prelude.{Option, Some, None}
-use Rattle.spec_command.specs.Arguments.{Asked, edit, render, info, make, pack, flatten, view}
+use Rattle.spec_command.specs.Arguments.{Asked, edit, render, info, make, pack, flatten, view, audit}
 
 abbrev pub ReadsSource : Option Asked → Type 0
 ReadsSource None = ⊥
@@ -11,6 +11,7 @@ ReadsSource (Some (make name seed)) = ⊥
 ReadsSource (Some (pack name with_plans)) = ⊥
 ReadsSource (Some (flatten name)) = ⊥
 ReadsSource (Some (view name cols rows)) = Unit {0}
+ReadsSource (Some (audit name)) = Unit {0}
 
 -- a make saves a file, and reads none
 abbrev pub ReadsFile : Option Asked → Type 0
@@ -22,6 +23,7 @@ ReadsFile (Some (make name seed)) = ⊥
 ReadsFile (Some (pack name with_plans)) = Unit {0}
 ReadsFile (Some (flatten name)) = Unit {0}
 ReadsFile (Some (view name cols rows)) = Unit {0}
+ReadsFile (Some (audit name)) = Unit {0}
 
 abbrev pub IsFlatten : Option Asked → Type 0
 IsFlatten None = ⊥
@@ -32,3 +34,4 @@ IsFlatten (Some (make name seed)) = ⊥
 IsFlatten (Some (pack name with_plans)) = ⊥
 IsFlatten (Some (flatten name)) = Unit {0}
 IsFlatten (Some (view name cols rows)) = ⊥
+IsFlatten (Some (audit name)) = ⊥

@@ -22,8 +22,8 @@ use Rattle.xl_ports.specs.Sink.{WritesAll, WritesPart}
 use Rattle.xl_ports.specs.State.{ShelfState}
 use Rattle.xl_program.specs.Files.{HoldsDocument}
 use Rattle.xl_program.specs.declared.stopped.Stopped.{Stopped}
-use Rattle.xl_program.specs.declared.stopped.Stopped.TheVariants.{SourceFault, BadLine, ShelfFault, Refused, SaveFault}
-use Rattle.xl_program.specs.declared.stopped.Stopped.TheVariants.{NotFlattened, SinkFault, Memory}
+use Rattle.xl_program.specs.declared.stopped.Stopped.TheVariants.{SourceFault, BadHead, BadLine, ShelfFault, Refused}
+use Rattle.xl_program.specs.declared.stopped.Stopped.TheVariants.{NotFlattened, SaveFault, Rejected, SinkFault, Memory}
 use Rattle.xl_snapshot.specs.Saving.{IsSavedOn}
 
 -- the image with one layer, which has the id after all others, in the place of its nodes
@@ -78,10 +78,12 @@ GivesGroup d (Ok group) = IsFlatGroup d group
 GivesGroup d (Err (NotFlattened why)) = flat_refusal d ≡ Some why
 GivesGroup d (Err Memory) = Unit {0}
 GivesGroup d (Err SourceFault) = ⊥
+GivesGroup d (Err BadHead) = ⊥
 GivesGroup d (Err (BadLine number)) = ⊥
 GivesGroup d (Err ShelfFault) = ⊥
 GivesGroup d (Err (Refused why)) = ⊥
 GivesGroup d (Err SaveFault) = ⊥
+GivesGroup d (Err (Rejected why)) = ⊥
 GivesGroup d (Err SinkFault) = ⊥
 
 module _ {K : Type 0} (held : K → Option (List ℕ)) (faults : K → ℕ) where
@@ -92,8 +94,10 @@ module _ {K : Type 0} (held : K → Option (List ℕ)) (faults : K → ℕ) wher
   SavesAndTells d opening now old new (Err SinkFault) =
       IsSavedOn opening d Done now × WritesPart held faults old new flattened_line
   SavesAndTells d opening now old new (Err SourceFault) = ⊥
+  SavesAndTells d opening now old new (Err BadHead) = ⊥
   SavesAndTells d opening now old new (Err (BadLine number)) = ⊥
   SavesAndTells d opening now old new (Err (Refused why)) = ⊥
   SavesAndTells d opening now old new (Err (NotFlattened why)) = ⊥
   SavesAndTells d opening now old new (Err SaveFault) = ⊥
+  SavesAndTells d opening now old new (Err (Rejected why)) = ⊥
   SavesAndTells d opening now old new (Err Memory) = ⊥

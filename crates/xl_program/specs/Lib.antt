@@ -1,4 +1,6 @@
+pub mod Auditing
 pub mod Command
+pub mod Endings
 pub mod Files
 pub mod Flattening
 pub mod LastSaved

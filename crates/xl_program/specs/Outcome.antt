@@ -3,8 +3,8 @@ use Rattle.std.specs.Prelude.{◌≡◌, ◌⊎◌, ◌==◌, ◌+◌, ◌^◌, 
 use Rattle.std.specs.Prelude.{Result, Ok, Err, Vec}
 use Rattle.std.specs.declared.alloc.Global.{Global}
 use Rattle.std.specs.List.{list_any}
-use Rattle.spec_command.specs.Arguments.{Asked, edit, render, info, make, pack, flatten, view, name_of}
-use Rattle.spec_command.specs.Ends.{Stop, source_fault, bad_line, shelf_fault, refused, flat_refused, stop_line, stop_status}
+use Rattle.spec_command.specs.Arguments.{Asked, edit, render, info, make, pack, flatten, view, audit, name_of}
+use Rattle.spec_command.specs.Ends.{Stop, source_fault, bad_head, bad_line, shelf_fault, refused, flat_refused, stop_line, stop_status}
 use Rattle.spec_document.specs.Document.{Document}
 use Rattle.spec_document.specs.Limits.{IsDocument}
 use Rattle.spec_report.specs.Json as json
@@ -18,7 +18,6 @@ use Rattle.spec_saves.specs.Names.{save_faults}
 use Rattle.spec_saves.specs.Shelf.{ShelfIsRight}
 use Rattle.spec_text.specs.Text.{IsTextOf, Alone}
 use Rattle.xl_play.specs.Playing.{AreOfFirst}
-use Rattle.xl_play.specs.Told.{NoneFailed, SomeFailed, AnyFailed}
 use Rattle.xl_play.specs.Versions.{AreWithin}
 use Rattle.xl_ports.specs.Disk.{read_at, Between, IsQuiet, StaysThrough}
 use Rattle.xl_ports.specs.Faults.{Rose}
@@ -27,6 +26,8 @@ use Rattle.xl_ports.specs.Sink.{WritesAll, WritesPart}
 use Rattle.xl_ports.specs.Source.{led_by, IsEnded}
 use Rattle.xl_ports.specs.State.{ShelfState}
 use Rattle.xl_sessions.specs.Outcomes.{states_of}
+use Rattle.xl_program.specs.Auditing.{IsAudited, IsAuditScript, IsBadAuditLine}
+use Rattle.xl_program.specs.Endings.{Ending, well, unsaved, rejected, in_part, HaveFailed}
 use Rattle.xl_program.specs.Files.{HoldsDocument}
 use Rattle.xl_program.specs.Flattening.{IsFlattened, MayBeFlattened}
 use Rattle.xl_program.specs.LastSaved.{HasLastSaved}
@@ -35,10 +36,11 @@ use Rattle.xl_program.specs.Making.{FailsAtFirst, IsMadeHistory, IsSummary}
 use Rattle.xl_program.specs.Packing.{IsPacked, MayBePacked}
 use Rattle.xl_program.specs.Viewing.{IsBadViewLine, IsViewed, IsViewScript}
 use Rattle.xl_program.specs.declared.stopped.Stopped.{Stopped}
-use Rattle.xl_program.specs.declared.stopped.Stopped.TheVariants.{SourceFault, BadLine, ShelfFault, Refused, SaveFault}
-use Rattle.xl_program.specs.declared.stopped.Stopped.TheVariants.{NotFlattened, SinkFault, Memory}
+use Rattle.xl_program.specs.declared.stopped.Stopped.TheVariants.{SourceFault, BadHead, BadLine, ShelfFault, Refused}
+use Rattle.xl_program.specs.declared.stopped.Stopped.TheVariants.{NotFlattened, SaveFault, Rejected, SinkFault, Memory}
+use Rattle.xl_verdict.specs.Reading.{IsBadHead}
 
--- ---- the script, which is all that the source has left
+-- ---- the script, which is all that the source has left, or stands in it behind the head of an audit
 
 -- what a run is given beside the file: what its source has left, and the states of each session's filters
 pub record Given : Type 0 where
@@ -64,7 +66,7 @@ IsBadLine given number = IfSome given.left (λ text. script text (map length giv
 abbrev pub first_filters : Given → List FilterState
 first_filters given = list_at given.chests 0
 
--- the script of the command is refused at this line, where it is told; only an edit and a view have one
+-- the script of the command is refused at this line, where it is told; only an edit, a view and an audit have one
 abbrev pub IsBadLineOf : Given → Option Asked → (number : ℕ) → Type 0
 IsBadLineOf given None number = ⊥
 IsBadLineOf given (Some (edit name workers)) number = IsBadLine given number
@@ -74,6 +76,19 @@ IsBadLineOf given (Some (make name seed)) number = ⊥
 IsBadLineOf given (Some (pack name with_plans)) number = ⊥
 IsBadLineOf given (Some (flatten name)) number = ⊥
 IsBadLineOf given (Some (view name cols rows)) number = IsBadViewLine given.left (first_filters given) number
+IsBadLineOf given (Some (audit name)) number = IsBadAuditLine given.left given.chests number
+
+-- the source of the command has no head, or too few or too many bytes behind it, where it is told; only an audit has one
+abbrev pub IsBadHeadOf : Given → Option Asked → Type 0
+IsBadHeadOf given None = ⊥
+IsBadHeadOf given (Some (edit name workers)) = ⊥
+IsBadHeadOf given (Some (render name)) = ⊥
+IsBadHeadOf given (Some (info name)) = ⊥
+IsBadHeadOf given (Some (make name seed)) = ⊥
+IsBadHeadOf given (Some (pack name with_plans)) = ⊥
+IsBadHeadOf given (Some (flatten name)) = ⊥
+IsBadHeadOf given (Some (view name cols rows)) = ⊥
+IsBadHeadOf given (Some (audit name)) = IsBadHead given.left
 
 -- ---- the shelf
 
@@ -131,18 +146,20 @@ pub record IsReplies (given : Given) (name : List ℕ) (old new : ShelfState) (w
   pub alone : workers ≡ 0 → AreOfFirst lists → save_faults entries ≡ 0 → Alone out document lists given.chests
   pub failed : HaveFailed (save_faults entries)
 
--- what the command writes when it comes to its end, and the shelf then
-abbrev pub IsOutput : Given → (old new : ShelfState) → Asked → (HaveFailed : ℕ → Type 0) → (out : List ℕ) → Type 0
-IsOutput given old new (render name) HaveFailed out = IsReport pam (read_at old.disk name) out × IsUntouched old new × HaveFailed 0
-IsOutput given old new (info name) HaveFailed out = IsReport json.info (read_at old.disk name) out × IsUntouched old new × HaveFailed 0
-IsOutput given old new (make name seed) HaveFailed out =
-    IsSummary (opened old new name) new (document seed) (made_script seed) HaveFailed out
-IsOutput given old new (edit name workers) HaveFailed out = IsReplies given name old new workers HaveFailed out
-IsOutput given old new (pack name with_plans) HaveFailed out =
-    IsPacked (read_at old.disk name) (opened old new name) new with_plans out × HaveFailed 0
-IsOutput given old new (flatten name) HaveFailed out = IsFlattened (read_at old.disk name) (opened old new name) new out × HaveFailed 0
-IsOutput given old new (view name cols rows) HaveFailed out =
-    IsViewed given.left (first_filters given) (read_at old.disk name) cols rows out × IsUntouched old new × HaveFailed 0
+-- what the command writes when it comes to such an end, and the shelf then
+abbrev pub IsOutput : Given → (old new : ShelfState) → Asked → Ending → (out : List ℕ) → Type 0
+IsOutput given old new (render name) ending out = IsReport pam (read_at old.disk name) out × IsUntouched old new × HaveFailed ending 0
+IsOutput given old new (info name) ending out = IsReport json.info (read_at old.disk name) out × IsUntouched old new × HaveFailed ending 0
+IsOutput given old new (make name seed) ending out =
+    IsSummary (opened old new name) new (document seed) (made_script seed) (HaveFailed ending) out
+IsOutput given old new (edit name workers) ending out = IsReplies given name old new workers (HaveFailed ending) out
+IsOutput given old new (pack name with_plans) ending out =
+    IsPacked (read_at old.disk name) (opened old new name) new with_plans out × HaveFailed ending 0
+IsOutput given old new (flatten name) ending out = IsFlattened (read_at old.disk name) (opened old new name) new out × HaveFailed ending 0
+IsOutput given old new (view name cols rows) ending out =
+    IsViewed given.left (first_filters given) (read_at old.disk name) cols rows out × IsUntouched old new × HaveFailed ending 0
+IsOutput given old new (audit name) ending out =
+    IsAudited given.left given.chests (read_at old.disk name) ending out × IsUntouched old new
 
 -- The shelf where memory ran out: as before, or after a history. So each file that a crash might leave is the old one, or holds a
 -- version of that history.
@@ -156,6 +173,7 @@ MayHaveSaved old new (edit name workers) =
 MayHaveSaved old new (pack name with_plans) = IsUntouched old new
 MayHaveSaved old new (flatten name) = IsUntouched old new
 MayHaveSaved old new (view name cols rows) = IsUntouched old new
+MayHaveSaved old new (audit name) = IsUntouched old new
 
 -- the same of any words
 abbrev pub MaySave : (old new : ShelfState) → Option Asked → Type 0
@@ -172,6 +190,7 @@ FailsAtShelf old new (edit name workers) = IsUntouched old new
 FailsAtShelf old new (pack name with_plans) = IsUntouched old new ⊎ MayBePacked (read_at old.disk name) (opened old new name) new
 FailsAtShelf old new (flatten name) = IsUntouched old new ⊎ MayBeFlattened (read_at old.disk name) (opened old new name) new
 FailsAtShelf old new (view name cols rows) = IsUntouched old new
+FailsAtShelf old new (audit name) = IsUntouched old new
 
 module _ {K : Type 0} (held : K → Option (List ℕ)) (faults : K → ℕ) where
   -- the sink was left as it was
@@ -187,14 +206,16 @@ module _ {K : Type 0} (held : K → Option (List ℕ)) (faults : K → ℕ) wher
   WritesFront IsOut old new = (out : List ℕ) × IsOut out × WritesPart held faults old new out
 
   -- what is written and what was saved; where a command stops before its end nothing is
-  abbrev pub Comes : (IsOut : (ℕ → Type 0) → List ℕ → Type 0) → (Untouched Failed Saved : Type 0) → (old new : K)
+  abbrev pub Comes : (IsOut : Ending → List ℕ → Type 0) → (Untouched Failed Saved : Type 0) → (old new : K)
       → Result (Unit {0}) Stopped → Type 0
-  Comes IsOut Untouched Failed Saved old new (Ok x) = WritesSome (IsOut NoneFailed) old new
-  Comes IsOut Untouched Failed Saved old new (Err SaveFault) = WritesSome (IsOut SomeFailed) old new
-  Comes IsOut Untouched Failed Saved old new (Err SinkFault) = WritesFront (IsOut AnyFailed) old new
+  Comes IsOut Untouched Failed Saved old new (Ok x) = WritesSome (IsOut well) old new
+  Comes IsOut Untouched Failed Saved old new (Err SaveFault) = WritesSome (IsOut unsaved) old new
+  Comes IsOut Untouched Failed Saved old new (Err (Rejected why)) = WritesSome (IsOut rejected) old new
+  Comes IsOut Untouched Failed Saved old new (Err SinkFault) = WritesFront (IsOut in_part) old new
   Comes IsOut Untouched Failed Saved old new (Err Memory) = Keeps old new × Saved
   Comes IsOut Untouched Failed Saved old new (Err SourceFault) = Keeps old new × Untouched
   Comes IsOut Untouched Failed Saved old new (Err (BadLine number)) = Keeps old new × Untouched
+  Comes IsOut Untouched Failed Saved old new (Err BadHead) = Keeps old new × Untouched
   Comes IsOut Untouched Failed Saved old new (Err ShelfFault) = Keeps old new × Failed
   Comes IsOut Untouched Failed Saved old new (Err (Refused why)) = Keeps old new × Untouched
   Comes IsOut Untouched Failed Saved old new (Err (NotFlattened why)) = Keeps old new × Untouched
@@ -216,11 +237,13 @@ pub data FaultOf : Type 0 where
 abbrev pub fault_of : {A : Type 0} → Result A Stopped → FaultOf
 fault_of (Ok a) = of_neither
 fault_of (Err SourceFault) = of_source
+fault_of (Err BadHead) = of_neither
 fault_of (Err (BadLine number)) = of_neither
 fault_of (Err ShelfFault) = of_shelf
 fault_of (Err (Refused why)) = of_neither
 fault_of (Err (NotFlattened why)) = of_neither
 fault_of (Err SaveFault) = of_neither
+fault_of (Err (Rejected why)) = of_neither
 fault_of (Err SinkFault) = of_neither
 fault_of (Err Memory) = of_neither
 
@@ -252,13 +275,14 @@ FaultsRose before after (edit name workers) = Rose before.reading after.reading
 FaultsRose before after (pack name with_plans) = Rose before.reading after.reading ⊎ Rose before.saving after.saving
 FaultsRose before after (flatten name) = Rose before.reading after.reading ⊎ Rose before.saving after.saving
 FaultsRose before after (view name cols rows) = Rose before.reading after.reading
+FaultsRose before after (audit name) = Rose before.reading after.reading
 
 -- the same of a command; the reading faults stay where none stops it
 abbrev pub ShelfCauseOf : (before after : ShelfState) → Asked → Result (Unit {0}) Stopped → Type 0
 ShelfCauseOf before after command result =
     IfShelf (fault_of result) (FaultsRose before after command) (after.reading ≡ before.reading)
 
--- the script of an edit or a view is in its grammar
+-- the script of an edit, a view or an audit is in its grammar, and that of an audit stands behind a head
 abbrev pub InGrammar : Given → Option Asked → Type 0
 InGrammar given None = Unit {0}
 InGrammar given (Some (edit name workers)) = IsScript given
@@ -268,10 +292,15 @@ InGrammar given (Some (make name seed)) = Unit {0}
 InGrammar given (Some (pack name with_plans)) = Unit {0}
 InGrammar given (Some (flatten name)) = Unit {0}
 InGrammar given (Some (view name cols rows)) = IsViewScript given.left (first_filters given)
+InGrammar given (Some (audit name)) = IsAuditScript given.left given.chests
 
 -- how often a source is read for a script at most: as often as a script may have bytes, and once more
 abbrev pub most_reads : ℕ
 most_reads = 2 ^ 24 + 1
+
+-- and for an audit, with the script and the output
+abbrev pub most_audit_reads : ℕ
+most_audit_reads = 2 ^ 28 + 1
 
 module _ {S : Type 0} (left : S → Option (List ℕ)) (faults reads : S → ℕ) where
   -- the source was left as it was, and not read
@@ -279,10 +308,14 @@ module _ {S : Type 0} (left : S → Option (List ℕ)) (faults reads : S → ℕ
   Leaves old new = (left new ≡ left old) × (faults new ≡ faults old) × (reads new ≡ reads old)
 
   -- the first bytes that the source has left were taken, in so many reads at most
-  abbrev pub TakesFront : (old new : S) → Type 0
-  TakesFront old new = ((bytes : List ℕ) × (left old ≡ led_by bytes (left new))) × (reads new ≤ reads old + most_reads)
+  abbrev pub TakesWithin : (most : ℕ) → (old new : S) → Type 0
+  TakesWithin most old new = ((bytes : List ℕ) × (left old ≡ led_by bytes (left new))) × (reads new ≤ reads old + most)
 
-  -- an edit and a view take the first bytes that the source has left
+  -- as many as for a script
+  abbrev pub TakesFront : (old new : S) → Type 0
+  TakesFront old new = TakesWithin most_reads old new
+
+  -- an edit, a view and an audit take the first bytes that the source has left
   abbrev pub Takes : (old new : S) → Option Asked → Type 0
   Takes old new None = Leaves old new
   Takes old new (Some (edit name workers)) = TakesFront old new
@@ -292,39 +325,42 @@ module _ {S : Type 0} (left : S → Option (List ℕ)) (faults reads : S → ℕ
   Takes old new (Some (pack name with_plans)) = Leaves old new
   Takes old new (Some (flatten name)) = Leaves old new
   Takes old new (Some (view name cols rows)) = TakesFront old new
+  Takes old new (Some (audit name)) = TakesWithin most_audit_reads old new
 
--- nothing is left of a script, unless the source failed, a line is refused or memory ran out
+-- nothing is left of the source, unless it failed, its head or a line is refused, or memory ran out
 abbrev pub ReadsToEnd : (left : Option (List ℕ)) → Result (Unit {0}) Stopped → Type 0
 ReadsToEnd left (Ok x) = IsEnded left
 ReadsToEnd left (Err SourceFault) = Unit {0}
 ReadsToEnd left (Err (BadLine number)) = Unit {0}
+ReadsToEnd left (Err BadHead) = Unit {0}
 ReadsToEnd left (Err ShelfFault) = IsEnded left
 ReadsToEnd left (Err (Refused why)) = IsEnded left
 ReadsToEnd left (Err (NotFlattened why)) = IsEnded left
 ReadsToEnd left (Err SaveFault) = IsEnded left
+ReadsToEnd left (Err (Rejected why)) = IsEnded left
 ReadsToEnd left (Err SinkFault) = IsEnded left
 ReadsToEnd left (Err Memory) = Unit {0}
 
 -- ---- how it is told
 
--- usage, bad line, refused, source fault or not made flat: nothing was played
+-- usage, bad head or line, refused, source fault or not made flat: nothing was played
 abbrev pub StopsBefore : (status : ℕ) → Type 0
 StopsBefore status = IsTrue (list_any (λ n. n == status) (2 ∷ 3 ∷ 4 ∷ 5 ∷ 9 ∷ []))
 
--- done, refused, shelf fault or a save that failed, sink fault: a script was read
+-- done, refused, shelf fault or a save that failed, sink fault, rejected: a script was read
 abbrev pub ComesAfterScript : (status : ℕ) → Type 0
-ComesAfterScript status = IsTrue (list_any (λ n. n == status) (0 ∷ 4 ∷ 6 ∷ 7 ∷ []))
+ComesAfterScript status = IsTrue (list_any (λ n. n == status) (0 ∷ 4 ∷ 6 ∷ 7 ∷ 10 ∷ []))
 
--- done, usage, bad line, refused, source fault, shelf fault or a save that failed, sink fault, memory, not made flat
+-- done, usage, bad head or line, refused, source fault, shelf fault or a save that failed, sink fault, memory, not made flat, rejected
 abbrev pub IsStatus : (status : ℕ) → Type 0
-IsStatus status = IsTrue (list_any (λ n. n == status) (0 ∷ 2 ∷ 3 ∷ 4 ∷ 5 ∷ 6 ∷ 7 ∷ 8 ∷ 9 ∷ []))
+IsStatus status = IsTrue (list_any (λ n. n == status) (0 ∷ 2 ∷ 3 ∷ 4 ∷ 5 ∷ 6 ∷ 7 ∷ 8 ∷ 9 ∷ 10 ∷ []))
 
 module _ {K : Type 0} (held : K → Option (List ℕ)) (faults : K → ℕ) where
-  -- all is written, and no save failed
+  -- all is written, no save failed, and what is audited is accepted
   abbrev pub ComesWell : Given → (before after : ShelfState) → Option Asked → (old new : K) → Type 0
   ComesWell given before after None old new = ⊥
   ComesWell given before after (Some command) old new =
-      WritesSome held faults (IsOutput given before after command NoneFailed) old new
+      WritesSome held faults (IsOutput given before after command well) old new
 
   -- the file could not be read, or the one save of a command, or the first of what is made, failed, which is told; or all is written,
   -- and a save failed
@@ -334,13 +370,25 @@ module _ {K : Type 0} (held : K → Option (List ℕ)) (faults : K → ℕ) wher
       (FaultsRose before after command × FailsAtShelf before after command
       × WritesLine held faults old new (stop_line shelf_fault))
       ⊎ ((after.reading ≡ before.reading)
-      × WritesSome held faults (IsOutput given before after command SomeFailed) old new)
+      × WritesSome held faults (IsOutput given before after command unsaved) old new)
 
   -- a fault of the sink came while all was written
   abbrev pub WritesInPart : Given → (before after : ShelfState) → Option Asked → (old new : K) → Type 0
   WritesInPart given before after None old new = ⊥
   WritesInPart given before after (Some command) old new =
-      WritesFront held faults (IsOutput given before after command AnyFailed) old new
+      WritesFront held faults (IsOutput given before after command in_part) old new
+
+  -- all is written, and what is audited is rejected
+  abbrev pub WritesRejection : Given → (before after : ShelfState) → Option Asked → (old new : K) → Type 0
+  WritesRejection given before after None old new = ⊥
+  WritesRejection given before after (Some command) old new =
+      WritesSome held faults (IsOutput given before after command rejected) old new
+
+  -- the head of the source is refused, or a line of its script, and that is told
+  abbrev pub RefusesSource : Given → Option Asked → (old new : K) → Type 0
+  RefusesSource given asked old new =
+      (IsBadHeadOf given asked × WritesLine held faults old new (stop_line bad_head))
+      ⊎ ((number : ℕ) × IsBadLineOf given asked number × WritesLine held faults old new (stop_line (bad_line number)))
 
   -- the stop is told, with its status
   abbrev pub WritesStopOf : (old new : K) → Stop → (status : ℕ) → Type 0
@@ -353,10 +401,12 @@ module _ {K : Type 0} (held : K → Option (List ℕ)) (faults : K → ℕ) wher
   -- what is told of a stop, and the status
   abbrev pub WritesStop : (old new : K) → Stopped → (status : ℕ) → Type 0
   WritesStop old new SourceFault status = WritesStopOf old new source_fault status
+  WritesStop old new BadHead status = WritesStopOf old new bad_head status
   WritesStop old new (BadLine number) status = WritesLineOr old new (bad_line number) status
   WritesStop old new ShelfFault status = WritesStopOf old new shelf_fault status
   WritesStop old new (Refused why) status = WritesLineOr old new (refused why) status
   WritesStop old new (NotFlattened why) status = WritesLineOr old new (flat_refused why) status
   WritesStop old new SaveFault status = (status ≡ 6) × (new ≡ old)
+  WritesStop old new (Rejected why) status = (status ≡ 10) × (new ≡ old)
   WritesStop old new SinkFault status = (status ≡ 7) × (new ≡ old)
   WritesStop old new Memory status = (status ≡ 8) × (new ≡ old)

@@ -73,8 +73,8 @@ pub fn edit<R: Threads + Wait + Sync, S: Source, K: Sink, D: Shelf, G: Gate>(
     }
 }
 
-// How many filters each session has.
-fn filter_counts(
+/// How many filters each session has.
+pub(crate) fn filter_counts(
     alloc: Global,
     chest: &[Vec<Box<dyn PointFilter + Send>>],
 ) -> Result<Vec<u32>, AllocError>

@@ -1,4 +1,4 @@
-ghost use Rattle.std.specs.Prelude.{◌≡◌, ◌≢◌, ◌<◌, ◌≤◌, ◌^◌, ◌⊎◌, ◌↔◌, ℕ, length, None, option_map, IfSome};
+ghost use Rattle.std.specs.Prelude.{◌≡◌, ◌≢◌, ◌<◌, ◌≤◌, ◌^◌, ◌⊎◌, ◌↔◌, length, None, option_map, IfSome};
 ghost use Rattle.std.specs.List.{AllByRecursion};
 ghost use Rattle.spec_command.specs.Arguments.{name_of};
 ghost use Rattle.spec_command.specs.Ends as stop;
@@ -13,8 +13,8 @@ ghost use Rattle.xl_ports.specs.Disk.{read_at};
 ghost use Rattle.xl_program.specs.Command.{IsFlatten, ReadsFile, ReadsSource};
 ghost use Rattle.xl_program.specs.Files.{CannotBeFlat, HasFault};
 ghost use Rattle.xl_program.specs.Lines.{WritesLine};
-ghost use Rattle.xl_program.specs.Outcome.{given_of, ComesWell, ShelfFails, WritesInPart, ComesAfterScript};
-ghost use Rattle.xl_program.specs.Outcome.{MaySave, IsUntouched, StopsBefore, IsBadLineOf, InGrammar, Keeps};
+ghost use Rattle.xl_program.specs.Outcome.{given_of, ComesWell, ShelfFails, WritesInPart, WritesRejection, ComesAfterScript};
+ghost use Rattle.xl_program.specs.Outcome.{MaySave, IsUntouched, StopsBefore, RefusesSource, InGrammar, Keeps};
 ghost use Rattle.xl_program.specs.Outcome.{Takes, IsStatus, LoadsFew, OtherNamesStay};
 
 use crate::line::write_line;
@@ -50,12 +50,12 @@ pub struct Ended<D> {
 /// `edit` and `make` play the sessions of their script beside each other, in threads where these can be made, and beside workers:
 /// two, or as many as the words of an edit name. An edit by session 0 alone with 0 workers takes no thread. `gate` is passed by
 /// sessions and workers on their way. `view` plays a script of session 0 alone, without a thread or the gate; `pack` and `flatten`
-/// make one save.
+/// make one save. `audit` judges a printed run of an `edit` with these filters, and saves nothing.
 ///
-/// The statuses: 0 done, 2 the words are no command, 3 a line of the script is refused, 4 the file holds no document,
+/// The statuses: 0 done, 2 the words are no command, 3 the head or a line of the script is refused, 4 the file holds no document,
 /// 5 the source failed, 6 the file could not be read, or the save of `pack` and `flatten` or the first save of what is made failed, or
 /// a later save after which all was written, 7 the sink failed while the output was written, 8 memory ran out, 9 the image of the
-/// file cannot be made flat.
+/// file cannot be made flat, 10 the printed run is rejected, which is written.
 ///
 /// No clause says that memory is there, that a device does not fail, or that a run of sessions, which may wait, returns. Where
 /// memory runs out for the line of a stop, the status is 8 and not that of the stop.
@@ -87,6 +87,10 @@ pub fn run<R: Threads + Wait + Sync, S: Source, K: Sink, D: Shelf, G: Gate>(
         (D.state shelf)
         (D.state result.shelf)
         (asked_in (arguments_of words.now)) sink.old sink.new }
+    ensures rejected { result.status ≡ 10 → WritesRejection K.held K.faults (given_of (S.left source.old) (λ b. state b) chest.items)
+        (D.state shelf)
+        (D.state result.shelf)
+        (asked_in (arguments_of words.now)) sink.old sink.new }
     ensures memory { result.status ≡ 8 → Keeps K.held K.faults sink.old sink.new
         × MaySave (D.state shelf)
         (D.state result.shelf) (asked_in (arguments_of words.now)) }
@@ -94,9 +98,8 @@ pub fn run<R: Threads + Wait + Sync, S: Source, K: Sink, D: Shelf, G: Gate>(
     // Where it stops before.
     ensures usage { (result.status ≡ 2) ↔ ((asked_in (arguments_of words.now) ≡ None) × (result.status ≢ 8)) }
     ensures usage_written { result.status ≡ 2 → WritesLine K.held K.faults sink.old sink.new (stop.stop_line stop.usage) }
-    ensures bad_line { result.status ≡ 3 → (number : ℕ)
-        × IsBadLineOf (given_of (S.left source.old) (λ b. state b) chest.items) (asked_in (arguments_of words.now)) number
-        × WritesLine K.held K.faults sink.old sink.new (stop.stop_line (stop.bad_line number)) }
+    ensures bad_source { result.status ≡ 3 → RefusesSource K.held K.faults (given_of (S.left source.old) (λ b. state b) chest.items)
+        (asked_in (arguments_of words.now)) sink.old sink.new }
     ensures refused { result.status ≡ 4 → (why : ReadRefused)
         × ReadsFile (asked_in (arguments_of words.now))
         × IfSome (selected_content (option_map name_of (asked_in (arguments_of words.now))) (read_at (D.state shelf).disk))

@@ -7,7 +7,7 @@ use crate::stopped::Stopped;
 use std::alloc::{AllocError, Global};
 use xl_ports::Sink;
 
-const BAD_LINE: u8 = 3;
+const BAD_SOURCE: u8 = 3;
 
 const REFUSED: u8 = 4;
 
@@ -21,6 +21,8 @@ const SINK_FAULT: u8 = 7;
 pub const MEMORY: u8 = 8;
 
 const NOT_FLATTENED: u8 = 9;
+
+const REJECTED: u8 = 10;
 
 // Writes a line and answers its status, unless memory ran out for it.
 fn write_text<K: Sink>(sink: &mut K, text: Result<String, AllocError>, status: u8) -> u8
@@ -46,7 +48,11 @@ pub fn write_stop<K: Sink>(alloc: Global, sink: &mut K, stopped: Stopped) -> u8
             write_line(sink, b"source fault\n");
             SOURCE_FAULT
         }
-        Stopped::BadLine(number) => write_text(sink, bad_line_text(alloc, number), BAD_LINE),
+        Stopped::BadHead => {
+            write_line(sink, b"bad head\n");
+            BAD_SOURCE
+        }
+        Stopped::BadLine(number) => write_text(sink, bad_line_text(alloc, number), BAD_SOURCE),
         Stopped::ShelfFault => {
             write_line(sink, b"shelf fault\n");
             SHELF_FAULT
@@ -56,6 +62,7 @@ pub fn write_stop<K: Sink>(alloc: Global, sink: &mut K, stopped: Stopped) -> u8
             write_text(sink, flat_refusal_text(alloc, why), NOT_FLATTENED)
         }
         Stopped::SaveFault => SHELF_FAULT,
+        Stopped::Rejected(_) => REJECTED,
         Stopped::SinkFault => SINK_FAULT,
         Stopped::Memory => MEMORY,
     }

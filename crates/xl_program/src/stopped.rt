@@ -1,10 +1,13 @@
 use spec_fields::ReadRefused;
 use spec_flat::FlatRefused;
+use xl_verdict::Rejection;
 
 /// Why a command did not end well.
 #[derive(Clone, Copy, Debug, PartialEq, Eq)]
 pub enum Stopped {
     SourceFault,
+    /// What is audited has no head that says how long its script is, or too few or too many bytes behind it.
+    BadHead,
     /// The script is refused at a line, counted from 1.
     BadLine(u32),
     ShelfFault,
@@ -14,6 +17,8 @@ pub enum Stopped {
     NotFlattened(FlatRefused),
     /// The command's output is written, and a save failed.
     SaveFault,
+    /// The verdict is written, and it is that the printed run is none of the script.
+    Rejected(Rejection),
     SinkFault,
     Memory,
 }

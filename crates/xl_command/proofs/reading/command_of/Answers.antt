@@ -13,3 +13,4 @@ returns-in_default-verb-clause-asked c =
     (differ_in_bytes verb (codes "pack") c.in_default-verb.not-pack)
     (differ_in_bytes verb (codes "flatten") c.in_default-verb.not-flatten)
     (differ_in_bytes verb (codes "view") c.in_default-verb.not-view)
+    (differ_in_bytes verb (codes "audit") c.in_default-verb.not-audit)

@@ -1,4 +1,4 @@
-use Rattle.spec_command.specs.Arguments.{render, info, edit, view}
+use Rattle.spec_command.specs.Arguments.{render, info, edit, view, audit}
 use Rattle.xl_program.specs.Outcome.{Given, given_of}
 use Rattle.xl_program.proofs.Causes.{cause_of}
 use Rattle.xl_program.proofs.obeying.obey.Goals as goal
@@ -73,3 +73,12 @@ returns-in-View-clause-shelf_cause g c =
 
 pub view-requires-clause-size : goal.view-requires-clause-size
 view-requires-clause-size g c κs within = rw c.in-View.is at c.requires.range
+
+pub returns-in-Audit-clause-comes : goal.returns-in-Audit-clause-comes
+returns-in-Audit-clause-comes g c = rw c.in-Audit.is c.audit-result.ensures.comes
+
+pub returns-in-Audit-clause-shelf_cause : goal.returns-in-Audit-clause-shelf_cause
+returns-in-Audit-clause-shelf_cause g c =
+    let see = g.D.Shelf.state in
+    rw c.in-Audit.is (cause_of (see c.args.shelf) (see c.audit-result.new.shelf) (audit c.in-Audit.name.now)
+    c.audit-result.result (λ rose. rose) c.audit-result.ensures.shelf_cause)

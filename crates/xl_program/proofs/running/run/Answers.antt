@@ -2,7 +2,7 @@ use Rattle.std.proofs.Common.{◌≡◌, inl, inr, refl, Option, Some, sym, ◌�
 use Rattle.std.specs.Prelude.{IfSome, option_map}
 use Rattle.spec_command.specs.Arguments.{Asked, name_of}
 use Rattle.spec_command.specs.Grammar.{asked_in}
-use Rattle.spec_command.specs.Ends.{source_fault, bad_line, refused, flat_refused, stop_line}
+use Rattle.spec_command.specs.Ends.{source_fault, refused, flat_refused, stop_line}
 use Rattle.xl_command.specs.Asking.{asked_of, arguments_of}
 use Rattle.xl_ports.specs.Shelf.{Content, selected_content}
 use Rattle.xl_ports.specs.State.{ShelfState}
@@ -10,12 +10,12 @@ use Rattle.xl_ports.specs.Disk.{read_at}
 use Rattle.xl_program.specs.Command.{IsFlatten, ReadsFile, ReadsSource}
 use Rattle.xl_program.specs.Files.{CannotBeFlat, HasFault}
 use Rattle.xl_program.specs.Lines.{WritesLine}
-use Rattle.xl_program.specs.Outcome.{Given, given_of, InGrammar, IsBadLineOf, OtherNamesStay}
+use Rattle.xl_program.specs.Outcome.{Given, given_of, InGrammar, RefusesSource, OtherNamesStay}
 use Rattle.xl_program.proofs.Taken.{nothing_taken, nothing_saved}
 use Rattle.xl_program.proofs.OtherNames.{all_stay, names_stay}
 use Rattle.xl_program.proofs.ScriptEnded.{ended_written}
-use Rattle.xl_program.proofs.StopLines.{bad_line_written, flat_refusal_written, refusal_written, script_in_grammar}
-use Rattle.xl_program.proofs.StopLines.{shelf_fault_asked, source_fault_written}
+use Rattle.xl_program.proofs.StopLines.{bad_source_written, flat_refusal_written, refusal_written, rejection_asked}
+use Rattle.xl_program.proofs.StopLines.{script_in_grammar, shelf_fault_asked, source_fault_written}
 use Rattle.xl_program.proofs.running.run.Goals as goal
 use Rattle.xl_program.proofs.running.run.Goals.{in-Ok-result, in-Err}
 
@@ -61,8 +61,8 @@ returns-clause-source_fault_written g c = λ five. elim c.match-done.branch [
       )
 ]
 
-pub returns-clause-bad_line : goal.returns-clause-bad_line
-returns-clause-bad_line g c = λ three. elim c.match-done.branch [
+pub returns-clause-bad_source : goal.returns-clause-bad_source
+returns-clause-bad_source g c = λ three. elim c.match-done.branch [
   | in-Ok-result w ↦ absurd (omega arith)
   | in-Err w ↦
       let given : Given =
@@ -72,14 +72,24 @@ returns-clause-bad_line g c = λ three. elim c.match-done.branch [
       let command = asked_of c.in-Some.command in
       let is : Some command ≡ asked_in (arguments_of c.args.words.now) = rw c.in-Some.is at c.in-Ok.ensures.asked in
       let told =
-      bad_line_written g.K.Sink.held g.K.Sink.faults given content _ _ command w.in-Err.stopped _ _ _ _ (sym w.status-is ∙ three)
-      (rw w.in-Err.is at c.obey-done.ensures.comes) (rw w.in-Err.is at c.obey-done.ensures.stops)
-      w.write_stop-status.ensures in (
-        told.0,
-        subst (λ (o : Option Asked). IsBadLineOf given o told.0) is told.1,
-        subst (λ k. WritesLine g.K.Sink.held g.K.Sink.faults c.args.sink.now k (stop_line (bad_line told.0)))
-            (sym w.sink-is) told.2,
-      )
+      bad_source_written g.K.Sink.held g.K.Sink.faults given content _ _ command w.in-Err.stopped _ _ _ _
+      (sym w.status-is ∙ three) (rw w.in-Err.is at c.obey-done.ensures.comes) (rw w.in-Err.is at c.obey-done.ensures.stops)
+      w.write_stop-status.ensures in
+      subst (λ k. RefusesSource g.K.Sink.held g.K.Sink.faults given (asked_in (arguments_of c.args.words.now)) c.args.sink.now k)
+      (sym w.sink-is)
+      (subst (λ (o : Option Asked). RefusesSource g.K.Sink.held g.K.Sink.faults given o c.args.sink.now _) is told)
+]
+
+pub returns-clause-rejected : goal.returns-clause-rejected
+returns-clause-rejected g c = λ ten. elim c.match-done.branch [
+  | in-Ok-result w ↦ absurd (omega arith)
+  | in-Err w ↦
+      let content = read_at (g.D.Shelf.state c.args.shelf).disk in
+      let before : ShelfState = g.D.Shelf.state c.args.shelf in
+      let after : ShelfState = g.D.Shelf.state c.obey-done.result.shelf in
+      rejection_asked g.K.Sink.held g.K.Sink.faults _ content before after (asked_of c.in-Some.command) w.in-Err.stopped _ _ _ _
+      (sym w.status-is ∙ ten) (rw w.in-Err.is at c.obey-done.ensures.comes) w.write_stop-status.ensures
+      (rw c.in-Some.is at c.in-Ok.ensures.asked) (sym w.sink-is)
 ]
 
 pub returns-clause-flat_refused : goal.returns-clause-flat_refused

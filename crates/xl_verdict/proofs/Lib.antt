@@ -1,0 +1,3 @@
+pub mod Sources
+mod Chests
+mod Exactly
