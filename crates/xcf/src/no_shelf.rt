@@ -16,7 +16,7 @@ impl NoShelf {
 }
 
 impl Shelf for NoShelf {
-    ghost state = { λ s. record {
+    ghost shelf_state = { λ s. record {
       selected = Some [];
       is_open = s.open;
       disk = None;

@@ -321,7 +321,7 @@ impl MemoryShelf {
 }
 
 impl Shelf for MemoryShelf {
-    ghost state = { λ s. record {
+    ghost shelf_state = { λ s. record {
       selected = option_map (λ h. h.name) s.here;
       is_open = is_some s.draft;
       disk = Some (disk_of s);

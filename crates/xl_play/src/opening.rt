@@ -12,13 +12,13 @@ use xl_ports::Shelf;
 pub fn open_core<D: Shelf>(alloc: Global, document: Document, shelf: D) -> Result<Core<D>, D>
     requires limits { IsDocument document }
     requires numbered { AreNumbered document.nodes }
-    requires selected { IsSome (D.state shelf).selected }
+    requires selected { IsSome (D.shelf_state shelf).selected }
     ensures base { IfOk result (λ core. core.history.base ≡ document) }
     ensures fresh { IfOk result (λ core. core.history.entries ≡ []) }
     ensures shelf { IfOk result (λ core. core.shelf ≡ Some shelf) }
     ensures opening { IfOk result (λ core. core.opening ≡ shelf) }
     ensures inside { IfOk result (λ core. IsSome core.shelf) }
-    ensures selected { IfOk result (λ core. IsSome (D.state core.opening).selected) }
+    ensures selected { IfOk result (λ core. IsSome (D.shelf_state core.opening).selected) }
     ensures kept { IfOk result (λ core. KeepsExactly core) }
     ensures back { IfErr result (λ back. back ≡ shelf) }
 {

@@ -94,7 +94,7 @@ fn play_save<D: Shelf, G: Gate>(
 ) -> Result<(), AllocError>
     requires played { ArePlayed core.old.history.base core.old.history.entries (string_bytes text.old) }
     requires inside { IsSome core.old.shelf }
-    requires selected { IsSome (D.state core.old.opening).selected }
+    requires selected { IsSome (D.shelf_state core.old.opening).selected }
     requires index { index ≡ next_index core.old.history.entries 0 }
     requires few { length core.old.history.entries + 2 ≤ most_entries }
     requires kept { KeepsExactly core.old }
@@ -122,7 +122,7 @@ fn play_line<L: Ledger, D: Shelf, G: Gate>(
 ) -> Result<u32, AllocError>
     requires played { ArePlayed core.old.history.base core.old.history.entries (string_bytes text.old) }
     requires inside { IsSome core.old.shelf }
-    requires selected { IsSome (D.state core.old.opening).selected }
+    requires selected { IsSome (D.shelf_state core.old.opening).selected }
     requires index { index ≡ next_index core.old.history.entries 0 }
     requires few { length core.old.history.entries + 2 * length (calls_of (line_of line ∷ [])) ≤ most_entries }
     requires kept { KeepsExactly core.old }
@@ -165,7 +165,7 @@ fn play_lines<L: Ledger, D: Shelf, G: Gate>(
     requires fresh { core.old.history.entries ≡ [] }
     requires kept { KeepsExactly core.old }
     requires inside { IsSome core.old.shelf }
-    requires selected { IsSome (D.state core.old.opening).selected }
+    requires selected { IsSome (D.shelf_state core.old.opening).selected }
     requires boxes { length boxes.items < 2 ^ 32 }
     requires fit { AreFit (length boxes.items) [] (lines_of lines.items) }
     requires few { 2 * length (calls_of (lines_of lines.items)) ≤ most_entries }
@@ -228,7 +228,7 @@ pub fn play<D: Shelf, G: Gate>(
     requires fresh { core.old.history.entries ≡ [] }
     requires kept { KeepsExactly core.old }
     requires inside { IsSome core.old.shelf }
-    requires selected { IsSome (D.state core.old.opening).selected }
+    requires selected { IsSome (D.shelf_state core.old.opening).selected }
     requires boxes { AllByRecursion (λ boxes. length boxes.items < 2 ^ 32) chest.items }
     requires fits { FitsFilters (map length (states_of (λ b. state b) chest.items)) (lists_of script) }
     ensures between { IsBetweenLines core.old.history.base core.old.opening core.new }

@@ -23,7 +23,7 @@ pub fn save_latest<D: Shelf>(
     requires session { session < 8 }
     requires inside { IsSome core.old.shelf }
     requires legal { IsLegal core.old.history.base core.old.history.entries }
-    requires selected { IsSome (D.state core.old.opening).selected }
+    requires selected { IsSome (D.shelf_state core.old.opening).selected }
     requires few { length core.old.history.entries + 2 ≤ most_entries }
     requires kept { KeepsExactly core.old }
     ensures between { IsBetweenLines core.old.history.base core.old.opening core.new }

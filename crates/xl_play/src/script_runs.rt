@@ -65,11 +65,11 @@ fn play_alone<D: Shelf, G: Gate>(
     requires fresh { core.history.entries ≡ [] }
     requires kept { KeepsExactly core }
     requires inside { IsSome core.shelf }
-    requires selected { IsSome (D.state core.opening).selected }
+    requires selected { IsSome (D.shelf_state core.opening).selected }
     requires boxes { AllByRecursion (λ boxes. length boxes.items < 2 ^ 32) chest.items }
     requires fits { FitsFilters (map length (states_of (λ b. state b) chest.items)) (lists_of script) }
-    ensures { IsPlayed (D.state core.opening)
-        (D.state result.shelf)
+    ensures { IsPlayed (D.shelf_state core.opening)
+        (D.shelf_state result.shelf)
         core.history.base (lists_of script) (states_of (λ b. state b) chest.items) 0 result.replies }
 {
     let replies = play(alloc, &mut core, gate, script, chest);
@@ -112,8 +112,8 @@ fn play_together<R: Threads + Wait + Sync, D: Shelf, G: Gate>(
     requires eight { length (lists_of script) ≡ 8 }
     requires workers { workers ≤ 8 }
     requires together { workers ≡ 0 → AreOfFirst (lists_of script) → ⊥ }
-    ensures { IsPlayed (D.state core.opening)
-        (D.state result.shelf)
+    ensures { IsPlayed (D.shelf_state core.opening)
+        (D.shelf_state result.shelf)
         core.history.base (lists_of script) (states_of (λ b. state b) chest.items) workers result.replies }
 {
     let PlayedBeside { core, text } = play_beside(rt, alloc, core, script, chest, workers, gate);
@@ -138,12 +138,12 @@ pub fn run_script<R: Threads + Wait + Sync, D: Shelf, G: Gate>(
 ) -> Played<D>
     requires limits { IsDocument document }
     requires numbered { AreNumbered document.nodes }
-    requires selected { IsSome (D.state shelf).selected }
+    requires selected { IsSome (D.shelf_state shelf).selected }
     requires boxes { AllByRecursion (λ boxes. length boxes.items < 2 ^ 32) chest.items }
     requires fits { FitsFilters (map length (states_of (λ b. state b) chest.items)) (lists_of script) }
     requires workers { workers ≤ 8 }
-    ensures { IsPlayed (D.state shelf)
-        (D.state result.shelf)
+    ensures { IsPlayed (D.shelf_state shelf)
+        (D.shelf_state result.shelf)
         document (lists_of script) (states_of (λ b. state b) chest.items) workers result.replies }
 {
     let core = match open_core(alloc, document, shelf) {

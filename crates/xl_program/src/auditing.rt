@@ -34,17 +34,17 @@ pub fn audit<S: Source, K: Sink, D: Shelf>(
     requires lists { length chest.items ≤ 8 }
     requires boxes { AllByRecursion (λ boxes. length boxes.items < 2 ^ 32) chest.items }
     ensures comes { ComesTo K.held K.faults (given_of (S.left source.old) (λ b. state b) chest.items)
-        (D.state shelf.old)
-        (D.state shelf.new)
+        (D.shelf_state shelf.old)
+        (D.shelf_state shelf.new)
         (audit_of name.now) sink.old sink.new result }
-    ensures stops { StopsAudit (given_of (S.left source.old) (λ b. state b) chest.items) (read_at (D.state shelf.old).disk name.now)
+    ensures stops { StopsAudit (given_of (S.left source.old) (λ b. state b) chest.items) (read_at (D.shelf_state shelf.old).disk name.now)
         result }
     ensures takes { TakesWithin S.left S.faults S.reads most_audit_reads source.old source.new }
     ensures ended { ReadsToEnd (S.left source.new) result }
     ensures source_cause { SourceCause (S.faults source.old) (S.faults source.new) result }
-    ensures shelf_cause { ShelfCause (D.state shelf.old).reading (D.state shelf.new).reading result }
-    ensures few_loads { LoadsFew (D.state shelf.old) (D.state shelf.new) }
-    ensures selected { ((D.state shelf.new).selected ≡ (D.state shelf.old).selected) ⊎ ((D.state shelf.new).selected ≡ Some name.now) }
+    ensures shelf_cause { ShelfCause (D.shelf_state shelf.old).reading (D.shelf_state shelf.new).reading result }
+    ensures few_loads { LoadsFew (D.shelf_state shelf.old) (D.shelf_state shelf.new) }
+    ensures selected { ((D.shelf_state shelf.new).selected ≡ (D.shelf_state shelf.old).selected) ⊎ ((D.shelf_state shelf.new).selected ≡ Some name.now) }
 {
     let given = match read_source(alloc, source, &chest) {
         Ok(given) => given,

@@ -41,16 +41,16 @@ pub fn edit<R: Threads + Wait + Sync, S: Source, K: Sink, D: Shelf, G: Gate>(
     requires boxes { AllByRecursion (λ boxes. length boxes.items < 2 ^ 32) chest.items }
     requires workers { workers ≤ 8 }
     ensures comes { ComesTo K.held K.faults (given_of (S.left source.old) (λ b. state b) chest.items)
-        (D.state shelf)
-        (D.state result.shelf)
+        (D.shelf_state shelf)
+        (D.shelf_state result.shelf)
         (edit_of name.now workers) sink.old sink.new result.result }
-    ensures stops { StopsEdit (given_of (S.left source.old) (λ b. state b) chest.items) (read_at (D.state shelf).disk name.now) result.result }
+    ensures stops { StopsEdit (given_of (S.left source.old) (λ b. state b) chest.items) (read_at (D.shelf_state shelf).disk name.now) result.result }
     ensures takes { TakesFront S.left S.faults S.reads source.old source.new }
     ensures ended { ReadsToEnd (S.left source.new) result.result }
     ensures source_cause { SourceCause (S.faults source.old) (S.faults source.new) result.result }
-    ensures shelf_cause { ShelfCause (D.state shelf).reading (D.state result.shelf).reading result.result }
-    ensures few_loads { LoadsFew (D.state shelf) (D.state result.shelf) }
-    ensures selected { ((D.state result.shelf).selected ≡ (D.state shelf).selected) ⊎ ((D.state result.shelf).selected ≡ Some name.now) }
+    ensures shelf_cause { ShelfCause (D.shelf_state shelf).reading (D.shelf_state result.shelf).reading result.result }
+    ensures few_loads { LoadsFew (D.shelf_state shelf) (D.shelf_state result.shelf) }
+    ensures selected { ((D.shelf_state result.shelf).selected ≡ (D.shelf_state shelf).selected) ⊎ ((D.shelf_state result.shelf).selected ≡ Some name.now) }
 {
     let script = match read_script(alloc, source, &chest) {
         Ok(script) => script,

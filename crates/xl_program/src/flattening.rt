@@ -35,14 +35,14 @@ const SESSION: u8 = 0;
 /// The file is made before the save begins. The shelf comes back always.
 pub fn flatten<K: Sink, D: Shelf>(alloc: Global, name: &str, sink: &mut K, mut shelf: D) -> Done<D>
     ensures comes { (given : Given) → ComesTo K.held K.faults given
-        (D.state shelf)
-        (D.state result.shelf)
+        (D.shelf_state shelf)
+        (D.shelf_state result.shelf)
         (flatten_of name.now) sink.old sink.new result.result }
-    ensures stops { StopsFlatten (read_at (D.state shelf).disk name.now) result.result }
-    ensures cause { ShelfCauseOf (D.state shelf)
-        (D.state result.shelf) (flatten_of name.now) result.result }
-    ensures few_loads { LoadsFew (D.state shelf) (D.state result.shelf) }
-    ensures selected { ((D.state result.shelf).selected ≡ (D.state shelf).selected) ⊎ ((D.state result.shelf).selected ≡ Some name.now) }
+    ensures stops { StopsFlatten (read_at (D.shelf_state shelf).disk name.now) result.result }
+    ensures cause { ShelfCauseOf (D.shelf_state shelf)
+        (D.shelf_state result.shelf) (flatten_of name.now) result.result }
+    ensures few_loads { LoadsFew (D.shelf_state shelf) (D.shelf_state result.shelf) }
+    ensures selected { ((D.shelf_state result.shelf).selected ≡ (D.shelf_state shelf).selected) ⊎ ((D.shelf_state result.shelf).selected ≡ Some name.now) }
 {
     let document = match read_document(alloc, name, &mut shelf) {
         Ok(document) => document,
@@ -133,12 +133,12 @@ fn flat_file<L: Ledger, D: Shelf>(
 
 // Saves a file, and writes the line that tells of it.
 fn save_flat<K: Sink, D: Shelf>(file: &[u8], sink: &mut K, shelf: &mut D) -> Result<(), Stopped>
-    requires { IsSome (D.state shelf.old).selected }
+    requires { IsSome (D.shelf_state shelf.old).selected }
     ensures saved { (d : Plain) → Written file.now d → SavesAndTells K.held K.faults d
-        (D.state shelf.old)
-        (D.state shelf.new) sink.old sink.new result }
-    ensures loads { (D.state shelf.new).loads ≡ (D.state shelf.old).loads }
-    ensures selected { (D.state shelf.new).selected ≡ (D.state shelf.old).selected }
+        (D.shelf_state shelf.old)
+        (D.shelf_state shelf.new) sink.old sink.new result }
+    ensures loads { (D.shelf_state shelf.new).loads ≡ (D.shelf_state shelf.old).loads }
+    ensures selected { (D.shelf_state shelf.new).selected ≡ (D.shelf_state shelf.old).selected }
 {
     if save_file(file, shelf).is_err() {
         return Err(Stopped::ShelfFault);

@@ -29,15 +29,15 @@ pub fn read_document<D: Shelf>(
     name: &str,
     shelf: &mut D,
 ) -> Result<Document, Stopped>
-    ensures loads { Loads (read_at (D.state shelf.old).disk name.now) result }
+    ensures loads { Loads (read_at (D.shelf_state shelf.old).disk name.now) result }
     ensures limits { IfOk result (λ document. IsDocument document) }
     ensures numbered { IfOk result (λ document. AreNumbered document.nodes) }
-    ensures cause { ShelfCause (D.state shelf.old).reading (D.state shelf.new).reading result }
-    ensures untouched { IsUntouched (D.state shelf.old)
-        (D.state shelf.new) }
-    ensures few_loads { LoadsFew (D.state shelf.old) (D.state shelf.new) }
-    ensures named { OnOk result ((D.state shelf.new).selected ≡ Some name.now) }
-    ensures selected { ((D.state shelf.new).selected ≡ (D.state shelf.old).selected) ⊎ ((D.state shelf.new).selected ≡ Some name.now) }
+    ensures cause { ShelfCause (D.shelf_state shelf.old).reading (D.shelf_state shelf.new).reading result }
+    ensures untouched { IsUntouched (D.shelf_state shelf.old)
+        (D.shelf_state shelf.new) }
+    ensures few_loads { LoadsFew (D.shelf_state shelf.old) (D.shelf_state shelf.new) }
+    ensures named { OnOk result ((D.shelf_state shelf.new).selected ≡ Some name.now) }
+    ensures selected { ((D.shelf_state shelf.new).selected ≡ (D.shelf_state shelf.old).selected) ⊎ ((D.shelf_state shelf.new).selected ≡ Some name.now) }
 {
     let loaded = load_document(alloc, name, shelf)?;
     Ok(loaded.document)
@@ -45,15 +45,15 @@ pub fn read_document<D: Shelf>(
 
 /// The document of a file, and the file's length.
 pub fn load_document<D: Shelf>(alloc: Global, name: &str, shelf: &mut D) -> Result<Loaded, Stopped>
-    ensures loads { LoadsMeasured (read_at (D.state shelf.old).disk name.now) result }
+    ensures loads { LoadsMeasured (read_at (D.shelf_state shelf.old).disk name.now) result }
     ensures limits { IfOk result (λ loaded. IsDocument loaded.document) }
     ensures numbered { IfOk result (λ loaded. AreNumbered loaded.document.nodes) }
-    ensures cause { ShelfCause (D.state shelf.old).reading (D.state shelf.new).reading result }
-    ensures untouched { IsUntouched (D.state shelf.old)
-        (D.state shelf.new) }
-    ensures few_loads { LoadsFew (D.state shelf.old) (D.state shelf.new) }
-    ensures named { OnOk result ((D.state shelf.new).selected ≡ Some name.now) }
-    ensures selected { ((D.state shelf.new).selected ≡ (D.state shelf.old).selected) ⊎ ((D.state shelf.new).selected ≡ Some name.now) }
+    ensures cause { ShelfCause (D.shelf_state shelf.old).reading (D.shelf_state shelf.new).reading result }
+    ensures untouched { IsUntouched (D.shelf_state shelf.old)
+        (D.shelf_state shelf.new) }
+    ensures few_loads { LoadsFew (D.shelf_state shelf.old) (D.shelf_state shelf.new) }
+    ensures named { OnOk result ((D.shelf_state shelf.new).selected ≡ Some name.now) }
+    ensures selected { ((D.shelf_state shelf.new).selected ≡ (D.shelf_state shelf.old).selected) ⊎ ((D.shelf_state shelf.new).selected ≡ Some name.now) }
 {
     match shelf.select(name) {
         Ok(()) => {}

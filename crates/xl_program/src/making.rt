@@ -50,14 +50,14 @@ pub fn make<R: Threads + Wait + Sync, K: Sink, D: Shelf, G: Gate>(
     gate: &G,
 ) -> Done<D>
     ensures comes { (given : Given) → ComesTo K.held K.faults given
-        (D.state shelf)
-        (D.state result.shelf)
+        (D.shelf_state shelf)
+        (D.shelf_state result.shelf)
         (make_of name.now seed) sink.old sink.new result.result }
     ensures stops { StopsMaking result.result }
-    ensures cause { ShelfCauseOf (D.state shelf)
-        (D.state result.shelf) (make_of name.now seed) result.result }
-    ensures few_loads { LoadsFew (D.state shelf) (D.state result.shelf) }
-    ensures selected { ((D.state result.shelf).selected ≡ (D.state shelf).selected) ⊎ ((D.state result.shelf).selected ≡ Some name.now) }
+    ensures cause { ShelfCauseOf (D.shelf_state shelf)
+        (D.shelf_state result.shelf) (make_of name.now seed) result.result }
+    ensures few_loads { LoadsFew (D.shelf_state shelf) (D.shelf_state result.shelf) }
+    ensures selected { ((D.shelf_state result.shelf).selected ≡ (D.shelf_state shelf).selected) ⊎ ((D.shelf_state result.shelf).selected ≡ Some name.now) }
 {
     let Ok((made, file)) = made_with_file(alloc, seed) else {
         return Done {
@@ -94,17 +94,17 @@ fn made_with_file(alloc: Global, seed: u32) -> Result<(Made, Vec<u8>), AllocErro
 // Saves the file of a document that is made, before its script is played.
 fn save_first<D: Shelf>(name: &str, file: &[u8], shelf: &mut D) -> Result<(), Failed>
     ensures saved { OnOk result ((seed : ℕ) → Written file.now (document seed) → IsSavedOn
-        (opened (D.state shelf.old) (D.state shelf.new) name.now)
+        (opened (D.shelf_state shelf.old) (D.shelf_state shelf.new) name.now)
         (document seed) save_end.Done
-        (D.state shelf.new)) }
+        (D.shelf_state shelf.new)) }
     ensures failed { OnErr result ((seed : ℕ) → Written file.now (document seed) → FailsAtShelf
-        (D.state shelf.old)
-        (D.state shelf.new) (make_of name.now seed)
-        × FaultsRose (D.state shelf.old)
-        (D.state shelf.new) (make_of name.now seed)) }
-    ensures loads { (D.state shelf.new).loads ≡ (D.state shelf.old).loads }
-    ensures selected { ((D.state shelf.new).selected ≡ (D.state shelf.old).selected) ⊎ ((D.state shelf.new).selected ≡ Some name.now) }
-    ensures named { OnOk result ((D.state shelf.new).selected ≡ Some name.now) }
+        (D.shelf_state shelf.old)
+        (D.shelf_state shelf.new) (make_of name.now seed)
+        × FaultsRose (D.shelf_state shelf.old)
+        (D.shelf_state shelf.new) (make_of name.now seed)) }
+    ensures loads { (D.shelf_state shelf.new).loads ≡ (D.shelf_state shelf.old).loads }
+    ensures selected { ((D.shelf_state shelf.new).selected ≡ (D.shelf_state shelf.old).selected) ⊎ ((D.shelf_state shelf.new).selected ≡ Some name.now) }
+    ensures named { OnOk result ((D.shelf_state shelf.new).selected ≡ Some name.now) }
 {
     shelf.select(name)?;
     save_file(file, shelf)
@@ -118,14 +118,14 @@ fn run_made<R: Threads + Wait + Sync, D: Shelf, G: Gate>(
     shelf: D,
     gate: &G,
 ) -> Played<D>
-    requires selected { IsSome (D.state shelf).selected }
+    requires selected { IsSome (D.shelf_state shelf).selected }
     requires limits { IsDocument made.document }
     requires numbered { AreNumbered made.document.nodes }
     requires fits { FitsFilters [] (lists_of made.script) }
     requires eight { length (lists_of made.script) ≡ 8 }
     ensures { (seed : ℕ) → made.document ≡ document seed → lists_of made.script ≡ script seed
-        → IsSummedUp (D.state shelf)
-        (D.state result.shelf) (document seed) (script seed) result.replies }
+        → IsSummedUp (D.shelf_state shelf)
+        (D.shelf_state result.shelf) (document seed) (script seed) result.replies }
 {
     let core = match open_core(alloc, made.document, shelf) {
         Ok(core) => core,

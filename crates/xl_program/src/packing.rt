@@ -22,14 +22,14 @@ pub fn pack<K: Sink, D: Shelf>(
     shelf: &mut D,
 ) -> Result<(), Stopped>
     ensures comes { (given : Given) → ComesTo K.held K.faults given
-        (D.state shelf.old)
-        (D.state shelf.new)
+        (D.shelf_state shelf.old)
+        (D.shelf_state shelf.new)
         (pack_of name.now with_plans) sink.old sink.new result }
-    ensures stops { StopsReport (read_at (D.state shelf.old).disk name.now) result }
-    ensures cause { ShelfCauseOf (D.state shelf.old)
-        (D.state shelf.new) (pack_of name.now with_plans) result }
-    ensures few_loads { LoadsFew (D.state shelf.old) (D.state shelf.new) }
-    ensures selected { ((D.state shelf.new).selected ≡ (D.state shelf.old).selected) ⊎ ((D.state shelf.new).selected ≡ Some name.now) }
+    ensures stops { StopsReport (read_at (D.shelf_state shelf.old).disk name.now) result }
+    ensures cause { ShelfCauseOf (D.shelf_state shelf.old)
+        (D.shelf_state shelf.new) (pack_of name.now with_plans) result }
+    ensures few_loads { LoadsFew (D.shelf_state shelf.old) (D.shelf_state shelf.new) }
+    ensures selected { ((D.shelf_state shelf.new).selected ≡ (D.shelf_state shelf.old).selected) ⊎ ((D.shelf_state shelf.new).selected ≡ Some name.now) }
 {
     let loaded = load_document(alloc, name, shelf)?;
     let Ok(packed) = xl_pack::pack(alloc, loaded.document, loaded.length, with_plans) else {

@@ -44,16 +44,16 @@ pub fn view<S: Source, K: Sink, D: Shelf>(
     requires boxes { AllByRecursion (λ boxes. length boxes.items < 2 ^ 32) chest.items }
     requires size { IsWindowSize cols rows }
     ensures comes { ComesTo K.held K.faults (given_of (S.left source.old) (λ b. state b) chest.items)
-        (D.state shelf)
-        (D.state result.shelf)
+        (D.shelf_state shelf)
+        (D.shelf_state result.shelf)
         (view_of name.now cols rows) sink.old sink.new result.result }
-    ensures stops { StopsView (given_of (S.left source.old) (λ b. state b) chest.items) (read_at (D.state shelf).disk name.now) result.result }
+    ensures stops { StopsView (given_of (S.left source.old) (λ b. state b) chest.items) (read_at (D.shelf_state shelf).disk name.now) result.result }
     ensures takes { TakesFront S.left S.faults S.reads source.old source.new }
     ensures ended { ReadsToEnd (S.left source.new) result.result }
     ensures source_cause { SourceCause (S.faults source.old) (S.faults source.new) result.result }
-    ensures shelf_cause { ShelfCause (D.state shelf).reading (D.state result.shelf).reading result.result }
-    ensures few_loads { LoadsFew (D.state shelf) (D.state result.shelf) }
-    ensures selected { ((D.state result.shelf).selected ≡ (D.state shelf).selected) ⊎ ((D.state result.shelf).selected ≡ Some name.now) }
+    ensures shelf_cause { ShelfCause (D.shelf_state shelf).reading (D.shelf_state result.shelf).reading result.result }
+    ensures few_loads { LoadsFew (D.shelf_state shelf) (D.shelf_state result.shelf) }
+    ensures selected { ((D.shelf_state result.shelf).selected ≡ (D.shelf_state shelf).selected) ⊎ ((D.shelf_state result.shelf).selected ≡ Some name.now) }
 {
     let script = match read_script(alloc, source, &chest) {
         Ok(script) => script,
@@ -133,7 +133,7 @@ fn view_document<D: Shelf>(
 ) -> Viewed<D>
     requires limits { IsDocument document }
     requires numbered { AreNumbered document.nodes }
-    requires selected { IsSome (D.state shelf).selected }
+    requires selected { IsSome (D.shelf_state shelf).selected }
     requires size { IsWindowSize cols rows }
     requires boxes { AllByRecursion (λ boxes. length boxes.items < 2 ^ 32) chest.items }
     requires fits { FitsFilters (length (list_at (states_of (λ b. state b) chest.items) 0) ∷ []) (lists_of script) }

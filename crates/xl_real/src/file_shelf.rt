@@ -115,7 +115,7 @@ impl FileShelf {
 }
 
 impl Shelf for FileShelf {
-    ghost state = { λ s. record {
+    ghost shelf_state = { λ s. record {
       selected = option_map string_bytes s.name;
       is_open = is_some s.draft;
       disk = None;

@@ -173,7 +173,7 @@ fn make_save<W: Wait, D: Shelf, G: Gate>(
     ensures begins { IsPrefix (front_of seat.old) (front_of seat.new) }
     ensures of { IsOf session (made_of seat.new) (entries_in (front_of seat.new)) }
     ensures saved { IfOk result (λ reply.
-        IsSaved D.state (opening_shelf studio.now) (base_of studio.now) session
+        IsSaved D.shelf_state (opening_shelf studio.now) (base_of studio.now) session
         (reply_of reply) (known_by seat.old) (known_by seat.new)) }
     ensures count { MakesAtMost 2 (known_by seat.old) (known_by seat.new) }
     ensures full { IfOk result (λ reply. reply_of reply ≡ history_full → FindsFull (known_by seat.old) (known_by seat.new)) }
@@ -204,7 +204,7 @@ fn play_save<W: Wait, D: Shelf, G: Gate>(
     ensures begins { IsPrefix (front_of seat.old) (front_of seat.new) }
     ensures of { IsOf session (made_of seat.new) (entries_in (front_of seat.new)) }
     ensures made { OnOk result (
-        IsSaveMade D.state (opening_shelf studio.now) (base_of studio.now)
+        IsSaveMade D.shelf_state (opening_shelf studio.now) (base_of studio.now)
         session (known_by seat.old) (known_by seat.new)) }
     ensures count { MakesAtMost 2 (known_by seat.old) (known_by seat.new) }
     ensures full { IfErr result (λ why. why ≡ HistoryFull → FindsFull (known_by seat.old) (known_by seat.new)) }
@@ -239,7 +239,7 @@ pub(crate) fn play_line<W: Wait, L: Ledger, D: Shelf, G: Gate>(
 
     ensures made { OnOk result ((told : List (List ℕ))
         × (map string_bytes digests.new.items ≡ map string_bytes digests.old.items ++ told)
-        × IsLineMade D.state (opening_shelf studio.now) (base_of studio.now)
+        × IsLineMade D.shelf_state (opening_shelf studio.now) (base_of studio.now)
         session (line_of line) (states_in state desk.old.chest) (states_in state desk.new.chest)
         (known_by seat.old) (known_by seat.new) told) }
     ensures count { MakesAtMost (most_made (line_of line ∷ [])) (known_by seat.old) (known_by seat.new) }

@@ -30,15 +30,15 @@ pub fn file_of<C: PlaneCoder>(
 
 /// Saves the file of a document on a shelf.
 pub fn save_file<D: Shelf>(file: &[u8], shelf: &mut D) -> Result<(), Failed>
-    requires { IsSome (D.state shelf.old).selected }
+    requires { IsSome (D.shelf_state shelf.old).selected }
     ensures saved { OnOk result ((d : Plain) → Written file.now d
-        → IsSavedOn (D.state shelf.old) d save_end.Done
-        (D.state shelf.new)) }
+        → IsSavedOn (D.shelf_state shelf.old) d save_end.Done
+        (D.shelf_state shelf.new)) }
     ensures failed { OnErr result ((d : Plain) → Written file.now d
-        → IsSavedOn (D.state shelf.old) d save_end.Fault
-        (D.state shelf.new)) }
-    ensures loads { (D.state shelf.new).loads ≡ (D.state shelf.old).loads }
-    ensures selected { (D.state shelf.new).selected ≡ (D.state shelf.old).selected }
+        → IsSavedOn (D.shelf_state shelf.old) d save_end.Fault
+        (D.shelf_state shelf.new)) }
+    ensures loads { (D.shelf_state shelf.new).loads ≡ (D.shelf_state shelf.old).loads }
+    ensures selected { (D.shelf_state shelf.new).selected ≡ (D.shelf_state shelf.old).selected }
 {
     save(file, shelf)
 }
@@ -50,9 +50,9 @@ pub fn save_document<D: Shelf, C: PlaneCoder>(
     coder: &mut C,
     shelf: &mut D,
 ) -> SaveEnd
-    requires { IsSome (D.state shelf.old).selected }
-    ensures { IsSavedOn (D.state shelf.old) document.now result
-        (D.state shelf.new) }
+    requires { IsSome (D.shelf_state shelf.old).selected }
+    ensures { IsSavedOn (D.shelf_state shelf.old) document.now result
+        (D.shelf_state shelf.new) }
 {
     let Ok(file) = file_of(alloc, document, coder) else {
         return SaveEnd::Memory;

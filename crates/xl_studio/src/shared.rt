@@ -53,7 +53,7 @@ impl<D: Shelf> Model for Shared<D> {
 
     ghost view = { λ s. record { core = s.core; closing = s.closing } };
 
-    ghost invariant = { λ s. IsKept s.core × (s.moments ≡ length s.core.history.entries + 1) × IsSome (D.state s.core.opening).selected };
+    ghost invariant = { λ s. IsKept s.core × (s.moments ≡ length s.core.history.entries + 1) × IsSome (D.shelf_state s.core.opening).selected };
 }
 
 impl<D: Shelf> Chronicle for Shared<D> {
@@ -75,7 +75,7 @@ impl<D: Shelf> Shared<D> {
     /// A core with the number of its moments.
     pub fn new(core: Core<D>) -> Shared<D>
         requires kept { IsKept core }
-        requires selected { IsSome (D.state core.opening).selected }
+        requires selected { IsSome (D.shelf_state core.opening).selected }
         ensures { result ≡ record { core = core; closing = false } }
     {
         let moments = core.entries().len() as u64 + 1;
@@ -150,7 +150,7 @@ impl<D: Shelf> Shared<D> {
         requires session { session < 8 }
         ensures begun { IfOk result (λ begun.
             AddsStart self.old.core.history.base (moments_of self.old.core) session begun (moments_of self.new.core)) }
-        ensures hands { IfOk result (λ begun. Hands D.state self.old.core begun) }
+        ensures hands { IfOk result (λ begun. Hands D.shelf_state self.old.core begun) }
         ensures failed { OnErr result (moments_of self.new.core ≡ moments_of self.old.core) }
         ensures base { self.new.core.history.base ≡ self.old.core.history.base }
         ensures closing { self.new.closing ≡ self.old.closing }
@@ -167,7 +167,7 @@ impl<D: Shelf> Shared<D> {
     /// Ends the save of a session that is out, as the core does.
     pub(crate) fn end(&mut self, session: u8, shelf: D, how: SaveEnd) -> Reply
         requires out { IsOutOf (out_of self.old.core.history) session }
-        requires returns { ComesBack D.state self.old.core how shelf }
+        requires returns { ComesBack D.shelf_state self.old.core how shelf }
         ensures ended { AddsEnd self.old.core.history.base (moments_of self.old.core) session how (reply_of result)
             (moments_of self.new.core) }
         ensures closing { self.new.closing ≡ self.old.closing }

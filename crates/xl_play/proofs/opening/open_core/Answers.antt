@@ -5,7 +5,7 @@ use Rattle.xl_play.proofs.opening.open_core.Goals as goal
 
 pub returns-in-Ok-clause-selected : goal.returns-in-Ok-clause-selected
 returns-in-Ok-clause-selected g c =
-    subst (λ (o : Option (List ℕ)). IsSome o) (sym (ap (λ k. (g.D.Shelf.state k.opening).selected) c.in-Ok.ensures.ok)) c.requires.selected
+    subst (λ (o : Option (List ℕ)). IsSome o) (sym (ap (λ k. (g.D.Shelf.shelf_state k.opening).selected) c.in-Ok.ensures.ok)) c.requires.selected
 
 pub returns-in-Ok-clause-kept : goal.returns-in-Ok-clause-kept
 returns-in-Ok-clause-kept g c =

@@ -11,7 +11,7 @@ end_save-reply-requires-clause-out g c κs within =
 pub end_save-reply-requires-clause-returns : goal.end_save-reply-requires-clause-returns
 end_save-reply-requires-clause-returns g c κs within =
     let s = c.in-Snapshot in
-    begun_back g.D.Shelf.state c.args.core.now
+    begun_back g.D.Shelf.shelf_state c.args.core.now
     c.begin_save.new.self c.args.session s.version s.document s.shelf c.save_document-how.new.shelf
     c.save_document-how.result (rw s.is at c.in_ok-document.ensures.begun) c.requires.legal
     (rw s.is at c.in_ok-document.ensures.right) c.save_document-how.ensures

@@ -4,7 +4,7 @@ use Rattle.xl_play.proofs.script_runs.play_together.Goals as goal
 
 pub returns : goal.returns
 returns g c =
-    let see = g.D.Shelf.state in
+    let see = g.D.Shelf.shelf_state in
     let played = c.play_beside-core.ensures in
     let new = c.play_beside-core.result.core in
     played_on see c.args.core new c.into_shelf.result (lists_of c.args.script) _ c.args.workers c.replies_of.result played.base

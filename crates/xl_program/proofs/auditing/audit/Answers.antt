@@ -12,7 +12,7 @@ returns-clause-comes g c =
     let given : Given =
     given_of (g.S.Source.left c.args.source.now) (λ b. (goal.PointFilter-dyn g (b.vtable, b.value)).state b.value)
     c.args.chest.items in
-    let see = g.D.Shelf.state in
+    let see = g.D.Shelf.shelf_state in
     let loaded = c.in-Ok-read_document.ensures in
     let then : IsAuditOpened given (see c.args.shelf.now) (see c.read_document.new.shelf) c.args.name.now c.in-Ok-read_document.document
     c.in-Ok.given = record {
@@ -29,7 +29,7 @@ returns-in-Err-clause-comes g c =
     let given : Given =
     given_of (g.S.Source.left c.args.source.now) (λ b. (goal.PointFilter-dyn g (b.vtable, b.value)).state b.value)
     c.args.chest.items in
-    let before : ShelfState = g.D.Shelf.state c.args.shelf.now in
+    let before : ShelfState = g.D.Shelf.shelf_state c.args.shelf.now in
     audit_stopped g.K.Sink.held g.K.Sink.faults given before c.args.name.now c.args.sink.now c.in-Err.stopped
     c.in-Err.ensures.reads
 
@@ -38,14 +38,14 @@ returns-in-Err-clause-stops g c =
     let given : Given =
     given_of (g.S.Source.left c.args.source.now) (λ b. (goal.PointFilter-dyn g (b.vtable, b.value)).state b.value)
     c.args.chest.items in
-    source_stops given (read_at (g.D.Shelf.state c.args.shelf.now).disk c.args.name.now) c.in-Err.stopped c.in-Err.ensures.reads
+    source_stops given (read_at (g.D.Shelf.shelf_state c.args.shelf.now).disk c.args.name.now) c.in-Err.stopped c.in-Err.ensures.reads
 
 pub returns-in-Err-read_document-clause-stops : goal.returns-in-Err-read_document-clause-stops
 returns-in-Err-read_document-clause-stops g c =
     let given : Given =
     given_of (g.S.Source.left c.args.source.now) (λ b. (goal.PointFilter-dyn g (b.vtable, b.value)).state b.value)
     c.args.chest.items in
-    audit_file_stops given (read_at (g.D.Shelf.state c.args.shelf.now).disk c.args.name.now) c.in-Ok.given c.in-Err-read_document.stopped
+    audit_file_stops given (read_at (g.D.Shelf.shelf_state c.args.shelf.now).disk c.args.name.now) c.in-Ok.given c.in-Err-read_document.stopped
     c.in-Ok.ensures.reads c.in-Err-read_document.ensures.loads
 
 pub returns-clause-stops : goal.returns-clause-stops
@@ -54,7 +54,7 @@ returns-clause-stops g c =
     given_of (g.S.Source.left c.args.source.now) (λ b. (goal.PointFilter-dyn g (b.vtable, b.value)).state b.value)
     c.args.chest.items in
     verdict_stops g.K.Sink.held g.K.Sink.faults c.args.sink.now c.write_verdict.new.sink given
-    (read_at (g.D.Shelf.state c.args.shelf.now).disk c.args.name.now) c.find_verdict.result c.write_verdict.result c.write_verdict.ensures
+    (read_at (g.D.Shelf.shelf_state c.args.shelf.now).disk c.args.name.now) c.find_verdict.result c.write_verdict.result c.write_verdict.ensures
 
 pub returns-in-Err-clause-ended : goal.returns-in-Err-clause-ended
 returns-in-Err-clause-ended g c =

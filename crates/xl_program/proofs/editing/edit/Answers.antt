@@ -10,12 +10,12 @@ use Rattle.xl_ports.specs.Disk.{read_at}
 pub returns-clause-comes : goal.returns-clause-comes
 returns-clause-comes g c =
     let before : ShelfState =
-    g.D.Shelf.state c.args.shelf in
+    g.D.Shelf.shelf_state c.args.shelf in
     let mid : ShelfState =
-    g.D.Shelf.state
+    g.D.Shelf.shelf_state
     c.read_document.new.shelf in
     let after : ShelfState =
-    g.D.Shelf.state
+    g.D.Shelf.shelf_state
     c.run_script-played.result.shelf in
     let loaded = c.in-Ok-read_document.ensures in
     let then : IsOpened _ before mid c.args.name.now c.in-Ok-read_document.document (lists_of c.in-Ok.script) = record {
@@ -33,19 +33,19 @@ returns-clause-comes g c =
 pub returns-in-Err-clause-comes : goal.returns-in-Err-clause-comes
 returns-in-Err-clause-comes g c =
     let before : ShelfState =
-    g.D.Shelf.state c.args.shelf in
+    g.D.Shelf.shelf_state c.args.shelf in
     read_stopped g.K.Sink.held g.K.Sink.faults _ before c.args.name.now c.args.sink.now c.in-Err.stopped c.in-Err.ensures.reads
     c.args.workers
 
 pub returns-in-Err-read_document-clause-stops : goal.returns-in-Err-read_document-clause-stops
 returns-in-Err-read_document-clause-stops g c =
-    load_stops _ (read_at (g.D.Shelf.state c.args.shelf).disk c.args.name.now) (lists_of c.in-Ok.script) c.in-Err-read_document.stopped
+    load_stops _ (read_at (g.D.Shelf.shelf_state c.args.shelf).disk c.args.name.now) (lists_of c.in-Ok.script) c.in-Err-read_document.stopped
     c.in-Ok.ensures.reads c.in-Err-read_document.ensures.loads
 
 pub returns-clause-stops : goal.returns-clause-stops
 returns-clause-stops g c =
     play_stops g.K.Sink.held g.K.Sink.faults c.args.sink.now c.write_replies.new.sink _
-    (read_at (g.D.Shelf.state c.args.shelf).disk c.args.name.now) (lists_of c.in-Ok.script)
+    (read_at (g.D.Shelf.shelf_state c.args.shelf).disk c.args.name.now) (lists_of c.in-Ok.script)
     c.run_script-played.result.replies c.write_replies.result c.in-Ok.ensures.reads c.write_replies.ensures
 
 pub returns-in-Err-clause-ended : goal.returns-in-Err-clause-ended

@@ -39,42 +39,42 @@ returns-in-Err-Refused-clause-loads g c =
 
 pub returns-in-Err-Failed-clause-untouched : goal.returns-in-Err-Failed-clause-untouched
 returns-in-Err-Failed-clause-untouched g c =
-    two_quiet g.D.Shelf.state c.args.shelf.now
+    two_quiet g.D.Shelf.shelf_state c.args.shelf.now
     c.select.new.self c.load_all.new.shelf
     c.select.ensures.contents c.select.ensures.quiet c.select.ensures.saving c.load_all.ensures.contents c.load_all.ensures.quiet
     c.load_all.ensures.saving
 
 pub returns-in-Err-Memory-clause-untouched : goal.returns-in-Err-Memory-clause-untouched
 returns-in-Err-Memory-clause-untouched g c =
-    two_quiet g.D.Shelf.state c.args.shelf.now
+    two_quiet g.D.Shelf.shelf_state c.args.shelf.now
     c.select.new.self c.load_all.new.shelf
     c.select.ensures.contents c.select.ensures.quiet c.select.ensures.saving c.load_all.ensures.contents c.load_all.ensures.quiet
     c.load_all.ensures.saving
 
 pub returns-in_default-clause-untouched : goal.returns-in_default-clause-untouched
 returns-in_default-clause-untouched g c =
-    two_quiet g.D.Shelf.state c.args.shelf.now
+    two_quiet g.D.Shelf.shelf_state c.args.shelf.now
     c.select.new.self c.load_all.new.shelf
     c.select.ensures.contents c.select.ensures.quiet c.select.ensures.saving c.load_all.ensures.contents c.load_all.ensures.quiet
     c.load_all.ensures.saving
 
 pub returns-in-Ok-decode-clause-untouched : goal.returns-in-Ok-decode-clause-untouched
 returns-in-Ok-decode-clause-untouched g c =
-    two_quiet g.D.Shelf.state c.args.shelf.now
+    two_quiet g.D.Shelf.shelf_state c.args.shelf.now
     c.select.new.self c.load_all.new.shelf
     c.select.ensures.contents c.select.ensures.quiet c.select.ensures.saving c.load_all.ensures.contents c.load_all.ensures.quiet
     c.load_all.ensures.saving
 
 pub returns-in-Err-Refused-clause-untouched : goal.returns-in-Err-Refused-clause-untouched
 returns-in-Err-Refused-clause-untouched g c =
-    two_quiet g.D.Shelf.state c.args.shelf.now
+    two_quiet g.D.Shelf.shelf_state c.args.shelf.now
     c.select.new.self c.load_all.new.shelf
     c.select.ensures.contents c.select.ensures.quiet c.select.ensures.saving c.load_all.ensures.contents c.load_all.ensures.quiet
     c.load_all.ensures.saving
 
 pub returns-clause-untouched : goal.returns-clause-untouched
 returns-clause-untouched g c =
-    two_quiet g.D.Shelf.state c.args.shelf.now
+    two_quiet g.D.Shelf.shelf_state c.args.shelf.now
     c.select.new.self c.load_all.new.shelf
     c.select.ensures.contents c.select.ensures.quiet c.select.ensures.saving c.load_all.ensures.contents c.load_all.ensures.quiet
     c.load_all.ensures.saving

@@ -36,7 +36,7 @@ pub returns-in_default-clause-comes : goal.returns-in_default-clause-comes
 returns-in_default-clause-comes g c = λ given. (
   (refl, refl),
   inl (untouched
-      (g.D.Shelf.state
+      (g.D.Shelf.shelf_state
       c.args.shelf)),
 )
 
@@ -54,7 +54,7 @@ returns-then-is_err-clause-cause g c =
 
 pub returns-clause-comes : goal.returns-clause-comes
 returns-clause-comes g c = λ given.
-    let see = g.D.Shelf.state in
+    let see = g.D.Shelf.shelf_state in
     let first : ShelfState = see c.save_first.new.shelf in
     let now : ShelfState = see c.run_made-played.result.shelf in
     let old : ShelfState = opened (see c.args.shelf) now c.args.name.now in
@@ -76,7 +76,7 @@ returns-clause-stops g c =
 
 pub returns-clause-cause : goal.returns-clause-cause
 returns-clause-cause g c =
-    let see = g.D.Shelf.state in
+    let see = g.D.Shelf.shelf_state in
     let saved =
     ok_at c.save_first.result (sym c.is_err.ensures.value ∙ c.if-is_err.false) c.save_first.ensures.saved c.args.seed
     (written c.deref.result.now _ (document c.args.seed) c.deref.ensures.value c.in-Ok.ensures.file) in

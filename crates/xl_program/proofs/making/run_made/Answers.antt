@@ -8,13 +8,13 @@ use Rattle.xl_program.proofs.making.run_made.Goals as goal
 
 pub returns-in-Err : goal.returns-in-Err
 returns-in-Err g c = λ seed same_document same_lists.
-    let see = g.D.Shelf.state in
+    let see = g.D.Shelf.shelf_state in
     nothing_summed (see c.args.shelf) _ (document seed) (script seed) record {} (ap see c.in-Err.ensures.back)
     (subst (λ (d : Document). IsDocument d) same_document c.requires.limits)
 
 pub returns : goal.returns
 returns g c = λ seed same_document same_lists.
-    let see = g.D.Shelf.state in
+    let see = g.D.Shelf.shelf_state in
     let core = c.in-Ok.core in
     let played = c.play_beside-core.ensures in
     let new = c.play_beside-core.result.core in

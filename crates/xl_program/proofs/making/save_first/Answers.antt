@@ -14,7 +14,7 @@ returns-in_err-select-clause-failed g c =
 
 pub returns-clause-saved : goal.returns-clause-saved
 returns-clause-saved g c =
-    let see = g.D.Shelf.state in
+    let see = g.D.Shelf.shelf_state in
     let old : ShelfState =
     opened (see c.args.shelf.now) (see c.save_file.new.shelf) c.args.name.now in
     let e = c.in_ok-select.ensures in
@@ -25,7 +25,7 @@ returns-clause-saved g c =
 
 pub returns-clause-failed : goal.returns-clause-failed
 returns-clause-failed g c =
-    let see = g.D.Shelf.state in
+    let see = g.D.Shelf.shelf_state in
     let old : ShelfState =
     opened (see c.args.shelf.now) (see c.save_file.new.shelf) c.args.name.now in
     let e = c.in_ok-select.ensures in

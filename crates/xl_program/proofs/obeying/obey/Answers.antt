@@ -29,19 +29,19 @@ returns-in-Make-clause-comes g c =
 
 pub returns-in-Render-clause-shelf_cause : goal.returns-in-Render-clause-shelf_cause
 returns-in-Render-clause-shelf_cause g c =
-    let see = g.D.Shelf.state in
+    let see = g.D.Shelf.shelf_state in
     rw c.in-Render.is (cause_of (see c.args.shelf) (see c.render-result.new.shelf) (render c.in-Render.name.now)
     c.render-result.result (λ rose. rose) c.render-result.ensures.cause)
 
 pub returns-in-Info-clause-shelf_cause : goal.returns-in-Info-clause-shelf_cause
 returns-in-Info-clause-shelf_cause g c =
-    let see = g.D.Shelf.state in
+    let see = g.D.Shelf.shelf_state in
     rw c.in-Info.is (cause_of (see c.args.shelf) (see c.describe-result.new.shelf) (info c.in-Info.name.now)
     c.describe-result.result (λ rose. rose) c.describe-result.ensures.cause)
 
 pub returns-in-Edit-clause-shelf_cause : goal.returns-in-Edit-clause-shelf_cause
 returns-in-Edit-clause-shelf_cause g c =
-    let see = g.D.Shelf.state in
+    let see = g.D.Shelf.shelf_state in
     rw c.in-Edit.is (cause_of (see c.args.shelf) (see c.edit.result.shelf) (edit c.in-Edit.name.now c.in-Edit.workers)
     c.edit.result.result (λ rose. rose) c.edit.ensures.shelf_cause)
 
@@ -67,7 +67,7 @@ returns-in-View-clause-comes g c = rw c.in-View.is c.view.ensures.comes
 
 pub returns-in-View-clause-shelf_cause : goal.returns-in-View-clause-shelf_cause
 returns-in-View-clause-shelf_cause g c =
-    let see = g.D.Shelf.state in
+    let see = g.D.Shelf.shelf_state in
     rw c.in-View.is (cause_of (see c.args.shelf) (see c.view.result.shelf) (view c.in-View.name.now c.in-View.cols c.in-View.rows)
     c.view.result.result (λ rose. rose) c.view.ensures.shelf_cause)
 
@@ -79,6 +79,6 @@ returns-in-Audit-clause-comes g c = rw c.in-Audit.is c.audit-result.ensures.come
 
 pub returns-in-Audit-clause-shelf_cause : goal.returns-in-Audit-clause-shelf_cause
 returns-in-Audit-clause-shelf_cause g c =
-    let see = g.D.Shelf.state in
+    let see = g.D.Shelf.shelf_state in
     rw c.in-Audit.is (cause_of (see c.args.shelf) (see c.audit-result.new.shelf) (audit c.in-Audit.name.now)
     c.audit-result.result (λ rose. rose) c.audit-result.ensures.shelf_cause)

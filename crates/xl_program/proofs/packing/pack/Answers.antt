@@ -8,7 +8,7 @@ use Rattle.xl_ports.specs.State.{ShelfState}
 
 pub returns-then-is_err-clause-comes : goal.returns-then-is_err-clause-comes
 returns-then-is_err-clause-comes g c = λ given.
-    let see = g.D.Shelf.state in
+    let see = g.D.Shelf.shelf_state in
     let before : ShelfState = see c.args.shelf.now in
     let mid : ShelfState = see c.load_document.new.shelf in
     let after : ShelfState = see c.save_smallest.new.shelf in
@@ -31,7 +31,7 @@ returns-then-is_err-clause-comes g c = λ given.
 
 pub returns-then-is_err-clause-cause : goal.returns-then-is_err-clause-cause
 returns-then-is_err-clause-cause g c =
-    let see = g.D.Shelf.state in
+    let see = g.D.Shelf.shelf_state in
     let before : ShelfState = see c.args.shelf.now in
     let mid : ShelfState = see c.load_document.new.shelf in
     let after : ShelfState = see c.save_smallest.new.shelf in
@@ -49,7 +49,7 @@ returns-then-is_err-clause-cause g c =
 
 pub returns-then-is_err-2-clause-comes : goal.returns-then-is_err-2-clause-comes
 returns-then-is_err-2-clause-comes g c = λ given.
-    let see = g.D.Shelf.state in
+    let see = g.D.Shelf.shelf_state in
     let before : ShelfState = see c.args.shelf.now in
     let mid : ShelfState = see c.load_document.new.shelf in
     let after : ShelfState = see c.save_smallest.new.shelf in
@@ -80,7 +80,7 @@ returns-then-is_err-2-clause-comes g c = λ given.
 
 pub returns-clause-comes : goal.returns-clause-comes
 returns-clause-comes g c = λ given.
-    let see = g.D.Shelf.state in
+    let see = g.D.Shelf.shelf_state in
     let before : ShelfState = see c.args.shelf.now in
     let mid : ShelfState = see c.load_document.new.shelf in
     let after : ShelfState = see c.save_smallest.new.shelf in

@@ -26,19 +26,19 @@ returns-in_default-clause-source_taken g c =
 pub returns-in_default-clause-memory : goal.returns-in_default-clause-memory
 returns-in_default-clause-memory g c = λ eight.
     let kept : ShelfState =
-    g.D.Shelf.state c.args.shelf in
+    g.D.Shelf.shelf_state c.args.shelf in
     ((refl, refl), nothing_saved kept (asked_in (arguments_of c.args.words.now)))
 
 pub returns-clause-shelf_fault : goal.returns-clause-shelf_fault
 returns-clause-shelf_fault g c = λ six. elim c.match-done.branch [
   | in-Ok-result w ↦ absurd (omega arith)
   | in-Err w ↦
-      let content = read_at (g.D.Shelf.state c.args.shelf).disk in
+      let content = read_at (g.D.Shelf.shelf_state c.args.shelf).disk in
       let before : ShelfState =
-      g.D.Shelf.state
+      g.D.Shelf.shelf_state
       c.args.shelf in
       let after : ShelfState =
-      g.D.Shelf.state
+      g.D.Shelf.shelf_state
       c.obey-done.result.shelf in
       shelf_fault_asked g.K.Sink.held g.K.Sink.faults _ content before after (asked_of c.in-Some.command) w.in-Err.stopped _ _ _ _
       (sym w.status-is ∙ six) (rw w.in-Err.is at c.obey-done.ensures.comes) (rw w.in-Err.is at c.obey-done.ensures.shelf_cause)
@@ -49,7 +49,7 @@ pub returns-clause-source_fault_written : goal.returns-clause-source_fault_writt
 returns-clause-source_fault_written g c = λ five. elim c.match-done.branch [
   | in-Ok-result w ↦ absurd (omega arith)
   | in-Err w ↦
-      let content = read_at (g.D.Shelf.state c.args.shelf).disk in
+      let content = read_at (g.D.Shelf.shelf_state c.args.shelf).disk in
       let command = asked_of c.in-Some.command in
       let is : Some command ≡ asked_in (arguments_of c.args.words.now) = rw c.in-Some.is at c.in-Ok.ensures.asked in
       let told =
@@ -68,7 +68,7 @@ returns-clause-bad_source g c = λ three. elim c.match-done.branch [
       let given : Given =
       given_of (g.S.Source.left c.args.source.now) (λ b. (goal.PointFilter-dyn g (b.vtable, b.value)).state b.value)
       c.args.chest.items in
-      let content = read_at (g.D.Shelf.state c.args.shelf).disk in
+      let content = read_at (g.D.Shelf.shelf_state c.args.shelf).disk in
       let command = asked_of c.in-Some.command in
       let is : Some command ≡ asked_in (arguments_of c.args.words.now) = rw c.in-Some.is at c.in-Ok.ensures.asked in
       let told =
@@ -84,9 +84,9 @@ pub returns-clause-rejected : goal.returns-clause-rejected
 returns-clause-rejected g c = λ ten. elim c.match-done.branch [
   | in-Ok-result w ↦ absurd (omega arith)
   | in-Err w ↦
-      let content = read_at (g.D.Shelf.state c.args.shelf).disk in
-      let before : ShelfState = g.D.Shelf.state c.args.shelf in
-      let after : ShelfState = g.D.Shelf.state c.obey-done.result.shelf in
+      let content = read_at (g.D.Shelf.shelf_state c.args.shelf).disk in
+      let before : ShelfState = g.D.Shelf.shelf_state c.args.shelf in
+      let after : ShelfState = g.D.Shelf.shelf_state c.obey-done.result.shelf in
       rejection_asked g.K.Sink.held g.K.Sink.faults _ content before after (asked_of c.in-Some.command) w.in-Err.stopped _ _ _ _
       (sym w.status-is ∙ ten) (rw w.in-Err.is at c.obey-done.ensures.comes) w.write_stop-status.ensures
       (rw c.in-Some.is at c.in-Ok.ensures.asked) (sym w.sink-is)
@@ -96,7 +96,7 @@ pub returns-clause-flat_refused : goal.returns-clause-flat_refused
 returns-clause-flat_refused g c = λ nine. elim c.match-done.branch [
   | in-Ok-result w ↦ absurd (omega arith)
   | in-Err w ↦
-      let content = read_at (g.D.Shelf.state c.args.shelf).disk in
+      let content = read_at (g.D.Shelf.shelf_state c.args.shelf).disk in
       let command = asked_of c.in-Some.command in
       let is : Some command ≡ asked_in (arguments_of c.args.words.now) = rw c.in-Some.is at c.in-Ok.ensures.asked in
       let told =
@@ -116,7 +116,7 @@ pub returns-clause-refused : goal.returns-clause-refused
 returns-clause-refused g c = λ four. elim c.match-done.branch [
   | in-Ok-result w ↦ absurd (omega arith)
   | in-Err w ↦
-      let content = read_at (g.D.Shelf.state c.args.shelf).disk in
+      let content = read_at (g.D.Shelf.shelf_state c.args.shelf).disk in
       let command = asked_of c.in-Some.command in
       let is : Some command ≡ asked_in (arguments_of c.args.words.now) = rw c.in-Some.is at c.in-Ok.ensures.asked in
       let told =
@@ -141,7 +141,7 @@ returns-clause-script_first g c = λ which. elim c.match-done.branch [
       let given : Given =
       given_of (g.S.Source.left c.args.source.now) (λ b. (goal.PointFilter-dyn g (b.vtable, b.value)).state b.value)
       c.args.chest.items in
-      let content = read_at (g.D.Shelf.state c.args.shelf).disk in
+      let content = read_at (g.D.Shelf.shelf_state c.args.shelf).disk in
       let command = asked_of c.in-Some.command in
       let is : Some command ≡ asked_in (arguments_of c.args.words.now) = rw c.in-Some.is at c.in-Ok.ensures.asked in
       subst (λ (o : Option Asked). InGrammar given o) is
@@ -166,19 +166,19 @@ pub obey-done-requires-clause-range : goal.obey-done-requires-clause-range
 obey-done-requires-clause-range g c κs within = rw c.in-Some.is at c.in-Ok.ensures.range
 
 pub returns-in_default-clause-other_names : goal.returns-in_default-clause-other_names
-returns-in_default-clause-other_names g c = all_stay (g.D.Shelf.state c.args.shelf) (asked_in (arguments_of c.args.words.now))
+returns-in_default-clause-other_names g c = all_stay (g.D.Shelf.shelf_state c.args.shelf) (asked_in (arguments_of c.args.words.now))
 
 pub returns-clause-other_names : goal.returns-clause-other_names
 returns-clause-other_names g c =
     let command = asked_of c.in-Some.command in
     let is : Some command ≡ asked_in (arguments_of c.args.words.now) = rw c.in-Some.is at c.in-Ok.ensures.asked in
-    let before : ShelfState = g.D.Shelf.state c.args.shelf in
-    let after : ShelfState = g.D.Shelf.state c.obey-done.result.shelf in
+    let before : ShelfState = g.D.Shelf.shelf_state c.args.shelf in
+    let after : ShelfState = g.D.Shelf.shelf_state c.obey-done.result.shelf in
     subst (λ (o : Option Asked). OtherNamesStay before after o) is
     (names_stay g.K.Sink.held g.K.Sink.faults _ before after command _ _ c.obey-done.result.result c.obey-done.ensures.comes)
 
 pub returns-in_default-asked-clause-other_names : goal.returns-in_default-asked-clause-other_names
-returns-in_default-asked-clause-other_names g c = all_stay (g.D.Shelf.state c.args.shelf) (asked_in (arguments_of c.args.words.now))
+returns-in_default-asked-clause-other_names g c = all_stay (g.D.Shelf.shelf_state c.args.shelf) (asked_in (arguments_of c.args.words.now))
 
 pub returns-in_default-clause-few_loads : goal.returns-in_default-clause-few_loads
 returns-in_default-clause-few_loads g c = omega arith

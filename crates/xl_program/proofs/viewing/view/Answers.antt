@@ -13,7 +13,7 @@ returns-clause-comes g c =
     given_of (g.S.Source.left c.args.source.now) (λ b. (goal.PointFilter-dyn g (b.vtable, b.value)).state b.value)
     c.args.chest.items in
     let see =
-    g.D.Shelf.state in
+    g.D.Shelf.shelf_state in
     let loaded = c.in-Ok-read_document.ensures in
     let then : IsViewOpened given (see c.args.shelf) (see c.read_document.new.shelf) c.args.name.now c.in-Ok-read_document.document
     c.in-Ok.script = record {
@@ -32,7 +32,7 @@ returns-in-Err-clause-comes g c =
     given_of (g.S.Source.left c.args.source.now) (λ b. (goal.PointFilter-dyn g (b.vtable, b.value)).state b.value)
     c.args.chest.items in
     let before : ShelfState =
-    g.D.Shelf.state c.args.shelf in
+    g.D.Shelf.shelf_state c.args.shelf in
     view_stopped g.K.Sink.held g.K.Sink.faults given before c.args.name.now c.args.cols c.args.rows c.args.sink.now c.in-Err.stopped
     c.in-Err.ensures.reads
 
@@ -41,14 +41,14 @@ returns-in-Err-clause-stops g c =
     let given : Given =
     given_of (g.S.Source.left c.args.source.now) (λ b. (goal.PointFilter-dyn g (b.vtable, b.value)).state b.value)
     c.args.chest.items in
-    script_stops given (read_at (g.D.Shelf.state c.args.shelf).disk c.args.name.now) c.in-Err.stopped c.in-Err.ensures.reads
+    script_stops given (read_at (g.D.Shelf.shelf_state c.args.shelf).disk c.args.name.now) c.in-Err.stopped c.in-Err.ensures.reads
 
 pub returns-in-Err-read_document-clause-stops : goal.returns-in-Err-read_document-clause-stops
 returns-in-Err-read_document-clause-stops g c =
     let given : Given =
     given_of (g.S.Source.left c.args.source.now) (λ b. (goal.PointFilter-dyn g (b.vtable, b.value)).state b.value)
     c.args.chest.items in
-    file_stops given (read_at (g.D.Shelf.state c.args.shelf).disk c.args.name.now) c.in-Ok.script
+    file_stops given (read_at (g.D.Shelf.shelf_state c.args.shelf).disk c.args.name.now) c.in-Ok.script
     c.in-Err-read_document.stopped c.in-Ok.ensures.reads c.in-Err-read_document.ensures.loads
 
 pub returns-clause-stops : goal.returns-clause-stops
@@ -57,7 +57,7 @@ returns-clause-stops g c =
     given_of (g.S.Source.left c.args.source.now) (λ b. (goal.PointFilter-dyn g (b.vtable, b.value)).state b.value)
     c.args.chest.items in
     text_stops g.K.Sink.held g.K.Sink.faults c.args.sink.now c.write_text.new.sink given
-    (read_at (g.D.Shelf.state c.args.shelf).disk c.args.name.now) c.in-Ok.script c.view_document-viewed.result.text c.write_text.result c.in-Ok.ensures.reads
+    (read_at (g.D.Shelf.shelf_state c.args.shelf).disk c.args.name.now) c.in-Ok.script c.view_document-viewed.result.text c.write_text.result c.in-Ok.ensures.reads
     c.write_text.ensures
 
 pub returns-in-Err-clause-ended : goal.returns-in-Err-clause-ended
@@ -76,7 +76,7 @@ returns-clause-ended g c = ended_anyhow (g.S.Source.left c.read_script.new.sourc
 
 pub returns-clause-few_loads : goal.returns-clause-few_loads
 returns-clause-few_loads g c =
-    let see = g.D.Shelf.state in
+    let see = g.D.Shelf.shelf_state in
     subst (λ (k : _). LoadsFew (see c.args.shelf) (see k)) (sym c.view_document-viewed.ensures.shelf)
     c.in-Ok-read_document.ensures.few_loads
 

@@ -33,7 +33,7 @@ pub loop-line-preserved : goal.loop-line-preserved
 loop-line-preserved g c = (
   c.play_line.ensures.seat,
   c.play_line.ensures.weight ∙ c.loop-line.invariant.1,
-  under_way_more c.loop-line.invariant.2 g.D.Shelf.state
+  under_way_more c.loop-line.invariant.2 g.D.Shelf.shelf_state
       (opening_shelf c.args.studio.now) (line_of c.in-Some.line) (lines_of c.next.new.self.rest.items)
       (ap lines_of c.in-Some.ensures.steps.0)
       _ (known_by c.play_line.new.seat) _ c.loop-line.invariant.0.front.legal c.play_line.ensures.begins

@@ -7,20 +7,20 @@ use Rattle.xl_sessions.proofs.session.make_save.Goals as goal
 pub returns-clause-of : goal.returns-clause-of
 returns-clause-of g c =
     of_after_save _ reply_of c.save-reply.result
-    g.D.Shelf.state (opening_shelf c.args.studio.now)
+    g.D.Shelf.shelf_state (opening_shelf c.args.studio.now)
     (base_of c.args.studio.now) c.args.session (known_by c.args.seat.now) (known_by c.save-reply.new.seat)
     c.save-reply.ensures.saved c.save-reply.ensures.failed c.requires.of
 
 pub returns-clause-count : goal.returns-clause-count
 returns-clause-count g c =
     count_after_save _ reply_of c.save-reply.result
-    g.D.Shelf.state (opening_shelf c.args.studio.now)
+    g.D.Shelf.shelf_state (opening_shelf c.args.studio.now)
     (base_of c.args.studio.now) c.args.session (known_by c.args.seat.now) (known_by c.save-reply.new.seat)
     c.save-reply.ensures.saved c.save-reply.ensures.failed
 
 pub returns-clause-full : goal.returns-clause-full
 returns-clause-full g c =
     full_after_save _ reply_of c.save-reply.result
-    g.D.Shelf.state (opening_shelf c.args.studio.now)
+    g.D.Shelf.shelf_state (opening_shelf c.args.studio.now)
     (base_of c.args.studio.now) c.args.session (known_by c.args.seat.now) (known_by c.save-reply.new.seat)
     c.save-reply.ensures.saved

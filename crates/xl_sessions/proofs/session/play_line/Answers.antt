@@ -11,14 +11,14 @@ use Rattle.xl_sessions.proofs.session.play_line.Goals as goal
 pub returns-in-Save-clause-made : goal.returns-in-Save-clause-made
 returns-in-Save-clause-made g c =
     on_ok_weaker c.play_save.result
-    (λ made. save_line g.D.Shelf.state
+    (λ made. save_line g.D.Shelf.shelf_state
     (opening_shelf c.args.studio.now) (base_of c.args.studio.now) c.args.session c.args.line _ (known_by c.args.seat.now)
     (known_by c.play_save.new.seat) (map string_bytes c.args.digests.now.items) c.in-Save.is made)
     c.play_save.ensures.made
 
 pub returns-in-Forget-clause-made : goal.returns-in-Forget-clause-made
 returns-in-Forget-clause-made g c =
-    forget_line g.D.Shelf.state
+    forget_line g.D.Shelf.shelf_state
     (opening_shelf c.args.studio.now) (base_of c.args.studio.now) c.args.session c.args.line c.in-Forget.slot _ _
     (known_by c.args.seat.now) (map string_bytes c.args.digests.now.items) c.in-Forget.is c.forget.ensures
 

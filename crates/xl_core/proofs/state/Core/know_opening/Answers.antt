@@ -6,7 +6,7 @@ use Rattle.xl_core.proofs.state.Core.know_opening.Goals as goal
 
 pub returns-clause-selected : goal.returns-clause-selected
 returns-clause-selected g c =
-    subst (λ (e : Editing _). IsSome (g.D.Shelf.state e.opening).selected) c.self.view_is c.self.invariant.1.selected
+    subst (λ (e : Editing _). IsSome (g.D.Shelf.shelf_state e.opening).selected) c.self.view_is c.self.invariant.1.selected
 
 pub returns-clause-each_start : goal.returns-clause-each_start
 returns-clause-each_start g c =

@@ -57,7 +57,7 @@ returns-clause-begun g c =
     let left = moments_of c.begin-begun.new.self.core in
     let start = start_of c.args.seat.now.seat in
     let same : start_of c.enter-held.new.seat ≡ start = c.enter-held.ensures.seat.0.1 ∙ sym c.requires.seat.of.1 in
-    begun_first g.D.Shelf.state held c.args.session
+    begun_first g.D.Shelf.shelf_state held c.args.session
     (known_by c.args.seat.now) _ start c.requires.seat.front.start_is c.enter-held.ensures.front
     c.begin-begun.ensures.legal c.enter-held.ensures.within left c.leave.ensures.front
     (c.leave.ensures.made

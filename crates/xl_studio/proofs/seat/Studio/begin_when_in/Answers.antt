@@ -14,7 +14,7 @@ returns-in_default g c =
       closed = c.begin.ensures.closed ∙ i.6;
       tally = c.begin.ensures.tally ∙ i.7;
       begins = prefix_trans _ _ _ i.3.begins c.begin.ensures.begins;
-      begun = after_wait g.D.Shelf.state
+      begun = after_wait g.D.Shelf.shelf_state
           (opening_shelf c.args.self.now) (base_of c.args.self.now) c.args.session
           c.in_ok-begun.begun (known_by c.args.seat.now) (known_by c.loop.seat)
           (known_by c.begin.new.seat) i.3 c.in_default.not-Out c.in_ok-begun.ensures.begun;

@@ -27,7 +27,7 @@ end-reply-requires-clause-returns g c κs within =
     (base_entered (opened_with c.args.self.now.lock).core c.enter-held.result.value.core
     (front_of c.args.seat.now) c.requires.seat.front.begins c.enter-held.ensures.front) c.enter-held.ensures.front
     c.know_kept.ensures (start_of c.args.seat.now.seat) c.requires.seat.front.start_is c.enter-held.ensures.closed
-    g.D.Shelf.state
+    g.D.Shelf.shelf_state
     (opening_shelf c.args.self.now) c.args.how c.args.shelf
     (shelf_entered (opened_with c.args.self.now.lock).core c.enter-held.result.value.core
     (front_of c.args.seat.now) c.requires.seat.front.begins c.enter-held.ensures.front) c.requires.back.returns

@@ -7,7 +7,7 @@ use Rattle.xl_studio.proofs.seat.Studio.save.Goals as goal
 pub end-requires-clause-back : goal.end-requires-clause-back
 end-requires-clause-back g c κs within =
     let s = c.in-Snapshot in
-    saved_comes_back g.D.Shelf.state
+    saved_comes_back g.D.Shelf.shelf_state
     (opening_shelf c.args.self.now) (base_of c.args.self.now) c.args.session s.document s.shelf
     c.save_document-how.new.shelf c.save_document-how.result (known_by c.args.seat.now) (known_by c.begin_when_in.new.seat)
     (rw s.is at c.in_ok-document.ensures.begun) c.save_document-how.ensures
@@ -16,7 +16,7 @@ pub returns-in-Snapshot-clause-saved : goal.returns-in-Snapshot-clause-saved
 returns-in-Snapshot-clause-saved g c =
     let s = c.in-Snapshot in
     record {
-      is = inr (is_whole g.D.Shelf.state
+      is = inr (is_whole g.D.Shelf.shelf_state
           (opening_shelf c.args.self.now) (base_of c.args.self.now) c.args.session s.document s.shelf
           c.save_document-how.new.shelf c.save_document-how.result (reply_of c.end.result) (known_by c.args.seat.now)
           (known_by c.begin_when_in.new.seat) (known_by c.end.new.seat)

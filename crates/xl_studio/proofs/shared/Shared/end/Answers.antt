@@ -12,7 +12,7 @@ invariant_of-self g c =
       kept_after_end c.self.inside.core c.end_save-reply.new.self c.args.session c.args.how c.args.shelf
           (reply_of c.end_save-reply.result) c.self.invariant.0 e.pictures e.few e.ended,
       ap (λ es. length es + 1) c.entries.ensures,
-      subst (λ (k : _). IsSome (g.D.Shelf.state k).selected) (sym (ap (λ (core : Editing _). core.opening) e.ended.1)) c.self.invariant.2,
+      subst (λ (k : _). IsSome (g.D.Shelf.shelf_state k).selected) (sym (ap (λ (core : Editing _). core.opening) e.ended.1)) c.self.invariant.2,
     )
 
 pub returns-clause-kept : goal.returns-clause-kept

@@ -29,7 +29,7 @@ pub invariant_of-self : goal.invariant_of-self
 invariant_of-self g c = (
   kept g c,
   ap (λ es. length es + 1) c.entries.ensures,
-  subst (λ (k : _). IsSome (g.D.Shelf.state k).selected) (sym c.submit-reply.ensures.shelf.opening) c.self.invariant.2,
+  subst (λ (k : _). IsSome (g.D.Shelf.shelf_state k).selected) (sym c.submit-reply.ensures.shelf.opening) c.self.invariant.2,
 )
 
 pub returns-clause-kept : goal.returns-clause-kept
