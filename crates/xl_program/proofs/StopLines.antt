@@ -363,3 +363,11 @@ module _ {K : Type 0} (held : K → Option (List ℕ)) (faults : K → ℕ) (giv
       subst (λ (o : Option Asked). WritesRejection held faults given before after o old last) is
       (subst (λ (k : K). WritesRejection held faults given before after (Some command) old k) same
       (rejection_written command stopped status old mid new ten comes told))
+
+-- a source that is refused is told of the words' command, whatever the sink is called afterwards
+pub source_refused : {K : Type 0} (held : K → Option (List ℕ)) (faults : K → ℕ) (given : Given) (one other : Option Asked)
+    (old new last : K) → one ≡ other → new ≡ last → RefusesSource held faults given one old new
+    → RefusesSource held faults given other old last
+source_refused held faults given one other old new last is same told =
+    subst (λ (o : Option Asked). RefusesSource held faults given o old last) is
+    (subst (λ (k : K). RefusesSource held faults given one old k) same told)

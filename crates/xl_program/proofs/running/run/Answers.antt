@@ -10,12 +10,12 @@ use Rattle.xl_ports.specs.Disk.{read_at}
 use Rattle.xl_program.specs.Command.{IsFlatten, ReadsFile, ReadsSource}
 use Rattle.xl_program.specs.Files.{CannotBeFlat, HasFault}
 use Rattle.xl_program.specs.Lines.{WritesLine}
-use Rattle.xl_program.specs.Outcome.{Given, given_of, InGrammar, RefusesSource, OtherNamesStay}
+use Rattle.xl_program.specs.Outcome.{Given, given_of, InGrammar, OtherNamesStay}
 use Rattle.xl_program.proofs.Taken.{nothing_taken, nothing_saved}
 use Rattle.xl_program.proofs.OtherNames.{all_stay, names_stay}
 use Rattle.xl_program.proofs.ScriptEnded.{ended_written}
 use Rattle.xl_program.proofs.StopLines.{bad_source_written, flat_refusal_written, refusal_written, rejection_asked}
-use Rattle.xl_program.proofs.StopLines.{script_in_grammar, shelf_fault_asked, source_fault_written}
+use Rattle.xl_program.proofs.StopLines.{script_in_grammar, shelf_fault_asked, source_fault_written, source_refused}
 use Rattle.xl_program.proofs.running.run.Goals as goal
 use Rattle.xl_program.proofs.running.run.Goals.{in-Ok-result, in-Err}
 
@@ -75,9 +75,8 @@ returns-clause-bad_source g c = λ three. elim c.match-done.branch [
       bad_source_written g.K.Sink.held g.K.Sink.faults given content _ _ command w.in-Err.stopped _ _ _ _
       (sym w.status-is ∙ three) (rw w.in-Err.is at c.obey-done.ensures.comes) (rw w.in-Err.is at c.obey-done.ensures.stops)
       w.write_stop-status.ensures in
-      subst (λ k. RefusesSource g.K.Sink.held g.K.Sink.faults given (asked_in (arguments_of c.args.words.now)) c.args.sink.now k)
-      (sym w.sink-is)
-      (subst (λ (o : Option Asked). RefusesSource g.K.Sink.held g.K.Sink.faults given o c.args.sink.now _) is told)
+      source_refused g.K.Sink.held g.K.Sink.faults given (Some command) (asked_in (arguments_of c.args.words.now)) c.args.sink.now _ _
+      is (sym w.sink-is) told
 ]
 
 pub returns-clause-rejected : goal.returns-clause-rejected
