@@ -1,3 +1,4 @@
+use Rattle.std.proofs.Common.{arith}
 use Rattle.std.specs.Prelude.{Err}
 use Rattle.xl_ports.specs.Disk.{read_at}
 use Rattle.xl_ports.specs.State.{ShelfState}
@@ -70,3 +71,6 @@ returns-in-Err-read_document-clause-ended g c =
 pub returns-clause-ended : goal.returns-clause-ended
 returns-clause-ended g c =
     ended_anyhow (g.S.Source.left c.read_source.new.source) c.write_verdict.result c.in-Ok.ensures.ended
+
+pub returns-in-Err-clause-few_loads : goal.returns-in-Err-clause-few_loads
+returns-in-Err-clause-few_loads g c = omega arith
