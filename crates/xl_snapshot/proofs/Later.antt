@@ -77,8 +77,10 @@ module _ (base : Document) (es more : List Entry) (legal : IsLegal base es) (sam
       → Among opened handed now (DiskReturns name base es how) → Among opened handed now (DiskReturns name base (es ++ more) how)
   among_later how name None None None r = tt
   among_later how name None None (Some now) r = absurd r
-  among_later how name None (Some handed) now r = absurd r
-  among_later how name (Some opened) None now r = absurd r
+  among_later how name None (Some handed) None r = absurd r
+  among_later how name None (Some handed) (Some now) r = absurd r
+  among_later how name (Some opened) None None r = absurd r
+  among_later how name (Some opened) None (Some now) r = absurd r
   among_later how name (Some opened) (Some handed) None r = absurd r
   among_later how name (Some opened) (Some handed) (Some now) r = disk_later how name opened handed now r
 
