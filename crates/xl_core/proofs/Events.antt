@@ -37,9 +37,11 @@ finished_happens old new done result is says kept = λ jobs number there.
     ap (λ picture. install (place_done done) done.version picture old.cache) is.picture
     ∙ ap (cache_with_result base w) (sym there) in (
       says ∙ ap (finish_of w) (sym there),
-      ap (λ c. c.history.base) kept,
-      ap (λ c. world_with c (remove jobs number)) kept
-          ∙ (λ i. record w { cache = cache i; jobs = remove jobs number }),
+      (
+        ap (λ c. c.history.base) kept,
+        ap (λ c. world_with c (remove jobs number)) kept
+            ∙ (λ i. record w { cache = cache i; jobs = remove jobs number }),
+      ),
     )
 
 -- ---- saves
