@@ -12,6 +12,7 @@ use Rattle.spec_world.specs.Events as events
 use Rattle.spec_world.specs.Events.{Outcome}
 use Rattle.xl_edit.specs.Built.{IsBuilt}
 use Rattle.spec_cache.specs.Cache.{install}
+use Rattle.spec_filters.specs.declared.FilterState.{FilterState}
 use Rattle.spec_history.specs.Machine.{Call, Reply, answer}
 use Rattle.spec_history.proofs.Versions.{latest_of-legal}
 use Rattle.spec_world.specs.Right as worlds
@@ -19,7 +20,8 @@ use Rattle.xl_compose.specs.Job.{Job, StandsFor}
 use Rattle.xl_compose.specs.declared.clean.Done.{Done}
 use Rattle.xl_core.specs.Editing.{Editing, world, IsSubmitted, IsPictureOf}
 use Rattle.xl_standing.specs.Places.{place_done}
-use Rattle.xl_standing.specs.History.{History, Answers, reply_to, with_call}
+use Rattle.spec_tables.specs.Agrees.{IsPartAfter}
+use Rattle.xl_standing.specs.History.{History, Answers, reply_to, is_accepted, with_call}
 use Rattle.xl_standing.specs.Now.{Now, with_cache, Stands}
 use Rattle.xl_standing.proofs.Pictures.{stands-finished}
 
@@ -36,6 +38,11 @@ pub submitted_same : {K : Type 0} (one old : Editing K) → one ≡ old
     → IsMadeOf one base new session call seen tables reply → IsMadeOf old base new session call seen tables reply
 submitted_same one old same base new session call seen tables reply is =
     subst (λ c. IsMadeOf c base new session call seen tables reply) same is
+
+-- and of the filters that were asked
+pub part_same : {K : Type 0} (one old : Editing K) (call : Call) (before after : List (Option FilterState)) → one ≡ old
+    → IsPartAfter (is_accepted one.history call) before after call → IsPartAfter (is_accepted old.history call) before after call
+part_same one old call before after same part = subst (λ e. IsPartAfter (is_accepted e.history call) before after call) same part
 
 -- where a core stays, it stays right
 pub right_same : {K : Type 0} (one old : Editing K) → one ≡ old → worlds.IsRight one.history.base (world one)

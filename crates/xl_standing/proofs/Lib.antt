@@ -10,6 +10,7 @@ mod Sides
 pub mod Opened
 pub mod Ids
 pub mod Making
+mod Moving
 pub mod GoesOn
 pub mod Accepting
 pub mod Costs

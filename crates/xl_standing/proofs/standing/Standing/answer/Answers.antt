@@ -1,19 +1,19 @@
 -- The edits of a group are those of its call; so is the tile.
 use Rattle.std.proofs.Common.{rules, ◌≡◌, ◌+◌, ◌≤◌, sym, ◌∙◌, ap, subst}
 use Rattle.spec_history.specs.Machine as machine
-use Rattle.std.specs.Prelude.{OnErr}
 use Rattle.xl_standing.specs.Needs.{call_cost}
-use Rattle.xl_standing.specs.Now.{accepts, response, Gives}
+use Rattle.xl_standing.specs.Now.{response, Gives}
 use Rattle.xl_edit.specs.Replies.{reply_of}
-use Rattle.spec_tables.specs.Agrees.{IsPartAfter}
 use Rattle.xl_edit.specs.Calls.{call_of}
 use Rattle.xl_edit.specs.Edits.{edits_of}
+use Rattle.xl_standing.proofs.Moving.{part_asked}
 use Rattle.xl_standing.proofs.standing.Standing.answer.Goals as goal
 
 pub returns-in-Edit-clause-chest : goal.returns-in-Edit-clause-chest
 returns-in-Edit-clause-chest g c =
     let same : call_of c.args.call.now ≡ machine.edit c.in-Edit.group.guard (edits_of c.as_slice-edits.result.now) = search rules in
-    subst (λ call. OnErr c.edit.result (IsPartAfter (accepts c.args.self.now call) _ _ call)) (sym same) c.edit.ensures.chest
+    part_asked c.edit.result c.args.self.now (machine.edit c.in-Edit.group.guard (edits_of c.as_slice-edits.result.now))
+    (call_of c.args.call.now) _ _ (sym same) c.edit.ensures.chest
 
 pub returns-in_ok-tile-in-Tile-clause-response : goal.returns-in_ok-tile-in-Tile-clause-response
 returns-in_ok-tile-in-Tile-clause-response g c =

@@ -3,12 +3,12 @@ use Rattle.std.proofs.Common.{◌≡◌, true, ap, sym, ◌∙◌, subst}
 use Rattle.std.specs.Prelude.{reverse}
 use Rattle.spec_history.specs.Machine as machine
 use Rattle.spec_history.specs.Machine.{names}
-use Rattle.spec_tables.specs.Agrees.{IsPartAfter}
 use Rattle.xl_marks.specs.Change.{Change, change_between}
 use Rattle.xl_edit.specs.Applied.{at}
 use Rattle.xl_edit.specs.Edits.{edits_of}
-use Rattle.xl_standing.specs.Now.{Now, accepts}
+use Rattle.xl_standing.specs.Now.{Now}
 use Rattle.xl_standing.proofs.Making.{allowed_made, all_part, part_allowed, part_named, on_err}
+use Rattle.xl_standing.proofs.Moving.{part_seen}
 use Rattle.xl_standing.proofs.Sides.{sides_same}
 use Rattle.xl_standing.specs.Steps.{IsChange}
 use Rattle.xl_standing.proofs.standing.Standing.edit.Goals as goal
@@ -39,13 +39,12 @@ returns-in_err-change-clause-chest g c =
     let allowed = allowed_made (at old.document old.next_id) (at c.in-Ok.made.document c.in-Ok.made.next_id) edits
     c.in-Ok.made.tables c.in-Ok.ensures.made in
     on_err _ c.from_residual.result
-    (subst (λ (n : Now). IsPartAfter (accepts n (machine.edit c.args.guard edits)) _ _ (machine.edit c.args.guard edits))
-    c.self.view_is
+    (part_seen old _ (machine.edit c.args.guard edits) _ _ c.self.view_is
     (part_named _ _ _ _ edits named
     (part_allowed _ _ _ edits allowed (all_part _ _ edits c.in-Ok.made.tables c.in-Ok.ensures.asked))))
 
-pub returns-in-Err-in-Memory-clause-chest : goal.returns-in-Err-in-Memory-clause-chest
-returns-in-Err-in-Memory-clause-chest g c =
+pub returns-in-Err-Memory-clause-chest : goal.returns-in-Err-Memory-clause-chest
+returns-in-Err-Memory-clause-chest g c =
     let old : Now = record {
       document = c.self.inside.document;
       undo = reverse c.self.inside.undo;
@@ -57,8 +56,8 @@ returns-in-Err-in-Memory-clause-chest g c =
     } in
     let edits = edits_of c.args.edits.now in
     let named : names c.args.guard old.version ≡ true = sym c.is_named.ensures ∙ c.if-not-is_named.false in
-    subst (λ (n : Now). IsPartAfter (accepts n (machine.edit c.args.guard edits)) _ _ (machine.edit c.args.guard edits))
-    c.self.view_is (part_named _ _ _ _ edits named c.in-Err-in-Memory.ensures.chest)
+    part_seen old _ (machine.edit c.args.guard edits) _ _ c.self.view_is
+    (part_named _ _ _ _ edits named c.in-Err-Memory.ensures.chest)
 
 pub accept-reply-requires-clause-change : goal.accept-reply-requires-clause-change
 accept-reply-requires-clause-change g c =

@@ -1,5 +1,7 @@
-use Rattle.std.proofs.Common.{◌≡◌, ◌+◌, ◌≤◌, true, ap, refl, sym, subst, length}
-use Rattle.std.specs.Prelude.{IsSome, OnErr}
+use Rattle.std.proofs.Common.{◌≡◌, ◌+◌, ◌≤◌, true, List, ap, refl, sym, subst, length}
+use Rattle.std.specs.Prelude.{IsSome, OnErr, Option, Result}
+use Rattle.spec_filters.specs.declared.FilterState.{FilterState}
+use Rattle.spec_history.specs.Machine.{Call}
 use Rattle.spec_tables.specs.Agrees.{IsPartAfter}
 use Rattle.xl_standing.specs.History.{document, is_full, is_accepted, NeedsNoStep}
 use Rattle.xl_standing.specs.Needs.{call_cost}
@@ -67,11 +69,16 @@ pub returns-clause-full : goal.returns-clause-full
 returns-clause-full g c =
     λ full. c.submit-reply.ensures.full (subst (λ (s : State _). is_full s.core.history ≡ true) (sym c.self.view_is) full)
 
+-- what is said of a state is said of it by another name
+part_said : {K R E : Type 0} (r : Result R E) (one old : State K) (call : Call) (before after : List (Option FilterState)) → one ≡ old
+    → OnErr r (IsPartAfter (is_accepted one.core.history call) before after call)
+    → OnErr r (IsPartAfter (is_accepted old.core.history call) before after call)
+part_said r one old call before after same part =
+    subst (λ s. OnErr r (IsPartAfter (is_accepted s.core.history call) before after call)) same part
+
 pub returns-clause-part : goal.returns-clause-part
 returns-clause-part g c =
-    let call = call_of c.args.call in
-    subst (λ (s : State _). OnErr c.submit-reply.result (IsPartAfter (is_accepted s.core.history call) _ _ call))
-    c.self.view_is c.submit-reply.ensures.part
+    part_said c.submit-reply.result _ _ (call_of c.args.call) _ _ c.self.view_is c.submit-reply.ensures.part
 
 pub returns-clause-cost : goal.returns-clause-cost
 returns-clause-cost g c =
