@@ -93,3 +93,11 @@ none_part chest edits = (0, subst (IsUsed chest chest) (sym (take_none edits)) (
 pub on_err : {A E : Type 0} (P : Type 0) (r : Result A E) → P → OnErr r P
 on_err P (Ok x) p = tt
 on_err P (Err e) p = p
+
+-- where a group is not made, no more than the filters of one that is allowed were asked
+pub part_left : (chest after : List (Option FilterState)) (old : At) (edits : List Edit) (e : GroupRefusedOrMemory)
+    → LeavesChest chest after old edits e → IsPartUsed chest after (cond (is_allowed old edits) edits [])
+part_left chest after old edits Memory part = part
+part_left chest after old edits (Refused index cause) same =
+    subst (λ x. IsPartUsed chest x (cond (is_allowed old edits) edits [])) (sym same)
+    (none_part chest (cond (is_allowed old edits) edits []))

@@ -7,7 +7,7 @@ use Rattle.xl_marks.specs.Change.{Change, change_between}
 use Rattle.xl_edit.specs.Applied.{at}
 use Rattle.xl_edit.specs.Edits.{edits_of}
 use Rattle.xl_standing.specs.Now.{Now}
-use Rattle.xl_standing.proofs.Making.{allowed_made, all_part, part_allowed, part_named, on_err}
+use Rattle.xl_standing.proofs.Making.{allowed_made, all_part, part_allowed, part_left, part_named, on_err}
 use Rattle.xl_standing.proofs.Moving.{part_seen}
 use Rattle.xl_standing.proofs.Sides.{sides_same}
 use Rattle.xl_standing.specs.Steps.{IsChange}
@@ -57,7 +57,7 @@ returns-in-Err-Memory-clause-chest g c =
     let edits = edits_of c.args.edits.now in
     let named : names c.args.guard old.version ≡ true = sym c.is_named.ensures ∙ c.if-not-is_named.false in
     part_seen old _ (machine.edit c.args.guard edits) _ _ c.self.view_is
-    (part_named _ _ _ _ edits named c.in-Err-Memory.ensures.chest)
+    (part_named _ _ _ _ edits named (part_left _ _ _ edits _ c.in-Err-Memory.ensures.chest))
 
 pub accept-reply-requires-clause-change : goal.accept-reply-requires-clause-change
 accept-reply-requires-clause-change g c =
