@@ -5,8 +5,8 @@ use Rattle.std.specs.Prelude.{Option, Some, None, slice_get}
 use Rattle.std.proofs.lemmas.Bool.Decides.{nat_tests}
 use Rattle.spec_document.specs.Document.{Document}
 use Rattle.spec_cache.specs.declared.Finished.{Finished}
-use Rattle.spec_cache.specs.Cache.{install, finish}
-use Rattle.spec_history.specs.Machine.{Reply, Saving, saved, latest}
+use Rattle.spec_cache.specs.Cache.{Cache, install, finish}
+use Rattle.spec_history.specs.Machine.{Saving, saved, latest}
 use Rattle.spec_history.specs.History.{Entry, starts, ends, next_index, replay}
 use Rattle.spec_history.specs.Calls.{most_entries}
 use Rattle.spec_history.specs.Kept.{IsLegal}
@@ -17,15 +17,17 @@ use Rattle.spec_world.specs.Events.{Event, takes, begins_save, ends_save, cache_
 use Rattle.spec_world.specs.Events.{start_where, end_where, end_reply, after}
 use Rattle.spec_world.specs.declared.SaveEnd.{SaveEnd}
 use Rattle.spec_saves.specs.Names.{version_out}
+use Rattle.spec_saves.specs.Returns.{end_entry}
 use Rattle.xl_compose.specs.declared.clean.Done.{Done}
+use Rattle.xl_standing.specs.Now.{world_of}
 use Rattle.xl_standing.specs.Places.{place_done}
 use Rattle.xl_core.specs.Editing.{Editing, world_with, HappensWith, Happens, taken, IsPictureOf, IsFinished, handed_in}
-use Rattle.xl_core.specs.Editing.{out_of, index_out, end_of, with_start, with_end}
+use Rattle.xl_core.specs.Editing.{out_of, index_out, with_start}
 
 -- ---- jobs
 
-pub taken_happens : {K : Type 0} (old new : Editing K) → new ≡ taken old → Happens old takes new
-taken_happens old new is = λ jobs. subst (λ c. HappensWith jobs old takes c) (sym is) (refl, refl)
+pub taken_happens : {K : Type 0} (old : Editing K) → Happens old takes (taken old)
+taken_happens old = λ jobs. (refl, refl)
 
 -- the picture that a job comes to is the one that is handed in
 pub finished_happens : {K : Type 0} (old new : Editing K) (done : Done) (result : Finished) → IsPictureOf old.history done
@@ -110,42 +112,49 @@ started_happens old new session k spare legal none enough is = λ jobs.
       jobs = jobs;
     })))
 
-pub ended_happens : {K : Type 0} (old new : Editing K) (session : ℕ) (how : SaveEnd) (k : K) (reply : Reply) (spare : ℕ)
-    → IsOutOf (out_of old.history) session → reply ≡ end_reply how (version_out (out_of old.history))
-    → new ≡ with_end old session reply k spare → Happens old (ends_save session how) new
-ended_happens old new session how k reply spare own says is = λ jobs. go jobs (out_of old.history) refl own
+-- what an event leads to, by the history and the pictures that are kept
+abbrev Leads : {K : Type 0} → (old : Editing K) → Event → (base : Document) → List Entry → Cache → Type 0
+Leads old event base entries cache =
+    (jobs : List Job) →
+    let next = after old.history.base (world_with old jobs) event in
+    (base ≡ old.history.base) × (record (world_of base entries cache) { jobs = next.jobs } ≡ next)
+
+pub ended_happens : {K : Type 0} (old : Editing K) (session : ℕ) (how : SaveEnd) (base : Document) (entries : List Entry) (cache : Cache)
+    → IsOutOf (out_of old.history) session → base ≡ old.history.base
+    → entries ≡ old.history.entries
+    ++ end_entry old.history.base old.history.entries session (index_out (out_of old.history)) how ∷ []
+    → cache ≡ old.cache → Leads old (ends_save session how) base entries cache
+ended_happens old session how base entries cache own same more kept = λ jobs. go jobs (out_of old.history) refl own
   where
-    base : Document
-    base = old.history.base
+    b : Document
+    b = old.history.base
 
     es : List Entry
     es = old.history.entries
 
-    go : (jobs : List Job) (o : Option Saving) → out_of old.history ≡ o → IsOutOf o session
-        → HappensWith jobs old (ends_save session how) new
+    go : (jobs : List Job) (o : Option Saving) → out_of old.history ≡ o → IsOutOf o session →
+        let next = after old.history.base (world_with old jobs) (ends_save session how) in
+        (base ≡ old.history.base) × (record (world_of base entries cache) { jobs = next.jobs } ≡ next)
     go jobs None there mine = absurd mine
     go jobs (Some out) there mine =
         let w = world_with old jobs in
         let end : Entry =
         record { session = out.session; index = out.index; kind = ends; reply = end_reply how out.version } in
-        let same : end_of old.history session reply ≡ end = λ i. record {
+        let last : end_entry b es session (index_out (out_of old.history)) how ≡ end = λ i. record {
           session = mine i;
           index = index_out (there i);
           kind = ends;
-          reply = (says ∙ ap (λ o. end_reply how (version_out o)) there) i;
+          reply = end_reply how (version_out (there i));
         } in
-        happens_by jobs old (ends_save session how) new (end_where base w how (Some out)) (ap (end_where base w how) (sym there))
-        (ap (λ c. c.history.base) is)
-        (ap (λ c. world_with c jobs) is
-        ∙ ((λ i. record {
-          entries = es ++ same i ∷ [];
-          state = replay base (es ++ same i ∷ []);
-          cache = old.cache;
-          jobs = jobs;
-        })
+        let grown : entries ≡ es ++ end ∷ [] = more ∙ ap (λ e. es ++ e ∷ []) last in
+        let ended : World = end_where b w how (Some out) in
+        let now : record (world_of base entries cache) { jobs = jobs } ≡ ended =
+        (λ i. record (world_of (same i) (grown i) (kept i)) { jobs = jobs })
         ∙ (λ i. record {
           entries = es ++ end ∷ [];
-          state = replay-snoc base es end i;
+          state = replay-snoc b es end i;
           cache = old.cache;
           jobs = jobs;
-        })))
+        }) in
+        let is : ended ≡ after b w (ends_save session how) = ap (end_where b w how) (sym there) in
+        subst (λ (x : World). (base ≡ b) × (record (world_of base entries cache) { jobs = x.jobs } ≡ x)) is (same, now)
