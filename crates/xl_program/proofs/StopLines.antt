@@ -370,4 +370,4 @@ pub source_refused : {K : Type 0} (held : K → Option (List ℕ)) (faults : K �
     → RefusesSource held faults given other old last
 source_refused held faults given one other old new last is same told =
     subst (λ (o : Option Asked). RefusesSource held faults given o old last) is
-    (subst (λ (k : K). RefusesSource held faults given one old k) same told)
+    (subst (λ k. RefusesSource held faults given one old k) same told)
