@@ -5,13 +5,11 @@ use Rattle.std.specs.Str.{chars}
 use Rattle.clap.specs.Walk.{walked, bundle_met}
 use Rattle.clap.specs.Faults.{walk_fault, flags_fault, defaults_fault}
 use Rattle.spec_fields.specs.declared.Kind.TheVariants.{Truncated}
-use Rattle.spec_history.specs.Machine.{changed, saved, save_fault, save_memory}
-use Rattle.spec_flat.specs.declared.FlatRefused.TheVariants.{Selected, TooMany}
+use Rattle.spec_flat.specs.declared.FlatRefused.TheVariants.{TooMany}
 use Rattle.spec_command.specs.Arguments.{Argument, Asked, edit, render, info, make, pack, flatten, view, audit}
 use Rattle.spec_command.specs.Grammar.{asked_in}
 use Rattle.spec_command.proofs.Shapes.{asked_by_shape}
-use Rattle.spec_command.specs.Ends.{Found, first_stop, usage, source_fault, bad_head, bad_line, shelf_fault, refused, flat_refused}
-use Rattle.spec_command.specs.Ends.{stop_line, end_status}
+use Rattle.spec_command.specs.Ends.{usage, source_fault, bad_head, bad_line, shelf_fault, refused, flat_refused, stop_line}
 
 -- ---- arguments that are a command; each computed apart from the definitions
 
@@ -217,57 +215,6 @@ others_ask_nothing = refl
 
 -- ---- ends
 
-abbrev fine : Found
-fine = record { source_fails = false; head_fails = false; bad = None; shelf_fails = false; fault = None; flat = None }
-
-abbrev all_wrong : Found
-all_wrong = record {
-  source_fails = true;
-  head_fails = true;
-  bad = Some 2;
-  shelf_fails = true;
-  fault = Some (record { kind = Truncated; at = 38; value = 0 });
-  flat = Some Selected;
-}
-
-abbrev an_edit : Option Asked
-an_edit = Some (edit (codes "f") 2)
-
--- the order: the arguments, the source, the script, the shelf, the file
-stops : first_stop None all_wrong ∷ first_stop an_edit all_wrong ∷ first_stop an_edit (record all_wrong { source_fails = false })
-    ∷ first_stop an_edit (record all_wrong { source_fails = false; bad = None })
-    ∷ first_stop an_edit (record all_wrong { source_fails = false; bad = None; shelf_fails = false }) ∷ first_stop an_edit fine ∷ []
-    ≡ Some usage ∷ Some source_fault ∷ Some (bad_line 2) ∷ Some shelf_fault
-    ∷ Some (refused (record { kind = Truncated; at = 38; value = 0 })) ∷ None ∷ []
-stops = refl
-
--- a rendering reads no script, and what is made reads no file
-other_stops : first_stop (Some (render (codes "f"))) all_wrong
-    ∷ first_stop (Some (make (codes "f") 7)) (record all_wrong { shelf_fails = false }) ∷ []
-    ≡ Some shelf_fault ∷ None ∷ []
-other_stops = refl
-
-abbrev an_audit : Option Asked
-an_audit = Some (audit (codes "f"))
-
--- an audit looks for its head before it reads its script
-audit_stops : first_stop an_audit all_wrong ∷ first_stop an_audit (record all_wrong { source_fails = false })
-    ∷ first_stop an_audit (record all_wrong { source_fails = false; head_fails = false })
-    ∷ first_stop an_audit (record all_wrong { source_fails = false; head_fails = false; bad = None }) ∷ first_stop an_audit fine ∷ []
-    ≡ Some source_fault ∷ Some bad_head ∷ Some (bad_line 2) ∷ Some shelf_fault ∷ None ∷ []
-audit_stops = refl
-
-abbrev read_well : Found
-read_well = record all_wrong { shelf_fails = false; fault = None }
-
--- what keeps a document from being made flat is asked last, and stops nothing else; a view reads its script first
-flat_stops : first_stop (Some (flatten (codes "f"))) all_wrong
-    ∷ first_stop (Some (flatten (codes "f"))) read_well ∷ first_stop (Some (flatten (codes "f"))) fine
-    ∷ first_stop (Some (pack (codes "f") true)) read_well
-    ∷ first_stop (Some (view (codes "f") 2 2)) (record all_wrong { source_fails = false }) ∷ []
-    ≡ Some shelf_fault ∷ Some (flat_refused Selected) ∷ None ∷ None ∷ Some (bad_line 2) ∷ []
-flat_stops = refl
-
 lines : map stop_line (usage ∷ source_fault ∷ bad_head ∷ bad_line 2 ∷ shelf_fault
     ∷ refused (record { kind = Truncated; at = 38; value = 0 }) ∷ flat_refused (TooMany 1023) ∷ [])
     ≡ (codes "usage" ++ 10 ∷ []) ∷ (codes "source fault" ++ 10 ∷ []) ∷ (codes "bad head" ++ 10 ∷ []) ∷ (codes "bad line 2" ++ 10 ∷ [])
@@ -275,10 +222,3 @@ lines : map stop_line (usage ∷ source_fault ∷ bad_head ∷ bad_line 2 ∷ sh
     ∷ (codes "file refused 3 at 38" ++ 10 ∷ []) ∷ (codes "flatten refused 3" ++ 10 ∷ []) ∷ []
 unfolding digits
 lines = refl
-
--- after the sessions: memory, then the sink, then a save that failed
-statuses : end_status false false (changed 1 1 2 ∷ saved 1 ∷ []) ∷ end_status false false (save_fault 0 ∷ [])
-    ∷ end_status false true (save_fault 0 ∷ [])
-    ∷ end_status true true (save_fault 0 ∷ []) ∷ end_status false true (save_memory 0 ∷ []) ∷ []
-    ≡ 0 ∷ 6 ∷ 7 ∷ 8 ∷ 8 ∷ []
-statuses = refl
