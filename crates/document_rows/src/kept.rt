@@ -1,5 +1,4 @@
 //! How many tiles the way back from an edit keeps.
-use sample_documents::document;
 use sample_files::TWO;
 use std::alloc::{AllocError, Global};
 use std::test::Fail;
@@ -13,7 +12,10 @@ const LAYER: NodeId = NodeId(1);
 fn tiles_kept_after(alloc: Global, edit: Edit) -> Result<u32, AllocError> {
     let mut edits = Edits::new(alloc);
     edits.push(edit)?;
-    let mut image = Image::of(document(alloc, &TWO)?);
+    let mut image = match Image::open(alloc, TWO.as_slice().to_vec(alloc)?) {
+        Ok(image) => image,
+        Err(_) => return Err(AllocError),
+    };
     let before = image.document().share(alloc)?;
     match image.edit(alloc, edits.as_slice()) {
         Ok(()) => Ok(Record::new(before, image.document()).tiles_kept()),

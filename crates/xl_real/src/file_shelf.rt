@@ -73,6 +73,7 @@ impl FileShelf {
     fn fail_reading(&mut self, error: io::Error) -> Failed
         ensures name { self.new.name ≡ self.old.name }
         ensures draft { self.new.draft ≡ self.old.draft }
+        ensures loads { self.new.loads ≡ self.old.loads }
         ensures saving { self.new.saving_faults ≡ self.old.saving_faults }
         ensures cause { Rose self.old.reading_faults self.new.reading_faults }
     {
