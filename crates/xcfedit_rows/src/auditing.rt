@@ -155,10 +155,12 @@ fn odd_heads_and_scripts_are_refused(rt: HostRuntime) -> Result<(), Fail> {
     Ok(())
 }
 
-// A source whose script has so many empty lines, and no call.
-fn empty_lines(alloc: Global, head: &[u8], lines: usize) -> Result<Vec<u8>, AllocError> {
-    let mut source = head.to_vec(alloc)?;
-    source.resize(head.len() + lines, b'\n')?;
+// A source whose script has 2^24 empty lines, and no call.
+fn most_empty_lines(alloc: Global) -> Result<Vec<u8>, AllocError> {
+    let mut source = b"script 16777216\n".to_vec(alloc)?;
+    let mut lines = Vec::new(alloc);
+    lines.resize(1 << 24, b'\n')?;
+    source.extend_from_slice(&lines)?;
     source.extend_from_slice(b"order\n")?;
     Ok(source)
 }
@@ -166,7 +168,7 @@ fn empty_lines(alloc: Global, head: &[u8], lines: usize) -> Result<Vec<u8>, Allo
 #[test]
 fn a_script_of_the_most_bytes_is_read(rt: HostRuntime) -> Result<(), Fail> {
     let alloc = rt.alloc();
-    let source = empty_lines(alloc, b"script 16777216\n", 1 << 24)?;
+    let source = most_empty_lines(alloc)?;
     let mut sink = plain_sink(alloc);
     let ended = audit(&rt, alloc, &["audit", "f"], &ONE, &source, &mut sink)?;
     assert_eq!(rt; ended.status, 0);
