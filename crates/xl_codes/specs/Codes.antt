@@ -3,7 +3,7 @@ use Rattle.std.specs.Prelude.{◌≡◌, ℕ, ◌-◌, ◌≤◌, List, length, 
 use Rattle.std.specs.List.{AllByRecursion}
 use Rattle.spec_hierarchy.specs.Layout.{AreSpelled}
 use Rattle.spec_hierarchy.specs.Reading.{planes_at}
-use Rattle.spec_layout.specs.Layout.{AnySpelling}
+use Rattle.spec_rle.specs.Codes.{AnySpelling}
 
 -- the codes are those of so many planes of n bytes that are read from an offset
 pub record AreCodes (file : List ℕ) (at n planes : ℕ) (codes : List ℕ) : Type 0 where

@@ -1,8 +1,7 @@
 -- Spellings that a coder keeps as they stand.
 use Rattle.std.proofs.Common.{ℕ, ◌+◌, ◌≤◌, List, [], ◌∷◌, length, refl}
-use Rattle.spec_rle.specs.Codes.{Spells}
+use Rattle.spec_rle.specs.Codes.{Spells, AnySpelling}
 use Rattle.spec_hierarchy.specs.Layout.{AreSpelled}
-use Rattle.spec_layout.specs.Layout.{AnySpelling}
 use Rattle.xl_rle.specs.Follows.{FollowsEach}
 
 -- they fit, where any does

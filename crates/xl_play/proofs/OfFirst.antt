@@ -11,7 +11,7 @@ use Rattle.spec_script.specs.Fits.{AreFit, EachFit, FitsFilters, count_calls}
 use Rattle.spec_text.specs.Text.{calls_of}
 use Rattle.xl_script.specs.Lines.{lines_of, lists_of}
 use Rattle.xl_script.specs.declared.script.Line.{Line}
-use Rattle.xl_sessions.specs.Outcomes.{states_of}
+use Rattle.xl_filters.specs.Chests.{states_of}
 use Rattle.spec_script.specs.Script.{list_at}
 use Rattle.xl_sessions.specs.Players.{boxes_at}
 use Rattle.xl_sessions.proofs.Brought.{count_at}

@@ -11,7 +11,7 @@ use Rattle.spec_script.specs.Fits.{AreFit, FitsFilters}
 use Rattle.spec_script.specs.Script.{Line, list_at}
 use Rattle.spec_text.specs.Text.{calls_along}
 use Rattle.spec_view.specs.Text.{Views}
-use Rattle.xl_sessions.specs.Outcomes.{states_of}
+use Rattle.xl_filters.specs.Chests.{states_of}
 use Rattle.xl_sessions.specs.Players.{boxes_at}
 use Rattle.xl_sessions.proofs.Brought.{states_at}
 use Rattle.xl_play.specs.Playing.{AreMade}

@@ -14,7 +14,7 @@ use Rattle.spec_script.specs.Script.{Line}
 use Rattle.spec_tables.specs.Tables.{HaveTables}
 use Rattle.spec_text.specs.Printed.{order_text}
 use Rattle.spec_text.specs.Text.{AreAlone, IsTextOf, entry_line, calls_of, calls_in}
-use Rattle.xl_sessions.specs.Outcomes.{states_of}
+use Rattle.xl_filters.specs.Chests.{states_of}
 use Rattle.spec_script.specs.Script.{list_at}
 use Rattle.xl_sessions.specs.Players.{boxes_at}
 use Rattle.xl_sessions.proofs.Brought.{states_at}

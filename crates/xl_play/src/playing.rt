@@ -15,7 +15,7 @@ ghost use Rattle.xl_play.specs.Told.{WhetherFailed, IsToldOf};
 ghost use Rattle.xl_play.specs.Playing.{AreMade, AreOfFirst, ArePlayed, IsBetweenLines, IsCalled, IsMade};
 ghost use Rattle.xl_play.specs.Playing.{KeepsExactly, shown_of, with_save};
 ghost use Rattle.xl_script.specs.Lines.{line_of, lines_of, lists_of};
-ghost use Rattle.xl_sessions.specs.Outcomes.{states_of};
+ghost use Rattle.xl_filters.specs.Chests.{states_of};
 ghost use Rattle.spec_script.specs.Script.{list_at};
 ghost use Rattle.xl_sessions.specs.Playing.{FitsChest};
 

@@ -7,7 +7,7 @@ ghost use Rattle.xl_doc.specs.Numbered.{AreNumbered};
 ghost use Rattle.xl_play.specs.Told.{IsPlayed, WhetherFailed};
 ghost use Rattle.xl_play.specs.Playing.{AreOfFirst, KeepsExactly};
 ghost use Rattle.xl_script.specs.Lines.{lists_of};
-ghost use Rattle.xl_sessions.specs.Outcomes.{states_of};
+ghost use Rattle.xl_filters.specs.Chests.{states_of};
 
 use crate::opening::open_core;
 use crate::playing::{Replies, has_save_fault, play};

@@ -20,7 +20,7 @@ ghost use Rattle.xl_filters.specs.Chests.{states_in};
 ghost use Rattle.xl_play.specs.Playing.{AreMade, IsBetweenLines, IsCalled, IsMade, KeepsExactly};
 ghost use Rattle.xl_play.specs.Windows.{asks_for, window_digest, AreShown, IsLastTile};
 ghost use Rattle.xl_script.specs.Lines.{line_of, lines_of, lists_of};
-ghost use Rattle.xl_sessions.specs.Outcomes.{states_of};
+ghost use Rattle.xl_filters.specs.Chests.{states_of};
 ghost use Rattle.xl_sessions.specs.Playing.{FitsChest};
 ghost use Rattle.xl_window.specs.Viewing.{GoesOn};
 

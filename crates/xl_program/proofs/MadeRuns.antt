@@ -28,7 +28,7 @@ use Rattle.xl_ports.specs.State.{ShelfState}
 use Rattle.xl_play.specs.Told.{NoneFailed, SomeFailed, AnyFailed, WhetherFailed}
 use Rattle.xl_program.specs.Endings.{HaveFailed}
 use Rattle.xl_program.specs.Making.{IsMadeHistory, IsRunOf, IsSummary}
-use Rattle.xl_sessions.specs.Outcomes.{states_of}
+use Rattle.xl_filters.specs.Chests.{states_of}
 use Rattle.xl_program.specs.Outcome.{Comes, opened, ShelfCauseOf}
 use Rattle.xl_core.specs.Editing.{Editing, IsRight}
 use Rattle.xl_standing.specs.History.{document as last_document}

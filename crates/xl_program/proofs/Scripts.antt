@@ -9,7 +9,7 @@ use Rattle.spec_filters.specs.declared.FilterState.{FilterState}
 use Rattle.spec_script.specs.Script.{Line, script, line_of_byte}
 use Rattle.spec_script.specs.Fits.{FitsFilters}
 use Rattle.xl_ports.specs.Source.{led_by, IsEnded}
-use Rattle.xl_sessions.specs.Outcomes.{states_of}
+use Rattle.xl_filters.specs.Chests.{states_of}
 
 abbrev refused_at : (number : ℕ) → Result (List (List Line)) ℕ
 refused_at number = Err number

@@ -18,7 +18,7 @@ use Rattle.xl_ports.specs.State.{ShelfState}
 use Rattle.xl_ports.specs.Disk.{read_at}
 use Rattle.xl_script.specs.Lines.{lists_of}
 use Rattle.xl_script.specs.declared.script.Line as code
-use Rattle.xl_sessions.specs.Outcomes.{states_of}
+use Rattle.xl_filters.specs.Chests.{states_of}
 use Rattle.xl_program.specs.Files.{HoldsDocument}
 use Rattle.xl_program.specs.Outcome.{Given, first_filters, ComesTo, IsUntouched, ReadsToEnd}
 use Rattle.xl_program.specs.Parts.{Loads, ReadsViewed, StopsView, WritesViewed}

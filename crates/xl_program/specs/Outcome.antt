@@ -25,7 +25,7 @@ use Rattle.xl_ports.specs.Shelf.{Content}
 use Rattle.xl_ports.specs.Sink.{WritesAll, WritesPart}
 use Rattle.xl_ports.specs.Source.{led_by, IsEnded}
 use Rattle.xl_ports.specs.State.{ShelfState}
-use Rattle.xl_sessions.specs.Outcomes.{states_of}
+use Rattle.xl_filters.specs.Chests.{states_of}
 use Rattle.xl_program.specs.Auditing.{IsAudited, IsAuditScript, IsBadAuditLine}
 use Rattle.xl_program.specs.Endings.{Ending, well, unsaved, rejected, in_part, HaveFailed}
 use Rattle.xl_program.specs.Files.{HoldsDocument}

@@ -9,7 +9,7 @@ ghost use Rattle.xl_program.specs.Outcome.{given_of, ComesTo, LoadsFew, ReadsToE
 ghost use Rattle.xl_program.specs.Outcome.{most_audit_reads, TakesWithin};
 ghost use Rattle.xl_program.specs.Parts.{ReadsSourceOf, StopsAudit, WritesVerdict};
 ghost use Rattle.xl_script.specs.Lines.{lists_of};
-ghost use Rattle.xl_sessions.specs.Outcomes.{states_of};
+ghost use Rattle.xl_filters.specs.Chests.{states_of};
 
 use crate::editing::filter_counts;
 use crate::loading::read_document;

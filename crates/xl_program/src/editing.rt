@@ -7,7 +7,7 @@ ghost use Rattle.xl_ports.specs.Disk.{read_at};
 ghost use Rattle.xl_program.specs.Outcome.{given_of, ComesTo, LoadsFew, ReadsToEnd, SourceCause, ShelfCause, TakesFront};
 ghost use Rattle.xl_program.specs.Parts.{ReadsScript, WritesReplies, StopsEdit};
 ghost use Rattle.xl_script.specs.Lines.{lists_of};
-ghost use Rattle.xl_sessions.specs.Outcomes.{states_of};
+ghost use Rattle.xl_filters.specs.Chests.{states_of};
 
 use crate::ended::Done;
 use crate::loading::read_document;

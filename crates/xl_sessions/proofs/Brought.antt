@@ -13,7 +13,7 @@ use Rattle.xl_filters.specs.Chests.{states}
 use Rattle.xl_filters.specs.declared.chest.Slot.{Slot}
 use Rattle.xl_script.specs.Lines.{lines_of, lists_of}
 use Rattle.xl_script.specs.declared.script.Line.{Line}
-use Rattle.xl_sessions.specs.Outcomes.{states_of}
+use Rattle.xl_filters.specs.Chests.{states_of}
 use Rattle.spec_script.specs.Script.{list_at}
 use Rattle.xl_sessions.specs.Players.{boxes_at, IsBrought, IsFitPart, AreBrought, AreFitParts}
 use Rattle.xl_sessions.specs.Playing.{HasAll}

@@ -22,10 +22,6 @@ pub record IsOutcome (base : Document) (session : ℕ) (filters : List FilterSta
   pub made : done ≡ true → HasMade session filters lines places es
   pub told : done ≡ true → shown ≡ digests_in base es (picked places es)
 
--- the states of filters in boxes, session by session; `state` is that of a box
-abbrev pub states_of : {B : Type 0} → (state : B → FilterState) → List (Vec B Global) → List (List FilterState)
-states_of state lists = map (λ boxes. map state boxes.items) lists
-
 -- the bytes of some texts, list by list
 abbrev pub texts_of : List (Vec (String Global) Global) → List (List (List ℕ))
 texts_of lists = map (λ texts. map string_bytes texts.items) lists

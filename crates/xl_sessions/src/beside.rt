@@ -13,7 +13,8 @@ ghost use Rattle.std.specs.Prelude.{◌≡◌, ℕ, true, ◌+◌, ◌<◌, ◌�
 ghost use Rattle.std.specs.Prelude.{string_bytes, vec_capacity};
 ghost use Rattle.xl_script.specs.Lines.{lists_of};
 ghost use Rattle.xl_sessions.specs.Full.{IsNotFull};
-ghost use Rattle.xl_sessions.specs.Outcomes.{states_of, texts_of};
+ghost use Rattle.xl_filters.specs.Chests.{states_of};
+ghost use Rattle.xl_sessions.specs.Outcomes.{texts_of};
 ghost use Rattle.spec_script.specs.Script.{list_at};
 ghost use Rattle.xl_sessions.specs.Players.{in_slots, AreBrought, AreOfAScript, HaveSomeOutcomes, AreFitParts};
 ghost use Rattle.xl_sessions.specs.Players.{AreOfSessions, HaveFewCalls, HaveOutcomes, HavePlayed, HasRoom, HasWorked};

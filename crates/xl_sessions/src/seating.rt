@@ -4,7 +4,7 @@ ghost use Rattle.std.specs.List.{AllByRecursion};
 ghost use Rattle.std.specs.Prelude.{◌≡◌, ◌+◌, ◌<◌, ◌≤◌, ◌^◌, [], length, map, drop, IfOk, vec_capacity};
 ghost use Rattle.xl_script.specs.Lines.{lists_of};
 ghost use Rattle.xl_sessions.specs.Players.{boxes_at, AreBrought, AreFitParts, AreSeated, AreFree, AreNumbered, HasRoom};
-ghost use Rattle.xl_sessions.specs.Outcomes.{states_of};
+ghost use Rattle.xl_filters.specs.Chests.{states_of};
 ghost use Rattle.xl_studio.specs.Jobs.{job_out};
 ghost use Rattle.xl_studio.specs.Seats.{front_of, known_by, weight_of, IsSeatOf};
 

@@ -15,7 +15,7 @@ use Rattle.spec_hierarchy.specs.Layout.{AreSpelled}
 use Rattle.spec_hierarchy.specs.Reading.{tile_at}
 use Rattle.spec_hierarchy.specs.Tiles.{interleaved, tile_width, tile_height, tile_bytes, tile_plane}
 use Rattle.spec_hierarchy.proofs.PlanesBack.{tile_has}
-use Rattle.spec_layout.specs.Layout.{AnySpelling}
+use Rattle.spec_rle.specs.Codes.{AnySpelling}
 use Rattle.xl_codes.specs.Codes.{AreCodes}
 use Rattle.xl_tiles.specs.Coded.{IsCoded}
 use Rattle.xl_tiles.specs.Packed.{packed, IsPacked}

@@ -3,7 +3,7 @@ use Rattle.std.specs.Prelude.{◌≡◌, ℕ, List, length}
 use Rattle.std.specs.List.{AllByRecursion}
 use Rattle.spec_hierarchy.specs.Layout.{AreSpelled}
 use Rattle.spec_hierarchy.specs.Tiles.{interleaved}
-use Rattle.spec_layout.specs.Layout.{AnySpelling}
+use Rattle.spec_rle.specs.Codes.{AnySpelling}
 
 -- the tile has n pixels of so many bytes, and the codes spell the planes that they are interleaved of
 pub record IsCoded (tile : List ℕ) (n bpp : ℕ) (codes : List ℕ) : Type 0 where

@@ -2,7 +2,7 @@ ghost use Rattle.std.specs.Prelude.{◌<◌, IfSome};
 ghost use Rattle.spec_grid.specs.Grid as grid;
 ghost use Rattle.spec_hierarchy.specs.BytePlanes.{tile_planes};
 ghost use Rattle.spec_hierarchy.specs.Layout.{AreSpelled};
-ghost use Rattle.spec_layout.specs.Layout.{AnySpelling};
+ghost use Rattle.spec_rle.specs.Codes.{AnySpelling};
 ghost use Rattle.xl_tiles.specs.Table.{AreTiled, plane_by, tile};
 
 use crate::area::Sheet;

@@ -9,7 +9,8 @@ use Rattle.spec_filters.specs.declared.FilterState.{FilterState}
 use Rattle.spec_script.specs.Fits.{FitsFilters}
 use Rattle.spec_script.specs.Script.{Line}
 use Rattle.xl_audit.specs.Auditing.{filters_in, IsFull}
-use Rattle.xl_verdict.specs.Judging.{filters_of, full_chests}
+use Rattle.xl_filters.specs.Chests.{states_of}
+use Rattle.xl_verdict.specs.Judging.{full_chests}
 
 -- ---- one after another
 
@@ -52,7 +53,7 @@ module _ {C B : Type 0} (see : C → List (Option FilterState)) (state : B → F
     short = (subst (AllByRecursion Short) next up.short).1;
   }
 
-  full_of : (lists : List (Vec B Global)) → map (boxed state) lists ≡ full_chests (filters_of state lists)
+  full_of : (lists : List (Vec B Global)) → map (boxed state) lists ≡ full_chests (states_of state lists)
   full_of [] = refl
   full_of (b ∷ lists) =
       ap (λ (x : List (Option FilterState)). x ∷ map (boxed state) lists) (one b.items)
@@ -63,7 +64,7 @@ module _ {C B : Type 0} (see : C → List (Option FilterState)) (state : B → F
       one (x ∷ items) = ap (λ (xs : List (Option FilterState)). Some (state x) ∷ xs) (one items)
 
   pub chests_all : (chests : List C) (rest all : List (Vec B Global)) → AreUpTo see state Short chests rest all → rest ≡ []
-      → map see chests ≡ full_chests (filters_of state all)
+      → map see chests ≡ full_chests (states_of state all)
   chests_all chests rest all up none =
       sym (append-nil (map see chests))
       ∙ (ap (λ (bs : List (Vec B Global)). map see chests ++ map (boxed state) bs) (sym none) ∙ (up.so_far ∙ full_of all))
@@ -94,10 +95,10 @@ full_fit chests filters lists same fits =
     subst (λ (ns : List ℕ). FitsFilters ns lists) (sym (ap (map length) same ∙ full_lengths filters)) fits
 
 pub few_chests : {C B : Type 0} (see : C → List (Option FilterState)) (state : B → FilterState) (chests : List C)
-    (lists : List (Vec B Global)) → map see chests ≡ full_chests (filters_of state lists) → length lists ≤ 8 → length chests ≤ 8
+    (lists : List (Vec B Global)) → map see chests ≡ full_chests (states_of state lists) → length lists ≤ 8 → length chests ≤ 8
 few_chests {B = B} see state chests lists same few =
     let c = length-map chests see in
-    let f = length-map (filters_of state lists) (λ (fs : List FilterState). map (λ s. Some s) fs) in
+    let f = length-map (states_of state lists) (λ (fs : List FilterState). map (λ s. Some s) fs) in
     let l = length-map lists (λ (boxes : Vec B Global). map state boxes.items) in
     let both = ap length same in omega (arith, c, f, l, both, few)
 

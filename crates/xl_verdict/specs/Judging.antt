@@ -1,6 +1,5 @@
 -- What a verdict starts from.
-use Rattle.std.specs.Prelude.{List, Option, Some, Vec, map}
-use Rattle.std.specs.declared.alloc.Global.{Global}
+use Rattle.std.specs.Prelude.{List, Option, Some, map}
 use Rattle.spec_audit.specs.Walk.{Start}
 use Rattle.spec_document.specs.Document.{Document}
 use Rattle.spec_filters.specs.declared.FilterState.{FilterState}
@@ -9,10 +8,6 @@ use Rattle.spec_script.specs.Script.{Line}
 -- the document, the lines of the sessions, and their filters
 abbrev pub started : Document → (scripts : List (List Line)) → (filters : List (List FilterState)) → Start
 started base scripts filters = record { base = base; scripts = scripts; chests = filters }
-
--- the states of filters in boxes, session by session; `state` is that of a box
-abbrev pub filters_of : {B : Type 0} → (state : B → FilterState) → List (Vec B Global) → List (List FilterState)
-filters_of state lists = map (λ boxes. map state boxes.items) lists
 
 -- each filter in a slot of its session's chest
 abbrev pub full_chests : (filters : List (List FilterState)) → List (List (Option FilterState))

@@ -8,7 +8,8 @@ ghost use Rattle.xl_doc.specs.Numbered.{AreNumbered};
 ghost use Rattle.xl_filters.specs.Chests.{states, states_in};
 ghost use Rattle.xl_script.specs.Lines.{lists_of};
 ghost use Rattle.xl_audit.specs.Auditing.{start_of, IsFull};
-ghost use Rattle.xl_verdict.specs.Judging.{filters_of, full_chests, started};
+ghost use Rattle.xl_filters.specs.Chests.{states_of};
+ghost use Rattle.xl_verdict.specs.Judging.{full_chests, started};
 
 use crate::reading::Audit;
 use spec_audit::Verdict;
@@ -38,7 +39,7 @@ fn chests_of(
 ) -> Result<Vec<Chest>, AllocError>
     requires { AllByRecursion (λ boxes. length boxes.items < 2 ^ 32) lists.items }
     ensures { IfOk result (λ chests. map (λ c. states (λ s. state s.filter) c) chests.items
-        ≡ full_chests (filters_of (λ b. state b) lists.items)) }
+        ≡ full_chests (states_of (λ b. state b) lists.items)) }
 {
     let mut chests = Vec::new(alloc);
     for boxes in lists {
@@ -87,9 +88,9 @@ pub fn find_verdict(
     requires numbered { AreNumbered document.nodes }
     requires few { length lists.items ≤ 8 }
     requires boxes { AllByRecursion (λ boxes. length boxes.items < 2 ^ 32) lists.items }
-    requires fits { FitsFilters (map length (filters_of (λ b. state b) lists.items)) (lists_of given.now.script) }
+    requires fits { FitsFilters (map length (states_of (λ b. state b) lists.items)) (lists_of given.now.script) }
     requires numbers { AreNumbers (lists_of given.now.script) }
-    ensures { IfOk result (IsExact (started document (lists_of given.now.script) (filters_of (λ b. state b) lists.items))
+    ensures { IfOk result (IsExact (started document (lists_of given.now.script) (states_of (λ b. state b) lists.items))
         given.now.output.items) }
 {
     let chests = chests_of(alloc, lists)?;

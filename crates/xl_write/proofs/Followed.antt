@@ -5,9 +5,10 @@ use Rattle.std.specs.List.{concat, AllByRecursion}
 use Rattle.spec_document.specs.declared.Base.{Base}
 use Rattle.spec_hierarchy.specs.Layout.{places_from}
 use Rattle.spec_layout.specs.Pieces.{Follow}
-use Rattle.spec_layout.specs.Layout.{Item, IsItem, AnySpelling}
+use Rattle.spec_layout.specs.Layout.{Item, IsItem}
 use Rattle.spec_layout.proofs.Following.{concat-append, places-append, follow-append, follow_as}
 use Rattle.spec_layout.proofs.AnyCoder.{item_any}
+use Rattle.spec_rle.specs.Codes.{AnySpelling}
 use Rattle.xl_layout.proofs.Lengths.{items_short}
 use Rattle.xl_layout.specs.Costs.{item_costs}
 use Rattle.xl_layout.specs.Writable.{IsWritableItem}

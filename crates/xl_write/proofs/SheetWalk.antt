@@ -4,9 +4,10 @@ use Rattle.std.proofs.Common.{sym, ap, ◌∙◌, subst, arith, length-append}
 use Rattle.std.specs.List.{concat, AllByRecursion}
 use Rattle.std.proofs.lemmas.List.{map_more}
 use Rattle.spec_document.specs.Document.{Channel}
-use Rattle.spec_layout.specs.Layout.{Sheet, plain_sheet, AnySpelling}
+use Rattle.spec_layout.specs.Layout.{Sheet, plain_sheet}
 use Rattle.spec_layout.proofs.AnyCoder.{sheet_any}
 use Rattle.spec_layout.proofs.Following.{follow_as}
+use Rattle.spec_rle.specs.Codes.{AnySpelling}
 use Rattle.xl_layout.proofs.Lengths.{sheets_short}
 use Rattle.xl_layout.specs.Costs.{sheet_cost, sheet_costs}
 use Rattle.xl_layout.specs.Writable.{IsWritableSheet}

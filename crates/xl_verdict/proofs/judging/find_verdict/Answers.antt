@@ -1,5 +1,5 @@
 use Rattle.xl_script.specs.Lines.{lists_of}
-use Rattle.xl_verdict.specs.Judging.{filters_of}
+use Rattle.xl_filters.specs.Chests.{states_of}
 use Rattle.xl_verdict.proofs.Chests.{are_full, few_chests, full_fit}
 use Rattle.xl_verdict.proofs.Exactly.{found_exactly}
 use Rattle.xl_verdict.proofs.judging.find_verdict.Goals as goal
@@ -16,5 +16,5 @@ judge-requires-clause-fits g c = full_fit _ _ _ c.in_ok-chests.ensures c.require
 pub returns : goal.returns
 returns g c =
     found_exactly c.args.document (lists_of c.args.given.now.script) _
-    (filters_of (λ b. (goal.PointFilter-dyn g (b.vtable, b.value)).state b.value) c.args.lists.items) c.args.given.now.output.items
+    (states_of (λ b. (goal.PointFilter-dyn g (b.vtable, b.value)).state b.value) c.args.lists.items) c.args.given.now.output.items
     c.judge.result c.in_ok-chests.ensures c.requires.limits c.requires.numbered c.requires.fits c.requires.numbers c.judge.ensures
