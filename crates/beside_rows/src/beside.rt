@@ -170,11 +170,14 @@ fn thread_both<R: Threads + Wait + Sync, D: Shelf, G: Gate>(
         rt,
         || -> (Seat<D>, Heard)
             requires { IsSync R.row × IsSync G.row × IsSeatOf studio.now seat }
-            ensures { IsSeatOf studio.entry.now result.0 × (weight_of result.0 ≡ weight_of seat) × (job_out result.0 ≡ job_out seat) }
+            ensures { IsSeatOf studio.entry.now result.0 × (weight_of result.0 ≡ weight_of seat)
+                × (job_out result.0 ≡ job_out seat) }
         { hear_with(rt, alloc, studio, seat, gate, part) },
         || -> (Seat<D>, Done)
-            requires { IsSync R.row × IsSync G.row × IsSeatOf studio.now other × (job_out other ≡ None) × (other.closed ≡ false) }
-            ensures { IsSeatOf studio.entry.now result.0 × (weight_of result.0 ≡ weight_of other) × (job_out result.0 ≡ None) }
+            requires { IsSync R.row × IsSync G.row × IsSeatOf studio.now other
+                × (job_out other ≡ None) × (other.closed ≡ false) }
+            ensures { IsSeatOf studio.entry.now result.0 × (weight_of result.0 ≡ weight_of other)
+                × (job_out result.0 ≡ None) }
         { carry_out_with(rt, alloc, studio, other, gate, task) },
     );
     (seat, other, heard, done)

@@ -73,7 +73,8 @@ pub fn damage_by_fading(
 // A colour map of one colour.
 fn one_colour(alloc: Global) -> Result<Edit, AllocError>
     ensures edit { IfOk result (λ edit. IsEdit (edit_of edit)) }
-    ensures rule { IfOk result (λ edit. (d : Plain) → refusal d (edit_of edit) ≡ unless (is_indexed d.base) NotIndexed) }
+    ensures rule { IfOk result (λ edit. (d : Plain) → refusal d (edit_of edit) ≡ unless
+        (is_indexed d.base) NotIndexed) }
 {
     let bytes = Bytes::from_slice(alloc, &[1, 2, 3])?;
     Ok(Edit::SetColours { bytes })
@@ -87,7 +88,8 @@ fn damage_by_colours(
 ) -> Result<Vec<(NodeId, Rect)>, AllocError>
     requires numbered { AreNumbered doc.now.nodes }
     requires edit { IsEdit (edit_of edit.now) }
-    requires rule { refusal doc.now (edit_of edit.now) ≡ unless (is_indexed doc.now.base) NotIndexed }
+    requires rule { refusal doc.now (edit_of edit.now) ≡ unless (is_indexed doc.now.base)
+        NotIndexed }
 {
     if is_indexed(doc) {
         damage_of(alloc, doc, edit)

@@ -36,7 +36,8 @@ fn look_again<L: Ledger, D: Shelf>(
     requires history { GoesOn viewer.old.seen core.now.history }
     requires kept { AreKept viewer.old.kept node.0 (version core.now.history)
         (window_tiles (document core.now.history).width (document core.now.history).height at 2 2) }
-    ensures bytes { IfOk result (λ out. out.items ≡ window (document core.now.history) node.0 at 2 2) }
+    ensures bytes { IfOk result (λ out. out.items ≡ window (document core.now.history) node.0 at 2
+        2) }
     ensures no_step { steps.new ≡ steps.old }
 {
     let mut out = Vec::new(alloc);

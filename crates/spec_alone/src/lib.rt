@@ -9,6 +9,6 @@ ghost use Rattle.spec_text.specs.Text.{Alone};
 
 /// A script of the first session alone has one text, whatever was kept beside what has to be.
 pub fn alone_is_one_text()
-    ensures { (base : Document) (scripts : List (List Line)) (chests : List (List FilterState)) (a b : List ℕ)
-        → Alone a base scripts chests → Alone b base scripts chests → a ≡ b }
+    ensures { (base : Document) (scripts : List (List Line)) (chests : List (List FilterState))
+        (a b : List ℕ) → Alone a base scripts chests → Alone b base scripts chests → a ≡ b }
 {}

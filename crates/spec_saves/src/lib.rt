@@ -15,7 +15,8 @@ ghost use Rattle.xl_ports.specs.State.{ShelfState};
 
 /// While no save is out, the file has just the names that the ended saves have left.
 pub fn file_is_named_by_ended_saves()
-    ensures { (base : Document) (es : List Entry) → (replay base es).out ≡ None → files base es ≡ names es }
+    ensures { (base : Document) (es : List Entry) → (replay base es).out ≡ None
+        → files base es ≡ names es }
 {}
 
 /// At the opening a shelf is right.
@@ -32,12 +33,14 @@ pub fn shelf_stays_right()
 
 /// A shelf that was right as it was handed out is right again as it comes back from the save, which ends so.
 pub fn shelf_comes_back_right()
-    ensures { (opening handed now : ShelfState) (base : Document) (es : List Entry) (session index : ℕ) (how : SaveEnd)
-        → Run base es → IsSome (replay base es).out → ShelfIsRight opening base es handed → Returns opening handed base es how now
+    ensures { (opening handed now : ShelfState) (base : Document) (es : List Entry)
+        (session index : ℕ) (how : SaveEnd) → Run base es → IsSome (replay base es).out
+        → ShelfIsRight opening base es handed → Returns opening handed base es how now
         → ShelfIsRight opening base (es ++ end_entry base es session index how ∷ []) now }
 {}
 
 /// The versions of the saves that a legal history acknowledges never fall: the later of two saves is of no earlier version.
 pub fn acknowledged_versions_never_fall()
-    ensures { (base : Document) (es : List Entry) → IsLegal base es → IsNonDecreasing (acknowledged_versions es) }
+    ensures { (base : Document) (es : List Entry) → IsLegal base es
+        → IsNonDecreasing (acknowledged_versions es) }
 {}

@@ -30,12 +30,11 @@ pub fn no_save_is_out()
 
 /// Where each session has made the calls of its lines, the printed lines are a text of the script.
 pub fn seats_make_a_text()
-    ensures { (base : Document) (scripts : List (List Line)) (chests : List (List FilterState)) (es : List Entry)
-        (places : List (List ℕ)) → length places ≡ 8
+    ensures { (base : Document) (scripts : List (List Line)) (chests : List (List FilterState))
+        (es : List Entry) (places : List (List ℕ)) → length places ≡ 8
         → ((x : ℕ) → total (λ (ps : List ℕ). times x ps) places ≡ below (length es) x)
         → IsLegal base es
-        → ((session : ℕ) → session < 8
-        → HasMade session (unwrap_or (slice_get chests session) []) (unwrap_or (slice_get scripts session) [])
-        (slice_index_or places session []) es)
+        → ((session : ℕ) → session < 8 → HasMade session (unwrap_or (slice_get chests session) [])
+        (unwrap_or (slice_get scripts session) []) (slice_index_or places session []) es)
         → IsTextOf (printed base es) base scripts chests es }
 {}

@@ -16,7 +16,8 @@ pub fn acceptance_looks_at_no_table()
 
 /// Each chest agrees with some list of filters.
 pub fn chest_agrees_with_a_list()
-    ensures { (chest : List (Option FilterState)) → (filters : List FilterState) × Agrees chest filters }
+    ensures { (chest : List (Option FilterState)) → (filters : List FilterState)
+        × Agrees chest filters }
 {}
 
 /// A chest of which no edit asked a filter is as before.

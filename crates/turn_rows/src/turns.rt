@@ -86,7 +86,8 @@ fn by_two<R: Threads + Wait + Sync>(
     requires who { who < 100 }
     requires first { IsOf lock.now first × IsIdle first }
     requires second { IsOf lock.now second × IsIdle second }
-    ensures { IsOf lock.now result × IsIdle result × (weight_of result ≡ weight_of first + weight_of second) }
+    ensures { IsOf lock.now result × IsIdle result
+        × (weight_of result ≡ weight_of first + weight_of second) }
 {
     let (mut first, second) = join(
         rt,
@@ -109,19 +110,25 @@ fn by_four<R: Threads + Wait + Sync>(
 ) -> Seat<Tally>
     requires who { who < 90 }
     requires left { IsOf lock.now left.0 × IsIdle left.0 × IsOf lock.now left.1 × IsIdle left.1 }
-    requires right { IsOf lock.now right.0 × IsIdle right.0 × IsOf lock.now right.1 × IsIdle right.1 }
+    requires right { IsOf lock.now right.0 × IsIdle right.0 × IsOf lock.now right.1
+        × IsIdle right.1 }
     ensures { IsOf lock.now result × IsIdle result
-        × (weight_of result ≡ (weight_of left.0 + weight_of left.1) + (weight_of right.0 + weight_of right.1)) }
+        × (weight_of result ≡ (weight_of left.0 + weight_of left.1) + (weight_of right.0 + weight_of
+        right.1)) }
 {
     let (mut seat, other) = join(
         rt,
         || -> Seat<Tally>
-            requires { IsSync R.row × (who < 90) × IsOf lock.now left.0 × IsIdle left.0 × IsOf lock.now left.1 × IsIdle left.1 }
-            ensures { IsOf lock.entry.now result × IsIdle result × (weight_of result ≡ weight_of left.0 + weight_of left.1) }
+            requires { IsSync R.row × (who < 90) × IsOf lock.now left.0 × IsIdle left.0
+                × IsOf lock.now left.1 × IsIdle left.1 }
+            ensures { IsOf lock.entry.now result × IsIdle result
+                × (weight_of result ≡ weight_of left.0 + weight_of left.1) }
         { by_two(rt, lock, left.0, left.1, who, rounds) },
         || -> Seat<Tally>
-            requires { IsSync R.row × (who < 90) × IsOf lock.now right.0 × IsIdle right.0 × IsOf lock.now right.1 × IsIdle right.1 }
-            ensures { IsOf lock.entry.now result × IsIdle result × (weight_of result ≡ weight_of right.0 + weight_of right.1) }
+            requires { IsSync R.row × (who < 90) × IsOf lock.now right.0 × IsIdle right.0
+                × IsOf lock.now right.1 × IsIdle right.1 }
+            ensures { IsOf lock.entry.now result × IsIdle result
+                × (weight_of result ≡ weight_of right.0 + weight_of right.1) }
         { by_two(rt, lock, right.0, right.1, who + 2, rounds) },
     );
     lock.join(&mut seat, other);
@@ -132,7 +139,8 @@ fn two_more(lock: &TurnLock<Tally>, seat: &mut Seat<Tally>) -> Two
     requires { IsOf lock.now seat.old × IsIdle seat.old × (3 ≤ weight_of seat.old) }
     ensures first { IsOf lock.now result.0 × IsIdle result.0 × (weight_of result.0 ≡ 1) }
     ensures second { IsOf lock.now result.1 × IsIdle result.1 × (weight_of result.1 ≡ 1) }
-    ensures seat { IsOf lock.now seat.new × IsIdle seat.new × (weight_of seat.new + 2 ≡ weight_of seat.old) }
+    ensures seat { IsOf lock.now seat.new × IsIdle seat.new
+        × (weight_of seat.new + 2 ≡ weight_of seat.old) }
 {
     (lock.split(seat), lock.split(seat))
 }
@@ -161,16 +169,18 @@ fn eight_threads(rt: HostRuntime) -> Result<(), Fail> {
     let (mut seat, other) = join(
         &rt,
         || -> Seat<Tally>
-            requires { IsOf shared.now seat × IsIdle seat × IsOf shared.now e × IsIdle e × IsOf shared.now c.0 × IsIdle c.0
-                × IsOf shared.now c.1 × IsIdle c.1 }
+            requires { IsOf shared.now seat × IsIdle seat × IsOf shared.now e × IsIdle e
+                × IsOf shared.now c.0 × IsIdle c.0 × IsOf shared.now c.1 × IsIdle c.1 }
             ensures { IsOf shared.entry.now result × IsIdle result
-                × (weight_of result ≡ (weight_of seat + weight_of e) + (weight_of c.0 + weight_of c.1)) }
+                × (weight_of result ≡ (weight_of seat + weight_of e)
+                + (weight_of c.0 + weight_of c.1)) }
         { by_four(handle, shared, (seat, e), c, 0, 500) },
         || -> Seat<Tally>
-            requires { IsOf shared.now a × IsIdle a × IsOf shared.now b × IsIdle b × IsOf shared.now d.0 × IsIdle d.0
-                × IsOf shared.now d.1 × IsIdle d.1 }
+            requires { IsOf shared.now a × IsIdle a × IsOf shared.now b × IsIdle b
+                × IsOf shared.now d.0 × IsIdle d.0 × IsOf shared.now d.1 × IsIdle d.1 }
             ensures { IsOf shared.entry.now result × IsIdle result
-                × (weight_of result ≡ (weight_of a + weight_of b) + (weight_of d.0 + weight_of d.1)) }
+                × (weight_of result ≡ (weight_of a + weight_of b)
+                + (weight_of d.0 + weight_of d.1)) }
         { by_four(handle, shared, (a, b), d, 4, 500) },
     );
     lock.join(&mut seat, other);

@@ -52,7 +52,8 @@ fn submit<L: Ledger>(
     requires some { 0 < blank.parts }
     requires plain { IsPlainCall (call_of call) }
     requires desk { states_in state desk.old.chest ≡ [] }
-    ensures answered { IfOk result (λ reply. Answers core.old.history 0 (call_of call) [] (reply_of reply) core.new.history) }
+    ensures answered { IfOk result (λ reply. Answers core.old.history 0 (call_of call) []
+        (reply_of reply) core.new.history) }
     ensures as_before { OnErr result (core.new.history ≡ core.old.history) }
 {
     let mut steps = Steps::<L>::new(blank);
@@ -78,7 +79,8 @@ impl Editor {
     // Makes a call that names no filter.
     fn ask(&mut self, alloc: Global, call: Call) -> Result<Reply, AllocError>
         requires { IsPlainCall (call_of call) }
-        ensures answered { IfOk result (λ reply. Answers self.old 0 (call_of call) [] (reply_of reply) self.new) }
+        ensures answered { IfOk result (λ reply. Answers self.old 0 (call_of call) []
+            (reply_of reply) self.new) }
         ensures as_before { OnErr result (self.new ≡ self.old) }
     {
         let Ok(chest) = Chest::new(alloc, Vec::new(alloc)) else {
@@ -109,7 +111,8 @@ impl Editor {
     /// Undoes the last group: the document before it is the next version. The reply is `Changed`, `NothingToUndo` or `HistoryFull`.
     /// Its one error is that memory ran out; the history is as before then.
     pub fn undo(&mut self, alloc: Global) -> Result<Reply, AllocError>
-        ensures answered { IfOk result (λ reply. Answers self.old 0 (machine.undo None) [] (reply_of reply) self.new) }
+        ensures answered { IfOk result (λ reply. Answers self.old 0 (machine.undo None) []
+            (reply_of reply) self.new) }
         ensures as_before { OnErr result (self.new ≡ self.old) }
     {
         self.ask(alloc, Call::Undo(None))
@@ -118,7 +121,8 @@ impl Editor {
     /// Makes the group again that was undone last. The reply is `Changed`, `NothingToRedo` or `HistoryFull`. Its one error is that
     /// memory ran out; the history is as before then.
     pub fn redo(&mut self, alloc: Global) -> Result<Reply, AllocError>
-        ensures answered { IfOk result (λ reply. Answers self.old 0 machine.redo [] (reply_of reply) self.new) }
+        ensures answered { IfOk result (λ reply. Answers self.old 0 machine.redo [] (reply_of reply)
+            self.new) }
         ensures as_before { OnErr result (self.new ≡ self.old) }
     {
         self.ask(alloc, Call::Redo)

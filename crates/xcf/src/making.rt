@@ -51,7 +51,8 @@ pub(crate) fn make_all(
     requires few { length edits.now ≤ most_edits }
     requires at { IsAt (at document.old next_id.old) }
     requires room { next_id.old + length edits.now < 2 ^ 32 - 1 }
-    ensures made { MakesAll (at document.old next_id.old) (at document.new next_id.new) (edits_of edits.now) result }
+    ensures made { MakesAll (at document.old next_id.old) (at document.new next_id.new)
+        (edits_of edits.now) result }
     ensures left { OnOk result (IsAt (at document.new next_id.new)) }
 {
     let table = first_table(FilterKind::Invert, 0);

@@ -49,8 +49,8 @@ fn desk_of(alloc: Global, chest: Chest) -> Result<Desk, AllocError>
 // Desks with these chests, session by session.
 fn desks_of(alloc: Global, chests: Vec<Chest>) -> Result<Vec<Desk>, AllocError>
     requires { length chests.items ≤ 8 }
-    ensures { IfOk result (λ desks.
-        map (λ d. states_in state d.chest) desks.items ≡ map (λ c. states_in state c) chests.items) }
+    ensures { IfOk result (λ desks. map (λ d. states_in state d.chest) desks.items
+        ≡ map (λ c. states_in state c) chests.items) }
 {
     let mut desks = Vec::new(alloc);
     for chest in chests {
@@ -83,13 +83,16 @@ fn judge<L: Ledger>(
     requires numbered { AreNumbered base.nodes }
     requires few { length chests.items ≤ 8 }
     requires full { AllByRecursion IsFull (map (λ c. states_in state c) chests.items) }
-    requires fits { FitsFilters (map length (map (λ c. states_in state c) chests.items)) (lists_of script.now) }
+    requires fits { FitsFilters (map length (map (λ c. states_in state c) chests.items))
+        (lists_of script.now) }
     requires merge { IsMerge (lists_of script.now) output.now.order }
     requires prints { ArePrintable output.now }
     ensures { IfOk result (λ found. MatchOption found
-        (AllPass (start_of base (lists_of script.now) (map (λ c. states_in state c) chests.items)) output.now [] output.now.order)
-        (λ w. FailsAt (start_of base (lists_of script.now) (map (λ c. states_in state c) chests.items)) output.now []
-        output.now.order w.session w.index)) }
+        (AllPass (start_of base (lists_of script.now) (map (λ c. states_in state c) chests.items))
+        output.now [] output.now.order)
+        (λ w. FailsAt (start_of base (lists_of script.now)
+        (map (λ c. states_in state c) chests.items)) output.now [] output.now.order w.session
+        w.index)) }
 {
     let calls = script_calls(alloc, script)?;
     let wanted = wanted(alloc, calls.as_slice(), output)?;
@@ -125,8 +128,11 @@ pub fn audit<L: Ledger>(
     requires numbered { AreNumbered base.nodes }
     requires few { length chests.items ≤ 8 }
     requires full { AllByRecursion IsFull (map (λ c. states_in state c) chests.items) }
-    requires fits { FitsFilters (map length (map (λ c. states_in state c) chests.items)) (lists_of script.now) }
-    ensures { IfOk result (IsVerdict (start_of base (lists_of script.now) (map (λ c. states_in state c) chests.items)) output.now) }
+    requires fits { FitsFilters (map length (map (λ c. states_in state c) chests.items))
+        (lists_of script.now) }
+    ensures { IfOk result
+        (IsVerdict (start_of base (lists_of script.now) (map (λ c. states_in state c) chests.items))
+        output.now) }
 {
     let Some(output) = read_shaped(alloc, script, output)? else {
         return Ok(Verdict::Shape);

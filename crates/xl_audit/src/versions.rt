@@ -17,7 +17,8 @@ const MOST_ENTRIES: u32 = 1 << 20;
 
 // The version that the printed reply to a peek shows, where the word is that of a peek.
 fn version_named(calls: &[Calls], output: &Output, word: OrderWord) -> Option<u32>
-    ensures { result ≡ version_named (line_in calls.now word) (printed_at output.now.replies word).reply }
+    ensures { result ≡ version_named (line_in calls.now word)
+        (printed_at output.now.replies word).reply }
 {
     let Some(Call::Peek(_, _)) = call_at(calls, word) else {
         return None;
@@ -29,7 +30,8 @@ fn version_named(calls: &[Calls], output: &Output, word: OrderWord) -> Option<u3
 }
 
 fn want(wanted: &mut Vec<bool>, version: u32) -> Result<(), AllocError>
-    ensures this { OnOk result (version ≤ most_entries → is_wanted wanted.new.items version ≡ true) }
+    ensures this { OnOk result (version ≤ most_entries → is_wanted wanted.new.items version
+        ≡ true) }
     ensures others { OnOk result (WantsMore wanted.old.items wanted.new.items) }
 {
     if version > MOST_ENTRIES {
@@ -61,7 +63,8 @@ fn want_of_word(
 
 /// Which versions are shown by the printed replies to peeks.
 pub fn wanted(alloc: Global, calls: &[Calls], output: &Output) -> Result<Vec<bool>, AllocError>
-    ensures { IfOk result (λ wanted. AreWanted calls.now output.now.replies wanted.items output.now.order) }
+    ensures { IfOk result (λ wanted. AreWanted calls.now output.now.replies wanted.items
+        output.now.order) }
 {
     let mut wanted = Vec::new(alloc);
     for word in output.order.as_slice() {

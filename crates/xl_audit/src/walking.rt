@@ -84,7 +84,8 @@ impl Walk {
         requires few { slice_index self.old.made session < 2 ^ 31 }
         ensures standing { self.new.standing ≡ self.old.standing }
         ensures versions { self.new.versions ≡ self.old.versions }
-        ensures made { self.new.made ≡ slice_set self.old.made session (slice_index self.old.made session + 1) }
+        ensures made { self.new.made ≡ slice_set self.old.made session
+            (slice_index self.old.made session + 1) }
         ensures seen { self.new.seen ≡ slice_set self.old.seen session self.old.standing.version }
         ensures out { self.new.out ≡ self.old.out }
     {
@@ -98,9 +99,11 @@ impl Walk {
         ensures made { OnOk result (self.new.made ≡ self.old.made) }
         ensures seen { OnOk result (self.new.seen ≡ self.old.seen) }
         ensures out { OnOk result (self.new.out ≡ self.old.out) }
-        ensures wanted { OnOk result (self.new.versions.wanted.items ≡ self.old.versions.wanted.items) }
-        ensures shares { OnOk result (self.new.versions.shares.items ≡ shares_after (is_changed (reply_of reply))
-            self.old.versions.wanted.items self.old.standing.document self.old.versions.shares.items) }
+        ensures wanted { OnOk result (self.new.versions.wanted.items
+            ≡ self.old.versions.wanted.items) }
+        ensures shares { OnOk result (self.new.versions.shares.items ≡ shares_after
+            (is_changed (reply_of reply)) self.old.versions.wanted.items self.old.standing.document
+            self.old.versions.shares.items) }
     {
         if !is_changed(reply) {
             return Ok(());
@@ -147,9 +150,10 @@ impl Walk {
         picture: &mut Picture,
         steps: &mut Steps<L>,
     ) -> Result<bool, AllocError>
-        ensures { IfOk result (judging.PeekIsRight self.now.standing.document self.now.standing.version seen
-            (option_map (λ k. k.version) (kept self.now.standing.cache node.0 at self.now.standing.version))
-            self.now.versions.shares.items node.0 at printed.now) }
+        ensures { IfOk result (judging.PeekIsRight self.now.standing.document
+            self.now.standing.version seen
+            (option_map (λ k. k.version) (kept self.now.standing.cache node.0 at
+            self.now.standing.version)) self.now.versions.shares.items node.0 at printed.now) }
     {
         let document = self.standing.document();
         if !has_stack(document, node) {
@@ -178,7 +182,8 @@ impl Walk {
     ) -> Result<bool, AllocError>
         requires session { session < 8 }
         requires few { slice_index self.old.made session < 2 ^ 31 }
-        ensures { IfOk result (λ passed. IsPeeked self.old session node.0 at printed.now passed self.new) }
+        ensures { IfOk result (λ passed. IsPeeked self.old session node.0 at printed.now passed
+            self.new) }
     {
         let seen = self.seen[session as usize];
         if !self.peek_is_right(alloc, seen, node, at, printed, picture, steps)? {
@@ -192,7 +197,8 @@ impl Walk {
     fn start(&mut self, session: u8)
         requires session { session < 8 }
         requires few { slice_index self.old.made session < 2 ^ 31 }
-        ensures made { self.new.made ≡ slice_set self.old.made session (slice_index self.old.made session + 1) }
+        ensures made { self.new.made ≡ slice_set self.old.made session
+            (slice_index self.old.made session + 1) }
         ensures seen { self.new.seen ≡ slice_set self.old.seen session self.old.standing.version }
         ensures standing { self.new.standing ≡ self.old.standing }
         ensures versions { self.new.versions ≡ self.old.versions }
@@ -230,13 +236,14 @@ impl Walk {
         requires few { slice_index self.old.made word.session < 2 ^ 31 }
         requires ready { MayGoOn self.old.standing }
         requires fit { FitsChest (states_in state desk.old.chest) (line_in calls.now word) }
-        ensures judged { IfOk result (λ passed. (s : Start) (earlier : List Entry) → calls.now ≡ calls_in s.scripts
-            → IsNextWord s output.now earlier word → HasCome s.base earlier self.old
-            → Agrees (states_in state desk.old.chest) (filters_at s earlier word.session)
-            → WantsIfAny self.old.versions.wanted.items
+        ensures judged { IfOk result (λ passed. (s : Start) (earlier : List Entry)
+            → calls.now ≡ calls_in s.scripts → IsNextWord s output.now earlier word
+            → HasCome s.base earlier self.old → Agrees (states_in state desk.old.chest)
+            (filters_at s earlier word.session) → WantsIfAny self.old.versions.wanted.items
             (version_named (call_at s.scripts word) (printed_at output.now.replies word).reply)
             → IsJudged s output.now earlier word passed self.new (states_in state desk.new.chest)) }
-        ensures slots { OnOk result (SameSlots (states_in state desk.old.chest) (states_in state desk.new.chest)) }
+        ensures slots { OnOk result (SameSlots (states_in state desk.old.chest)
+            (states_in state desk.new.chest)) }
         ensures wanted { IfOk result (λ passed. passed ≡ true
             → self.new.versions.wanted.items ≡ self.old.versions.wanted.items) }
     {

@@ -15,7 +15,8 @@ use spec_blend::Pixel;
 /// Most rows that are not are known by their first pixel, and are not read further.
 #[inline]
 pub fn is_opaque(row: &[Pixel]) -> bool
-    ensures { OnTrue result ((k : ℕ) → k < length row.now → (slice_index_or row.now k clear).a ≡ 255) }
+    ensures { OnTrue result ((k : ℕ) → k < length row.now → (slice_index_or row.now k clear).a
+        ≡ 255) }
 {
     match row.first() {
         Some(first) if first.a == 255 => least_word(row) >= OPAQUE,
@@ -26,7 +27,8 @@ pub fn is_opaque(row: &[Pixel]) -> bool
 /// Whether a row has no alpha anywhere; of an empty row the answer is no.
 #[inline]
 pub fn is_clear(row: &[Pixel]) -> bool
-    ensures { OnTrue result ((k : ℕ) → k < length row.now → (slice_index_or row.now k clear).a ≡ 0) }
+    ensures { OnTrue result ((k : ℕ) → k < length row.now → (slice_index_or row.now k clear).a
+        ≡ 0) }
 {
     match row.first() {
         Some(first) if first.a == 0 => greatest_word(row) < SOME,
@@ -41,7 +43,8 @@ const OPAQUE: u32 = 0xff00_0000;
 const SOME: u32 = 0x0100_0000;
 
 fn least_word(row: &[Pixel]) -> u32
-    ensures least { (k : ℕ) → k < length row.now → result ≤ word_of (slice_index_or row.now k clear) }
+    ensures least { (k : ℕ) → k < length row.now
+        → result ≤ word_of (slice_index_or row.now k clear) }
     ensures pixels { (k : ℕ) → k < length row.now → IsPixel (slice_index_or row.now k clear) }
 {
     let mut least = u32::MAX;
@@ -66,8 +69,8 @@ fn greatest_word(row: &[Pixel]) -> u32
 pub fn wholes_of(below: &[Pixel], above: &[Pixel], wholes: &mut [u32])
     requires above { length below.now ≡ length above.now }
     requires wholes { length below.now ≡ length wholes.old }
-    ensures each { (k : ℕ) → k < length below.now
-        → slice_index wholes.new k ≡ alpha_over (slice_index_or below.now k clear) (slice_index_or above.now k clear) }
+    ensures each { (k : ℕ) → k < length below.now → slice_index wholes.new k ≡ alpha_over
+        (slice_index_or below.now k clear) (slice_index_or above.now k clear) }
     ensures bytes { (k : ℕ) → k < length below.now → slice_index wholes.new k ≤ 255 }
 {
     for i in 0..below.len() {
@@ -80,8 +83,8 @@ pub fn wholes_of(below: &[Pixel], above: &[Pixel], wholes: &mut [u32])
 pub fn weights_of(below: &[Pixel], above: &[Pixel], weights: &mut [u32])
     requires above { length below.now ≡ length above.now }
     requires weights { length below.now ≡ length weights.old }
-    ensures each { (k : ℕ) → k < length below.now
-        → slice_index weights.new k ≡ weight (slice_index_or below.now k clear) (slice_index_or above.now k clear) }
+    ensures each { (k : ℕ) → k < length below.now → slice_index weights.new k ≡ weight
+        (slice_index_or below.now k clear) (slice_index_or above.now k clear) }
     ensures bytes { (k : ℕ) → k < length below.now → slice_index weights.new k ≤ 255 }
 {
     for i in 0..below.len() {
@@ -94,7 +97,8 @@ pub fn weights_of(below: &[Pixel], above: &[Pixel], weights: &mut [u32])
 pub fn reciprocals_of(wholes: &[u32], reciprocals: &mut [u32])
     requires lengths { length wholes.now ≡ length reciprocals.old }
     requires bytes { (k : ℕ) → k < length wholes.now → slice_index wholes.now k ≤ 255 }
-    ensures { (k : ℕ) → k < length wholes.now → slice_index reciprocals.new k ≡ reciprocal_of (slice_index wholes.now k) }
+    ensures { (k : ℕ) → k < length wholes.now → slice_index reciprocals.new k ≡ reciprocal_of
+        (slice_index wholes.now k) }
 {
     for i in 0..wholes.len() {
         reciprocals[i] = reciprocal(wholes[i]);

@@ -16,8 +16,8 @@ fn lay_by(mode: Mode, below: &mut [Pixel], above: &[Pixel], weights: &[u32], rec
     requires above { length below.old ≡ length above.now }
     requires weights { length below.old ≡ length weights.now }
     requires reciprocals { length below.old ≡ length reciprocals.now }
-    requires each { (k : ℕ) → k < length below.old
-        → slice_index weights.now k ≡ weight (slice_index_or below.old k clear) (slice_index_or above.now k clear) }
+    requires each { (k : ℕ) → k < length below.old → slice_index weights.now k ≡ weight
+        (slice_index_or below.old k clear) (slice_index_or above.now k clear) }
     requires reciprocal { (k : ℕ) → k < length below.old
         → slice_index reciprocals.now k ≡ reciprocal_of (slice_index weights.now k) }
     ensures { below.new ≡ blended_rows mode below.old above.now }
@@ -38,8 +38,8 @@ fn lay_by_each(
     requires above { length below.old ≡ length above.now }
     requires weights { length below.old ≡ length weights.now }
     requires reciprocals { length below.old ≡ length reciprocals.now }
-    requires each { (k : ℕ) → k < length below.old
-        → slice_index weights.now k ≡ weight (slice_index_or below.old k clear) (slice_index_or above.now k clear) }
+    requires each { (k : ℕ) → k < length below.old → slice_index weights.now k ≡ weight
+        (slice_index_or below.old k clear) (slice_index_or above.now k clear) }
     requires reciprocal { (k : ℕ) → k < length below.old
         → slice_index reciprocals.now k ≡ reciprocal_of (slice_index weights.now k) }
     ensures { below.new ≡ blended_rows mode below.old above.now }

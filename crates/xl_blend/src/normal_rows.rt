@@ -27,8 +27,8 @@ fn lay_by(below: &mut [Pixel], above: &[Pixel], wholes: &[u32], reciprocals: &[u
     requires above { length below.old ≡ length above.now }
     requires wholes { length below.old ≡ length wholes.now }
     requires reciprocals { length below.old ≡ length reciprocals.now }
-    requires each { (k : ℕ) → k < length below.old
-        → slice_index wholes.now k ≡ alpha_over (slice_index_or below.old k clear) (slice_index_or above.now k clear) }
+    requires each { (k : ℕ) → k < length below.old → slice_index wholes.now k ≡ alpha_over
+        (slice_index_or below.old k clear) (slice_index_or above.now k clear) }
     requires reciprocal { (k : ℕ) → k < length below.old
         → slice_index reciprocals.now k ≡ reciprocal_of (slice_index wholes.now k) }
     ensures { below.new ≡ over_rows Mode.Normal below.old above.now }

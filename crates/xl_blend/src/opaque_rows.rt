@@ -16,7 +16,8 @@ fn lay_fours(mode: Mode, below: &mut [Pixel], above: &[Pixel]) -> usize
     ensures within { result ≤ length below.new }
     ensures most { length below.new < result + 4 }
     ensures pixels { (k : ℕ) → k < result → IsPixel (slice_index_or above.now k clear) }
-    ensures done { opaque_so_far mode result below.new above.now ≡ opaque_rows mode below.old above.now }
+    ensures done { opaque_so_far mode result below.new above.now ≡ opaque_rows mode below.old
+        above.now }
 {
     let mut at = 0;
     while below.len() - at >= 4 {
@@ -32,7 +33,8 @@ fn lay_fours(mode: Mode, below: &mut [Pixel], above: &[Pixel]) -> usize
 fn lay_ones(mode: Mode, below: &mut [Pixel], above: &[Pixel], from: usize)
     requires lengths { length below.old ≡ length above.now }
     requires within { from ≤ length below.old }
-    ensures pixels { (k : ℕ) → from ≤ k → k < length above.now → IsPixel (slice_index_or above.now k clear) }
+    ensures pixels { (k : ℕ) → from ≤ k → k < length above.now
+        → IsPixel (slice_index_or above.now k clear) }
     ensures done { below.new ≡ opaque_so_far mode from below.old above.now }
 {
     for i in from..below.len() {

@@ -21,11 +21,11 @@ fn matches_in<'a>(
     arguments: &'a [&'a str],
 ) -> Result<Option<ArgMatches<'a>>, AllocError>
     requires simple { is_simple_and_free (app_of command) ≡ true }
-    ensures ok { IfOk result (λ found. MatchOption found
-        (is_faultless (app_of command.entry) (arguments_of arguments.entry.now) ≡ false)
+    ensures ok { IfOk result (λ found. MatchOption found (is_faultless (app_of command.entry)
+        (arguments_of arguments.entry.now) ≡ false)
         (λ m. (is_faultless (app_of command.entry) (arguments_of arguments.entry.now) ≡ true)
-        × (rows_of (found_of m) ≡ matches_of (app_of command.entry) (arguments_of arguments.entry.now))
-        × IsParsedFrom command.entry m)) }
+        × (rows_of (found_of m) ≡ matches_of (app_of command.entry)
+        (arguments_of arguments.entry.now)) × IsParsedFrom command.entry m)) }
 {
     match command.try_get_matches_from(arguments) {
         Ok(matches) => Ok(Some(matches)),
@@ -100,7 +100,8 @@ fn plain_file<'a>(
     arguments: &'a [&'a str],
 ) -> Result<Option<&'a str>, AllocError>
     ensures { IfOk result (λ name. (ask : Argument → Asked) → option_map (λ name. ask name.now) name
-        ≡ asked_where (plain_app verb.entry.now) (arguments_of arguments.entry.now) (plain_of ask)) }
+        ≡ asked_where (plain_app verb.entry.now) (arguments_of arguments.entry.now)
+        (plain_of ask)) }
 {
     let Some(matches) = matches_in(plain_command(alloc, verb)?, arguments)? else {
         return Ok(None);
@@ -113,9 +114,11 @@ fn render<'a>(
     verb: &'a str,
     arguments: &'a [&'a str],
 ) -> Result<Option<Command<'a>>, AllocError>
-    ensures asked { IfOk result (λ command. option_map asked_of command
-        ≡ asked_where (plain_app verb.entry.now) (arguments_of arguments.entry.now) (plain_of definition.render)) }
-    ensures range { IfOk result (λ command. IfSome command (λ command. IsInRange (asked_of command))) }
+    ensures asked { IfOk result (λ command. option_map asked_of command ≡ asked_where
+        (plain_app verb.entry.now) (arguments_of arguments.entry.now)
+        (plain_of definition.render)) }
+    ensures range { IfOk result
+        (λ command. IfSome command (λ command. IsInRange (asked_of command))) }
 {
     match plain_file(alloc, verb, arguments)? {
         Some(name) => Ok(Some(Command::Render(name))),
@@ -128,9 +131,10 @@ fn info<'a>(
     verb: &'a str,
     arguments: &'a [&'a str],
 ) -> Result<Option<Command<'a>>, AllocError>
-    ensures asked { IfOk result (λ command. option_map asked_of command
-        ≡ asked_where (plain_app verb.entry.now) (arguments_of arguments.entry.now) (plain_of definition.info)) }
-    ensures range { IfOk result (λ command. IfSome command (λ command. IsInRange (asked_of command))) }
+    ensures asked { IfOk result (λ command. option_map asked_of command ≡ asked_where
+        (plain_app verb.entry.now) (arguments_of arguments.entry.now) (plain_of definition.info)) }
+    ensures range { IfOk result
+        (λ command. IfSome command (λ command. IsInRange (asked_of command))) }
 {
     match plain_file(alloc, verb, arguments)? {
         Some(name) => Ok(Some(Command::Info(name))),
@@ -141,7 +145,8 @@ fn info<'a>(
 fn edit<'a>(alloc: Global, arguments: &'a [&'a str]) -> Result<Option<Command<'a>>, AllocError>
     ensures asked { IfOk result (λ command. option_map asked_of command
         ≡ asked_where edit_app (arguments_of arguments.entry.now) edit_of) }
-    ensures range { IfOk result (λ command. IfSome command (λ command. IsInRange (asked_of command))) }
+    ensures range { IfOk result
+        (λ command. IfSome command (λ command. IsInRange (asked_of command))) }
 {
     let Some(matches) = matches_in(edit_command(alloc)?, arguments)? else {
         return Ok(None);
@@ -155,7 +160,8 @@ fn edit<'a>(alloc: Global, arguments: &'a [&'a str]) -> Result<Option<Command<'a
 fn make<'a>(alloc: Global, arguments: &'a [&'a str]) -> Result<Option<Command<'a>>, AllocError>
     ensures asked { IfOk result (λ command. option_map asked_of command
         ≡ asked_where make_app (arguments_of arguments.entry.now) make_of) }
-    ensures range { IfOk result (λ command. IfSome command (λ command. IsInRange (asked_of command))) }
+    ensures range { IfOk result
+        (λ command. IfSome command (λ command. IsInRange (asked_of command))) }
 {
     let Some(matches) = matches_in(make_command(alloc)?, arguments)? else {
         return Ok(None);
@@ -169,7 +175,8 @@ fn make<'a>(alloc: Global, arguments: &'a [&'a str]) -> Result<Option<Command<'a
 fn pack<'a>(alloc: Global, arguments: &'a [&'a str]) -> Result<Option<Command<'a>>, AllocError>
     ensures asked { IfOk result (λ command. option_map asked_of command
         ≡ asked_where pack_app (arguments_of arguments.entry.now) pack_of) }
-    ensures range { IfOk result (λ command. IfSome command (λ command. IsInRange (asked_of command))) }
+    ensures range { IfOk result
+        (λ command. IfSome command (λ command. IsInRange (asked_of command))) }
 {
     let Some(matches) = matches_in(pack_command(alloc)?, arguments)? else {
         return Ok(None);
@@ -185,9 +192,11 @@ fn flatten<'a>(
     verb: &'a str,
     arguments: &'a [&'a str],
 ) -> Result<Option<Command<'a>>, AllocError>
-    ensures asked { IfOk result (λ command. option_map asked_of command
-        ≡ asked_where (plain_app verb.entry.now) (arguments_of arguments.entry.now) (plain_of definition.flatten)) }
-    ensures range { IfOk result (λ command. IfSome command (λ command. IsInRange (asked_of command))) }
+    ensures asked { IfOk result (λ command. option_map asked_of command ≡ asked_where
+        (plain_app verb.entry.now) (arguments_of arguments.entry.now)
+        (plain_of definition.flatten)) }
+    ensures range { IfOk result
+        (λ command. IfSome command (λ command. IsInRange (asked_of command))) }
 {
     match plain_file(alloc, verb, arguments)? {
         Some(name) => Ok(Some(Command::Flatten(name))),
@@ -198,7 +207,8 @@ fn flatten<'a>(
 fn view<'a>(alloc: Global, arguments: &'a [&'a str]) -> Result<Option<Command<'a>>, AllocError>
     ensures asked { IfOk result (λ command. option_map asked_of command
         ≡ asked_where view_app (arguments_of arguments.entry.now) view_of) }
-    ensures range { IfOk result (λ command. IfSome command (λ command. IsInRange (asked_of command))) }
+    ensures range { IfOk result
+        (λ command. IfSome command (λ command. IsInRange (asked_of command))) }
 {
     let Some(matches) = matches_in(view_command(alloc)?, arguments)? else {
         return Ok(None);
@@ -216,9 +226,10 @@ fn audit<'a>(
     verb: &'a str,
     arguments: &'a [&'a str],
 ) -> Result<Option<Command<'a>>, AllocError>
-    ensures asked { IfOk result (λ command. option_map asked_of command
-        ≡ asked_where (plain_app verb.entry.now) (arguments_of arguments.entry.now) (plain_of definition.audit)) }
-    ensures range { IfOk result (λ command. IfSome command (λ command. IsInRange (asked_of command))) }
+    ensures asked { IfOk result (λ command. option_map asked_of command ≡ asked_where
+        (plain_app verb.entry.now) (arguments_of arguments.entry.now) (plain_of definition.audit)) }
+    ensures range { IfOk result
+        (λ command. IfSome command (λ command. IsInRange (asked_of command))) }
 {
     match plain_file(alloc, verb, arguments)? {
         Some(name) => Ok(Some(Command::Audit(name))),
@@ -231,8 +242,10 @@ pub fn command_of<'a>(
     alloc: Global,
     arguments: &'a [&'a str],
 ) -> Result<Option<Command<'a>>, AllocError>
-    ensures asked { IfOk result (λ command. option_map asked_of command ≡ asked_in (arguments_of arguments.entry.now)) }
-    ensures range { IfOk result (λ command. IfSome command (λ command. IsInRange (asked_of command))) }
+    ensures asked { IfOk result (λ command. option_map asked_of command ≡ asked_in
+        (arguments_of arguments.entry.now)) }
+    ensures range { IfOk result
+        (λ command. IfSome command (λ command. IsInRange (asked_of command))) }
 {
     let Some(verb) = arguments.first() else {
         return Ok(None);

@@ -36,7 +36,8 @@ fn add_leaf(
     pieces: &mut Vec<Piece>,
 ) -> Result<(), AllocError>
     requires leaf { IsLeaf node.now.body }
-    ensures { OnOk result (pieces.new.items ≡ pieces.old.items ++ leaf_pieces level some_under node.now) }
+    ensures { OnOk result (pieces.new.items ≡ pieces.old.items ++ leaf_pieces level some_under
+        node.now) }
 {
     if !node.visible {
         return Ok(());
@@ -61,7 +62,8 @@ fn add_clean(
     level: u32,
     pieces: &mut Vec<Piece>,
 ) -> Result<(), AllocError>
-    ensures { OnOk result (pieces.new.items ≡ pieces.old.items ++ clean_piece level picture.now ∷ []) }
+    ensures { OnOk result (pieces.new.items ≡ pieces.old.items ++ clean_piece level picture.now
+        ∷ []) }
 {
     let mut copy = Picture::blank(alloc)?;
     copy.copy_from(picture);
@@ -77,7 +79,8 @@ fn add_over(
     level: u32,
     pieces: &mut Vec<Piece>,
 ) -> Result<(), AllocError>
-    ensures { OnOk result (pieces.new.items ≡ pieces.old.items ++ stack_piece level some_under node.now ∷ []) }
+    ensures { OnOk result (pieces.new.items ≡ pieces.old.items ++ stack_piece level some_under
+        node.now ∷ []) }
 {
     let what = What::Stack {
         mode: mode_above(some_under, node.mode),
@@ -100,11 +103,12 @@ pub fn add_stack<K: CleanTiles>(
     requires agree { MarksAgree nodes }
     requires low { level + levels nodes ≤ MAX_DEPTH }
     ensures any { IfOk result (λ some. some ≡ any_visible (nodes_of nodes.entry)) }
-    ensures cost { OnOk result (weights pieces.new.items
-        ≡ weights pieces.old.items + laid_in (λ id. K.clean_tile clean.now id at) (nodes_of nodes.entry)) }
-    ensures added { OnOk result ((deep : ℕ) (colours : List (List ℕ)) (band : Band) → level + levels nodes.entry + 2 ≤ deep
-        → AreRight (λ id. K.clean_tile clean.now id at) colours band (nodes_of nodes.entry)
-        → AreAdded deep colours band level (nodes_of nodes.entry) pieces.old.items pieces.new.items) }
+    ensures cost { OnOk result (weights pieces.new.items ≡ weights pieces.old.items + laid_in
+        (λ id. K.clean_tile clean.now id at) (nodes_of nodes.entry)) }
+    ensures added { OnOk result ((deep : ℕ) (colours : List (List ℕ)) (band : Band)
+        → level + levels nodes.entry + 2 ≤ deep → AreRight (λ id. K.clean_tile clean.now id at)
+        colours band (nodes_of nodes.entry) → AreAdded deep colours band level
+        (nodes_of nodes.entry) pieces.old.items pieces.new.items) }
 {
     match nodes.split() {
         Split::Empty => {

@@ -46,7 +46,8 @@ fn pieces_of<K: CleanTiles>(
     ensures some { IfOk result (λ made. 1 ≤ made.1) }
     ensures few { IfOk result (λ made. made.1 ≤ 10) }
     ensures made { IfOk result (λ made. AreFor made.1 doc.now node.0 at made.0.items) }
-    ensures cost { IfOk result (λ made. weights made.0.items ≡ laid_below (λ id. K.clean_tile clean.now id at) doc.now node.0) }
+    ensures cost { IfOk result (λ made. weights made.0.items
+        ≡ laid_below (λ id. K.clean_tile clean.now id at) doc.now node.0) }
 {
     let nodes = doc.tree.stack(node).unwrap();
     let deep = nodes.levels() + 2;

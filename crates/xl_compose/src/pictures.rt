@@ -27,7 +27,8 @@ fn stack_picture<L: Ledger>(
     requires stack { IsSome (stack_at stack.0 doc.now.nodes) }
     requires inside { IsInside doc.now.width doc.now.height rect }
     requires room { length out.old ≡ 4 * (rect.w * rect.h) }
-    ensures { OnOk result (out.new ≡ picture_bytes doc.now stack.0 (part_above_0 rect.x) (part_above_0 rect.y) rect.w rect.h) }
+    ensures { OnOk result (out.new ≡ picture_bytes doc.now stack.0 (part_above_0 rect.x)
+        (part_above_0 rect.y) rect.w rect.h) }
 {
     let mut steps = Steps::<L>::new(blank);
     picture(alloc, doc, stack, rect, out, &mut steps)

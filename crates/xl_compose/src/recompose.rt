@@ -75,7 +75,8 @@ fn compose_bands<L: Ledger>(
     requires scratch { 64 * (levels_below doc.now stack.0 * rect.w) ≤ length scratch.old }
     requires bytes { SCRATCH + 320 * rect.w ≤ length bytes.old }
     requires out { length out.old ≡ 4 * (rect.w * rect.h) }
-    ensures picture { out.new ≡ picture_bytes doc.now stack.0 (part_above_0 rect.x) (part_above_0 rect.y) rect.w rect.h }
+    ensures picture { out.new ≡ picture_bytes doc.now stack.0 (part_above_0 rect.x)
+        (part_above_0 rect.y) rect.w rect.h }
     ensures cost { steps.new ≤ steps.old + visible_below doc.now stack.0 * (rect.w * rect.h) }
 {
     prove!(doc.height <= MAX_SIDE);
@@ -148,7 +149,8 @@ impl Composer {
         width: u32,
     ) -> Result<Composer, AllocError>
         requires stack { IsSome (stack_at stack.0 doc.now.nodes) }
-        ensures { IfOk result (λ c. c ≡ record { width = width; levels = levels_below doc.now stack.0 }) }
+        ensures { IfOk result
+            (λ c. c ≡ record { width = width; levels = levels_below doc.now stack.0 }) }
     {
         let levels = levels_of(doc, stack);
         Ok(Composer {
@@ -176,7 +178,8 @@ impl Composer {
         requires deep { levels_below doc.now stack.0 ≤ self.old.levels }
         requires room { length out.old ≡ 4 * (rect.w * rect.h) }
         ensures same { self.new ≡ self.old }
-        ensures picture { out.new ≡ picture_bytes doc.now stack.0 (part_above_0 rect.x) (part_above_0 rect.y) rect.w rect.h }
+        ensures picture { out.new ≡ picture_bytes doc.now stack.0 (part_above_0 rect.x)
+            (part_above_0 rect.y) rect.w rect.h }
         ensures cost { steps.new ≤ steps.old + visible_below doc.now stack.0 * (rect.w * rect.h) }
     {
         let picture = self.picture.as_mut_slice();

@@ -28,9 +28,8 @@ fn mask_row(layer: &Layer, part: Rect, masks: &[u8], y: u32, row: &mut [Pixel])
     requires row { y < part.h }
     requires wide { length row.old ≡ part.w }
     ensures length { length row.new ≡ length row.old }
-    ensures each { (k : ℕ) → k < length row.old
-        → pixel row.new k ≡ mask_part layer.now.mask layer.now.apply_mask (part_above_0 part.x + k) (part_above_0 part.y + y)
-        (pixel row.old k) }
+    ensures each { (k : ℕ) → k < length row.old → pixel row.new k ≡ mask_part layer.now.mask
+        layer.now.apply_mask (part_above_0 part.x + k) (part_above_0 part.y + y) (pixel row.old k) }
 {
     if !layer.apply_mask {
         return;
@@ -57,8 +56,8 @@ fn source_row(
     requires row { y < part.h }
     requires wide { length row.old ≡ part.w }
     ensures length { length row.new ≡ length row.old }
-    ensures each { (k : ℕ) → k < length row.old
-        → pixel row.new k ≡ sheet_pixel colours.now opacity layer.now (part_above_0 part.x + k) (part_above_0 part.y + y) }
+    ensures each { (k : ℕ) → k < length row.old → pixel row.new k ≡ sheet_pixel colours.now opacity
+        layer.now (part_above_0 part.x + k) (part_above_0 part.y + y) }
 {
     own_row(layer.kind, colours, layer.plane.row_in(part, bytes, y), row);
     if opacity < 255 {
@@ -107,12 +106,13 @@ fn lay_rows<L: Ledger>(
     requires high { band.h ≤ 64 }
     requires picture { length picture.old ≡ band.h * band.w }
     requires source { part.w ≤ length source.old }
-    requires neat { (v k : ℕ) → v < band.h → k < band.w → IsNeat (pixel picture.old (v * band.w + k)) }
+    requires neat { (v k : ℕ) → v < band.h → k < band.w
+        → IsNeat (pixel picture.old (v * band.w + k)) }
     ensures length { length picture.new ≡ length picture.old }
     ensures each { (v k : ℕ) → v < band.h → k < band.w → pixel picture.new (v * band.w + k)
         ≡ over mode (pixel picture.old (v * band.w + k))
-        (at_place (place_by left (part_above_0 part.x) part.w k) (place_by top (part_above_0 part.y) part.h v)
-        (sheet_pixel colours.now opacity layer.now)) }
+        (at_place (place_by left (part_above_0 part.x) part.w k)
+        (place_by top (part_above_0 part.y) part.h v) (sheet_pixel colours.now opacity layer.now)) }
     ensures cost { steps.new ≡ steps.old + part.h * part.w }
 {
     let row = &mut source[..part.w as usize];
@@ -180,12 +180,13 @@ fn lay_rect<L: Ledger>(
     requires picture { length picture.old ≡ band.h * band.w }
     requires source { band.w ≤ length source.old }
     requires bytes { SCRATCH + 320 * band.w ≤ length bytes.old }
-    requires neat { (v k : ℕ) → v < band.h → k < band.w → IsNeat (pixel picture.old (v * band.w + k)) }
+    requires neat { (v k : ℕ) → v < band.h → k < band.w
+        → IsNeat (pixel picture.old (v * band.w + k)) }
     ensures length { length picture.new ≡ length picture.old }
     ensures each { (v k : ℕ) → v < band.h → k < band.w → pixel picture.new (v * band.w + k)
         ≡ over mode (pixel picture.old (v * band.w + k))
-        (at_place (place_by left (part_above_0 part.x) part.w k) (place_by top (part_above_0 part.y) part.h v)
-        (sheet_pixel colours.now opacity layer.now)) }
+        (at_place (place_by left (part_above_0 part.x) part.w k)
+        (place_by top (part_above_0 part.y) part.h v) (sheet_pixel colours.now opacity layer.now)) }
     ensures cost { steps.new ≡ steps.old + part.h * part.w }
 {
     let (tile, rest) = bytes.split_at_mut(SCRATCH);
@@ -236,12 +237,13 @@ fn lay_columns<L: Ledger>(
     requires picture { length picture.old ≡ band.h * band.w }
     requires source { band.w ≤ length source.old }
     requires bytes { SCRATCH + 320 * band.w ≤ length bytes.old }
-    requires neat { (v k : ℕ) → v < band.h → k < band.w → IsNeat (pixel picture.old (v * band.w + k)) }
+    requires neat { (v k : ℕ) → v < band.h → k < band.w
+        → IsNeat (pixel picture.old (v * band.w + k)) }
     ensures length { length picture.new ≡ length picture.old }
     ensures each { (v k : ℕ) → v < band.h → k < band.w → pixel picture.new (v * band.w + k)
         ≡ over mode (pixel picture.old (v * band.w + k))
-        (at_place (place_by across.skip across.from across.count k) (place_by down.skip down.from down.count v)
-        (sheet_pixel colours.now opacity layer.now)) }
+        (at_place (place_by across.skip across.from across.count k)
+        (place_by down.skip down.from down.count v) (sheet_pixel colours.now opacity layer.now)) }
     ensures cost { steps.new ≡ steps.old + down.count * across.count }
 {
     prove!(layer.plane.width() <= MAX_SIDE);
@@ -280,11 +282,12 @@ pub fn lay_layer<L: Ledger>(
     requires picture { length picture.old ≡ band.h * band.w }
     requires source { band.w ≤ length source.old }
     requires bytes { SCRATCH + 320 * band.w ≤ length bytes.old }
-    requires neat { (v k : ℕ) → v < band.h → k < band.w → IsNeat (pixel picture.old (v * band.w + k)) }
+    requires neat { (v k : ℕ) → v < band.h → k < band.w
+        → IsNeat (pixel picture.old (v * band.w + k)) }
     ensures length { length picture.new ≡ length picture.old }
-    ensures each { (v k : ℕ) → v < band.h → k < band.w
-        → pixel picture.new (v * band.w + k)
-        ≡ over mode (pixel picture.old (v * band.w + k)) (sheet_source colours.now opacity layer.now (band.x + k) (band.y + v)) }
+    ensures each { (v k : ℕ) → v < band.h → k < band.w → pixel picture.new (v * band.w + k)
+        ≡ over mode (pixel picture.old (v * band.w + k)) (sheet_source colours.now opacity layer.now
+        (band.x + k) (band.y + v)) }
     ensures cost { steps.new ≤ steps.old + band.h * band.w }
 {
     let down = overlap(layer.y, layer.plane.height(), band.y, band.h);

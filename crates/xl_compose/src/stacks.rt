@@ -62,11 +62,13 @@ fn lay_leaf<L: Ledger>(
     requires picture { length picture.old ≡ band.h * band.w }
     requires scratch { band.w ≤ length scratch.old }
     requires bytes { SCRATCH + 320 * band.w ≤ length bytes.old }
-    requires neat { (v k : ℕ) → v < band.h → k < band.w → IsNeat (pixel picture.old (v * band.w + k)) }
+    requires neat { (v k : ℕ) → v < band.h → k < band.w
+        → IsNeat (pixel picture.old (v * band.w + k)) }
     ensures length { length picture.new ≡ length picture.old }
     ensures each { (v k : ℕ) → v < band.h → k < band.w → pixel picture.new (v * band.w + k)
-        ≡ laid node.now.visible (mode_over some_under node.now.mode) (pixel picture.old (v * band.w + k))
-        (layer_source colours.now (layer_of node.now) (band.x + k) (band.y + v)) }
+        ≡ laid node.now.visible (mode_over some_under node.now.mode)
+        (pixel picture.old (v * band.w + k)) (layer_source colours.now (layer_of node.now)
+        (band.x + k) (band.y + v)) }
     ensures cost { steps.new ≤ steps.old + one_if node.now.visible * (band.h * band.w) }
 {
     if !node.visible {
@@ -99,8 +101,8 @@ fn lay_children<L: Ledger>(
 )
     requires same { length children.old ≡ length picture.old }
     ensures length { length picture.new ≡ length picture.old }
-    ensures each { (k : ℕ) → k < length picture.old
-        → pixel picture.new k ≡ laid true mode (pixel picture.old k) (faded opacity (pixel children.old k)) }
+    ensures each { (k : ℕ) → k < length picture.old → pixel picture.new k ≡ laid true mode
+        (pixel picture.old k) (faded opacity (pixel children.old k)) }
     ensures cost { steps.new ≡ steps.old + length picture.old }
 {
     fade_row(children, opacity);
@@ -128,8 +130,8 @@ pub fn lay_stack<L: Ledger>(
     requires bytes { SCRATCH + 320 * band.w ≤ length bytes.old }
     ensures length { length picture.new ≡ length picture.old }
     ensures any { result ≡ any_visible (nodes_of nodes.entry) }
-    ensures each { (v k : ℕ) → v < band.h → k < band.w
-        → pixel picture.new (v * band.w + k) ≡ stack_pixel colours.now (band.x + k) (band.y + v) (nodes_of nodes.entry) }
+    ensures each { (v k : ℕ) → v < band.h → k < band.w → pixel picture.new (v * band.w + k)
+        ≡ stack_pixel colours.now (band.x + k) (band.y + v) (nodes_of nodes.entry) }
     ensures cost { steps.new ≤ steps.old + visible_in (nodes_of nodes.entry) * (band.h * band.w) }
 {
     match nodes.split() {

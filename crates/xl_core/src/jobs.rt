@@ -77,7 +77,8 @@ pub trait JobDesk {
     fn finish<W: Wait>(&self, rt: &W, seat: &mut Self::Seat, done: Done) -> Finished
         requires seat { is_of self.now seat.old }
         requires done { IsOutcomeOf (out seat.old) done }
-        ensures finished { result ≡ finished_by (base self.now) (entries seat.new) (place_done done) done.version }
+        ensures finished { result ≡ finished_by (base self.now) (entries seat.new) (place_done done)
+            done.version }
         ensures seat { is_of self.now seat.new }
         ensures none { out seat.new ≡ None }
         ensures closed { closed seat.new ≡ closed seat.old }

@@ -25,7 +25,8 @@ pub fn damage(
     requires passes { refusal before.now (edit_of edit.now) ≡ None }
     requires next { ids.next_id before.now < 2 ^ 32 }
     requires another { makes_node (edit_of edit.now) ≡ true → ids.next_id before.now < 2 ^ 32 - 1 }
-    ensures { IfOk result (λ list. pairs_of list.items ≡ damage.damage before.now (edit_of edit.now)) }
+    ensures { IfOk result (λ list. pairs_of list.items ≡ damage.damage before.now
+        (edit_of edit.now)) }
 {
     let any_table = Table::of(FilterState {
         kind: FilterKind::Invert,

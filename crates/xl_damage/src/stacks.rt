@@ -25,7 +25,8 @@ pub(crate) fn stack_of(doc: &Document, id: NodeId) -> NodeId
 
 /// The stacks above a stack, the innermost first, and the whole image last.
 fn stacks_above(alloc: Global, doc: &Document, stack: NodeId) -> Result<Vec<NodeId>, AllocError>
-    ensures { IfOk result (λ stacks. numbers stacks.items ≡ damage.stacks_above doc.now.nodes stack.0) }
+    ensures { IfOk result (λ stacks. numbers stacks.items ≡ damage.stacks_above doc.now.nodes
+        stack.0) }
 {
     let mut stacks = Vec::new(alloc);
     if stack.0 == 0 || doc.tree.find(stack).is_none() {

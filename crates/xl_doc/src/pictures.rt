@@ -24,5 +24,6 @@ pub trait Pictures {
         requires stack { IsSome (stack_at node.0 doc.now.nodes) }
         requires inside { IsInside doc.now.width doc.now.height rect }
         requires room { length out.old ≡ 4 * (rect.w * rect.h) }
-        ensures { OnOk result (out.new ≡ picture_bytes doc.now node.0 (part_above_0 rect.x) (part_above_0 rect.y) rect.w rect.h) };
+        ensures { OnOk result (out.new ≡ picture_bytes doc.now node.0 (part_above_0 rect.x)
+            (part_above_0 rect.y) rect.w rect.h) };
 }

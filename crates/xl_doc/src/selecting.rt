@@ -69,7 +69,8 @@ fn plane_row(plane: &Plane, x: i32, y: i32, out: &mut [u8], scratch: &mut [u8])
     requires near { IsNear x }
     requires short { length out.old ≤ MAX_SIDE }
     ensures length { length out.new ≡ length out.old }
-    ensures each { (k : ℕ) → k < length out.old → slice_index out.new k ≡ byte_or_0 plane.now (x +ℤ pos k) y }
+    ensures each { (k : ℕ) → k < length out.old → slice_index out.new k ≡ byte_or_0 plane.now
+        (x +ℤ pos k) y }
 {
     out.fill(0);
     let from = above_0(x);
@@ -103,7 +104,8 @@ impl Document {
         requires near { IsNear x }
         requires short { length out.old ≤ MAX_SIDE }
         ensures length { length out.new ≡ length out.old }
-        ensures each { (k : ℕ) → k < length out.old → slice_index out.new k ≡ selected self.now (x +ℤ pos k) y }
+        ensures each { (k : ℕ) → k < length out.old → slice_index out.new k ≡ selected self.now
+            (x +ℤ pos k) y }
     {
         match &self.selection {
             None => out.fill(255),

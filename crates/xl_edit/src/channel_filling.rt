@@ -39,8 +39,10 @@ fn channel_bytes(
     rect: Rect,
     value: u8,
 ) -> Result<Vec<u8>, EditRefusedOrMemory>
-    ensures refused { IfErr result (IsCause (refusal doc.now (edits.fill_channel index rect value))) }
-    ensures allowed { IfOk result (λ bytes. refusal doc.now (edits.fill_channel index rect value) ≡ None) }
+    ensures refused { IfErr result
+        (IsCause (refusal doc.now (edits.fill_channel index rect value))) }
+    ensures allowed { IfOk result (λ bytes. refusal doc.now (edits.fill_channel index rect value)
+        ≡ None) }
     ensures there { IfOk result (λ bytes. index < length doc.now.channels) }
     ensures paints { IfOk result (λ bytes. PaintsChannel doc.now index rect value bytes.items) }
 {
@@ -61,11 +63,15 @@ fn fillable_channel(
     rect: Rect,
     value: u8,
 ) -> Result<&Channel, EditRefused>
-    ensures refused { IfErr result (λ cause. refusal doc.now (edits.fill_channel index rect value) ≡ Some cause) }
-    ensures allowed { IfOk result (λ channel. refusal doc.now (edits.fill_channel index rect value) ≡ None) }
+    ensures refused { IfErr result (λ cause. refusal doc.now (edits.fill_channel index rect value)
+        ≡ Some cause) }
+    ensures allowed { IfOk result (λ channel. refusal doc.now (edits.fill_channel index rect value)
+        ≡ None) }
     ensures there { IfOk result (λ channel. index < length doc.now.channels) }
-    ensures channel { IfOk result (λ channel. channel.now ≡ slice_index_or doc.now.channels index channel.now) }
-    ensures within { IfOk result (λ channel. IsWithin channel.now.plane.width channel.now.plane.height rect) }
+    ensures channel { IfOk result (λ channel. channel.now ≡ slice_index_or doc.now.channels index
+        channel.now) }
+    ensures within { IfOk result (λ channel. IsWithin channel.now.plane.width
+        channel.now.plane.height rect) }
     ensures bpp { IfOk result (λ channel. channel.now.plane.bpp ≡ 1) }
 {
     if index as usize >= doc.channels.len() {
@@ -87,7 +93,8 @@ fn put_channel(
 ) -> Result<(), AllocError>
     requires there { index < length channels.old }
     requires piece { IsChannelPiece rect bytes.now index channels.old }
-    ensures ok { OnOk result (channels.new ≡ changed_at index (with_plane (λ p. written p rect bytes.now)) channels.old) }
+    ensures ok { OnOk result (channels.new ≡ changed_at index
+        (with_plane (λ p. written p rect bytes.now)) channels.old) }
     ensures err { OnErr result (channels.new ≡ channels.old) }
 {
     let channel = channels.get_mut(index);

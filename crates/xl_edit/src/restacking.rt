@@ -35,10 +35,10 @@ pub(crate) fn restack(
 fn move_node(tree: &mut Tree<Node>, id: NodeId, parent: NodeId, place: u32)
     requires marks { MarksAgree tree.old }
     requires free { restack_refusal id.0 parent.0 place (nodes_of tree.old) ≡ None }
-    requires low { levels (put_into parent.0 place (branch_of id.0 (nodes_of tree.old)) (without id.0 (nodes_of tree.old)))
-        ≤ MAX_DEPTH }
-    ensures done { nodes_of tree.new
-        ≡ put_into parent.0 place (branch_of id.0 (nodes_of tree.old)) (without id.0 (nodes_of tree.old)) }
+    requires low { levels (put_into parent.0 place (branch_of id.0 (nodes_of tree.old))
+        (without id.0 (nodes_of tree.old))) ≤ MAX_DEPTH }
+    ensures done { nodes_of tree.new ≡ put_into parent.0 place (branch_of id.0 (nodes_of tree.old))
+        (without id.0 (nodes_of tree.old)) }
     ensures marks { MarksAgree tree.new }
 {
     let Ok(()) = tree.restack(id, parent, place) else {
@@ -48,7 +48,8 @@ fn move_node(tree: &mut Tree<Node>, id: NodeId, parent: NodeId, place: u32)
 
 // Errors: `NoNode`, `NotGroup`, `Inside`, `BadPlace`, `TooDeep`.
 fn check_restack(doc: &Document, id: NodeId, parent: NodeId, place: u32) -> Result<(), EditRefused>
-    ensures refused { IfErr result (λ cause. refusal doc.now (edits.restack id.0 parent.0 place) ≡ Some cause) }
+    ensures refused { IfErr result (λ cause. refusal doc.now (edits.restack id.0 parent.0 place)
+        ≡ Some cause) }
     ensures allowed { OnOk result (refusal doc.now (edits.restack id.0 parent.0 place) ≡ None) }
 {
     check_node(doc, id)?;

@@ -35,7 +35,8 @@ fn weigh_pixels(doc: &Document, site: Site, x: u32, y: u32, weights: &mut [u8], 
     requires row { y ≤ MAX_SIDE }
     requires short { length weights.old ≤ MAX_SIDE }
     ensures size { length weights.new ≡ length weights.old }
-    ensures each { (k : ℕ) → k < length weights.old → slice_index weights.new k ≡ weight_at doc.now site (x + k) y }
+    ensures each { (k : ℕ) → k < length weights.old → slice_index weights.new k ≡ weight_at doc.now
+        site (x + k) y }
 {
     let (column, row) = on_canvas(site, x, y);
     doc.selected_row(column, row, weights, scratch);

@@ -10,10 +10,13 @@ use std::alloc::{AllocError, AllocFailed, Global};
 /// The place of what is kept under a name, if anything is.
 pub fn place_of(files: &[Kept], name: &str) -> Option<usize>
     ensures within { IfSome result (λ i. i < length files.now) }
-    ensures named { IfSome result (λ i. (d : Standing) → (slice_index_or files.now i d).name ≡ name.now) }
-    ensures found { IfSome result (λ i. (d : Standing) → found files.now name.now ≡ slice_index_or files.now i d) }
+    ensures named { IfSome result (λ i. (d : Standing) → (slice_index_or files.now i d).name
+        ≡ name.now) }
+    ensures found { IfSome result (λ i. (d : Standing) → found files.now name.now
+        ≡ slice_index_or files.now i d) }
     ensures known { is_some result ≡ is_known files.now name.now }
-    ensures none { is_none result ≡ true → found files.now name.now ≡ record { name = name.now; read = absent; others = [] } }
+    ensures none { is_none result ≡ true → found files.now name.now
+        ≡ record { name = name.now; read = absent; others = [] } }
 {
     for (i, file) in files.iter().enumerate() {
         if file.is_named(name) {
@@ -49,7 +52,8 @@ pub fn bring(
     name: &str,
 ) -> Result<(), AllocError>
     ensures selected { OnOk result (option_map (λ k. k.name) here.new ≡ Some name.now) }
-    ensures same { (other : List ℕ) → standing here.new files.new.items other ≡ standing here.old files.old.items other }
+    ensures same { (other : List ℕ) → standing here.new files.new.items other ≡ standing here.old
+        files.old.items other }
     ensures known { KnowsToo result name.now here.old files.old.items here.new files.new.items }
     ensures as_before { OnErr result (here.new ≡ here.old) }
 {

@@ -87,7 +87,8 @@ impl MemoryShelf {
 
     /// The bytes that a read of a name gives, if there is a file.
     pub fn file(&self, name: &str) -> Option<&[u8]>
-        ensures { content_of (option_copied result) ≡ (standing self.now.here self.now.files name.now).read }
+        ensures { content_of (option_copied result)
+            ≡ (standing self.now.here self.now.files name.now).read }
     {
         match kept_of(&self.here, &self.files, name) {
             Some(kept) => kept.read(),
@@ -128,8 +129,8 @@ impl MemoryShelf {
 fn kept_of<'a>(here: &'a Option<Kept>, files: &'a [Kept], name: &str) -> Option<&'a Kept>
     ensures some { IfSome (option_copied result) (λ k. k ≡ standing here.now files.now name.now) }
     ensures known { is_some (option_copied result) ≡ is_known_at here.now files.now name.now }
-    ensures none { option_copied result ≡ None
-        → standing here.now files.now name.now ≡ record { name = name.now; read = absent; others = [] } }
+    ensures none { option_copied result ≡ None → standing here.now files.now name.now
+        ≡ record { name = name.now; read = absent; others = [] } }
 {
     if let Some(kept) = here
         && kept.is_named(name)
@@ -160,9 +161,10 @@ impl MemoryShelf {
         ensures closed { OnOk result (self.new.draft ≡ None) }
         ensures here { OnErr result (self.new.here ≡ self.old.here) }
         ensures draft { OnErr result (self.new.draft ≡ self.old.draft) }
-        ensures same { (other : List ℕ)
-            → standing self.new.here self.new.files other ≡ standing self.old.here self.old.files other }
-        ensures known { KnowsToo result name.now self.old.here self.old.files self.new.here self.new.files }
+        ensures same { (other : List ℕ) → standing self.new.here self.new.files other
+            ≡ standing self.old.here self.old.files other }
+        ensures known { KnowsToo result name.now self.old.here self.old.files self.new.here
+            self.new.files }
         ensures log { NotesOrNot self.old.log self.new.log }
         ensures noted { OnOk result (Notes self.old.log self.new.log) }
         ensures loads { self.new.loads ≡ self.old.loads }
@@ -203,7 +205,8 @@ impl MemoryShelf {
     fn add_to_draft(&mut self, bytes: &[u8]) -> Result<(), Failed>
         requires { is_some self.old.draft ≡ true }
         ensures opened { is_some self.new.draft ≡ true }
-        ensures added { OnOk result ((draft_in self.new.draft).bytes ≡ (draft_in self.old.draft).bytes ++ bytes.now) }
+        ensures added { OnOk result ((draft_in self.new.draft).bytes
+            ≡ (draft_in self.old.draft).bytes ++ bytes.now) }
         ensures not_synced { (draft_in self.new.draft).is_synced ≡ false }
         ensures keeps { KeepsFiles self.old self.new }
         ensures noted { OnOk result (Notes self.old.log self.new.log) }
@@ -251,10 +254,13 @@ impl MemoryShelf {
         requires opened { is_some self.old.draft ≡ true }
         ensures closed { self.new.draft ≡ None }
         ensures files { self.new.files ≡ self.old.files }
-        ensures here { IfSome self.old.here (λ h. IsSwapped result h (draft_in self.old.draft) self.new.here) }
+        ensures here { IfSome self.old.here (λ h. IsSwapped result h (draft_in self.old.draft)
+            self.new.here) }
         ensures stopped { IsStopped self.old.calls → self.new.here ≡ self.old.here }
-        ensures listed { IsListed self.old.calls → (IsStopped self.old.calls → ⊥) → LeavesBoth self.old self.new }
-        ensures starved { OnErr result (NextCallFails self.old.calls ⊎ (self.new.here ≡ self.old.here)) }
+        ensures listed { IsListed self.old.calls → (IsStopped self.old.calls → ⊥)
+            → LeavesBoth self.old self.new }
+        ensures starved { OnErr result (NextCallFails self.old.calls ⊎
+            (self.new.here ≡ self.old.here)) }
         ensures log { NotesOrNot self.old.log self.new.log }
         ensures noted { OnOk result (Notes self.old.log self.new.log) }
         ensures loads { self.new.loads ≡ self.old.loads }
@@ -282,7 +288,8 @@ impl MemoryShelf {
         requires { IsSome self.old.here }
         ensures draft { self.new.draft ≡ self.old.draft }
         ensures files { self.new.files ≡ self.old.files }
-        ensures here { IfSome self.old.here (λ h. IsSettled result h self.old.log self.new.here self.new.log) }
+        ensures here { IfSome self.old.here (λ h. IsSettled result h self.old.log self.new.here
+            self.new.log) }
         ensures loads { self.new.loads ≡ self.old.loads }
         ensures ends { EndsSaving result self.old self.new }
     {
@@ -300,7 +307,8 @@ impl MemoryShelf {
     fn load_part(&mut self, at: u64, buf: &mut [u8]) -> Result<usize, Failed>
         requires { IsSome self.old.here }
         ensures within { IfOk result (λ k. k ≤ length buf.old) }
-        ensures given { IfOk result (λ k. IfSome (shown self.old) (λ c. GivesPart c at (length buf.old) (take k buf.new))) }
+        ensures given { IfOk result
+            (λ k. IfSome (shown self.old) (λ c. GivesPart c at (length buf.old) (take k buf.new))) }
         ensures draft { self.new.draft ≡ self.old.draft }
         ensures keeps { KeepsFiles self.old self.new }
         ensures noted { OnOk result (Notes self.old.log self.new.log) }
@@ -333,7 +341,8 @@ impl Shelf for MemoryShelf {
     fn select(&mut self, name: &str) -> Result<(), Failed>
         ensures selected { OnOk result (option_map (λ h. h.name) self.new.here ≡ Some name.now) }
         ensures closed { OnOk result (is_some self.new.draft ≡ false) }
-        ensures as_before { OnErr result (option_map (λ h. h.name) self.new.here ≡ option_map (λ h. h.name) self.old.here) }
+        ensures as_before { OnErr result (option_map (λ h. h.name) self.new.here
+            ≡ option_map (λ h. h.name) self.old.here) }
         ensures open_as_before { OnErr result (is_some self.new.draft ≡ is_some self.old.draft) }
         ensures draft_as_before { OnErr result (draft_in self.new.draft ≡ draft_in self.old.draft) }
         ensures contents { known_content self.new ≡ known_content self.old }
@@ -343,7 +352,8 @@ impl Shelf for MemoryShelf {
         ensures loads { self.new.loads ≡ self.old.loads }
         ensures cause { HasCause self.old.calls.reading self.new.calls.reading result }
         ensures ends { EndsReading ⊥ result self.old self.new }
-        ensures known { KnowsToo result name.now self.old.here self.old.files self.new.here self.new.files }
+        ensures known { KnowsToo result name.now self.old.here self.old.files self.new.here
+            self.new.files }
     {
         self.select_name(name)
     }
@@ -351,8 +361,10 @@ impl Shelf for MemoryShelf {
     fn load(&mut self, at: u64, buf: &mut [u8]) -> Result<usize, Failed>
         requires { IsSome self.old.here }
         ensures within { IfOk result (λ k. k ≤ length buf.old) }
-        ensures given { IfOk result (λ k. IfSome (shown self.old) (λ c. GivesPart c at (length buf.old) (take k buf.new))) }
-        ensures selected { option_map (λ h. h.name) self.new.here ≡ option_map (λ h. h.name) self.old.here }
+        ensures given { IfOk result
+            (λ k. IfSome (shown self.old) (λ c. GivesPart c at (length buf.old) (take k buf.new))) }
+        ensures selected { option_map (λ h. h.name) self.new.here ≡ option_map (λ h. h.name)
+            self.old.here }
         ensures opened { is_some self.new.draft ≡ is_some self.old.draft }
         ensures draft { draft_in self.new.draft ≡ draft_in self.old.draft }
         ensures contents { known_content self.new ≡ known_content self.old }
@@ -371,7 +383,8 @@ impl Shelf for MemoryShelf {
         ensures opened { OnOk result (is_some self.new.draft ≡ true) }
         ensures empty { OnOk result (draft_in self.new.draft ≡ empty_draft) }
         ensures closed { OnErr result (is_some self.new.draft ≡ false) }
-        ensures selected { option_map (λ h. h.name) self.new.here ≡ option_map (λ h. h.name) self.old.here }
+        ensures selected { option_map (λ h. h.name) self.new.here ≡ option_map (λ h. h.name)
+            self.old.here }
         ensures quiet { IsQuiet (disk_of self.old) (disk_of self.new) }
         ensures advances { OnOk result (length self.old.log < length self.new.log) }
         ensures reading { self.new.calls.reading ≡ self.old.calls.reading }
@@ -386,9 +399,11 @@ impl Shelf for MemoryShelf {
         requires selected { IsSome self.old.here }
         requires opened { is_some self.old.draft ≡ true }
         ensures opened { is_some self.new.draft ≡ true }
-        ensures added { OnOk result ((draft_in self.new.draft).bytes ≡ (draft_in self.old.draft).bytes ++ bytes.now) }
+        ensures added { OnOk result ((draft_in self.new.draft).bytes
+            ≡ (draft_in self.old.draft).bytes ++ bytes.now) }
         ensures not_synced { (draft_in self.new.draft).is_synced ≡ false }
-        ensures selected { option_map (λ h. h.name) self.new.here ≡ option_map (λ h. h.name) self.old.here }
+        ensures selected { option_map (λ h. h.name) self.new.here ≡ option_map (λ h. h.name)
+            self.old.here }
         ensures quiet { IsQuiet (disk_of self.old) (disk_of self.new) }
         ensures advances { OnOk result (length self.old.log < length self.new.log) }
         ensures reading { self.new.calls.reading ≡ self.old.calls.reading }
@@ -403,10 +418,12 @@ impl Shelf for MemoryShelf {
         requires selected { IsSome self.old.here }
         requires opened { is_some self.old.draft ≡ true }
         ensures opened { is_some self.new.draft ≡ true }
-        ensures bytes { OnOk result ((draft_in self.new.draft).bytes ≡ (draft_in self.old.draft).bytes) }
+        ensures bytes { OnOk result ((draft_in self.new.draft).bytes
+            ≡ (draft_in self.old.draft).bytes) }
         ensures synced { OnOk result ((draft_in self.new.draft).is_synced ≡ true) }
         ensures not_synced { OnErr result ((draft_in self.new.draft).is_synced ≡ false) }
-        ensures selected { option_map (λ h. h.name) self.new.here ≡ option_map (λ h. h.name) self.old.here }
+        ensures selected { option_map (λ h. h.name) self.new.here ≡ option_map (λ h. h.name)
+            self.old.here }
         ensures quiet { IsQuiet (disk_of self.old) (disk_of self.new) }
         ensures advances { OnOk result (length self.old.log < length self.new.log) }
         ensures reading { self.new.calls.reading ≡ self.old.calls.reading }
@@ -423,15 +440,18 @@ impl Shelf for MemoryShelf {
         ensures closed { is_some self.new.draft ≡ false }
         ensures swaps { IfSome (option_map (λ h. h.name) self.old.here)
             (λ name. SwapsIn result name (disk_of self.old) (disk_of self.new)) }
-        ensures selected { option_map (λ h. h.name) self.new.here ≡ option_map (λ h. h.name) self.old.here }
+        ensures selected { option_map (λ h. h.name) self.new.here ≡ option_map (λ h. h.name)
+            self.old.here }
         ensures advances { OnOk result (length self.old.log < length self.new.log) }
         ensures reading { self.new.calls.reading ≡ self.old.calls.reading }
         ensures loads { self.new.loads ≡ self.old.loads }
         ensures cause { HasCause self.old.calls.saving self.new.calls.saving result }
         ensures ends { EndsSaving result self.old self.new }
         ensures stopped { IsStopped self.old.calls → self.new.here ≡ self.old.here }
-        ensures listed { IsListed self.old.calls → (IsStopped self.old.calls → ⊥) → LeavesBoth self.old self.new }
-        ensures starved { OnErr result (NextCallFails self.old.calls ⊎ (self.new.here ≡ self.old.here)) }
+        ensures listed { IsListed self.old.calls → (IsStopped self.old.calls → ⊥)
+            → LeavesBoth self.old self.new }
+        ensures starved { OnErr result (NextCallFails self.old.calls ⊎
+            (self.new.here ≡ self.old.here)) }
     {
         self.swap_draft()
     }
@@ -442,7 +462,8 @@ impl Shelf for MemoryShelf {
         ensures draft { draft_in self.new.draft ≡ draft_in self.old.draft }
         ensures settles { IfSome (option_map (λ h. h.name) self.old.here)
             (λ name. SettlesAt result name (disk_of self.old) (disk_of self.new)) }
-        ensures selected { option_map (λ h. h.name) self.new.here ≡ option_map (λ h. h.name) self.old.here }
+        ensures selected { option_map (λ h. h.name) self.new.here ≡ option_map (λ h. h.name)
+            self.old.here }
         ensures advances { OnOk result (length self.old.log < length self.new.log) }
         ensures reading { self.new.calls.reading ≡ self.old.calls.reading }
         ensures loads { self.new.loads ≡ self.old.loads }
@@ -456,7 +477,8 @@ impl Shelf for MemoryShelf {
 // The bytes that a read gives from an offset on, as many as there is room for.
 fn give(kept: &Kept, at: u64, buf: &mut [u8]) -> Result<usize, Failed>
     ensures within { IfOk result (λ k. k ≤ length buf.old) }
-    ensures given { IfOk result (λ k. GivesPart kept.now.read at (length buf.old) (take k buf.new)) }
+    ensures given { IfOk result (λ k. GivesPart kept.now.read at (length buf.old)
+        (take k buf.new)) }
     ensures absent { OnErr result (kept.now.read ≡ absent) }
 {
     let Some(bytes) = kept.read() else {

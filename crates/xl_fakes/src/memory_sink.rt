@@ -31,7 +31,8 @@ impl MemorySink {
     /// A sink that takes at most `step` bytes at a time, and fails at the writes whose numbers from 0 are in `fails`.
     pub fn new(alloc: Global, step: usize, fails: Vec<u32>) -> Self
         requires { 0 < step }
-        ensures { result ≡ record { held = []; step = step; starved = 0; calls = no_calls fails.items } }
+        ensures { result ≡ record { held = []; step = step; starved = 0; calls = no_calls
+            fails.items } }
     {
         MemorySink {
             held: Vec::new(alloc),
@@ -68,7 +69,8 @@ impl Sink for MemorySink {
         ensures as_before { OnErr result (self.new.held ≡ self.old.held) }
         ensures cause { HasCause self.old.calls.faults self.new.calls.faults result }
         ensures fails { NextFails self.old.calls → IsErr result }
-        ensures starved { OnErr result (NextFails self.old.calls ⊎ Rose self.old.starved self.new.starved) }
+        ensures starved { OnErr result (NextFails self.old.calls ⊎ Rose self.old.starved
+            self.new.starved) }
         ensures step { IfOk result (λ k. k ≤ self.old.step) }
         ensures same_step { self.new.step ≡ self.old.step }
         ensures not_starved { OnOk result (self.new.starved ≡ self.old.starved) }

@@ -26,7 +26,8 @@ pub fn settle_kept(
     kept: &mut Kept,
     log: &mut Vec<Option<Settled>>,
 ) -> Result<(), AllocError>
-    ensures kept { OnOk result (kept.new ≡ record { name = kept.old.name; read = kept.old.read; others = [] }) }
+    ensures kept { OnOk result
+        (kept.new ≡ record { name = kept.old.name; read = kept.old.read; others = [] }) }
     ensures log { OnOk result (log.new.items ≡ log.old.items
         ++ Some (record { name = kept.old.name; gone = kept.old.others }) ∷ []) }
     ensures kept_err { OnErr result (kept.new ≡ kept.old) }

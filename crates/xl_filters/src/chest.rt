@@ -36,7 +36,8 @@ impl Chest {
         boxes: Vec<Box<dyn PointFilter + Send>>,
     ) -> Result<Chest, AllocFailed<Vec<Box<dyn PointFilter + Send>>>>
         requires { length boxes.items < 2 ^ 32 }
-        ensures chest { IfOk result (λ c. states (λ s. state s.filter) c ≡ map (λ b. Some (state b)) boxes.items) }
+        ensures chest { IfOk result (λ c. states (λ s. state s.filter) c ≡ map (λ b. Some (state b))
+            boxes.items) }
         ensures back { IfErr result (λ failed. failed.value ≡ boxes) }
     {
         match Vec::with_capacity(alloc, boxes.len()) {
@@ -67,7 +68,8 @@ impl Chest {
     /// The table of the filter in a slot. This is one use more of that filter.
     pub fn table(&mut self, slot: u32) -> Table
         requires { IsTrue (has_slot (states (λ s. state s.filter) self.old) slot) }
-        ensures table { IfSome (state_at (states (λ s. state s.filter) self.old) slot) (λ s. result ≡ table_of s) }
+        ensures table { IfSome (state_at (states (λ s. state s.filter) self.old) slot)
+            (λ s. result ≡ table_of s) }
         ensures after { states (λ s. state s.filter) self.new
             ≡ slice_set (states (λ s. state s.filter) self.old) slot
             (option_map after_use (state_at (states (λ s. state s.filter) self.old) slot)) }
@@ -81,7 +83,8 @@ impl Chest {
     /// Drops the filter in a slot. The slot's number is not used again.
     pub fn forget(&mut self, slot: u32)
         requires { IsTrue (has_slot (states (λ s. state s.filter) self.old) slot) }
-        ensures { states (λ s. state s.filter) self.new ≡ slice_set (states (λ s. state s.filter) self.old) slot None }
+        ensures { states (λ s. state s.filter) self.new ≡ slice_set
+            (states (λ s. state s.filter) self.old) slot None }
     {
         self.slots[slot as usize] = None;
     }

@@ -26,7 +26,8 @@ fn add_row(list: &mut Vec<TileAt>, rect: Rect, w: u32, h: u32, row: u32) -> Resu
     requires width { w ≤ 2 ^ 20 }
     requires height { h ≤ 2 ^ 20 }
     requires row { row < tiles.tiles_along h }
-    ensures { OnOk result (list.new.items ≡ list.old.items ++ row_of rect w h row (tiles.tiles_along w)) }
+    ensures { OnOk result (list.new.items ≡ list.old.items ++ row_of rect w h row
+        (tiles.tiles_along w)) }
 {
     for col in 0..grid(w, h).0 {
         let at = TileAt { col, row };

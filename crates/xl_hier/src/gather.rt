@@ -39,7 +39,8 @@ pub fn append_tile(
 fn gather_pixels(tile: &[u8], bpp: usize, c: usize, out: &mut [u8])
     requires tile { length tile.now ≡ length out.old * bpp }
     requires byte { c < bpp }
-    ensures { (k : ℕ) → k < length out.old → slice_index out.new k ≡ slice_index tile.now (k * bpp + c) }
+    ensures { (k : ℕ) → k < length out.old → slice_index out.new k ≡ slice_index tile.now
+        (k * bpp + c) }
 {
     for k in 0..out.len() {
         out[k] = tile[k * bpp + c];
@@ -52,7 +53,8 @@ pub fn gather(plane: &Plane, spot: TileAt, tile: &[u8], c: u32, out: &mut [u8])
     requires row { spot.row < grid.tiles_along plane.now.height }
     requires tile { tile.now ≡ tiles.tile_bytes plane.now spot }
     requires byte { c < plane.now.bpp }
-    requires out { length out.old ≡ tiles.tile_width plane.now.width spot * tiles.tile_height plane.now.height spot }
+    requires out { length out.old ≡ tiles.tile_width plane.now.width spot * tiles.tile_height
+        plane.now.height spot }
     ensures { out.new ≡ tiles.tile_plane plane.now spot c }
 {
     gather_pixels(tile, plane.bpp() as usize, c as usize, out);
@@ -62,7 +64,8 @@ pub fn gather(plane: &Plane, spot: TileAt, tile: &[u8], c: u32, out: &mut [u8])
 pub fn tile_pixels(plane: &Plane, spot: TileAt) -> usize
     requires column { spot.col < grid.tiles_along plane.now.width }
     requires row { spot.row < grid.tiles_along plane.now.height }
-    ensures value { result ≡ tiles.tile_width plane.now.width spot * tiles.tile_height plane.now.height spot }
+    ensures value { result ≡ tiles.tile_width plane.now.width spot * tiles.tile_height
+        plane.now.height spot }
     ensures some { 1 ≤ result }
     ensures few { result ≤ 4096 }
 {

@@ -34,9 +34,9 @@ fn append_words(alloc: Global, out: &mut Vec<u8>, values: &[u32]) -> Result<(), 
 // Appends the hierarchy, and the sides of its level behind it.
 fn append_heads(alloc: Global, plane: &Plane, out: &mut Vec<u8>) -> Result<(), AllocError>
     requires { vec_len out.old < 2 ^ 31 }
-    ensures ok { OnOk result (out.new.items ≡ out.old.items
-        ++ words (plane.now.width ∷ plane.now.height ∷ plane.now.bpp ∷ (vec_len out.old + 20) ∷ 0 ∷ plane.now.width
-        ∷ plane.now.height ∷ [])) }
+    ensures ok { OnOk result (out.new.items ≡ out.old.items ++ words
+        (plane.now.width ∷ plane.now.height ∷ plane.now.bpp ∷ (vec_len out.old + 20) ∷ 0
+        ∷ plane.now.width ∷ plane.now.height ∷ [])) }
     ensures front { BeginsWith out.new.items out.old.items }
 {
     let width = plane.width();
@@ -71,13 +71,16 @@ fn write_tiles<C: PlaneCoder>(
 ) -> Result<(), AllocError>
     requires compression { compression ≤ 1 }
     requires short { table < 2 ^ 31 + 28 }
-    requires table { vec_len out.old ≡ table + 4 * (grid.tiles_along plane.now.height * grid.tiles_along plane.now.width) + 4 }
-    requires zeros { drop table out.old.items
-        ≡ replicate (4 * (grid.tiles_along plane.now.height * grid.tiles_along plane.now.width) + 4) 0 }
+    requires table { vec_len out.old ≡ table + 4 * (grid.tiles_along plane.now.height
+        * grid.tiles_along plane.now.width) + 4 }
+    requires zeros { drop table out.old.items ≡ replicate
+        (4 * (grid.tiles_along plane.now.height * grid.tiles_along plane.now.width) + 4) 0 }
     requires scratch { length scratch.old ≡ 4096 }
     requires unpacked { length unpacked.old ≡ SCRATCH }
-    ensures ok { OnOk result (TilesFilled C.fits compression plane.now table out.old.items out.new.items) }
-    ensures followed { OnOk result (FollowsEach C.follows coder.old (byte_planes compression plane.now) coder.new) }
+    ensures ok { OnOk result (TilesFilled C.fits compression plane.now table out.old.items
+        out.new.items) }
+    ensures followed { OnOk result (FollowsEach C.follows coder.old
+        (byte_planes compression plane.now) coder.new) }
     ensures front { take table out.new.items ≡ take table out.old.items }
 {
     let (columns, rows) = xl_grid::grid(plane.width(), plane.height());
@@ -112,9 +115,12 @@ fn append_plane<C: PlaneCoder>(
 ) -> Result<(), AllocError>
     requires short { vec_len out.old < 2 ^ 31 }
     requires compression { compression ≤ 1 }
-    ensures written { OnOk result (PlaneAppended C.fits compression plane.now out.old.items out.new.items) }
-    ensures held { OnOk result (HasPlane out.new.items (length out.old.items) compression plane.now) }
-    ensures followed { OnOk result (FollowsEach C.follows coder.old (byte_planes compression plane.now) coder.new) }
+    ensures written { OnOk result (PlaneAppended C.fits compression plane.now out.old.items
+        out.new.items) }
+    ensures held { OnOk result (HasPlane out.new.items (length out.old.items) compression
+        plane.now) }
+    ensures followed { OnOk result (FollowsEach C.follows coder.old
+        (byte_planes compression plane.now) coder.new) }
     ensures front { BeginsWith out.new.items out.old.items }
 {
     append_heads(alloc, plane, out)?;
@@ -148,9 +154,12 @@ pub fn write_hierarchy<C: PlaneCoder>(
 ) -> Result<(), AllocError>
     requires short { vec_len out.old < 2 ^ 31 }
     requires compression { compression ≤ 1 }
-    ensures written { OnOk result (PlaneAppended C.fits compression plane.now out.old.items out.new.items) }
-    ensures held { OnOk result (HasPlane out.new.items (length out.old.items) compression plane.now) }
-    ensures followed { OnOk result (FollowsEach C.follows coder.old (byte_planes compression plane.now) coder.new) }
+    ensures written { OnOk result (PlaneAppended C.fits compression plane.now out.old.items
+        out.new.items) }
+    ensures held { OnOk result (HasPlane out.new.items (length out.old.items) compression
+        plane.now) }
+    ensures followed { OnOk result (FollowsEach C.follows coder.old
+        (byte_planes compression plane.now) coder.new) }
     ensures err { OnErr result (out.new.items ≡ out.old.items) }
 {
     let before = out.len();

@@ -28,7 +28,8 @@ fn append_spellings<C: PlaneCoder>(
     requires scratch { length scratch.old ≡ 4096 }
     requires unpacked { length unpacked.old ≡ SCRATCH }
     ensures ok { OnOk result (TileAppended C.fits 1 plane.now spot out.old.items out.new.items) }
-    ensures followed { OnOk result (FollowsEach C.follows coder.old (tile_planes 1 plane.now spot) coder.new) }
+    ensures followed { OnOk result (FollowsEach C.follows coder.old (tile_planes 1 plane.now spot)
+        coder.new) }
     ensures front { BeginsWith out.new.items out.old.items }
 {
     let n = tile_pixels(plane, spot);
@@ -44,8 +45,10 @@ fn append_spellings<C: PlaneCoder>(
 fn kept_codes<'a, C: PlaneCoder>(plane: &'a Plane, spot: TileAt, coder: &C) -> Option<&'a [u8]>
     requires column { spot.col < grid.tiles_along plane.now.width }
     requires row { spot.row < grid.tiles_along plane.now.height }
-    ensures codes { IfSome result (λ codes. AreSpelled C.fits codes.now (tile_planes 1 plane.now spot)) }
-    ensures followed { IfSome result (λ codes. FollowsEach C.follows coder.now (tile_planes 1 plane.now spot) coder.now) }
+    ensures codes { IfSome result (λ codes. AreSpelled C.fits codes.now
+        (tile_planes 1 plane.now spot)) }
+    ensures followed { IfSome result (λ codes. FollowsEach C.follows coder.now
+        (tile_planes 1 plane.now spot) coder.now) }
 {
     if coder.keeps() {
         plane.tile_codes(spot)
@@ -76,7 +79,8 @@ fn append_run_length<C: PlaneCoder>(
     requires scratch { length scratch.old ≡ 4096 }
     requires unpacked { length unpacked.old ≡ SCRATCH }
     ensures ok { OnOk result (TileAppended C.fits 1 plane.now spot out.old.items out.new.items) }
-    ensures followed { OnOk result (FollowsEach C.follows coder.old (tile_planes 1 plane.now spot) coder.new) }
+    ensures followed { OnOk result (FollowsEach C.follows coder.old (tile_planes 1 plane.now spot)
+        coder.new) }
     ensures front { BeginsWith out.new.items out.old.items }
 {
     if let Some(codes) = kept_codes(plane, spot, coder) {
@@ -104,8 +108,10 @@ pub fn write_tile<C: PlaneCoder>(
     requires compression { compression ≤ 1 }
     requires scratch { length scratch.old ≡ 4096 }
     requires unpacked { length unpacked.old ≡ SCRATCH }
-    ensures ok { OnOk result (TileAppended C.fits compression plane.now spot out.old.items out.new.items) }
-    ensures followed { OnOk result (FollowsEach C.follows coder.old (tile_planes compression plane.now spot) coder.new) }
+    ensures ok { OnOk result (TileAppended C.fits compression plane.now spot out.old.items
+        out.new.items) }
+    ensures followed { OnOk result (FollowsEach C.follows coder.old
+        (tile_planes compression plane.now spot) coder.new) }
     ensures front { BeginsWith out.new.items out.old.items }
 {
     if compression == 0 {

@@ -71,7 +71,8 @@ impl Damage {
         requires positive { 1 ≤ next_id }
         requires above { AllByRecursion (λ id. id < next_id) (ids before.now.nodes) }
         requires made { IsMade before.now after.now next_id (edit_of edit.now) }
-        ensures added { OnOk result (self.new ≡ self.old ++ damage.damage before.now (edit_of edit.now)) }
+        ensures added { OnOk result (self.new ≡ self.old ++ damage.damage before.now
+            (edit_of edit.now)) }
         ensures as_before { OnErr result (self.new ≡ self.old) }
     {
         let list = damage_between(alloc, before, after, next_id, edit)?;

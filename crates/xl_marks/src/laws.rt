@@ -14,7 +14,8 @@ pub fn gone_along_is_between()
 
 /// The damage of each edit behind that of those before it has the rectangles of the group, for each stack.
 pub fn damage_of_a_group()
-    ensures { (old : At) (edits : List Edit) (tables : List (List ℕ)) → HasGroupDamage old edits tables }
+    ensures { (old : At) (edits : List Edit) (tables : List (List ℕ))
+        → HasGroupDamage old edits tables }
 {}
 
 /// From where a change leads to, it leads back.

@@ -13,7 +13,8 @@ use xl_tree::{Split, Stack};
 
 /// Adds the groups among these nodes, at any depth.
 fn add_groups(list: &mut Vec<NodeId>, nodes: Stack<'_, Node>) -> Result<(), AllocError>
-    ensures { OnOk result (numbers list.new.items ≡ numbers list.old.items ++ group_ids (nodes_of nodes.entry)) }
+    ensures { OnOk result (numbers list.new.items ≡ numbers list.old.items ++ group_ids
+        (nodes_of nodes.entry)) }
 {
     match nodes.split() {
         Split::Empty => Ok(()),

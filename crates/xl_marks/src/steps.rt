@@ -27,9 +27,11 @@ pub fn drop_stacks(cache: &mut Cache, stacks: &[NodeId], pool: &mut Pool)
 
 /// Gives blank slots of the pool to stacks.
 pub fn add_stacks(cache: &mut Cache, stacks: &[NodeId], pool: &mut Pool, version: u32)
-    requires coming { AreComing (numbers stacks.now) pool.old.width pool.old.height version cache.old }
+    requires coming { AreComing (numbers stacks.now) pool.old.width pool.old.height version
+        cache.old }
     requires enough { length stacks.now ≤ pool.old.count }
-    ensures cache { cache.new ≡ with_stacks (numbers stacks.now) pool.old.width pool.old.height version cache.old }
+    ensures cache { cache.new ≡ with_stacks (numbers stacks.now) pool.old.width pool.old.height
+        version cache.old }
     ensures pool { pool.new ≡ record pool.old { count = pool.old.count - length stacks.now } }
 {
     for stack in stacks {

@@ -12,15 +12,18 @@ use xl_save::save;
 /// At each moment a crash leaves what it might have left before, or the file; after Ok the file alone.
 pub fn save_smallest<D: Shelf>(file: &[u8], shelf: &mut D) -> Result<(), Failed>
     requires { IsSome (D.shelf_state shelf.old).selected }
-    ensures saved { OnOk result ((d : Document) → IsSmallestFile file.now d → IfSome (D.shelf_state shelf.old).selected
-        (λ name. HasSmallest name d (length file.now) (D.shelf_state shelf.old).disk (D.shelf_state shelf.new).disk)) }
-    ensures stopped { OnErr result ((d : Document) → IsSmallestFile file.now d → IfSome (D.shelf_state shelf.old).selected
-        (λ name. MayHaveSmallest name d (D.shelf_state shelf.old).disk (D.shelf_state shelf.new).disk)) }
+    ensures saved { OnOk result ((d : Document) → IsSmallestFile file.now d
+        → IfSome (D.shelf_state shelf.old).selected (λ name. HasSmallest name d (length file.now)
+        (D.shelf_state shelf.old).disk (D.shelf_state shelf.new).disk)) }
+    ensures stopped { OnErr result ((d : Document) → IsSmallestFile file.now d
+        → IfSome (D.shelf_state shelf.old).selected (λ name. MayHaveSmallest name d
+        (D.shelf_state shelf.old).disk (D.shelf_state shelf.new).disk)) }
     ensures closed { OnOk result ((D.shelf_state shelf.new).is_open ≡ false) }
     ensures selected { (D.shelf_state shelf.new).selected ≡ (D.shelf_state shelf.old).selected }
     ensures loads { (D.shelf_state shelf.new).loads ≡ (D.shelf_state shelf.old).loads }
     ensures reading { (D.shelf_state shelf.new).reading ≡ (D.shelf_state shelf.old).reading }
-    ensures cause { HasCause (D.shelf_state shelf.old).saving (D.shelf_state shelf.new).saving result }
+    ensures cause { HasCause (D.shelf_state shelf.old).saving (D.shelf_state shelf.new).saving
+        result }
 {
     save(file, shelf)
 }

@@ -49,7 +49,8 @@ fn spell_and_tell(alloc: Global, document: &Document) -> Result<Spelled, AllocEr
 /// The smallest file of a document, with the lines where they are asked for.
 pub fn spell(alloc: Global, document: &Document, with_plans: bool) -> Result<Spelled, AllocError>
     requires { IsDocument document.now }
-    ensures { IfOk result (λ s. IsSpelled document.now with_plans s.file.items s.lines.items s.planes) }
+    ensures { IfOk result (λ s. IsSpelled document.now with_plans s.file.items s.lines.items
+        s.planes) }
 {
     if with_plans {
         spell_and_tell(alloc, document)

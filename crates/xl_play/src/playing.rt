@@ -63,7 +63,8 @@ fn play_call<L: Ledger, D: Shelf, G: Gate>(
     steps: &mut Steps<L>,
     text: &mut String,
 ) -> Result<(), AllocError>
-    requires played { ArePlayed core.old.history.base core.old.history.entries (string_bytes text.old) }
+    requires played { ArePlayed core.old.history.base core.old.history.entries
+        (string_bytes text.old) }
     requires inside { IsSome core.old.shelf }
     requires index { index ≡ next_index core.old.history.entries 0 }
     requires few { length core.old.history.entries + 2 ≤ most_entries }
@@ -74,7 +75,8 @@ fn play_call<L: Ledger, D: Shelf, G: Gate>(
     ensures called { OnOk result (IsCalled core.old.history 0 (call_of call)
         (states_in state desk.old.chest) (states_in state desk.new.chest) core.new.history) }
     ensures kept { OnOk result (KeepsExactly core.new) }
-    ensures played { OnOk result (ArePlayed core.new.history.base core.new.history.entries (string_bytes text.new)) }
+    ensures played { OnOk result (ArePlayed core.new.history.base core.new.history.entries
+        (string_bytes text.new)) }
 {
     let seen = core.version();
     gate.pass(Actor::Session(ALONE), Place::BeforeCall);
@@ -92,16 +94,19 @@ fn play_save<D: Shelf, G: Gate>(
     index: u32,
     text: &mut String,
 ) -> Result<(), AllocError>
-    requires played { ArePlayed core.old.history.base core.old.history.entries (string_bytes text.old) }
+    requires played { ArePlayed core.old.history.base core.old.history.entries
+        (string_bytes text.old) }
     requires inside { IsSome core.old.shelf }
     requires selected { IsSome (D.shelf_state core.old.opening).selected }
     requires index { index ≡ next_index core.old.history.entries 0 }
     requires few { length core.old.history.entries + 2 ≤ most_entries }
     requires kept { KeepsExactly core.old }
     ensures between { IsBetweenLines core.old.history.base core.old.opening core.new }
-    ensures saved { OnOk result ((reply : Plain) × (core.new.history ≡ with_save core.old.history 0 reply)) }
+    ensures saved { OnOk result ((reply : Plain)
+        × (core.new.history ≡ with_save core.old.history 0 reply)) }
     ensures kept { OnOk result (KeepsExactly core.new) }
-    ensures played { OnOk result (ArePlayed core.new.history.base core.new.history.entries (string_bytes text.new)) }
+    ensures played { OnOk result (ArePlayed core.new.history.base core.new.history.entries
+        (string_bytes text.new)) }
 {
     gate.pass(Actor::Session(ALONE), Place::BeforeCall);
     let reply = save_latest(alloc, core, ALONE)?;
@@ -120,11 +125,13 @@ fn play_line<L: Ledger, D: Shelf, G: Gate>(
     steps: &mut Steps<L>,
     text: &mut String,
 ) -> Result<u32, AllocError>
-    requires played { ArePlayed core.old.history.base core.old.history.entries (string_bytes text.old) }
+    requires played { ArePlayed core.old.history.base core.old.history.entries
+        (string_bytes text.old) }
     requires inside { IsSome core.old.shelf }
     requires selected { IsSome (D.shelf_state core.old.opening).selected }
     requires index { index ≡ next_index core.old.history.entries 0 }
-    requires few { length core.old.history.entries + 2 * length (calls_of (line_of line ∷ [])) ≤ most_entries }
+    requires few { length core.old.history.entries + 2 * length (calls_of (line_of line ∷ []))
+        ≤ most_entries }
     requires kept { KeepsExactly core.old }
     requires fit { FitsChest (states_in state desk.old.chest) (line_of line) }
     ensures between { IsBetweenLines core.old.history.base core.old.opening core.new }
@@ -132,7 +139,8 @@ fn play_line<L: Ledger, D: Shelf, G: Gate>(
         (states_in state desk.old.chest) (states_in state desk.new.chest) core.new.history) }
     ensures next { IfOk result (λ next. next ≡ next_index core.new.history.entries 0) }
     ensures kept { OnOk result (KeepsExactly core.new) }
-    ensures played { OnOk result (ArePlayed core.new.history.base core.new.history.entries (string_bytes text.new)) }
+    ensures played { OnOk result (ArePlayed core.new.history.base core.new.history.entries
+        (string_bytes text.new)) }
 {
     match line {
         Line::Call(call) => {
@@ -170,8 +178,10 @@ fn play_lines<L: Ledger, D: Shelf, G: Gate>(
     requires fit { AreFit (length boxes.items) [] (lines_of lines.items) }
     requires few { 2 * length (calls_of (lines_of lines.items)) ≤ most_entries }
     ensures between { IsBetweenLines core.old.history.base core.old.opening core.new }
-    ensures made { OnOk result (AreMade (map (λ b. state b) boxes.items) (lines_of lines.items) core.new.history.entries) }
-    ensures played { IfOk result (λ text. ArePlayed core.new.history.base core.new.history.entries (string_bytes text)) }
+    ensures made { OnOk result (AreMade (map (λ b. state b) boxes.items) (lines_of lines.items)
+        core.new.history.entries) }
+    ensures played { IfOk result (λ text. ArePlayed core.new.history.base core.new.history.entries
+        (string_bytes text)) }
 {
     let mut desk = desk_of(alloc, boxes)?;
     let mut steps = Steps::<L>::new(blank);
@@ -230,7 +240,8 @@ pub fn play<D: Shelf, G: Gate>(
     requires inside { IsSome core.old.shelf }
     requires selected { IsSome (D.shelf_state core.old.opening).selected }
     requires boxes { AllByRecursion (λ boxes. length boxes.items < 2 ^ 32) chest.items }
-    requires fits { FitsFilters (map length (states_of (λ b. state b) chest.items)) (lists_of script) }
+    requires fits { FitsFilters (map length (states_of (λ b. state b) chest.items))
+        (lists_of script) }
     ensures between { IsBetweenLines core.old.history.base core.old.opening core.new }
     ensures told { IfOk result (IsToldOf core.old.history.base (lists_of script)
         (states_of (λ b. state b) chest.items) 0 core.new.history.entries) }

@@ -27,7 +27,8 @@ pub fn save_latest<D: Shelf>(
     requires few { length core.old.history.entries + 2 ≤ most_entries }
     requires kept { KeepsExactly core.old }
     ensures between { IsBetweenLines core.old.history.base core.old.opening core.new }
-    ensures saved { IfOk result (λ reply. core.new.history ≡ with_save core.old.history session (reply_of reply)) }
+    ensures saved { IfOk result (λ reply. core.new.history ≡ with_save core.old.history session
+        (reply_of reply)) }
     ensures text { IfOk result (λ reply. HasText reply) }
     ensures kept { OnOk result (KeepsExactly core.new) }
 {

@@ -67,10 +67,10 @@ fn play_alone<D: Shelf, G: Gate>(
     requires inside { IsSome core.shelf }
     requires selected { IsSome (D.shelf_state core.opening).selected }
     requires boxes { AllByRecursion (λ boxes. length boxes.items < 2 ^ 32) chest.items }
-    requires fits { FitsFilters (map length (states_of (λ b. state b) chest.items)) (lists_of script) }
-    ensures { IsPlayed (D.shelf_state core.opening)
-        (D.shelf_state result.shelf)
-        core.history.base (lists_of script) (states_of (λ b. state b) chest.items) 0 result.replies }
+    requires fits { FitsFilters (map length (states_of (λ b. state b) chest.items))
+        (lists_of script) }
+    ensures { IsPlayed (D.shelf_state core.opening) (D.shelf_state result.shelf) core.history.base
+        (lists_of script) (states_of (λ b. state b) chest.items) 0 result.replies }
 {
     let replies = play(alloc, &mut core, gate, script, chest);
     core.know_versions();
@@ -86,7 +86,8 @@ fn replies_of<D: Shelf>(
     text: Result<String, AllocError>,
 ) -> Result<Replies, AllocError>
     ensures text { IfOk result (λ replies. text ≡ Ok replies.text) }
-    ensures failed { IfOk result (λ replies. WhetherFailed replies.save_failed (save_faults core.now.history.entries)) }
+    ensures failed { IfOk result (λ replies. WhetherFailed replies.save_failed
+        (save_faults core.now.history.entries)) }
 {
     let text = text?;
     Ok(Replies {
@@ -108,13 +109,13 @@ fn play_together<R: Threads + Wait + Sync, D: Shelf, G: Gate>(
     requires fresh { core.history.entries ≡ [] }
     requires inside { IsSome core.shelf }
     requires boxes { AllByRecursion (λ boxes. length boxes.items < 2 ^ 32) chest.items }
-    requires fits { FitsFilters (map length (states_of (λ b. state b) chest.items)) (lists_of script) }
+    requires fits { FitsFilters (map length (states_of (λ b. state b) chest.items))
+        (lists_of script) }
     requires eight { length (lists_of script) ≡ 8 }
     requires workers { workers ≤ 8 }
     requires together { workers ≡ 0 → AreOfFirst (lists_of script) → ⊥ }
-    ensures { IsPlayed (D.shelf_state core.opening)
-        (D.shelf_state result.shelf)
-        core.history.base (lists_of script) (states_of (λ b. state b) chest.items) workers result.replies }
+    ensures { IsPlayed (D.shelf_state core.opening) (D.shelf_state result.shelf) core.history.base
+        (lists_of script) (states_of (λ b. state b) chest.items) workers result.replies }
 {
     let PlayedBeside { core, text } = play_beside(rt, alloc, core, script, chest, workers, gate);
     core.know_versions();
@@ -140,7 +141,8 @@ pub fn run_script<R: Threads + Wait + Sync, D: Shelf, G: Gate>(
     requires numbered { AreNumbered document.nodes }
     requires selected { IsSome (D.shelf_state shelf).selected }
     requires boxes { AllByRecursion (λ boxes. length boxes.items < 2 ^ 32) chest.items }
-    requires fits { FitsFilters (map length (states_of (λ b. state b) chest.items)) (lists_of script) }
+    requires fits { FitsFilters (map length (states_of (λ b. state b) chest.items))
+        (lists_of script) }
     requires workers { workers ≤ 8 }
     ensures { IsPlayed (D.shelf_state shelf)
         (D.shelf_state result.shelf)

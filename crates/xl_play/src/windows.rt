@@ -63,8 +63,9 @@ fn window_digest<D: Shelf, L: Ledger>(
     requires history { GoesOn viewer.old.seen core.now.history }
     requires size { IsWindowSize cols rows }
     ensures history { OnOk result (GoesOn viewer.new.seen core.now.history) }
-    ensures digest { window_refusal (document core.now.history) node.0 at ≡ None → IfOk result (λ text. string_bytes text
-        ≡ digest_of (window (document core.now.history) node.0 at cols rows)) }
+    ensures digest { window_refusal (document core.now.history) node.0 at ≡ None
+        → IfOk result (λ text. string_bytes text ≡ digest_of
+        (window (document core.now.history) node.0 at cols rows)) }
 {
     let mut out = Vec::new(alloc);
     match viewer.window(alloc, core, node, at, cols, rows, &mut out, steps) {
@@ -87,10 +88,11 @@ fn reply_digest<D: Shelf, L: Ledger>(
 ) -> Result<String, AllocError>
     requires history { GoesOn viewer.old.seen core.now.history }
     requires size { IsWindowSize cols rows }
-    requires last { IsLastTile core.now.history (option_map (λ p. (p.0.0, p.1)) tile) (reply_of reply.now) }
+    requires last { IsLastTile core.now.history (option_map (λ p. (p.0.0, p.1)) tile)
+        (reply_of reply.now) }
     ensures history { OnOk result (GoesOn viewer.new.seen core.now.history) }
-    ensures digest { IfOk result (λ text. string_bytes text
-        ≡ window_digest core.now.history cols rows (option_map (λ p. (p.0.0, p.1)) tile) (reply_of reply.now)) }
+    ensures digest { IfOk result (λ text. string_bytes text ≡ window_digest core.now.history cols
+        rows (option_map (λ p. (p.0.0, p.1)) tile) (reply_of reply.now)) }
 {
     match reply {
         Reply::Tile { .. } => match tile {
@@ -114,7 +116,8 @@ fn view_call<D: Shelf, L: Ledger>(
     steps: &mut Steps<L>,
     text: &mut String,
 ) -> Result<(), AllocError>
-    requires shown { AreShown core.old.history.base core.old.history.entries cols rows (string_bytes text.old) }
+    requires shown { AreShown core.old.history.base core.old.history.entries cols rows
+        (string_bytes text.old) }
     requires history { GoesOn viewer.old.seen core.old.history }
     requires size { IsWindowSize cols rows }
     requires inside { IsSome core.old.shelf }
@@ -131,7 +134,8 @@ fn view_call<D: Shelf, L: Ledger>(
         (states_in state desk.old.chest) (states_in state desk.new.chest) core.new.history) }
     ensures kept { OnOk result (KeepsExactly core.new) }
     ensures history { OnOk result (GoesOn viewer.new.seen core.new.history) }
-    ensures shown { OnOk result (AreShown core.new.history.base core.new.history.entries cols rows (string_bytes text.new)) }
+    ensures shown { OnOk result (AreShown core.new.history.base core.new.history.entries cols rows
+        (string_bytes text.new)) }
 {
     let seen = core.version();
     let tile = asked_tile(&call);
@@ -153,12 +157,14 @@ fn view_line<D: Shelf, L: Ledger>(
     steps: &mut Steps<L>,
     text: &mut String,
 ) -> Result<u32, AllocError>
-    requires shown { AreShown core.old.history.base core.old.history.entries cols rows (string_bytes text.old) }
+    requires shown { AreShown core.old.history.base core.old.history.entries cols rows
+        (string_bytes text.old) }
     requires history { GoesOn viewer.old.seen core.old.history }
     requires size { IsWindowSize cols rows }
     requires inside { IsSome core.old.shelf }
     requires index { index ≡ next_index core.old.history.entries 0 }
-    requires few { length core.old.history.entries + 2 * length (calls_of (line_of line ∷ [])) ≤ most_entries }
+    requires few { length core.old.history.entries + 2 * length (calls_of (line_of line ∷ []))
+        ≤ most_entries }
     requires kept { KeepsExactly core.old }
     requires fit { FitsChest (states_in state desk.old.chest) (line_of line) }
     requires viewed { IsViewedLine (line_of line) }
@@ -170,7 +176,8 @@ fn view_line<D: Shelf, L: Ledger>(
     ensures next { IfOk result (λ next. next ≡ next_index core.new.history.entries 0) }
     ensures kept { OnOk result (KeepsExactly core.new) }
     ensures history { OnOk result (GoesOn viewer.new.seen core.new.history) }
-    ensures shown { OnOk result (AreShown core.new.history.base core.new.history.entries cols rows (string_bytes text.new)) }
+    ensures shown { OnOk result (AreShown core.new.history.base core.new.history.entries cols rows
+        (string_bytes text.new)) }
 {
     match line {
         Line::Call(call) => {
@@ -211,7 +218,8 @@ fn view_lines<D: Shelf, L: Ledger>(
 
     ensures between { IsBetweenLines core.old.history.base core.old.opening core.new }
     ensures shelf { core.new.shelf ≡ core.old.shelf }
-    ensures made { OnOk result (AreMade (map (λ b. state b) boxes.items) (lines_of lines.items) core.new.history.entries) }
+    ensures made { OnOk result (AreMade (map (λ b. state b) boxes.items) (lines_of lines.items)
+        core.new.history.entries) }
     ensures shown { IfOk result (λ text.
         AreShown core.new.history.base core.new.history.entries cols rows (string_bytes text)) }
 {
@@ -252,11 +260,13 @@ pub fn view_script<D: Shelf>(
     requires kept { KeepsExactly core.old }
     requires inside { IsSome core.old.shelf }
     requires boxes { AllByRecursion (λ boxes. length boxes.items < 2 ^ 32) chest.items }
-    requires fits { FitsFilters (length (list_at (states_of (λ b. state b) chest.items) 0) ∷ []) (lists_of script) }
+    requires fits { FitsFilters (length (list_at (states_of (λ b. state b) chest.items) 0) ∷ [])
+        (lists_of script) }
     requires viewed { AllByRecursion IsViewedLine (list_at (lists_of script) 0) }
     ensures shelf { core.new.shelf ≡ core.old.shelf }
-    ensures views { IfOk result (λ text. Views (string_bytes text) core.old.history.base (list_at (lists_of script) 0)
-        (list_at (states_of (λ b. state b) chest.items) 0) cols rows) }
+    ensures views { IfOk result (λ text. Views (string_bytes text) core.old.history.base
+        (list_at (lists_of script) 0) (list_at (states_of (λ b. state b) chest.items) 0) cols
+        rows) }
 {
     let lines = first_lines(script);
     let boxes = first_boxes(alloc, &mut chest);

@@ -17,10 +17,13 @@ pub fn read_all<S: Source>(
     limit: usize,
 ) -> Result<Vec<u8>, FailedOrMemory>
     ensures within { IfOk result (λ bytes. length bytes.items ≤ limit) }
-    ensures given { IfOk result (λ bytes. S.left source.old ≡ led_by bytes.items (S.left source.new)) }
-    ensures all { IfOk result (λ bytes. (length bytes.items ≡ limit) ⊎ IsEnded (S.left source.new)) }
+    ensures given { IfOk result (λ bytes. S.left source.old ≡ led_by bytes.items
+        (S.left source.new)) }
+    ensures all { IfOk result (λ bytes. (length bytes.items ≡ limit) ⊎ IsEnded
+        (S.left source.new)) }
     ensures reads { S.reads source.new ≤ S.reads source.old + limit }
-    ensures some { OnErr result ((bytes : List ℕ) × (S.left source.old ≡ led_by bytes (S.left source.new))) }
+    ensures some { OnErr result ((bytes : List ℕ)
+        × (S.left source.old ≡ led_by bytes (S.left source.new))) }
     ensures cause { HasCauseOrMemory (S.faults source.old) (S.faults source.new) result }
 {
     let mut bytes = Vec::new(alloc);
@@ -49,7 +52,8 @@ fn read_more<S: Source>(
     ensures front { take filled bytes.new.items ≡ take filled bytes.old.items }
     ensures within { IfOk result (λ k. filled + k ≤ vec_len bytes.new) }
     ensures short { vec_len bytes.new ≤ limit }
-    ensures given { IfOk result (λ k. S.left source.old ≡ led_by (take k (drop filled bytes.new.items)) (S.left source.new)) }
+    ensures given { IfOk result (λ k. S.left source.old ≡ led_by
+        (take k (drop filled bytes.new.items)) (S.left source.new)) }
     ensures end { IfOk result (λ k. k ≡ 0 → IsEnded (S.left source.new)) }
     ensures reads { S.reads source.new ≤ S.reads source.old + 1 }
     ensures as_before { OnErr result (S.left source.new ≡ S.left source.old) }

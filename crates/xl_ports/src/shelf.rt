@@ -26,16 +26,21 @@ pub trait Shelf: Send + Drop {
     fn select(&mut self, name: &str) -> Result<(), Failed>
         ensures selected { OnOk result ((shelf_state self.new).selected ≡ Some name.now) }
         ensures closed { OnOk result ((shelf_state self.new).is_open ≡ false) }
-        ensures as_before { OnErr result ((shelf_state self.new).selected ≡ (shelf_state self.old).selected) }
-        ensures open_as_before { OnErr result ((shelf_state self.new).is_open ≡ (shelf_state self.old).is_open) }
-        ensures draft_as_before { OnErr result
-            (Between (shelf_state self.old).disk (shelf_state self.new).disk (λ before after. after.draft ≡ before.draft)) }
-        ensures contents { read_at (shelf_state self.new).disk ≡ read_at (shelf_state self.old).disk }
+        ensures as_before { OnErr result ((shelf_state self.new).selected
+            ≡ (shelf_state self.old).selected) }
+        ensures open_as_before { OnErr result ((shelf_state self.new).is_open
+            ≡ (shelf_state self.old).is_open) }
+        ensures draft_as_before { OnErr result (Between (shelf_state self.old).disk
+            (shelf_state self.new).disk (λ before after. after.draft ≡ before.draft)) }
+        ensures contents { read_at (shelf_state self.new).disk ≡ read_at
+            (shelf_state self.old).disk }
         ensures quiet { Between (shelf_state self.old).disk (shelf_state self.new).disk IsQuiet }
-        ensures advances { OnOk result (Between (shelf_state self.old).disk (shelf_state self.new).disk (λ before after. before.moment < after.moment)) }
+        ensures advances { OnOk result (Between (shelf_state self.old).disk
+            (shelf_state self.new).disk (λ before after. before.moment < after.moment)) }
         ensures saving { (shelf_state self.new).saving ≡ (shelf_state self.old).saving }
         ensures loads { (shelf_state self.new).loads ≡ (shelf_state self.old).loads }
-        ensures cause { HasCause (shelf_state self.old).reading (shelf_state self.new).reading result };
+        ensures cause { HasCause (shelf_state self.old).reading (shelf_state self.new).reading
+            result };
 
     /// Gives bytes of the selected file from byte `at` on, in the first places of the buffer, and answers how many.
     ///
@@ -44,17 +49,22 @@ pub trait Shelf: Send + Drop {
     fn load(&mut self, at: u64, buf: &mut [u8]) -> Result<usize, Failed>
         requires { IsSome (shelf_state self.old).selected }
         ensures within { IfOk result (λ k. k ≤ length buf.old) }
-        ensures given { IfOk result (λ k. IfSome (selected_content (shelf_state self.old).selected (read_at (shelf_state self.old).disk))
-            (λ c. GivesPart c at (length buf.old) (take k buf.new))) }
+        ensures given { IfOk result (λ k. IfSome (selected_content (shelf_state self.old).selected
+            (read_at (shelf_state self.old).disk)) (λ c. GivesPart c at (length buf.old)
+            (take k buf.new))) }
         ensures selected { (shelf_state self.new).selected ≡ (shelf_state self.old).selected }
         ensures opened { (shelf_state self.new).is_open ≡ (shelf_state self.old).is_open }
-        ensures draft { Between (shelf_state self.old).disk (shelf_state self.new).disk (λ before after. after.draft ≡ before.draft) }
-        ensures contents { read_at (shelf_state self.new).disk ≡ read_at (shelf_state self.old).disk }
+        ensures draft { Between (shelf_state self.old).disk (shelf_state self.new).disk
+            (λ before after. after.draft ≡ before.draft) }
+        ensures contents { read_at (shelf_state self.new).disk ≡ read_at
+            (shelf_state self.old).disk }
         ensures quiet { Between (shelf_state self.old).disk (shelf_state self.new).disk IsQuiet }
-        ensures advances { OnOk result (Between (shelf_state self.old).disk (shelf_state self.new).disk (λ before after. before.moment < after.moment)) }
+        ensures advances { OnOk result (Between (shelf_state self.old).disk
+            (shelf_state self.new).disk (λ before after. before.moment < after.moment)) }
         ensures saving { (shelf_state self.new).saving ≡ (shelf_state self.old).saving }
         ensures counted { Counted (shelf_state self.old).loads (shelf_state self.new).loads }
-        ensures cause { HasCause (shelf_state self.old).reading (shelf_state self.new).reading result };
+        ensures cause { HasCause (shelf_state self.old).reading (shelf_state self.new).reading
+            result };
 
     /// Opens a draft beside the file: empty, and not synced. An older one is removed, and never cut.
     ///
@@ -62,14 +72,17 @@ pub trait Shelf: Send + Drop {
     fn draft_new(&mut self) -> Result<(), Failed>
         requires { IsSome (shelf_state self.old).selected }
         ensures opened { OnOk result ((shelf_state self.new).is_open ≡ true) }
-        ensures empty { OnOk result (IfSome (shelf_state self.new).disk (λ after. after.draft ≡ empty_draft)) }
+        ensures empty { OnOk result (IfSome (shelf_state self.new).disk (λ after. after.draft
+            ≡ empty_draft)) }
         ensures closed { OnErr result ((shelf_state self.new).is_open ≡ false) }
         ensures selected { (shelf_state self.new).selected ≡ (shelf_state self.old).selected }
         ensures quiet { Between (shelf_state self.old).disk (shelf_state self.new).disk IsQuiet }
-        ensures advances { OnOk result (Between (shelf_state self.old).disk (shelf_state self.new).disk (λ before after. before.moment < after.moment)) }
+        ensures advances { OnOk result (Between (shelf_state self.old).disk
+            (shelf_state self.new).disk (λ before after. before.moment < after.moment)) }
         ensures reading { (shelf_state self.new).reading ≡ (shelf_state self.old).reading }
         ensures loads { (shelf_state self.new).loads ≡ (shelf_state self.old).loads }
-        ensures cause { HasCause (shelf_state self.old).saving (shelf_state self.new).saving result };
+        ensures cause { HasCause (shelf_state self.old).saving (shelf_state self.new).saving result
+            };
 
     /// Adds bytes at the end of the open draft, which is not synced then.
     ///
@@ -78,15 +91,18 @@ pub trait Shelf: Send + Drop {
         requires selected { IsSome (shelf_state self.old).selected }
         requires opened { (shelf_state self.old).is_open ≡ true }
         ensures opened { (shelf_state self.new).is_open ≡ true }
-        ensures added { OnOk result (Between (shelf_state self.old).disk (shelf_state self.new).disk (λ before after. after.draft.bytes ≡ before.draft.bytes
-            ++ bytes.now)) }
-        ensures not_synced { IfSome (shelf_state self.new).disk (λ after. after.draft.is_synced ≡ false) }
+        ensures added { OnOk result (Between (shelf_state self.old).disk (shelf_state self.new).disk
+            (λ before after. after.draft.bytes ≡ before.draft.bytes ++ bytes.now)) }
+        ensures not_synced { IfSome (shelf_state self.new).disk (λ after. after.draft.is_synced
+            ≡ false) }
         ensures selected { (shelf_state self.new).selected ≡ (shelf_state self.old).selected }
         ensures quiet { Between (shelf_state self.old).disk (shelf_state self.new).disk IsQuiet }
-        ensures advances { OnOk result (Between (shelf_state self.old).disk (shelf_state self.new).disk (λ before after. before.moment < after.moment)) }
+        ensures advances { OnOk result (Between (shelf_state self.old).disk
+            (shelf_state self.new).disk (λ before after. before.moment < after.moment)) }
         ensures reading { (shelf_state self.new).reading ≡ (shelf_state self.old).reading }
         ensures loads { (shelf_state self.new).loads ≡ (shelf_state self.old).loads }
-        ensures cause { HasCause (shelf_state self.old).saving (shelf_state self.new).saving result };
+        ensures cause { HasCause (shelf_state self.old).saving (shelf_state self.new).saving result
+            };
 
     /// Brings the bytes of the open draft to the disk: it is synced then.
     ///
@@ -95,16 +111,20 @@ pub trait Shelf: Send + Drop {
         requires selected { IsSome (shelf_state self.old).selected }
         requires opened { (shelf_state self.old).is_open ≡ true }
         ensures opened { (shelf_state self.new).is_open ≡ true }
-        ensures bytes { OnOk result (Between (shelf_state self.old).disk (shelf_state self.new).disk (λ before after. after.draft.bytes
-            ≡ before.draft.bytes)) }
-        ensures synced { OnOk result (IfSome (shelf_state self.new).disk (λ after. after.draft.is_synced ≡ true)) }
-        ensures not_synced { OnErr result (IfSome (shelf_state self.new).disk (λ after. after.draft.is_synced ≡ false)) }
+        ensures bytes { OnOk result (Between (shelf_state self.old).disk (shelf_state self.new).disk
+            (λ before after. after.draft.bytes ≡ before.draft.bytes)) }
+        ensures synced { OnOk result (IfSome (shelf_state self.new).disk
+            (λ after. after.draft.is_synced ≡ true)) }
+        ensures not_synced { OnErr result (IfSome (shelf_state self.new).disk
+            (λ after. after.draft.is_synced ≡ false)) }
         ensures selected { (shelf_state self.new).selected ≡ (shelf_state self.old).selected }
         ensures quiet { Between (shelf_state self.old).disk (shelf_state self.new).disk IsQuiet }
-        ensures advances { OnOk result (Between (shelf_state self.old).disk (shelf_state self.new).disk (λ before after. before.moment < after.moment)) }
+        ensures advances { OnOk result (Between (shelf_state self.old).disk
+            (shelf_state self.new).disk (λ before after. before.moment < after.moment)) }
         ensures reading { (shelf_state self.new).reading ≡ (shelf_state self.old).reading }
         ensures loads { (shelf_state self.new).loads ≡ (shelf_state self.old).loads }
-        ensures cause { HasCause (shelf_state self.old).saving (shelf_state self.new).saving result };
+        ensures cause { HasCause (shelf_state self.old).saving (shelf_state self.new).saving result
+            };
 
     /// The open draft takes the selected name, and a read gives its bytes. No draft is open then, after `Failed` neither.
     ///
@@ -114,12 +134,16 @@ pub trait Shelf: Send + Drop {
         requires selected { IsSome (shelf_state self.old).selected }
         requires opened { (shelf_state self.old).is_open ≡ true }
         ensures closed { (shelf_state self.new).is_open ≡ false }
-        ensures swaps { IfSome (shelf_state self.old).selected (λ name. Between (shelf_state self.old).disk (shelf_state self.new).disk (SwapsIn result name)) }
+        ensures swaps { IfSome (shelf_state self.old).selected
+            (λ name. Between (shelf_state self.old).disk (shelf_state self.new).disk
+            (SwapsIn result name)) }
         ensures selected { (shelf_state self.new).selected ≡ (shelf_state self.old).selected }
-        ensures advances { OnOk result (Between (shelf_state self.old).disk (shelf_state self.new).disk (λ before after. before.moment < after.moment)) }
+        ensures advances { OnOk result (Between (shelf_state self.old).disk
+            (shelf_state self.new).disk (λ before after. before.moment < after.moment)) }
         ensures reading { (shelf_state self.new).reading ≡ (shelf_state self.old).reading }
         ensures loads { (shelf_state self.new).loads ≡ (shelf_state self.old).loads }
-        ensures cause { HasCause (shelf_state self.old).saving (shelf_state self.new).saving result };
+        ensures cause { HasCause (shelf_state self.old).saving (shelf_state self.new).saving result
+            };
 
     /// Settles the selected name: from then on a crash leaves what a read gives, and nothing else.
     ///
@@ -128,11 +152,16 @@ pub trait Shelf: Send + Drop {
     fn settle(&mut self) -> Result<(), Failed>
         requires { IsSome (shelf_state self.old).selected }
         ensures opened { (shelf_state self.new).is_open ≡ (shelf_state self.old).is_open }
-        ensures draft { Between (shelf_state self.old).disk (shelf_state self.new).disk (λ before after. after.draft ≡ before.draft) }
-        ensures settles { IfSome (shelf_state self.old).selected (λ name. Between (shelf_state self.old).disk (shelf_state self.new).disk (SettlesAt result name)) }
+        ensures draft { Between (shelf_state self.old).disk (shelf_state self.new).disk
+            (λ before after. after.draft ≡ before.draft) }
+        ensures settles { IfSome (shelf_state self.old).selected
+            (λ name. Between (shelf_state self.old).disk (shelf_state self.new).disk
+            (SettlesAt result name)) }
         ensures selected { (shelf_state self.new).selected ≡ (shelf_state self.old).selected }
-        ensures advances { OnOk result (Between (shelf_state self.old).disk (shelf_state self.new).disk (λ before after. before.moment < after.moment)) }
+        ensures advances { OnOk result (Between (shelf_state self.old).disk
+            (shelf_state self.new).disk (λ before after. before.moment < after.moment)) }
         ensures reading { (shelf_state self.new).reading ≡ (shelf_state self.old).reading }
         ensures loads { (shelf_state self.new).loads ≡ (shelf_state self.old).loads }
-        ensures cause { HasCause (shelf_state self.old).saving (shelf_state self.new).saving result };
+        ensures cause { HasCause (shelf_state self.old).saving (shelf_state self.new).saving result
+            };
 }

@@ -16,7 +16,8 @@ pub trait Sink {
     fn write(&mut self, bytes: &[u8]) -> Result<usize, Failed>
         ensures within { IfOk result (λ k. k ≤ length bytes.now) }
         ensures some { IfOk result (λ k. 0 < length bytes.now → 0 < k) }
-        ensures taken { IfOk result (λ k. held self.new ≡ appended (held self.old) (take k bytes.now)) }
+        ensures taken { IfOk result (λ k. held self.new ≡ appended (held self.old)
+            (take k bytes.now)) }
         ensures as_before { OnErr result (held self.new ≡ held self.old) }
         ensures cause { HasCause (faults self.old) (faults self.new) result };
 }

@@ -59,7 +59,8 @@ const AREA_LIMIT: u128 = 1 << 64;
 
 // The refusal of this number, if there is one.
 fn code_of(number: u32) -> Option<Code>
-    ensures { (words : List (List ℕ)) → cause_if_any result words ≡ reading.read_cause reading.causes number words }
+    ensures { (words : List (List ℕ)) → cause_if_any result words ≡ reading.read_cause
+        reading.causes number words }
 {
     for (code, refusal) in &CODES {
         if number == *code {
@@ -142,7 +143,8 @@ fn cause(code: Code, words: Option<&[u8]>) -> Option<EditRefused>
 
 /// The refusal of this number, with the value behind it where it has one.
 pub fn read_cause(number: u32, words: Option<&[u8]>) -> Option<EditRefused>
-    ensures { result ≡ reading.read_cause reading.causes number (words_left (option_copied words.entry)) }
+    ensures { result ≡ reading.read_cause reading.causes number
+        (words_left (option_copied words.entry)) }
 {
     cause(code_of(number)?, words)
 }

@@ -33,18 +33,19 @@ pub fn audit<S: Source, K: Sink, D: Shelf>(
 ) -> Result<(), Stopped>
     requires lists { length chest.items ≤ 8 }
     requires boxes { AllByRecursion (λ boxes. length boxes.items < 2 ^ 32) chest.items }
-    ensures comes { ComesTo K.held K.faults (given_of (S.left source.old) (λ b. state b) chest.items)
-        (D.shelf_state shelf.old)
-        (D.shelf_state shelf.new)
-        (audit_of name.now) sink.old sink.new result }
-    ensures stops { StopsAudit (given_of (S.left source.old) (λ b. state b) chest.items) (read_at (D.shelf_state shelf.old).disk name.now)
-        result }
+    ensures comes { ComesTo K.held K.faults (given_of (S.left source.old) (λ b. state b)
+        chest.items) (D.shelf_state shelf.old) (D.shelf_state shelf.new) (audit_of name.now)
+        sink.old sink.new result }
+    ensures stops { StopsAudit (given_of (S.left source.old) (λ b. state b) chest.items)
+        (read_at (D.shelf_state shelf.old).disk name.now) result }
     ensures takes { TakesWithin S.left S.faults S.reads most_audit_reads source.old source.new }
     ensures ended { ReadsToEnd (S.left source.new) result }
     ensures source_cause { SourceCause (S.faults source.old) (S.faults source.new) result }
-    ensures shelf_cause { ShelfCause (D.shelf_state shelf.old).reading (D.shelf_state shelf.new).reading result }
+    ensures shelf_cause { ShelfCause (D.shelf_state shelf.old).reading
+        (D.shelf_state shelf.new).reading result }
     ensures few_loads { LoadsFew (D.shelf_state shelf.old) (D.shelf_state shelf.new) }
-    ensures selected { ((D.shelf_state shelf.new).selected ≡ (D.shelf_state shelf.old).selected) ⊎ ((D.shelf_state shelf.new).selected ≡ Some name.now) }
+    ensures selected { ((D.shelf_state shelf.new).selected ≡ (D.shelf_state shelf.old).selected) ⊎
+        ((D.shelf_state shelf.new).selected ≡ Some name.now) }
 {
     let given = match read_source(alloc, source, &chest) {
         Ok(given) => given,
@@ -64,9 +65,11 @@ fn read_source<S: Source>(
     chest: &Vec<Vec<Box<dyn PointFilter + Send>>>,
 ) -> Result<Audit, Stopped>
     requires { AllByRecursion (λ boxes. length boxes.items < 2 ^ 32) chest.now.items }
-    ensures reads { ReadsSourceOf (given_of (S.left source.old) (λ b. state b) chest.now.items) result }
-    ensures fits { IfOk result (λ audit.
-        FitsFilters (map length (states_of (λ b. state b) chest.now.items)) (lists_of audit.script)) }
+    ensures reads { ReadsSourceOf (given_of (S.left source.old) (λ b. state b) chest.now.items)
+        result }
+    ensures fits { IfOk result
+        (λ audit. FitsFilters (map length (states_of (λ b. state b) chest.now.items))
+        (lists_of audit.script)) }
     ensures numbers { IfOk result (λ audit. AreNumbers (lists_of audit.script)) }
     ensures takes { TakesWithin S.left S.faults S.reads most_audit_reads source.old source.new }
     ensures ended { OnOk result (IsEnded (S.left source.new)) }

@@ -22,9 +22,11 @@ pub fn describe<K: Sink, D: Shelf>(
         (D.shelf_state shelf.new)
         (info_of name.now) sink.old sink.new result }
     ensures stops { StopsReport (read_at (D.shelf_state shelf.old).disk name.now) result }
-    ensures cause { ShelfCause (D.shelf_state shelf.old).reading (D.shelf_state shelf.new).reading result }
+    ensures cause { ShelfCause (D.shelf_state shelf.old).reading (D.shelf_state shelf.new).reading
+        result }
     ensures few_loads { LoadsFew (D.shelf_state shelf.old) (D.shelf_state shelf.new) }
-    ensures selected { ((D.shelf_state shelf.new).selected ≡ (D.shelf_state shelf.old).selected) ⊎ ((D.shelf_state shelf.new).selected ≡ Some name.now) }
+    ensures selected { ((D.shelf_state shelf.new).selected ≡ (D.shelf_state shelf.old).selected) ⊎
+        ((D.shelf_state shelf.new).selected ≡ Some name.now) }
 {
     let document = read_document(alloc, name, shelf)?;
     let Ok(line) = info(alloc, &document) else {

@@ -40,17 +40,19 @@ pub fn edit<R: Threads + Wait + Sync, S: Source, K: Sink, D: Shelf, G: Gate>(
 ) -> Done<D>
     requires boxes { AllByRecursion (λ boxes. length boxes.items < 2 ^ 32) chest.items }
     requires workers { workers ≤ 8 }
-    ensures comes { ComesTo K.held K.faults (given_of (S.left source.old) (λ b. state b) chest.items)
-        (D.shelf_state shelf)
-        (D.shelf_state result.shelf)
-        (edit_of name.now workers) sink.old sink.new result.result }
-    ensures stops { StopsEdit (given_of (S.left source.old) (λ b. state b) chest.items) (read_at (D.shelf_state shelf).disk name.now) result.result }
+    ensures comes { ComesTo K.held K.faults (given_of (S.left source.old) (λ b. state b)
+        chest.items) (D.shelf_state shelf) (D.shelf_state result.shelf) (edit_of name.now workers)
+        sink.old sink.new result.result }
+    ensures stops { StopsEdit (given_of (S.left source.old) (λ b. state b) chest.items)
+        (read_at (D.shelf_state shelf).disk name.now) result.result }
     ensures takes { TakesFront S.left S.faults S.reads source.old source.new }
     ensures ended { ReadsToEnd (S.left source.new) result.result }
     ensures source_cause { SourceCause (S.faults source.old) (S.faults source.new) result.result }
-    ensures shelf_cause { ShelfCause (D.shelf_state shelf).reading (D.shelf_state result.shelf).reading result.result }
+    ensures shelf_cause { ShelfCause (D.shelf_state shelf).reading
+        (D.shelf_state result.shelf).reading result.result }
     ensures few_loads { LoadsFew (D.shelf_state shelf) (D.shelf_state result.shelf) }
-    ensures selected { ((D.shelf_state result.shelf).selected ≡ (D.shelf_state shelf).selected) ⊎ ((D.shelf_state result.shelf).selected ≡ Some name.now) }
+    ensures selected { ((D.shelf_state result.shelf).selected ≡ (D.shelf_state shelf).selected) ⊎
+        ((D.shelf_state result.shelf).selected ≡ Some name.now) }
 {
     let script = match read_script(alloc, source, &chest) {
         Ok(script) => script,
@@ -79,7 +81,8 @@ pub(crate) fn filter_counts(
     chest: &[Vec<Box<dyn PointFilter + Send>>],
 ) -> Result<Vec<u32>, AllocError>
     requires { AllByRecursion (λ boxes. length boxes.items < 2 ^ 32) chest.now }
-    ensures { IfOk result (λ counts. counts.items ≡ map length (states_of (λ b. state b) chest.now)) }
+    ensures { IfOk result (λ counts. counts.items ≡ map length
+        (states_of (λ b. state b) chest.now)) }
 {
     let mut counts = Vec::with_capacity(alloc, chest.len())?;
     for boxes in chest {
@@ -95,8 +98,11 @@ fn read_script<S: Source>(
     chest: &Vec<Vec<Box<dyn PointFilter + Send>>>,
 ) -> Result<Script, Stopped>
     requires { AllByRecursion (λ boxes. length boxes.items < 2 ^ 32) chest.now.items }
-    ensures reads { ReadsScript (given_of (S.left source.old) (λ b. state b) chest.now.items) result }
-    ensures fits { IfOk result (λ script. FitsFilters (map length (states_of (λ b. state b) chest.now.items)) (lists_of script)) }
+    ensures reads { ReadsScript (given_of (S.left source.old) (λ b. state b) chest.now.items)
+        result }
+    ensures fits { IfOk result
+        (λ script. FitsFilters (map length (states_of (λ b. state b) chest.now.items))
+        (lists_of script)) }
     ensures takes { TakesFront S.left S.faults S.reads source.old source.new }
     ensures ended { OnOk result (IsEnded (S.left source.new)) }
     ensures cause { SourceCause (S.faults source.old) (S.faults source.new) result }

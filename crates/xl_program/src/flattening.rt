@@ -42,7 +42,8 @@ pub fn flatten<K: Sink, D: Shelf>(alloc: Global, name: &str, sink: &mut K, mut s
     ensures cause { ShelfCauseOf (D.shelf_state shelf)
         (D.shelf_state result.shelf) (flatten_of name.now) result.result }
     ensures few_loads { LoadsFew (D.shelf_state shelf) (D.shelf_state result.shelf) }
-    ensures selected { ((D.shelf_state result.shelf).selected ≡ (D.shelf_state shelf).selected) ⊎ ((D.shelf_state result.shelf).selected ≡ Some name.now) }
+    ensures selected { ((D.shelf_state result.shelf).selected ≡ (D.shelf_state shelf).selected) ⊎
+        ((D.shelf_state result.shelf).selected ≡ Some name.now) }
 {
     let document = match read_document(alloc, name, &mut shelf) {
         Ok(document) => document,

@@ -32,12 +32,14 @@ pub fn read_document<D: Shelf>(
     ensures loads { Loads (read_at (D.shelf_state shelf.old).disk name.now) result }
     ensures limits { IfOk result (λ document. IsDocument document) }
     ensures numbered { IfOk result (λ document. AreNumbered document.nodes) }
-    ensures cause { ShelfCause (D.shelf_state shelf.old).reading (D.shelf_state shelf.new).reading result }
+    ensures cause { ShelfCause (D.shelf_state shelf.old).reading (D.shelf_state shelf.new).reading
+        result }
     ensures untouched { IsUntouched (D.shelf_state shelf.old)
         (D.shelf_state shelf.new) }
     ensures few_loads { LoadsFew (D.shelf_state shelf.old) (D.shelf_state shelf.new) }
     ensures named { OnOk result ((D.shelf_state shelf.new).selected ≡ Some name.now) }
-    ensures selected { ((D.shelf_state shelf.new).selected ≡ (D.shelf_state shelf.old).selected) ⊎ ((D.shelf_state shelf.new).selected ≡ Some name.now) }
+    ensures selected { ((D.shelf_state shelf.new).selected ≡ (D.shelf_state shelf.old).selected) ⊎
+        ((D.shelf_state shelf.new).selected ≡ Some name.now) }
 {
     let loaded = load_document(alloc, name, shelf)?;
     Ok(loaded.document)
@@ -48,12 +50,14 @@ pub fn load_document<D: Shelf>(alloc: Global, name: &str, shelf: &mut D) -> Resu
     ensures loads { LoadsMeasured (read_at (D.shelf_state shelf.old).disk name.now) result }
     ensures limits { IfOk result (λ loaded. IsDocument loaded.document) }
     ensures numbered { IfOk result (λ loaded. AreNumbered loaded.document.nodes) }
-    ensures cause { ShelfCause (D.shelf_state shelf.old).reading (D.shelf_state shelf.new).reading result }
+    ensures cause { ShelfCause (D.shelf_state shelf.old).reading (D.shelf_state shelf.new).reading
+        result }
     ensures untouched { IsUntouched (D.shelf_state shelf.old)
         (D.shelf_state shelf.new) }
     ensures few_loads { LoadsFew (D.shelf_state shelf.old) (D.shelf_state shelf.new) }
     ensures named { OnOk result ((D.shelf_state shelf.new).selected ≡ Some name.now) }
-    ensures selected { ((D.shelf_state shelf.new).selected ≡ (D.shelf_state shelf.old).selected) ⊎ ((D.shelf_state shelf.new).selected ≡ Some name.now) }
+    ensures selected { ((D.shelf_state shelf.new).selected ≡ (D.shelf_state shelf.old).selected) ⊎
+        ((D.shelf_state shelf.new).selected ≡ Some name.now) }
 {
     match shelf.select(name) {
         Ok(()) => {}

@@ -57,7 +57,8 @@ pub fn make<R: Threads + Wait + Sync, K: Sink, D: Shelf, G: Gate>(
     ensures cause { ShelfCauseOf (D.shelf_state shelf)
         (D.shelf_state result.shelf) (make_of name.now seed) result.result }
     ensures few_loads { LoadsFew (D.shelf_state shelf) (D.shelf_state result.shelf) }
-    ensures selected { ((D.shelf_state result.shelf).selected ≡ (D.shelf_state shelf).selected) ⊎ ((D.shelf_state result.shelf).selected ≡ Some name.now) }
+    ensures selected { ((D.shelf_state result.shelf).selected ≡ (D.shelf_state shelf).selected) ⊎
+        ((D.shelf_state result.shelf).selected ≡ Some name.now) }
 {
     let Ok((made, file)) = made_with_file(alloc, seed) else {
         return Done {
@@ -103,7 +104,8 @@ fn save_first<D: Shelf>(name: &str, file: &[u8], shelf: &mut D) -> Result<(), Fa
         × FaultsRose (D.shelf_state shelf.old)
         (D.shelf_state shelf.new) (make_of name.now seed)) }
     ensures loads { (D.shelf_state shelf.new).loads ≡ (D.shelf_state shelf.old).loads }
-    ensures selected { ((D.shelf_state shelf.new).selected ≡ (D.shelf_state shelf.old).selected) ⊎ ((D.shelf_state shelf.new).selected ≡ Some name.now) }
+    ensures selected { ((D.shelf_state shelf.new).selected ≡ (D.shelf_state shelf.old).selected) ⊎
+        ((D.shelf_state shelf.new).selected ≡ Some name.now) }
     ensures named { OnOk result ((D.shelf_state shelf.new).selected ≡ Some name.now) }
 {
     shelf.select(name)?;
@@ -158,8 +160,10 @@ fn sum_up<D: Shelf>(
     text: Result<String, AllocError>,
 ) -> Result<Replies, AllocError>
     ensures played { OnOk result (IsOk text) }
-    ensures text { IfOk result (λ told. string_bytes told.text ≡ summary_of (last_document core.now.history)) }
-    ensures failed { IfOk result (λ told. WhetherFailed told.save_failed (save_faults core.now.history.entries)) }
+    ensures text { IfOk result (λ told. string_bytes told.text ≡ summary_of
+        (last_document core.now.history)) }
+    ensures failed { IfOk result (λ told. WhetherFailed told.save_failed
+        (save_faults core.now.history.entries)) }
 {
     let _replaced = text?;
     let digest = picture_digest(alloc, core.document())?;
@@ -184,7 +188,8 @@ fn canvas(doc: &Document) -> Rect
 
 // The digest of a document's picture.
 fn picture_digest(alloc: Global, doc: &Document) -> Result<String, AllocError>
-    ensures { IfOk result (λ text. string_bytes text ≡ digest_of (picture_bytes doc.now 0 0 0 doc.now.width doc.now.height)) }
+    ensures { IfOk result (λ text. string_bytes text ≡ digest_of
+        (picture_bytes doc.now 0 0 0 doc.now.width doc.now.height)) }
 {
     let bytes = 4 * (doc.width as usize * doc.height as usize);
     let mut picture = vec![in alloc; 0; bytes]?;

@@ -29,7 +29,8 @@ pub fn pack<K: Sink, D: Shelf>(
     ensures cause { ShelfCauseOf (D.shelf_state shelf.old)
         (D.shelf_state shelf.new) (pack_of name.now with_plans) result }
     ensures few_loads { LoadsFew (D.shelf_state shelf.old) (D.shelf_state shelf.new) }
-    ensures selected { ((D.shelf_state shelf.new).selected ≡ (D.shelf_state shelf.old).selected) ⊎ ((D.shelf_state shelf.new).selected ≡ Some name.now) }
+    ensures selected { ((D.shelf_state shelf.new).selected ≡ (D.shelf_state shelf.old).selected) ⊎
+        ((D.shelf_state shelf.new).selected ≡ Some name.now) }
 {
     let loaded = load_document(alloc, name, shelf)?;
     let Ok(packed) = xl_pack::pack(alloc, loaded.document, loaded.length, with_plans) else {

@@ -75,60 +75,65 @@ pub fn run<R: Threads + Wait + Sync, S: Source, K: Sink, D: Shelf, G: Gate>(
     ensures statuses { IsStatus result.status }
 
     // What is written and what is saved, where the command comes to its end.
-    ensures done { result.status ≡ 0 → ComesWell K.held K.faults (given_of (S.left source.old) (λ b. state b) chest.items)
-        (D.shelf_state shelf)
-        (D.shelf_state result.shelf)
-        (asked_in (arguments_of words.now)) sink.old sink.new }
-    ensures shelf_fault { result.status ≡ 6 → ShelfFails K.held K.faults (given_of (S.left source.old) (λ b. state b) chest.items)
-        (D.shelf_state shelf)
-        (D.shelf_state result.shelf)
-        (asked_in (arguments_of words.now)) sink.old sink.new }
-    ensures sink_fault { result.status ≡ 7 → WritesInPart K.held K.faults (given_of (S.left source.old) (λ b. state b) chest.items)
-        (D.shelf_state shelf)
-        (D.shelf_state result.shelf)
-        (asked_in (arguments_of words.now)) sink.old sink.new }
-    ensures rejected { result.status ≡ 10 → WritesRejection K.held K.faults (given_of (S.left source.old) (λ b. state b) chest.items)
-        (D.shelf_state shelf)
-        (D.shelf_state result.shelf)
-        (asked_in (arguments_of words.now)) sink.old sink.new }
+    ensures done { result.status ≡ 0 → ComesWell K.held K.faults
+        (given_of (S.left source.old) (λ b. state b) chest.items) (D.shelf_state shelf)
+        (D.shelf_state result.shelf) (asked_in (arguments_of words.now)) sink.old sink.new }
+    ensures shelf_fault { result.status ≡ 6 → ShelfFails K.held K.faults
+        (given_of (S.left source.old) (λ b. state b) chest.items) (D.shelf_state shelf)
+        (D.shelf_state result.shelf) (asked_in (arguments_of words.now)) sink.old sink.new }
+    ensures sink_fault { result.status ≡ 7 → WritesInPart K.held K.faults
+        (given_of (S.left source.old) (λ b. state b) chest.items) (D.shelf_state shelf)
+        (D.shelf_state result.shelf) (asked_in (arguments_of words.now)) sink.old sink.new }
+    ensures rejected { result.status ≡ 10 → WritesRejection K.held K.faults
+        (given_of (S.left source.old) (λ b. state b) chest.items) (D.shelf_state shelf)
+        (D.shelf_state result.shelf) (asked_in (arguments_of words.now)) sink.old sink.new }
     ensures memory { result.status ≡ 8 → Keeps K.held K.faults sink.old sink.new
         × MaySave (D.shelf_state shelf)
         (D.shelf_state result.shelf) (asked_in (arguments_of words.now)) }
 
     // Where it stops before.
-    ensures usage { (result.status ≡ 2) ↔ ((asked_in (arguments_of words.now) ≡ None) × (result.status ≢ 8)) }
-    ensures usage_written { result.status ≡ 2 → WritesLine K.held K.faults sink.old sink.new (stop.stop_line stop.usage) }
-    ensures bad_source { result.status ≡ 3 → RefusesSource K.held K.faults (given_of (S.left source.old) (λ b. state b) chest.items)
+    ensures usage { (result.status ≡ 2) ↔ ((asked_in (arguments_of words.now) ≡ None)
+        × (result.status ≢ 8)) }
+    ensures usage_written { result.status ≡ 2 → WritesLine K.held K.faults sink.old sink.new
+        (stop.stop_line stop.usage) }
+    ensures bad_source { result.status ≡ 3 → RefusesSource K.held K.faults
+        (given_of (S.left source.old) (λ b. state b) chest.items)
         (asked_in (arguments_of words.now)) sink.old sink.new }
     ensures refused { result.status ≡ 4 → (why : ReadRefused)
         × ReadsFile (asked_in (arguments_of words.now))
-        × IfSome (selected_content (option_map name_of (asked_in (arguments_of words.now))) (read_at (D.shelf_state shelf).disk))
-        (λ c. HasFault c why)
+        × IfSome (selected_content (option_map name_of (asked_in (arguments_of words.now)))
+        (read_at (D.shelf_state shelf).disk)) (λ c. HasFault c why)
         × WritesLine K.held K.faults sink.old sink.new (stop.stop_line (stop.refused why)) }
     ensures flat_refused { result.status ≡ 9 → (why : FlatRefused)
         × IsFlatten (asked_in (arguments_of words.now))
-        × IfSome (selected_content (option_map name_of (asked_in (arguments_of words.now))) (read_at (D.shelf_state shelf).disk))
-        (λ c. CannotBeFlat c why)
+        × IfSome (selected_content (option_map name_of (asked_in (arguments_of words.now)))
+        (read_at (D.shelf_state shelf).disk)) (λ c. CannotBeFlat c why)
         × WritesLine K.held K.faults sink.old sink.new (stop.stop_line (stop.flat_refused why)) }
     ensures script_first { (result.status ≡ 4) ⊎ (result.status ≡ 6)
-        → InGrammar (given_of (S.left source.old) (λ b. state b) chest.items) (asked_in (arguments_of words.now)) }
+        → InGrammar (given_of (S.left source.old) (λ b. state b) chest.items)
+        (asked_in (arguments_of words.now)) }
     ensures source_fault { result.status ≡ 5 → Rose (S.faults source.old) (S.faults source.new) }
     ensures no_source_fault { result.status ≢ 5 → S.faults source.new ≡ S.faults source.old }
-    ensures source_fault_written { result.status ≡ 5 → ReadsSource (asked_in (arguments_of words.now))
-        × WritesLine K.held K.faults sink.old sink.new (stop.stop_line stop.source_fault) }
+    ensures source_fault_written { result.status ≡ 5
+        → ReadsSource (asked_in (arguments_of words.now)) × WritesLine K.held K.faults sink.old
+        sink.new (stop.stop_line stop.source_fault) }
     ensures untouched { StopsBefore result.status → IsUntouched
         (D.shelf_state shelf)
         (D.shelf_state result.shelf) }
 
     // What becomes of the source and the shelf.
-    ensures no_reading_fault { result.status ≢ 6 → (D.shelf_state result.shelf).reading ≡ (D.shelf_state shelf).reading }
-    ensures source_taken { Takes S.left S.faults S.reads source.old source.new (asked_in (arguments_of words.now)) }
+    ensures no_reading_fault { result.status ≢ 6 → (D.shelf_state result.shelf).reading
+        ≡ (D.shelf_state shelf).reading }
+    ensures source_taken { Takes S.left S.faults S.reads source.old source.new
+        (asked_in (arguments_of words.now)) }
     ensures source_ended { ComesAfterScript result.status
         → ReadsSource (asked_in (arguments_of words.now)) → IsEnded (S.left source.new) }
-    ensures other_names { OtherNamesStay (D.shelf_state shelf) (D.shelf_state result.shelf) (asked_in (arguments_of words.now)) }
+    ensures other_names { OtherNamesStay (D.shelf_state shelf) (D.shelf_state result.shelf)
+        (asked_in (arguments_of words.now)) }
     ensures few_loads { LoadsFew (D.shelf_state shelf) (D.shelf_state result.shelf) }
-    ensures selected { ((D.shelf_state result.shelf).selected ≡ (D.shelf_state shelf).selected)
-        ⊎ ((D.shelf_state result.shelf).selected ≡ option_map name_of (asked_in (arguments_of words.now))) }
+    ensures selected { ((D.shelf_state result.shelf).selected ≡ (D.shelf_state shelf).selected) ⊎
+        ((D.shelf_state result.shelf).selected ≡ option_map name_of
+        (asked_in (arguments_of words.now))) }
 {
     let Ok(asked) = command_of(alloc, words) else {
         return Ended {

@@ -26,9 +26,8 @@ const REJECTED: u8 = 10;
 
 // Writes a line and answers its status, unless memory ran out for it.
 fn write_text<K: Sink>(sink: &mut K, text: Result<String, AllocError>, status: u8) -> u8
-    ensures { MatchResult text
-        (λ text. (result ≡ status) × WritesLine K.held K.faults sink.old sink.new (string_bytes text))
-        (λ _. (result ≡ 8) × (sink.new ≡ sink.old)) }
+    ensures { MatchResult text (λ text. (result ≡ status) × WritesLine K.held K.faults sink.old
+        sink.new (string_bytes text)) (λ _. (result ≡ 8) × (sink.new ≡ sink.old)) }
 {
     match text {
         Ok(text) => {

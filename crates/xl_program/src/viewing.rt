@@ -43,17 +43,19 @@ pub fn view<S: Source, K: Sink, D: Shelf>(
 ) -> Done<D>
     requires boxes { AllByRecursion (λ boxes. length boxes.items < 2 ^ 32) chest.items }
     requires size { IsWindowSize cols rows }
-    ensures comes { ComesTo K.held K.faults (given_of (S.left source.old) (λ b. state b) chest.items)
-        (D.shelf_state shelf)
-        (D.shelf_state result.shelf)
-        (view_of name.now cols rows) sink.old sink.new result.result }
-    ensures stops { StopsView (given_of (S.left source.old) (λ b. state b) chest.items) (read_at (D.shelf_state shelf).disk name.now) result.result }
+    ensures comes { ComesTo K.held K.faults (given_of (S.left source.old) (λ b. state b)
+        chest.items) (D.shelf_state shelf) (D.shelf_state result.shelf) (view_of name.now cols rows)
+        sink.old sink.new result.result }
+    ensures stops { StopsView (given_of (S.left source.old) (λ b. state b) chest.items)
+        (read_at (D.shelf_state shelf).disk name.now) result.result }
     ensures takes { TakesFront S.left S.faults S.reads source.old source.new }
     ensures ended { ReadsToEnd (S.left source.new) result.result }
     ensures source_cause { SourceCause (S.faults source.old) (S.faults source.new) result.result }
-    ensures shelf_cause { ShelfCause (D.shelf_state shelf).reading (D.shelf_state result.shelf).reading result.result }
+    ensures shelf_cause { ShelfCause (D.shelf_state shelf).reading
+        (D.shelf_state result.shelf).reading result.result }
     ensures few_loads { LoadsFew (D.shelf_state shelf) (D.shelf_state result.shelf) }
-    ensures selected { ((D.shelf_state result.shelf).selected ≡ (D.shelf_state shelf).selected) ⊎ ((D.shelf_state result.shelf).selected ≡ Some name.now) }
+    ensures selected { ((D.shelf_state result.shelf).selected ≡ (D.shelf_state shelf).selected) ⊎
+        ((D.shelf_state result.shelf).selected ≡ Some name.now) }
 {
     let script = match read_script(alloc, source, &chest) {
         Ok(script) => script,
@@ -94,10 +96,13 @@ fn read_script<S: Source>(
     chest: &Vec<Vec<Box<dyn PointFilter + Send>>>,
 ) -> Result<Script, Stopped>
     requires { AllByRecursion (λ boxes. length boxes.items < 2 ^ 32) chest.now.items }
-    ensures reads { ReadsViewed (given_of (S.left source.old) (λ b. state b) chest.now.items) result }
-    ensures fits { IfOk result (λ script.
-        FitsFilters (length (list_at (states_of (λ b. state b) chest.now.items) 0) ∷ []) (lists_of script)) }
-    ensures viewed { IfOk result (λ script. AllByRecursion IsViewedLine (list_at (lists_of script) 0)) }
+    ensures reads { ReadsViewed (given_of (S.left source.old) (λ b. state b) chest.now.items)
+        result }
+    ensures fits { IfOk result
+        (λ script. FitsFilters (length (list_at (states_of (λ b. state b) chest.now.items) 0) ∷ [])
+        (lists_of script)) }
+    ensures viewed { IfOk result (λ script. AllByRecursion IsViewedLine
+        (list_at (lists_of script) 0)) }
     ensures takes { TakesFront S.left S.faults S.reads source.old source.new }
     ensures ended { OnOk result (IsEnded (S.left source.new)) }
     ensures cause { SourceCause (S.faults source.old) (S.faults source.new) result }
@@ -136,11 +141,13 @@ fn view_document<D: Shelf>(
     requires selected { IsSome (D.shelf_state shelf).selected }
     requires size { IsWindowSize cols rows }
     requires boxes { AllByRecursion (λ boxes. length boxes.items < 2 ^ 32) chest.items }
-    requires fits { FitsFilters (length (list_at (states_of (λ b. state b) chest.items) 0) ∷ []) (lists_of script) }
+    requires fits { FitsFilters (length (list_at (states_of (λ b. state b) chest.items) 0) ∷ [])
+        (lists_of script) }
     requires viewed { AllByRecursion IsViewedLine (list_at (lists_of script) 0) }
     ensures shelf { result.shelf ≡ shelf }
-    ensures views { IfOk result.text (λ text. Views (string_bytes text) document (list_at (lists_of script) 0)
-        (list_at (states_of (λ b. state b) chest.items) 0) cols rows) }
+    ensures views { IfOk result.text (λ text. Views (string_bytes text) document
+        (list_at (lists_of script) 0) (list_at (states_of (λ b. state b) chest.items) 0) cols
+        rows) }
 {
     let mut core = match open_core(alloc, document, shelf) {
         Ok(core) => core,

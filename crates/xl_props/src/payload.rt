@@ -48,7 +48,8 @@ pub fn payload_len(bytes: &[u8], owner: Owner, kind: u32, at: usize) -> Result<u
     ensures read { result ≡ payload_length_at bytes.now owner kind at }
     ensures fits { IfOk result (λ n. at + 8 + n ≤ length bytes.now) }
     ensures few { IfOk result (λ n. n ≤ 2 ^ 24) }
-    ensures colours { IfOk result (λ n. is_colour_map owner kind ≡ true → IsMapLength bytes.now (at + 8) n) }
+    ensures colours { IfOk result (λ n. is_colour_map owner kind ≡ true
+        → IsMapLength bytes.now (at + 8) n) }
 {
     let n = u32_at(bytes, at + 4)?;
     if is_map(owner, kind) {

@@ -42,10 +42,13 @@ pub fn next_property(
     at: usize,
 ) -> Result<Option<(u32, &[u8])>, ReadRefused>
     ensures goes_on { GoesOn kept bytes.now owner at result }
-    ensures room { IfOk result (λ next. IfSome next (λ p. (interprets owner p.0 || nat_lt 0 kept) ≡ true)) }
+    ensures room { IfOk result (λ next. IfSome next (λ p. (interprets owner p.0 || nat_lt 0 kept)
+        ≡ true)) }
     ensures end { IfOk result (λ next. IfNone next (at + 8 ≤ length bytes.now)) }
-    ensures fits { IfOk result (λ next. IfSome next (λ p. at + 8 + length p.1.now ≤ length bytes.now)) }
-    ensures checked { IfOk result (λ next. IfSome next (λ p. IsChecked owner (property 0 p.0 p.1.now))) }
+    ensures fits { IfOk result (λ next. IfSome next (λ p. at + 8 + length p.1.now
+        ≤ length bytes.now)) }
+    ensures checked { IfOk result
+        (λ next. IfSome next (λ p. IsChecked owner (property 0 p.0 p.1.now))) }
 {
     let kind = u32_at(bytes, at)?;
     if kind == END {

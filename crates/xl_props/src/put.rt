@@ -35,7 +35,8 @@ fn put_head(alloc: Global, out: &mut Vec<u8>, kind: u32, len: usize) -> Result<(
 /// A property of these bytes.
 pub fn put(alloc: Global, out: &mut Vec<u8>, kind: u32, payload: &[u8]) -> Result<(), AllocError>
     requires { length payload.now < 2 ^ 32 }
-    ensures ok { OnOk result (out.new.items ≡ out.old.items ++ property_bytes (raw kind payload.now)) }
+    ensures ok { OnOk result (out.new.items ≡ out.old.items ++ property_bytes
+        (raw kind payload.now)) }
     ensures front { BeginsWith out.new.items out.old.items }
 {
     put_head(alloc, out, kind, payload.len())?;
@@ -44,7 +45,8 @@ pub fn put(alloc: Global, out: &mut Vec<u8>, kind: u32, payload: &[u8]) -> Resul
 
 /// A property of one word.
 fn put_one_word(alloc: Global, out: &mut Vec<u8>, kind: u32, value: u32) -> Result<(), AllocError>
-    ensures ok { OnOk result (out.new.items ≡ out.old.items ++ property_bytes (raw kind (word value))) }
+    ensures ok { OnOk result (out.new.items ≡ out.old.items ++ property_bytes
+        (raw kind (word value))) }
     ensures front { BeginsWith out.new.items out.old.items }
 {
     put_head(alloc, out, kind, 4)?;
@@ -63,7 +65,8 @@ fn put_words(alloc: Global, out: &mut Vec<u8>, values: &[u32]) -> Result<(), All
 
 fn put_places(alloc: Global, out: &mut Vec<u8>, places: &[u32]) -> Result<(), AllocError>
     requires { length places.now ≤ 2 ^ 22 }
-    ensures ok { OnOk result (out.new.items ≡ out.old.items ++ property_bytes (raw ITEM_PATH (words places.now))) }
+    ensures ok { OnOk result (out.new.items ≡ out.old.items ++ property_bytes
+        (raw ITEM_PATH (words places.now))) }
     ensures front { BeginsWith out.new.items out.old.items }
 {
     put_head(alloc, out, ITEM_PATH, 4 * places.len())?;
@@ -72,7 +75,8 @@ fn put_places(alloc: Global, out: &mut Vec<u8>, places: &[u32]) -> Result<(), Al
 
 pub fn put_path(alloc: Global, out: &mut Vec<u8>, path: &Option<Path>) -> Result<(), AllocError>
     requires { IfSome path.now (λ places. length places ≤ 2 ^ 22) }
-    ensures ok { OnOk result (out.new.items ≡ out.old.items ++ list_bytes (if_there ITEM_PATH words path.now)) }
+    ensures ok { OnOk result (out.new.items ≡ out.old.items ++ list_bytes
+        (if_there ITEM_PATH words path.now)) }
     ensures front { BeginsWith out.new.items out.old.items }
 {
     match path {
@@ -97,7 +101,8 @@ fn put_bytes_of_each(
 
 fn put_map(alloc: Global, out: &mut Vec<u8>, colours: &[[u8; 3]]) -> Result<(), AllocError>
     requires { AreFewColours colours.now }
-    ensures ok { OnOk result (out.new.items ≡ out.old.items ++ property_bytes (raw COLOUR_MAP (colour_bytes colours.now))) }
+    ensures ok { OnOk result (out.new.items ≡ out.old.items ++ property_bytes
+        (raw COLOUR_MAP (colour_bytes colours.now))) }
     ensures front { BeginsWith out.new.items out.old.items }
 {
     put_head(alloc, out, COLOUR_MAP, 4 + 3 * colours.len())?;
@@ -111,7 +116,8 @@ pub fn put_colours(
     colours: &Option<ColourMap>,
 ) -> Result<(), AllocError>
     requires { IfSome colours.now AreFewColours }
-    ensures ok { OnOk result (out.new.items ≡ out.old.items ++ list_bytes (if_there COLOUR_MAP colour_bytes colours.now)) }
+    ensures ok { OnOk result (out.new.items ≡ out.old.items ++ list_bytes
+        (if_there COLOUR_MAP colour_bytes colours.now)) }
     ensures front { BeginsWith out.new.items out.old.items }
 {
     match colours {
@@ -121,7 +127,8 @@ pub fn put_colours(
 }
 
 pub fn put_compression(alloc: Global, out: &mut Vec<u8>, code: Option<u8>) -> Result<(), AllocError>
-    ensures ok { OnOk result (out.new.items ≡ out.old.items ++ list_bytes (if_there COMPRESSION one_byte code)) }
+    ensures ok { OnOk result (out.new.items ≡ out.old.items ++ list_bytes
+        (if_there COMPRESSION one_byte code)) }
     ensures front { BeginsWith out.new.items out.old.items }
 {
     match code {
@@ -131,7 +138,8 @@ pub fn put_compression(alloc: Global, out: &mut Vec<u8>, code: Option<u8>) -> Re
 }
 
 pub fn put_opacity(alloc: Global, out: &mut Vec<u8>, opacity: Option<u8>) -> Result<(), AllocError>
-    ensures ok { OnOk result (out.new.items ≡ out.old.items ++ list_bytes (if_there OPACITY word opacity)) }
+    ensures ok { OnOk result (out.new.items ≡ out.old.items ++ list_bytes
+        (if_there OPACITY word opacity)) }
     ensures front { BeginsWith out.new.items out.old.items }
 {
     match opacity {
@@ -141,7 +149,8 @@ pub fn put_opacity(alloc: Global, out: &mut Vec<u8>, opacity: Option<u8>) -> Res
 }
 
 pub fn put_mode(alloc: Global, out: &mut Vec<u8>, mode: Option<Mode>) -> Result<(), AllocError>
-    ensures ok { OnOk result (out.new.items ≡ out.old.items ++ list_bytes (if_there MODE mode_word mode)) }
+    ensures ok { OnOk result (out.new.items ≡ out.old.items ++ list_bytes
+        (if_there MODE mode_word mode)) }
     ensures front { BeginsWith out.new.items out.old.items }
 {
     match mode {
@@ -157,7 +166,8 @@ pub fn put_flag(
     kind: u32,
     flag: Option<bool>,
 ) -> Result<(), AllocError>
-    ensures ok { OnOk result (out.new.items ≡ out.old.items ++ list_bytes (if_there kind flag_word flag)) }
+    ensures ok { OnOk result (out.new.items ≡ out.old.items ++ list_bytes
+        (if_there kind flag_word flag)) }
     ensures front { BeginsWith out.new.items out.old.items }
 {
     match flag {
@@ -167,7 +177,8 @@ pub fn put_flag(
 }
 
 fn put_point(alloc: Global, out: &mut Vec<u8>, x: i32, y: i32) -> Result<(), AllocError>
-    ensures ok { OnOk result (out.new.items ≡ out.old.items ++ property_bytes (raw OFFSETS (offset_words (x, y)))) }
+    ensures ok { OnOk result (out.new.items ≡ out.old.items ++ property_bytes
+        (raw OFFSETS (offset_words (x, y)))) }
     ensures front { BeginsWith out.new.items out.old.items }
 {
     put_head(alloc, out, OFFSETS, 8)?;
@@ -180,7 +191,8 @@ pub fn put_offsets(
     out: &mut Vec<u8>,
     offsets: Option<(i32, i32)>,
 ) -> Result<(), AllocError>
-    ensures ok { OnOk result (out.new.items ≡ out.old.items ++ list_bytes (if_there OFFSETS offset_words offsets)) }
+    ensures ok { OnOk result (out.new.items ≡ out.old.items ++ list_bytes
+        (if_there OFFSETS offset_words offsets)) }
     ensures front { BeginsWith out.new.items out.old.items }
 {
     match offsets {

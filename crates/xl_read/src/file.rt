@@ -86,7 +86,8 @@ fn decode_shared(
     requires shared { bytes.now ≡ (arc_value shared.now).items }
     ensures exact { Gives result (reading bytes.now) }
     ensures held { IfOk result (λ document. Holds bytes.now document) }
-    ensures only { IfOk result (λ document. (other : Plain) → Holds bytes.now other → other ≡ document) }
+    ensures only { IfOk result (λ document. (other : Plain) → Holds bytes.now other
+        → other ≡ document) }
     ensures refused { OnRefused result ((document : Plain) → ¬ (Holds bytes.now document)) }
     ensures limits { IfOk result (λ document. IsDocument document) }
     ensures numbered { IfOk result (λ document. AreNumbered document.nodes) }
@@ -99,8 +100,10 @@ pub fn decode(alloc: Global, file: &Arc<Vec<u8>>) -> Result<Document, ReadRefuse
     requires { length (arc_value file.now).items ≤ 2 ^ 31 }
     ensures exact { Gives result (reading (arc_value file.now).items) }
     ensures held { IfOk result (λ document. Holds (arc_value file.now).items document) }
-    ensures only { IfOk result (λ document. (other : Plain) → Holds (arc_value file.now).items other → other ≡ document) }
-    ensures refused { OnRefused result ((document : Plain) → ¬ (Holds (arc_value file.now).items document)) }
+    ensures only { IfOk result (λ document. (other : Plain) → Holds (arc_value file.now).items other
+        → other ≡ document) }
+    ensures refused { OnRefused result ((document : Plain)
+        → ¬ (Holds (arc_value file.now).items document)) }
     ensures limits { IfOk result (λ document. IsDocument document) }
     ensures numbered { IfOk result (λ document. AreNumbered document.nodes) }
 {

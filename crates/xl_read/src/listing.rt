@@ -80,7 +80,8 @@ impl<'a, O: Owned> Listing<'a, O> {
     pub fn check_kept(&self, before: u64) -> Result<(), ReadRefused>
         requires { before ≤ MAX_KEPT_BYTES }
         ensures rule { result ≡ unless (passes O.owner before self.now.list) }
-        ensures room { IfOk result (λ _. before + kept_bytes (kept_of O.owner self.now.list) ≤ MAX_KEPT_BYTES) }
+        ensures room { IfOk result (λ _. before + kept_bytes (kept_of O.owner self.now.list)
+            ≤ MAX_KEPT_BYTES) }
     {
         within(&self.props.kept, &self.props.places.kept, before)
     }

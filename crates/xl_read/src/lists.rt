@@ -29,7 +29,8 @@ pub fn nodes_at(
     requires shared { file.now ≡ (arc_value shared.now).items }
     requires place { at ≤ 2 ^ 33 }
     requires empty { size draft.old.nodes ≡ 0 }
-    ensures read { Yields result (λ next. record { document = draft.new; next = next }) (nodes_at MAX_NODES file.now at draft.old) }
+    ensures read { Yields result (λ next. record { document = draft.new; next = next })
+        (nodes_at MAX_NODES file.now at draft.old) }
     ensures within { IfOk result (λ next. next ≤ length file.now) }
 {
     for i in 0..MAX_NODES as usize {

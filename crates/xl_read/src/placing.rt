@@ -23,7 +23,8 @@ pub fn put_last(tree: &mut Tree<Node>, path: &[u32], node: Node)
     requires short { length path.now < MAX_DEPTH }
     requires few { size (nodes_of tree.old) < MAX_NODES }
     requires parts { AreParts tree.old }
-    ensures put { put_last path.now (nodes_of (alone (is_group_body node.body) (1 + size (nodes_of tree.old)) node))
+    ensures put { put_last path.now
+        (nodes_of (alone (is_group_body node.body) (1 + size (nodes_of tree.old)) node))
         (nodes_of tree.old) ≡ Some (nodes_of tree.new) }
     ensures parts { AreParts tree.new }
 {

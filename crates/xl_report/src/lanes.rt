@@ -121,7 +121,8 @@ pub fn new_lanes(alloc: Global, doc: &Document, count: usize) -> Result<Vec<Lane
     ensures some { IfOk result (λ lanes. 1 ≤ length lanes.items) }
     ensures few { IfOk result (λ lanes. length lanes.items ≤ 32) }
     ensures room { IfOk result (λ lanes. (k : ℕ) (d : _) → k < length lanes.items
-        → HasRoom doc.now (slice_index_or lanes.items k d).composer (slice_index_or lanes.items k d).bytes.items) }
+        → HasRoom doc.now (slice_index_or lanes.items k d).composer
+        (slice_index_or lanes.items k d).bytes.items) }
 {
     let mut lanes = Vec::with_capacity(alloc, count)?;
     let first = Lane::new(alloc, doc)?;
@@ -140,18 +141,21 @@ pub fn compose_lanes<R: Threads + Sync>(rt: &R, doc: &Document, first: u32, lane
     requires first { first ≤ doc.now.height }
     requires few { length lanes.old ≤ 32 }
     requires room { (k : ℕ) (d : _) → k < length lanes.old
-        → HasRoom doc.now (slice_index_or lanes.old k d).composer (slice_index_or lanes.old k d).bytes.items }
+        → HasRoom doc.now (slice_index_or lanes.old k d).composer
+        (slice_index_or lanes.old k d).bytes.items }
     ensures length { length lanes.new ≡ length lanes.old }
     ensures bands { (k : ℕ) (d : _) → k < length lanes.old
-        → IsBand doc.now first k (slice_index_or lanes.new k d).composer (slice_index_or lanes.new k d).used
-        (slice_index_or lanes.new k d).bytes.items }
+        → IsBand doc.now first k (slice_index_or lanes.new k d).composer
+        (slice_index_or lanes.new k d).used (slice_index_or lanes.new k d).bytes.items }
 {
     par_for_each_mut(
         rt,
         lanes,
         |place: usize, lane: &mut Lane|
-            requires { (first ≤ doc.now.height) × (place < 64) × HasRoom doc.now lane.old.composer lane.old.bytes.items }
-            ensures { IsBand doc.entry.now first place lane.new.composer lane.new.used lane.new.bytes.items }
+            requires { (first ≤ doc.now.height) × (place < 64) × HasRoom doc.now lane.old.composer
+                lane.old.bytes.items }
+            ensures { IsBand doc.entry.now first place lane.new.composer lane.new.used
+                lane.new.bytes.items }
         { lane.compose(doc, first, place as u32) },
     );
 }

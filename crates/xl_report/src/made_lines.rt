@@ -58,7 +58,8 @@ fn add_fills(
     layer: u32,
     lines: &mut Lines,
 ) -> Result<(), AllocError>
-    ensures { OnOk result (AddsDrawn (times 32 (fill layer)) draws.old (lines_of lines.old) (lines_of lines.new) draws.new) }
+    ensures { OnOk result (AddsDrawn (times 32 (fill layer)) draws.old (lines_of lines.old)
+        (lines_of lines.new) draws.new) }
 {
     for _fill in 0..FILLS {
         let line = fill(alloc, draws, layer)?;
@@ -73,7 +74,8 @@ fn add_fills_and_tile(
     layer: u32,
     lines: &mut Lines,
 ) -> Result<(), AllocError>
-    ensures { OnOk result (AddsDrawn (fills_and_tile layer) draws.old (lines_of lines.old) (lines_of lines.new) draws.new) }
+    ensures { OnOk result (AddsDrawn (fills_and_tile layer) draws.old (lines_of lines.old)
+        (lines_of lines.new) draws.new) }
 {
     add_fills(alloc, draws, layer, lines)?;
     let shown = tile(draws);
@@ -95,7 +97,8 @@ fn layer_of_session(session: u32) -> u32
 
 fn session_lines(alloc: Global, draws: &mut Draws, session: u32) -> Result<Lines, AllocError>
     requires { session < 8 }
-    ensures { IfOk result (λ lines. IsDrawn (session_lines session) draws.old (lines_of lines) draws.new) }
+    ensures { IfOk result (λ lines. IsDrawn (session_lines session) draws.old (lines_of lines)
+        draws.new) }
 {
     let layer = layer_of_session(session);
     let mut lines = Lines::new(alloc);
@@ -108,7 +111,8 @@ fn session_lines(alloc: Global, draws: &mut Draws, session: u32) -> Result<Lines
 
 /// The lines of the eight sessions.
 pub fn script(alloc: Global, draws: &mut Draws) -> Result<Script, AllocError>
-    ensures { IfOk result (λ script. IsDrawn (for_each (count_from 0 8) session_lines) draws.old (lists_of script) draws.new) }
+    ensures { IfOk result (λ script. IsDrawn (for_each (count_from 0 8) session_lines) draws.old
+        (lists_of script) draws.new) }
 {
     let mut lists = Vec::with_capacity(alloc, SESSIONS as usize)?;
     for session in 0..SESSIONS {

@@ -9,8 +9,9 @@ use std::alloc::{AllocError, Global};
 
 /// The line that sums up a run of a script that was made, with the digest of the picture of the document at its end.
 pub fn summary(alloc: Global, digest: &str) -> Result<String, AllocError>
-    ensures { IfOk result (λ text. (d : Document) → digest.now ≡ digest_of (picture_bytes d 0 0 0 d.width d.height)
-        → string_bytes text ≡ summary_of d) }
+    ensures { IfOk result (λ text. (d : Document)
+        → digest.now ≡ digest_of (picture_bytes d 0 0 0 d.width d.height) → string_bytes text
+        ≡ summary_of d) }
 {
     let mut text = String::new(alloc);
     text.push_str("made 1024 768 nodes 10 sessions 8 calls 800 entries 808 version 768 digest ")?;

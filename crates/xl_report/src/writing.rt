@@ -48,10 +48,11 @@ fn write_lanes<K: Sink>(
 ) -> Result<(), Failed>
     requires first { first ≤ doc.now.height }
     requires bands { (k : ℕ) (d : _) → k < length lanes.now
-        → IsBand doc.now first k (slice_index_or lanes.now k d).composer (slice_index_or lanes.now k d).used
-        (slice_index_or lanes.now k d).bytes.items }
+        → IsBand doc.now first k (slice_index_or lanes.now k d).composer
+        (slice_index_or lanes.now k d).used (slice_index_or lanes.now k d).bytes.items }
     ensures { Writes K.held K.faults sink.old sink.new
-        (picture_bytes doc.now 0 0 first doc.now.width (row_of doc.now.height first (length lanes.now) - first)) result }
+        (picture_bytes doc.now 0 0 first doc.now.width
+        (row_of doc.now.height first (length lanes.now) - first)) result }
 {
     for place in 0..lanes.len() {
         write_all(sink, lanes[place].shown())?;
@@ -69,8 +70,10 @@ fn write_rows<R: Threads + Sync, K: Sink>(
     requires some { 1 ≤ length lanes.old }
     requires few { length lanes.old ≤ 32 }
     requires room { (k : ℕ) (d : _) → k < length lanes.old
-        → HasRoom doc.now (slice_index_or lanes.old k d).composer (slice_index_or lanes.old k d).bytes.items }
-    ensures { Writes K.held K.faults sink.old sink.new (picture_bytes doc.now 0 0 0 doc.now.width doc.now.height) result }
+        → HasRoom doc.now (slice_index_or lanes.old k d).composer
+        (slice_index_or lanes.old k d).bytes.items }
+    ensures { Writes K.held K.faults sink.old sink.new (picture_bytes doc.now 0 0 0 doc.now.width
+        doc.now.height) result }
 {
     prove!(doc.height <= MAX_SIDE);
     let mut y = 0;

@@ -62,7 +62,8 @@ fn put_code(
     left: usize,
 ) -> Result<Placed, ReadRefused>
     requires { filled < length out.old }
-    ensures { PutsCode result filled left out.old out.new (code_at bytes.now at left (length out.old - filled)) }
+    ensures { PutsCode result filled left out.old out.new
+        (code_at bytes.now at left (length out.old - filled)) }
 {
     let Some(head) = head_at(bytes, at) else {
         return Err(refuse(Kind::Truncated, at));

@@ -53,7 +53,8 @@ fn literal_length(bytes: &[u8]) -> usize
 fn push_run(out: &mut Vec<u8>, count: usize, value: u8) -> Result<(), AllocError>
     requires some { 0 < count }
     requires few { count ≤ 4096 }
-    ensures ok { OnOk result (out.new.items ≡ out.old.items ++ code_bytes (coder.run_code count value)) }
+    ensures ok { OnOk result (out.new.items ≡ out.old.items ++ code_bytes
+        (coder.run_code count value)) }
     ensures err { OnErr result (out.new.items ≡ out.old.items) }
 {
     if count <= MAX_SHORT {
@@ -66,7 +67,8 @@ fn push_run(out: &mut Vec<u8>, count: usize, value: u8) -> Result<(), AllocError
 fn push_literal(out: &mut Vec<u8>, bytes: &[u8]) -> Result<(), AllocError>
     requires some { 0 < length bytes.now }
     requires few { length bytes.now ≤ 4096 }
-    ensures ok { OnOk result (out.new.items ≡ out.old.items ++ code_bytes (coder.literal_code bytes.now)) }
+    ensures ok { OnOk result (out.new.items ≡ out.old.items ++ code_bytes
+        (coder.literal_code bytes.now)) }
     ensures front { BeginsWith out.new.items out.old.items }
 {
     let count = bytes.len();

@@ -16,13 +16,16 @@ use xl_ports::{Failed, Shelf};
 pub fn save<D: Shelf>(bytes: &[u8], shelf: &mut D) -> Result<(), Failed>
     requires { IsSome (D.shelf_state shelf.old).selected }
     ensures moments { IfSome (D.shelf_state shelf.old).selected
-        (λ name. Between (D.shelf_state shelf.old).disk (D.shelf_state shelf.new).disk (SavesOnly name bytes.now)) }
-    ensures saved { OnOk result (IfSome (D.shelf_state shelf.old).selected (λ name. IfSome (D.shelf_state shelf.new).disk (HasSaved name bytes.now))) }
+        (λ name. Between (D.shelf_state shelf.old).disk (D.shelf_state shelf.new).disk
+        (SavesOnly name bytes.now)) }
+    ensures saved { OnOk result (IfSome (D.shelf_state shelf.old).selected
+        (λ name. IfSome (D.shelf_state shelf.new).disk (HasSaved name bytes.now))) }
     ensures closed { OnOk result ((D.shelf_state shelf.new).is_open ≡ false) }
     ensures selected { (D.shelf_state shelf.new).selected ≡ (D.shelf_state shelf.old).selected }
     ensures loads { (D.shelf_state shelf.new).loads ≡ (D.shelf_state shelf.old).loads }
     ensures reading { (D.shelf_state shelf.new).reading ≡ (D.shelf_state shelf.old).reading }
-    ensures cause { HasCause (D.shelf_state shelf.old).saving (D.shelf_state shelf.new).saving result }
+    ensures cause { HasCause (D.shelf_state shelf.old).saving (D.shelf_state shelf.new).saving
+        result }
 {
     shelf.draft_new()?;
     add_all(bytes, shelf)?;

@@ -49,7 +49,8 @@ fn take_line(
     number: u32,
     line: &[u8],
 ) -> Result<(), BadLineOrMemory>
-    ensures { TakenAs number result sessions.new (grammar.take_line number (line_in scope line.now) sessions.old) }
+    ensures { TakenAs number result sessions.new (grammar.take_line number (line_in scope line.now)
+        sessions.old) }
 {
     if is_skipped(line) {
         return Ok(());
@@ -74,7 +75,8 @@ fn all_lines(
     chests: &[u32],
 ) -> Result<Sessions, BadLineOrMemory>
     requires { length text.now ≤ 2 ^ 24 }
-    ensures { ParsedAs result (grammar.take_lines 1 (map (line_in scope) (lines_of text.now)) (grammar.start chests.now)) }
+    ensures { ParsedAs result (grammar.take_lines 1 (map (line_in scope) (lines_of text.now))
+        (grammar.start chests.now)) }
 {
     let mut sessions = Sessions::new(alloc, chests)?;
     let mut rest = text;
@@ -122,7 +124,8 @@ pub fn parse(alloc: Global, text: &[u8], chests: &[u32]) -> Result<Script, BadLi
 pub fn parse_viewed(alloc: Global, text: &[u8], filters: u32) -> Result<Script, BadLineOrMemory>
     ensures read { ScriptOf result (view_lists text.now filters) }
     ensures fits { IfOk result (λ script. FitsFilters (filters ∷ []) (lists_of script)) }
-    ensures viewed { IfOk result (λ script. AllByRecursion IsViewedLine (grammar.list_at (lists_of script) 0)) }
+    ensures viewed { IfOk result (λ script. AllByRecursion IsViewedLine
+        (grammar.list_at (lists_of script) 0)) }
 {
     match read(alloc, Scope::Viewed, text, &[filters]) {
         Ok(script) => Ok(script),

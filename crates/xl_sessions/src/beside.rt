@@ -97,12 +97,13 @@ fn text_of(
     digests: &[Vec<String>],
 ) -> Result<String, AllocError>
     requires not_full { IsNotFull stopped }
-    requires printed { is_none stopped ≡ true → AllByRecursion (λ e. IsPrinted e.reply) entries.now }
+    requires printed { is_none stopped ≡ true → AllByRecursion (λ e. IsPrinted e.reply)
+        entries.now }
     ensures all { IfOk result (λ text. is_none stopped ≡ true) }
     ensures text { (base : Document) → is_none stopped ≡ true → IsLegal base entries.now
         → ((session : ℕ) → session < 8 → AreEnded (mine entries.now session))
-        → ((session : ℕ) → session < 8
-        → list_at (texts_of digests.now) session ≡ digests_in base entries.now (mine entries.now session))
+        → ((session : ℕ) → session < 8 → list_at (texts_of digests.now) session ≡ digests_in base
+        entries.now (mine entries.now session))
         → IfOk result (λ text. string_bytes text ≡ printed base entries.now) }
 {
     match stopped {
@@ -138,7 +139,8 @@ fn finish<D: Shelf>(
     ensures legal { IsLegal result.core.history.base result.core.history.entries }
     ensures text { (chests : List (List FilterState)) (lists : List (List Plain))
         → HaveOutcomes studio chests lists players.items
-        → IfOk result.text (λ text. IsTextOf (string_bytes text) (base_of studio) lists chests result.core.history.entries) }
+        → IfOk result.text (λ text. IsTextOf (string_bytes text) (base_of studio) lists chests
+        result.core.history.entries) }
 {
     let stopped = join_players(&studio, &mut own, players, &mut digests);
     join_workers(&studio, &mut own, workers);
@@ -174,7 +176,8 @@ fn play_opened<R: Threads + Wait + Sync, D: Shelf, G: Gate>(
     ensures legal { IsLegal result.core.history.base result.core.history.entries }
     ensures text { (chests : List (List FilterState)) (lists : List (List Plain))
         → AreBrought (in_slots state) chests lists 0 room.parts.items
-        → IfOk result.text (λ text. IsTextOf (string_bytes text) (base_of studio) lists chests result.core.history.entries) }
+        → IfOk result.text (λ text. IsTextOf (string_bytes text) (base_of studio) lists chests
+        result.core.history.entries) }
 {
     let Room {
         parts,
@@ -218,7 +221,8 @@ fn play_in<R: Threads + Wait + Sync, D: Shelf, G: Gate>(
     ensures legal { IsLegal result.core.history.base result.core.history.entries }
     ensures text { (chests : List (List FilterState)) (lists : List (List Plain))
         → AreBrought (in_slots state) chests lists 0 room.parts.items
-        → IfOk result.text (λ text. IsTextOf (string_bytes text) core.history.base lists chests result.core.history.entries) }
+        → IfOk result.text (λ text. IsTextOf (string_bytes text) core.history.base lists chests
+        result.core.history.entries) }
 {
     core.know_right();
     match Studio::open(alloc, core) {
@@ -249,7 +253,8 @@ pub fn play_beside<R: Threads + Wait + Sync, D: Shelf, G: Gate>(
     requires fresh { core.history.entries ≡ [] }
     requires inside { IsSome core.shelf }
     requires boxes { AllByRecursion (λ boxes. length boxes.items < 2 ^ 32) chest.items }
-    requires fits { FitsFilters (map length (states_of (λ b. state b) chest.items)) (lists_of script) }
+    requires fits { FitsFilters (map length (states_of (λ b. state b) chest.items))
+        (lists_of script) }
     requires eight { length (lists_of script) ≡ 8 }
     requires workers { workers ≤ 8 }
 
@@ -257,9 +262,8 @@ pub fn play_beside<R: Threads + Wait + Sync, D: Shelf, G: Gate>(
     ensures opening { result.core.opening ≡ core.opening }
     ensures inside { IsSome result.core.shelf }
     ensures legal { IsLegal result.core.history.base result.core.history.entries }
-    ensures text { IfOk result.text (λ text.
-        IsTextOf (string_bytes text) core.history.base (lists_of script) (states_of (λ b. state b) chest.items)
-        result.core.history.entries) }
+    ensures text { IfOk result.text (λ text. IsTextOf (string_bytes text) core.history.base
+        (lists_of script) (states_of (λ b. state b) chest.items) result.core.history.entries) }
 {
     core.know_right();
     match room_for(alloc, script, chest, workers) {

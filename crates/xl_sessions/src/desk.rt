@@ -8,7 +8,8 @@ use xl_filters::{Chest, PointFilter};
 /// A desk with these filters.
 pub fn desk_of(alloc: Global, boxes: Vec<Box<dyn PointFilter + Send>>) -> Result<Desk, AllocError>
     requires { length boxes.items < 2 ^ 32 }
-    ensures { IfOk result (λ desk. states (λ s. state s.filter) desk.chest ≡ map (λ b. Some (state b)) boxes.items) }
+    ensures { IfOk result (λ desk. states (λ s. state s.filter) desk.chest
+        ≡ map (λ b. Some (state b)) boxes.items) }
 {
     let Ok(chest) = Chest::new(alloc, boxes) else {
         return Err(AllocError);

@@ -60,13 +60,16 @@ fn play_lines<W: Wait, L: Ledger, D: Shelf, G: Gate>(
     ensures begins { IsPrefix (front_of seat.old) (front_of seat.new) }
     ensures of { IsOf session (made_of seat.new) (entries_in (front_of seat.new)) }
 
-    ensures made { OnOk result ((filters : List FilterState) → Agrees (states_in state desk.old.chest) filters
-        → HasMade session filters (lines_of lines.items) (made_of seat.new) (entries_in (front_of seat.new))) }
+    ensures made { OnOk result ((filters : List FilterState)
+        → Agrees (states_in state desk.old.chest) filters
+        → HasMade session filters (lines_of lines.items) (made_of seat.new)
+        (entries_in (front_of seat.new))) }
     ensures told { OnOk result (map string_bytes digests.new.items
         ≡ digests_in (base_of studio.now) (entries_in (front_of seat.new))
         (picked (made_of seat.new) (entries_in (front_of seat.new)))) }
     ensures count { length (made_of seat.new) ≤ most_made (lines_of lines.items) }
-    ensures full { IfErr result (λ why. why ≡ HistoryFull → IsStoppedAtFull (lines_of lines.items) (known_by seat.new)) }
+    ensures full { IfErr result (λ why. why ≡ HistoryFull → IsStoppedAtFull (lines_of lines.items)
+        (known_by seat.new)) }
 {
     let mut steps = Steps::<L>::new(blank);
     for line in lines {
@@ -110,13 +113,16 @@ pub fn play_session<W: Wait, D: Shelf, G: Gate>(
     ensures begins { IsPrefix (front_of seat.old) (front_of seat.new) }
     ensures of { IsOf session (made_of seat.new) (entries_in (front_of seat.new)) }
 
-    ensures made { OnOk result ((filters : List FilterState) → Agrees (states_in state desk.old.chest) filters
-        → HasMade session filters (lines_of lines.items) (made_of seat.new) (entries_in (front_of seat.new))) }
+    ensures made { OnOk result ((filters : List FilterState)
+        → Agrees (states_in state desk.old.chest) filters
+        → HasMade session filters (lines_of lines.items) (made_of seat.new)
+        (entries_in (front_of seat.new))) }
     ensures told { OnOk result (map string_bytes digests.new.items
         ≡ digests_in (base_of studio.now) (entries_in (front_of seat.new))
         (picked (made_of seat.new) (entries_in (front_of seat.new)))) }
     ensures count { length (made_of seat.new) ≤ most_made (lines_of lines.items) }
-    ensures full { IfErr result (λ why. why ≡ HistoryFull → IsStoppedAtFull (lines_of lines.items) (known_by seat.new)) }
+    ensures full { IfErr result (λ why. why ≡ HistoryFull → IsStoppedAtFull (lines_of lines.items)
+        (known_by seat.new)) }
 {
     play_lines::<W, Brand, D, G>(
         rt,

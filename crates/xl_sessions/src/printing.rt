@@ -51,7 +51,8 @@ fn print_entry(
     digest: &str,
 ) -> Result<(), AllocError>
     requires { IsPrinted entry.now.reply }
-    ensures { OnOk result (string_bytes text.new ≡ string_bytes text.old ++ line_here digest.now entry.now entry.now.kind) }
+    ensures { OnOk result (string_bytes text.new ≡ string_bytes text.old ++ line_here digest.now
+        entry.now entry.now.kind) }
 {
     match entry.kind {
         EntryKind::Start => Ok(()),
@@ -94,8 +95,9 @@ fn print_own<'a>(
     digests: &'a [String],
 ) -> Result<&'a [String], AllocError>
     requires { IsPrinted entry.now.reply }
-    ensures { IfOk result (λ later. (es : List Plain) → string_bytes text.new ++ lines_with (map string_bytes later.now) es
-        ≡ string_bytes text.old ++ lines_with (map string_bytes digests.now) (entry.now ∷ es)) }
+    ensures { IfOk result (λ later. (es : List Plain) → string_bytes text.new ++ lines_with
+        (map string_bytes later.now) es ≡ string_bytes text.old ++ lines_with
+        (map string_bytes digests.now) (entry.now ∷ es)) }
 {
     if shows_tile(entry) {
         print_entry(alloc, text, entry, first_digest(digests))?;
@@ -114,8 +116,8 @@ fn print_session(
     digests: &[String],
 ) -> Result<(), AllocError>
     requires { AllByRecursion (λ e. IsPrinted e.reply) entries.now }
-    ensures { OnOk result (string_bytes text.new
-        ≡ string_bytes text.old ++ lines_with (map string_bytes digests.now) (mine entries.now session)) }
+    ensures { OnOk result (string_bytes text.new ≡ string_bytes text.old ++ lines_with
+        (map string_bytes digests.now) (mine entries.now session)) }
 {
     let mut rest = entries;
     let mut left = digests;
@@ -151,7 +153,8 @@ pub fn order_words(alloc: Global, entries: &[Entry]) -> Result<Vec<OrderWord>, A
 
 // The digests of a session.
 fn digests_at<'a>(digests: &'a [Vec<String>], session: u8) -> &'a [String]
-    ensures { map string_bytes result.now ≡ unwrap_or (slice_get (map (λ ds. map string_bytes ds.items) digests.now) session) [] }
+    ensures { map string_bytes result.now ≡ unwrap_or
+        (slice_get (map (λ ds. map string_bytes ds.items) digests.now) session) [] }
 {
     match digests.get(usize::from(session)) {
         Some(own) => own.as_slice(),
@@ -166,8 +169,9 @@ fn print_all(
     digests: &[Vec<String>],
 ) -> Result<String, AllocError>
     requires { AllByRecursion (λ e. IsPrinted e.reply) entries.now }
-    ensures { IfOk result (λ text. string_bytes text
-        ≡ lines_of_sessions (map (λ ds. map string_bytes ds.items) digests.now) entries.now 8 ++ order_text entries.now) }
+    ensures { IfOk result (λ text. string_bytes text ≡ lines_of_sessions
+        (map (λ ds. map string_bytes ds.items) digests.now) entries.now 8
+        ++ order_text entries.now) }
 {
     let mut text = String::new(alloc);
     for session in 0..8u8 {
@@ -205,5 +209,6 @@ pub fn print_history(
 /// Each entry of a legal history can be printed, where no save ended as out of memory.
 pub fn each_entry_is_printed()
     ensures { (base : Document) (es : List Plain) → IsLegal base es
-        → AllByRecursion (λ e. is_save_memory e.reply ≡ false) es → AllByRecursion (λ e. IsPrinted e.reply) es }
+        → AllByRecursion (λ e. is_save_memory e.reply ≡ false) es
+        → AllByRecursion (λ e. IsPrinted e.reply) es }
 {}

@@ -40,9 +40,10 @@ fn parts_of(
     mut chest: Vec<Vec<Box<dyn PointFilter + Send>>>,
 ) -> Result<Vec<Part>, AllocError>
     requires boxes { AllByRecursion (λ boxes. length boxes.items < 2 ^ 32) chest.items }
-    requires fits { FitsFilters (map length (states_of (λ b. state b) chest.items)) (lists_of script) }
-    ensures brought { IfOk result (λ parts. AreBrought (λ s. state s.filter) (states_of (λ b. state b) chest.items)
-        (lists_of script) 0 parts.items) }
+    requires fits { FitsFilters (map length (states_of (λ b. state b) chest.items))
+        (lists_of script) }
+    ensures brought { IfOk result (λ parts. AreBrought (λ s. state s.filter)
+        (states_of (λ b. state b) chest.items) (lists_of script) 0 parts.items) }
     ensures fit { IfOk result (λ parts. AreFitParts (λ s. state s.filter) parts.items) }
     ensures eight { IfOk result (λ parts. length parts.items ≡ 8) }
 {
@@ -69,9 +70,10 @@ pub(crate) fn room_for<D: Shelf>(
     workers: u8,
 ) -> Result<Room<Seat<D>>, AllocError>
     requires boxes { AllByRecursion (λ boxes. length boxes.items < 2 ^ 32) chest.items }
-    requires fits { FitsFilters (map length (states_of (λ b. state b) chest.items)) (lists_of script) }
-    ensures brought { IfOk result (λ room. AreBrought (λ s. state s.filter) (states_of (λ b. state b) chest.items)
-        (lists_of script) 0 room.parts.items) }
+    requires fits { FitsFilters (map length (states_of (λ b. state b) chest.items))
+        (lists_of script) }
+    ensures brought { IfOk result (λ room. AreBrought (λ s. state s.filter)
+        (states_of (λ b. state b) chest.items) (lists_of script) 0 room.parts.items) }
     ensures fit { IfOk result (λ room. AreFitParts (λ s. state s.filter) room.parts.items) }
     ensures room { IfOk result (HasRoom workers) }
 {

@@ -44,7 +44,8 @@ use xl_studio::{Seat, Studio};
 fn check_printed(reply: &Reply) -> Result<(), Unplayed>
     ensures printed { OnOk result (IsPrinted (reply_of reply.now)) }
     ensures full { IfErr result (λ why. why ≡ HistoryFull → reply_of reply.now ≡ history_full) }
-    ensures memory { IfErr result (λ why. why ≡ Memory → is_save_memory (reply_of reply.now) ≡ true) }
+    ensures memory { IfErr result (λ why. why ≡ Memory → is_save_memory (reply_of reply.now)
+        ≡ true) }
 {
     match reply {
         Reply::SaveMemory { .. } => Err(Unplayed::Memory),
@@ -97,17 +98,20 @@ fn make_call<W: Wait, L: Ledger, D: Shelf, G: Gate>(
     ensures begins { IsPrefix (front_of seat.old) (front_of seat.new) }
     ensures of { IsOf session (made_of seat.new) (entries_in (front_of seat.new)) }
 
-    ensures answered { (filters : List FilterState) → Agrees (states_in state desk.old.chest) filters
-        → IfOk result (λ reply. IsCalled (base_of studio.now) session (call_of call)
+    ensures answered { (filters : List FilterState) → Agrees (states_in state desk.old.chest)
+        filters → IfOk result (λ reply. IsCalled (base_of studio.now) session (call_of call)
         (expected_tables filters (asked (call_of call) []) (reply_of reply)) (reply_of reply)
         (known_by seat.old) (known_by seat.new)) }
-    ensures fresh { IfOk result (λ reply. IsFreshReply (latest_of (entries_in (front_of seat.old))) (reply_of reply)) }
-    ensures shown { IfOk result (λ reply.
-        Shows (history_of (base_of studio.now) (front_of seat.new)) (call_of call) (reply_of reply) desk.new.out) }
-    ensures chest { IfOk result (λ reply.
-        IsAfter (states_in state desk.old.chest) (states_in state desk.new.chest) (call_of call) (reply_of reply)) }
+    ensures fresh { IfOk result (λ reply. IsFreshReply (latest_of (entries_in (front_of seat.old)))
+        (reply_of reply)) }
+    ensures shown { IfOk result
+        (λ reply. Shows (history_of (base_of studio.now) (front_of seat.new)) (call_of call)
+        (reply_of reply) desk.new.out) }
+    ensures chest { IfOk result (λ reply. IsAfter (states_in state desk.old.chest)
+        (states_in state desk.new.chest) (call_of call) (reply_of reply)) }
     ensures count { MakesAtMost 1 (known_by seat.old) (known_by seat.new) }
-    ensures full { IfOk result (λ reply. reply_of reply ≡ history_full → FindsFull (known_by seat.old) (known_by seat.new)) }
+    ensures full { IfOk result (λ reply. reply_of reply ≡ history_full
+        → FindsFull (known_by seat.old) (known_by seat.new)) }
 {
     gate.pass(Actor::Session(session), Place::BeforeCall);
     let reply = studio.call(rt, alloc, seat, session, call, desk, steps);
@@ -142,10 +146,11 @@ fn play_call<W: Wait, L: Ledger, D: Shelf, G: Gate>(
 
     ensures made { OnOk result ((told : List (List ℕ))
         × (map string_bytes digests.new.items ≡ map string_bytes digests.old.items ++ told)
-        × IsCallMade (base_of studio.now) session (call_of call) (states_in state desk.old.chest) (states_in state desk.new.chest)
-        (known_by seat.old) (known_by seat.new) told) }
+        × IsCallMade (base_of studio.now) session (call_of call) (states_in state desk.old.chest)
+        (states_in state desk.new.chest) (known_by seat.old) (known_by seat.new) told) }
     ensures count { MakesAtMost 2 (known_by seat.old) (known_by seat.new) }
-    ensures full { IfErr result (λ why. why ≡ HistoryFull → FindsFull (known_by seat.old) (known_by seat.new)) }
+    ensures full { IfErr result (λ why. why ≡ HistoryFull → FindsFull (known_by seat.old)
+        (known_by seat.new)) }
 {
     let asks = asks_tile(&call);
     let reply = make_call(rt, alloc, studio, gate, session, call, desk, seat, steps)?;
@@ -176,7 +181,8 @@ fn make_save<W: Wait, D: Shelf, G: Gate>(
         IsSaved D.shelf_state (opening_shelf studio.now) (base_of studio.now) session
         (reply_of reply) (known_by seat.old) (known_by seat.new)) }
     ensures count { MakesAtMost 2 (known_by seat.old) (known_by seat.new) }
-    ensures full { IfOk result (λ reply. reply_of reply ≡ history_full → FindsFull (known_by seat.old) (known_by seat.new)) }
+    ensures full { IfOk result (λ reply. reply_of reply ≡ history_full
+        → FindsFull (known_by seat.old) (known_by seat.new)) }
 {
     gate.pass(Actor::Session(session), Place::BeforeCall);
     let mut coder = Kept;
@@ -207,7 +213,8 @@ fn play_save<W: Wait, D: Shelf, G: Gate>(
         IsSaveMade D.shelf_state (opening_shelf studio.now) (base_of studio.now)
         session (known_by seat.old) (known_by seat.new)) }
     ensures count { MakesAtMost 2 (known_by seat.old) (known_by seat.new) }
-    ensures full { IfErr result (λ why. why ≡ HistoryFull → FindsFull (known_by seat.old) (known_by seat.new)) }
+    ensures full { IfErr result (λ why. why ≡ HistoryFull → FindsFull (known_by seat.old)
+        (known_by seat.new)) }
 {
     let reply = make_save(rt, alloc, studio, gate, session, seat)?;
     check_printed(&reply)
@@ -242,7 +249,8 @@ pub(crate) fn play_line<W: Wait, L: Ledger, D: Shelf, G: Gate>(
         × IsLineMade D.shelf_state (opening_shelf studio.now) (base_of studio.now)
         session (line_of line) (states_in state desk.old.chest) (states_in state desk.new.chest)
         (known_by seat.old) (known_by seat.new) told) }
-    ensures count { MakesAtMost (most_made (line_of line ∷ [])) (known_by seat.old) (known_by seat.new) }
+    ensures count { MakesAtMost (most_made (line_of line ∷ [])) (known_by seat.old)
+        (known_by seat.new) }
     ensures full { IfErr result (λ why. why ≡ HistoryFull
         → (most_made (line_of line ∷ []) ≡ 2) × FindsFull (known_by seat.old) (known_by seat.new)) }
 {

@@ -110,7 +110,8 @@ fn play_all<R: Threads + Wait + Sync, D: Shelf, G: Gate>(
         players,
         threads,
         &|_, player: &mut Player<Seat<D>>|
-            requires { IsSync R.row × IsSync G.row × CanPlay (in_slots state) studio.now player.old }
+            requires { IsSync R.row × IsSync G.row × CanPlay (in_slots state) studio.now
+                player.old }
             ensures { Plays (in_slots state) studio.entry.now player.old player.new }
         { play(rt, alloc, studio, gate, player) },
     );
@@ -164,16 +165,18 @@ pub(crate) fn run<'a, R: Threads + Wait + Sync, D: Shelf, G: Gate>(
     join_mut(
         rt,
         &mut ||
-            requires { IsSync R.row × IsSync G.row × AllByRecursion (IsFree studio.now) workers.now }
+            requires { IsSync R.row × IsSync G.row × AllByRecursion (IsFree studio.now)
+                workers.now }
             ensures { AllByRecursion (HasWorked studio.entry.now) workers.exit.now }
         { work_all(rt, alloc, studio, gate, workers) },
         &mut ||
             requires { IsSync R.row × IsSync G.row × IsSeatOf studio.now own.now
                 × AllByRecursion (CanPlay (in_slots state) studio.now) players.now }
-            ensures { IsSeatOf studio.entry.now own.exit.now × (weight_of own.exit.now ≡ weight_of own.entry.now)
-                × (job_out own.exit.now ≡ job_out own.entry.now)
-                × HasHeard (known_by own.entry.now) (known_by own.exit.now)
-                × AllZip (Plays (in_slots state) studio.entry.now) players.entry.now players.exit.now }
+            ensures { IsSeatOf studio.entry.now own.exit.now
+                × (weight_of own.exit.now ≡ weight_of own.entry.now)
+                × (job_out own.exit.now ≡ job_out own.entry.now) × HasHeard (known_by own.entry.now)
+                (known_by own.exit.now) × AllZip (Plays (in_slots state) studio.entry.now)
+                players.entry.now players.exit.now }
         { play_all(rt, alloc, studio, gate, own, players) },
     );
 }

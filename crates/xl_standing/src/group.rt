@@ -62,16 +62,17 @@ pub(crate) fn make_group(
     requires ids { HasIds (at document.now next_id) (length edits.now) }
     requires there { AreThere (states_in state chest.old) (edits_of edits.now) }
 
-    ensures made { IfOk result (λ made. apply_group (at document.now next_id) (edits_of edits.now) made.tables
-        ≡ Ok (at made.document made.next_id)) }
-    ensures damage { IfOk result (λ made. made.damage ≡ damage_along (at document.now next_id) (edits_of edits.now) made.tables) }
+    ensures made { IfOk result (λ made. apply_group (at document.now next_id) (edits_of edits.now)
+        made.tables ≡ Ok (at made.document made.next_id)) }
+    ensures damage { IfOk result (λ made. made.damage ≡ damage_along (at document.now next_id)
+        (edits_of edits.now) made.tables) }
     ensures bytes { IfOk result (λ made. AllByRecursion AreBytes made.tables) }
-    ensures asked { IfOk result (λ made.
-        AreAsked (states_in state chest.old) (states_in state chest.new) (edits_of edits.now) made.tables) }
+    ensures asked { IfOk result (λ made. AreAsked (states_in state chest.old)
+        (states_in state chest.new) (edits_of edits.now) made.tables) }
 
     ensures refused { IfErr result (IsRefusal (at document.now next_id) (edits_of edits.now) []) }
-    ensures chest { IfErr result (LeavesChest (states_in state chest.old) (states_in state chest.new)
-        (at document.now next_id) (edits_of edits.now)) }
+    ensures chest { IfErr result (LeavesChest (states_in state chest.old)
+        (states_in state chest.new) (at document.now next_id) (edits_of edits.now)) }
 {
     let blank = blank_tables(alloc, edits)?;
     if blank.as_slice().is_empty() {
@@ -95,7 +96,8 @@ fn check_group(
     requires ids { HasIds (at document.now next_id) (length edits.now) }
     requires tables { length tables ≡ filter_count (edits_of edits.now) }
     ensures allowed { (others : List (List ℕ))
-        → OnOk result (refused_in (apply_group (at document.now next_id) (edits_of edits.now) others) ≡ None) }
+        → OnOk result (refused_in (apply_group (at document.now next_id) (edits_of edits.now)
+        others) ≡ None) }
     ensures refused { IfErr result (IsRefusal (at document.now next_id) (edits_of edits.now) []) }
 {
     match try_group(alloc, document, next_id, edits, tables) {
@@ -117,11 +119,13 @@ fn try_group(
     requires each { AllByRecursion IsEdit (edits_of edits.now) }
     requires ids { HasIds (at document.now next_id) (length edits.now) }
     requires tables { length tables ≡ filter_count (edits_of edits.now) }
-    ensures made { IfOk result (λ made. apply_group (at document.now next_id) (edits_of edits.now) tables
-        ≡ Ok (at made.document made.next_id)) }
+    ensures made { IfOk result (λ made. apply_group (at document.now next_id) (edits_of edits.now)
+        tables ≡ Ok (at made.document made.next_id)) }
     ensures tables { IfOk result (λ made. made.tables ≡ tables) }
-    ensures damage { IfOk result (λ made. made.damage ≡ damage_along (at document.now next_id) (edits_of edits.now) tables) }
-    ensures refused { IfErr result (IsRefusal (at document.now next_id) (edits_of edits.now) tables) }
+    ensures damage { IfOk result (λ made. made.damage ≡ damage_along (at document.now next_id)
+        (edits_of edits.now) tables) }
+    ensures refused { IfErr result (IsRefusal (at document.now next_id) (edits_of edits.now)
+        tables) }
 {
     let mut document = document.share(alloc)?;
     let mut next_id = next_id;
@@ -162,7 +166,8 @@ fn apply_group(
     requires none { damage.old ≡ [] }
     ensures applied { AppliesGroup (at document.old next_id.old) (at document.new next_id.new)
         (edits_of edits.now) tables.now result }
-    ensures damage { OnOk result (damage.new ≡ damage_along (at document.old next_id.old) (edits_of edits.now) tables.now) }
+    ensures damage { OnOk result (damage.new ≡ damage_along (at document.old next_id.old)
+        (edits_of edits.now) tables.now) }
 {
     let blank = blank_table();
     let mut taken = 0;
@@ -196,8 +201,10 @@ fn apply_one(
 ) -> Result<(), EditRefusedOrMemory>
     requires edit { IsEdit (edit_of edit.now) }
     requires next { HasNext document.old next_id.old (edit_of edit.now) }
-    ensures applied { IsAppliedOne (at document.old next_id.old) (at document.new next_id.new) (edit_of edit.now) table.now result }
-    ensures damage { OnOk result (damage.new ≡ damage.old ++ pairs.damage document.old (edit_of edit.now)) }
+    ensures applied { IsAppliedOne (at document.old next_id.old) (at document.new next_id.new)
+        (edit_of edit.now) table.now result }
+    ensures damage { OnOk result (damage.new ≡ damage.old ++ pairs.damage document.old
+        (edit_of edit.now)) }
 {
     let before = document.share(alloc)?;
     let id = *next_id;
@@ -209,7 +216,8 @@ fn apply_one(
 // The next table where the edit is a filter, and else any.
 fn table_for<'a>(edit: &Edit, tables: &'a [Table], taken: usize, blank: &'a Table) -> &'a Table
     requires { taken + cond (is_filter (edit_of edit.now)) 1 0 ≤ length tables.now }
-    ensures { is_filter (edit_of edit.now) ≡ true → result.now ≡ first_table (drop taken tables.now) }
+    ensures { is_filter (edit_of edit.now) ≡ true → result.now ≡ first_table
+        (drop taken tables.now) }
 {
     if is_filter(edit) {
         &tables[taken]
@@ -288,11 +296,12 @@ fn blank_tables(alloc: Global, edits: &[Edit]) -> Result<Tables, AllocError>
 // The tables that the filters of the edits answer, each asked once for each of its edits, in order.
 fn ask_filters(alloc: Global, edits: &[Edit], chest: &mut Chest) -> Result<Tables, AllocError>
     requires there { AreThere (states_in state chest.old) (edits_of edits.now) }
-    ensures asked { IfOk result (λ tables.
-        AreAsked (states_in state chest.old) (states_in state chest.new) (edits_of edits.now) tables) }
+    ensures asked { IfOk result (λ tables. AreAsked (states_in state chest.old)
+        (states_in state chest.new) (edits_of edits.now) tables) }
     ensures count { IfOk result (λ tables. length tables ≡ filter_count (edits_of edits.now)) }
     ensures bytes { IfOk result (λ tables. AllByRecursion AreBytes tables) }
-    ensures part { OnErr result (IsPartUsed (states_in state chest.old) (states_in state chest.new) (edits_of edits.now)) }
+    ensures part { OnErr result (IsPartUsed (states_in state chest.old) (states_in state chest.new)
+        (edits_of edits.now)) }
 {
     let mut tables = Tables::new(alloc);
     for edit in edits {

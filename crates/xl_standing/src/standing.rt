@@ -135,21 +135,26 @@ impl Standing {
     ) -> Result<Answered, AllocError>
         requires call { IsCall (call_of call.now) }
         requires kept { IsKeptNow self.old }
-        requires there { AreThere (states_in state desk.old.chest) (limited.edits_of (call_of call.now)) }
+        requires there { AreThere (states_in state desk.old.chest)
+            (limited.edits_of (call_of call.now)) }
         requires versions { self.old.version < 2 ^ 31 }
         requires groups { self.old.next_group < 2 ^ 31 }
         requires ids { HasIds (at_now self.old) most_edits }
-        ensures response { IfOk result (λ a.
-            Gives (response self.old (call_of call.now) seen a.tables) (reply_of a.reply) self.new) }
+        ensures response { IfOk result
+            (λ a. Gives (response self.old (call_of call.now) seen a.tables) (reply_of a.reply)
+            self.new) }
         ensures asked { IfOk result (λ a.
             AreAsked (states_in state desk.old.chest) (states_in state desk.new.chest)
             (edits_made (call_of call.now) (reply_of a.reply)) a.tables) }
         ensures bytes { IfOk result (λ a. AllByRecursion AreBytes a.tables) }
-        ensures shown { IfOk result (λ a. ShowsNow self.new (call_of call.now) (reply_of a.reply) desk.new.out) }
+        ensures shown { IfOk result (λ a. ShowsNow self.new (call_of call.now) (reply_of a.reply)
+            desk.new.out) }
         ensures desk { IfOk result (λ a. KeepsDesk (reply_of a.reply) desk.old.out desk.new.out) }
         ensures steps { TakesNoStep self.old.cache (call_of call.now) → steps.new ≡ steps.old }
-        ensures cost { steps.new ≤ steps.old + call_cost self.old.cache self.old.document (call_of call.now) }
-        ensures no_tile { IfOk result (λ a. machine.version_shown (reply_of a.reply) ≡ None → steps.new ≡ steps.old) }
+        ensures cost { steps.new ≤ steps.old + call_cost self.old.cache self.old.document
+            (call_of call.now) }
+        ensures no_tile { IfOk result (λ a. machine.version_shown (reply_of a.reply) ≡ None
+            → steps.new ≡ steps.old) }
         ensures steps_as_before { OnErr result (steps.new ≡ steps.old) }
         ensures as_before { OnErr result (self.new ≡ self.old) }
         ensures chest { OnErr result (IsPartAfter (accepts self.old (call_of call.now))
@@ -194,14 +199,17 @@ impl Standing {
         requires versions { self.old.version < 2 ^ 31 }
         requires groups { self.old.next_group < 2 ^ 31 }
         requires ids { HasIds (at_now self.old) most_edits }
-        ensures response { IfOk result (λ a.
-            Gives (edited self.old guard (edits_of edits.now) a.tables) (reply_of a.reply) self.new) }
+        ensures response { IfOk result
+            (λ a. Gives (edited self.old guard (edits_of edits.now) a.tables) (reply_of a.reply)
+            self.new) }
         ensures asked { IfOk result (λ a.
             AreAsked (states_in state chest.old) (states_in state chest.new)
             (edits_made (machine.edit guard (edits_of edits.now)) (reply_of a.reply)) a.tables) }
         ensures bytes { IfOk result (λ a. AllByRecursion AreBytes a.tables) }
-        ensures chest { OnErr result (IsPartAfter (accepts self.old (machine.edit guard (edits_of edits.now)))
-            (states_in state chest.old) (states_in state chest.new) (machine.edit guard (edits_of edits.now))) }
+        ensures chest { OnErr result
+            (IsPartAfter (accepts self.old (machine.edit guard (edits_of edits.now)))
+            (states_in state chest.old) (states_in state chest.new)
+            (machine.edit guard (edits_of edits.now))) }
         ensures as_before { OnErr result (self.new ≡ self.old) }
     {
         if !is_named(guard, self.version) {
@@ -231,7 +239,8 @@ impl Standing {
         requires kept { IsKeptNow self.old }
         requires versions { self.old.version < 2 ^ 31 }
         requires groups { self.old.next_group < 2 ^ 31 }
-        ensures { Gives (accepted self.old (at document next_id) change.damage) (reply_of result) self.new }
+        ensures { Gives (accepted self.old (at document next_id) change.damage) (reply_of result)
+            self.new }
     {
         let group = self.next_group;
         limits(&self.document);
@@ -311,12 +320,16 @@ impl Standing {
         steps: &mut Steps<L>,
     ) -> Result<Reply, AllocError>
         requires kept { IsKeptNow self.old }
-        ensures response { IfOk result (λ reply. Gives (shown self.old node.0 at) (reply_of reply) self.new) }
-        ensures shown { IfOk result (λ reply. ShowsTile self.new.document node.0 at (reply_of reply) out.new) }
+        ensures response { IfOk result (λ reply. Gives (shown self.old node.0 at) (reply_of reply)
+            self.new) }
+        ensures shown { IfOk result (λ reply. ShowsTile self.new.document node.0 at (reply_of reply)
+            out.new) }
         ensures desk { IfOk result (λ reply. KeepsDesk (reply_of reply) out.old out.new) }
         ensures steps { is_clean self.old.cache node.0 at ≡ true → steps.new ≡ steps.old }
-        ensures cost { steps.new ≤ steps.old + tile_cost self.old.cache self.old.document node.0 at }
-        ensures no_tile { IfOk result (λ reply. machine.version_shown (reply_of reply) ≡ None → steps.new ≡ steps.old) }
+        ensures cost { steps.new ≤ steps.old + tile_cost self.old.cache self.old.document node.0
+            at }
+        ensures no_tile { IfOk result (λ reply. machine.version_shown (reply_of reply) ≡ None
+            → steps.new ≡ steps.old) }
         ensures steps_as_before { OnErr result (steps.new ≡ steps.old) }
         ensures as_before { OnErr result (self.new ≡ self.old) }
         ensures out_as_before { OnErr result (out.new ≡ out.old) }
@@ -344,7 +357,8 @@ impl Standing {
     // Leaves what is kept of a tile in `out`, where it is as late as what was seen.
     fn peek(&self, node: NodeId, at: TileAt, seen: u32, out: &mut Picture) -> Reply
         ensures response { Gives (peeked self.now node.0 at seen) (reply_of result) self.now }
-        ensures shown { ShowsKept (kept self.now.cache node.0 at self.now.version) (reply_of result) out.new }
+        ensures shown { ShowsKept (kept self.now.cache node.0 at self.now.version) (reply_of result)
+            out.new }
         ensures desk { KeepsDesk (reply_of result) out.old out.new }
     {
         if !has_stack(&self.document, node) {
@@ -358,7 +372,8 @@ impl Standing {
 
     /// The version whose picture is kept of a tile, if any.
     pub fn kept_version(&self, node: NodeId, at: TileAt) -> Option<u32>
-        ensures { result ≡ option_map (λ k. k.version) (kept self.now.cache node.0 at self.now.version) }
+        ensures { result ≡ option_map (λ k. k.version)
+            (kept self.now.cache node.0 at self.now.version) }
     {
         match self.cache.kept(node, at, self.version) {
             Some((version, _)) => Some(version),
@@ -371,10 +386,13 @@ impl Standing {
     pub fn take_job(&mut self, alloc: Global) -> Result<Option<Job>, AllocError>
         requires kept { IsKeptNow self.old }
         requires place { IfSome (next_place self.old.cache) (IsTileOf self.old.document) }
-        ensures place { IfOk result (λ job. option_map place_of_job job ≡ next_place self.old.cache) }
+        ensures place { IfOk result (λ job. option_map place_of_job job
+            ≡ next_place self.old.cache) }
         ensures stands { IfOk result (λ job.
             IfSome job (λ j. StandsFor self.old.document j.stack j.at self.old.version j)) }
-        ensures cost { IfOk result (λ job. IfSome job (λ j. j.cost ≡ tile_cost self.old.cache self.old.document j.stack j.at)) }
+        ensures cost { IfOk result
+            (λ job. IfSome job (λ j. j.cost ≡ tile_cost self.old.cache self.old.document j.stack
+            j.at)) }
         ensures what { self.new ≡ with_cache self.old (after_take self.old.cache) }
         ensures none { next_place self.old.cache ≡ None → IsOk result }
     {

@@ -66,8 +66,8 @@ pub(crate) fn show<L: Ledger>(
     requires stack { IsSome (stack_at node.0 document.now.nodes) }
     requires on_grid { IsTrue (is_on_grid document.now.width document.now.height at) }
     ensures picture { OnOk result (out.new ≡ project document.now node.0 at) }
-    ensures cache { OnOk result (cache.new
-        ≡ change_stack node.0 (change_slot at (show_slot (project document.now node.0 at))) cache.old) }
+    ensures cache { OnOk result (cache.new ≡ change_stack node.0
+        (change_slot at (show_slot (project document.now node.0 at))) cache.old) }
     ensures steps { is_clean cache.old node.0 at ≡ true → steps.new ≡ steps.old }
     ensures cost { steps.new ≤ steps.old + tile_cost cache.old document.now node.0 at }
     ensures steps_as_before { OnErr result (steps.new ≡ steps.old) }

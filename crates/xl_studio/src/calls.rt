@@ -55,28 +55,35 @@ impl<D: Shelf> Studio<D> {
         ensures job { job_out seat.new ≡ job_out seat.old }
         ensures closed { seat.new.closed ≡ seat.old.closed }
         ensures tally { tally_of seat.new ≡ tally_of seat.old }
-        ensures answered { (filters : List FilterState) → Agrees (states_in state desk.old.chest) filters
-            → IfOk result (λ reply. IsCalled (base_of self.now) session (call_of call)
-            (expected_tables filters (asked (call_of call) []) (reply_of reply)) (reply_of reply) (known_by seat.old)
-            (known_by seat.new)) }
+        ensures answered { (filters : List FilterState) → Agrees (states_in state desk.old.chest)
+            filters → IfOk result (λ reply. IsCalled (base_of self.now) session (call_of call)
+            (expected_tables filters (asked (call_of call) []) (reply_of reply)) (reply_of reply)
+            (known_by seat.old) (known_by seat.new)) }
         ensures begins { IsPrefix (front_of seat.old) (front_of seat.new) }
         ensures failed { OnErr result (HasHeard (known_by seat.old) (known_by seat.new)) }
-        ensures fresh { IfOk result (λ reply. IsFreshReply (latest_of (entries_in (front_of seat.old))) (reply_of reply)) }
-        ensures shown { IfOk result (λ reply.
-            Shows (history_of (base_of self.now) (front_of seat.new)) (call_of call) (reply_of reply) desk.new.out) }
+        ensures fresh { IfOk result
+            (λ reply. IsFreshReply (latest_of (entries_in (front_of seat.old))) (reply_of reply)) }
+        ensures shown { IfOk result
+            (λ reply. Shows (history_of (base_of self.now) (front_of seat.new)) (call_of call)
+            (reply_of reply) desk.new.out) }
         ensures steps { IsNoTile (call_of call) → steps.new ≡ steps.old }
-        ensures no_step { IfOk result (λ _.
-            NeedsNoStep (history_of (base_of self.now) (before_last (front_of seat.new))) (call_of call) → steps.new ≡ steps.old) }
-        ensures cost { IfOk result (λ _. steps.new
-            ≤ steps.old + most_cost (document (history_of (base_of self.now) (before_last (front_of seat.new)))) (call_of call)) }
+        ensures no_step { IfOk result
+            (λ _. NeedsNoStep (history_of (base_of self.now) (before_last (front_of seat.new)))
+            (call_of call) → steps.new ≡ steps.old) }
+        ensures cost { IfOk result (λ _. steps.new ≤ steps.old + most_cost
+            (document (history_of (base_of self.now) (before_last (front_of seat.new))))
+            (call_of call)) }
         ensures steps_as_before { OnErr result (steps.new ≡ steps.old) }
-        ensures no_tile { IfOk result (λ reply. machine.version_shown (reply_of reply) ≡ None → steps.new ≡ steps.old) }
-        ensures chest { IfOk result (λ reply.
-            IsAfter (states_in state desk.old.chest) (states_in state desk.new.chest) (call_of call) (reply_of reply)) }
+        ensures no_tile { IfOk result (λ reply. machine.version_shown (reply_of reply) ≡ None
+            → steps.new ≡ steps.old) }
+        ensures chest { IfOk result (λ reply. IsAfter (states_in state desk.old.chest)
+            (states_in state desk.new.chest) (call_of call) (reply_of reply)) }
         ensures desk { IfOk result (λ reply. KeepsDesk (reply_of reply) desk.old.out desk.new.out) }
         ensures out_as_before { OnErr result (desk.new.out ≡ desk.old.out) }
-        ensures part { OnErr result (IsPartAfter (is_accepted (history_of (base_of self.now) (front_of seat.new)) (call_of call))
-            (states_in state desk.old.chest) (states_in state desk.new.chest) (call_of call)) }
+        ensures part { OnErr result
+            (IsPartAfter (is_accepted (history_of (base_of self.now) (front_of seat.new))
+            (call_of call)) (states_in state desk.old.chest) (states_in state desk.new.chest)
+            (call_of call)) }
     {
         let mut held = self.lock.enter(rt, &mut seat.seat);
         let reply = held
@@ -111,10 +118,11 @@ impl<D: Shelf> Studio<D> {
         ensures job { job_out seat.new ≡ job_out seat.old }
         ensures closed { seat.new.closed ≡ seat.old.closed }
         ensures tally { tally_of seat.new ≡ tally_of seat.old }
-        ensures answered { (filters : List FilterState) → Agrees (states_in state desk.old.chest) filters
-            → IfOk result (λ reply. IsCalled (base_of self.now) session (machine.edit group.guard (edits_meant group.edits))
-            (expected_tables filters (asked (machine.edit group.guard (edits_meant group.edits)) []) (reply_of reply))
-            (reply_of reply) (known_by seat.old) (known_by seat.new)) }
+        ensures answered { (filters : List FilterState) → Agrees (states_in state desk.old.chest)
+            filters → IfOk result (λ reply. IsCalled (base_of self.now) session
+            (machine.edit group.guard (edits_meant group.edits))
+            (expected_tables filters (asked (machine.edit group.guard (edits_meant group.edits)) [])
+            (reply_of reply)) (reply_of reply) (known_by seat.old) (known_by seat.new)) }
         ensures begins { IsPrefix (front_of seat.old) (front_of seat.new) }
         ensures failed { OnErr result (HasHeard (known_by seat.old) (known_by seat.new)) }
         ensures steps { steps.new ≡ steps.old }
@@ -123,9 +131,10 @@ impl<D: Shelf> Studio<D> {
             (machine.edit group.guard (edits_meant group.edits)) (reply_of reply)) }
         ensures desk { IfOk result (λ reply. KeepsDesk (reply_of reply) desk.old.out desk.new.out) }
         ensures out_as_before { OnErr result (desk.new.out ≡ desk.old.out) }
-        ensures part { OnErr result (IsPartAfter (is_accepted (history_of (base_of self.now) (front_of seat.new))
-            (machine.edit group.guard (edits_meant group.edits))) (states_in state desk.old.chest) (states_in state desk.new.chest)
-            (machine.edit group.guard (edits_meant group.edits))) }
+        ensures part { OnErr result
+            (IsPartAfter (is_accepted (history_of (base_of self.now) (front_of seat.new))
+            (machine.edit group.guard (edits_meant group.edits))) (states_in state desk.old.chest)
+            (states_in state desk.new.chest) (machine.edit group.guard (edits_meant group.edits))) }
     {
         self.call(rt, alloc, seat, session, Call::Edit(group), desk, steps)
     }
@@ -149,17 +158,19 @@ impl<D: Shelf> Studio<D> {
         ensures job { job_out seat.new ≡ job_out seat.old }
         ensures closed { seat.new.closed ≡ seat.old.closed }
         ensures tally { tally_of seat.new ≡ tally_of seat.old }
-        ensures made { IfOk result (λ reply.
-            IsCalled (base_of self.now) session (machine.undo which) [] (reply_of reply) (known_by seat.old) (known_by seat.new)) }
+        ensures made { IfOk result (λ reply. IsCalled (base_of self.now) session
+            (machine.undo which) [] (reply_of reply) (known_by seat.old) (known_by seat.new)) }
         ensures begins { IsPrefix (front_of seat.old) (front_of seat.new) }
         ensures failed { OnErr result (HasHeard (known_by seat.old) (known_by seat.new)) }
         ensures steps { steps.new ≡ steps.old }
-        ensures chest { IfOk result (λ reply.
-            IsAfter (states_in state desk.old.chest) (states_in state desk.new.chest) (machine.undo which) (reply_of reply)) }
+        ensures chest { IfOk result (λ reply. IsAfter (states_in state desk.old.chest)
+            (states_in state desk.new.chest) (machine.undo which) (reply_of reply)) }
         ensures desk { IfOk result (λ reply. KeepsDesk (reply_of reply) desk.old.out desk.new.out) }
         ensures out_as_before { OnErr result (desk.new.out ≡ desk.old.out) }
-        ensures part { OnErr result (IsPartAfter (is_accepted (history_of (base_of self.now) (front_of seat.new)) (machine.undo which))
-            (states_in state desk.old.chest) (states_in state desk.new.chest) (machine.undo which)) }
+        ensures part { OnErr result
+            (IsPartAfter (is_accepted (history_of (base_of self.now) (front_of seat.new))
+            (machine.undo which)) (states_in state desk.old.chest) (states_in state desk.new.chest)
+            (machine.undo which)) }
     {
         self.call(rt, alloc, seat, session, Call::Undo(which), desk, steps)
     }
@@ -182,17 +193,19 @@ impl<D: Shelf> Studio<D> {
         ensures job { job_out seat.new ≡ job_out seat.old }
         ensures closed { seat.new.closed ≡ seat.old.closed }
         ensures tally { tally_of seat.new ≡ tally_of seat.old }
-        ensures made { IfOk result (λ reply.
-            IsCalled (base_of self.now) session (machine.redo) [] (reply_of reply) (known_by seat.old) (known_by seat.new)) }
+        ensures made { IfOk result (λ reply. IsCalled (base_of self.now) session (machine.redo) []
+            (reply_of reply) (known_by seat.old) (known_by seat.new)) }
         ensures begins { IsPrefix (front_of seat.old) (front_of seat.new) }
         ensures failed { OnErr result (HasHeard (known_by seat.old) (known_by seat.new)) }
         ensures steps { steps.new ≡ steps.old }
-        ensures chest { IfOk result (λ reply.
-            IsAfter (states_in state desk.old.chest) (states_in state desk.new.chest) (machine.redo) (reply_of reply)) }
+        ensures chest { IfOk result (λ reply. IsAfter (states_in state desk.old.chest)
+            (states_in state desk.new.chest) (machine.redo) (reply_of reply)) }
         ensures desk { IfOk result (λ reply. KeepsDesk (reply_of reply) desk.old.out desk.new.out) }
         ensures out_as_before { OnErr result (desk.new.out ≡ desk.old.out) }
-        ensures part { OnErr result (IsPartAfter (is_accepted (history_of (base_of self.now) (front_of seat.new)) machine.redo)
-            (states_in state desk.old.chest) (states_in state desk.new.chest) machine.redo) }
+        ensures part { OnErr result
+            (IsPartAfter (is_accepted (history_of (base_of self.now) (front_of seat.new))
+            machine.redo) (states_in state desk.old.chest) (states_in state desk.new.chest)
+            machine.redo) }
     {
         self.call(rt, alloc, seat, session, Call::Redo, desk, steps)
     }
@@ -215,17 +228,19 @@ impl<D: Shelf> Studio<D> {
         ensures job { job_out seat.new ≡ job_out seat.old }
         ensures closed { seat.new.closed ≡ seat.old.closed }
         ensures tally { tally_of seat.new ≡ tally_of seat.old }
-        ensures made { IfOk result (λ reply.
-            IsCalled (base_of self.now) session (machine.top) [] (reply_of reply) (known_by seat.old) (known_by seat.new)) }
+        ensures made { IfOk result (λ reply. IsCalled (base_of self.now) session (machine.top) []
+            (reply_of reply) (known_by seat.old) (known_by seat.new)) }
         ensures begins { IsPrefix (front_of seat.old) (front_of seat.new) }
         ensures failed { OnErr result (HasHeard (known_by seat.old) (known_by seat.new)) }
         ensures steps { steps.new ≡ steps.old }
-        ensures chest { IfOk result (λ reply.
-            IsAfter (states_in state desk.old.chest) (states_in state desk.new.chest) (machine.top) (reply_of reply)) }
+        ensures chest { IfOk result (λ reply. IsAfter (states_in state desk.old.chest)
+            (states_in state desk.new.chest) (machine.top) (reply_of reply)) }
         ensures desk { IfOk result (λ reply. KeepsDesk (reply_of reply) desk.old.out desk.new.out) }
         ensures out_as_before { OnErr result (desk.new.out ≡ desk.old.out) }
-        ensures part { OnErr result (IsPartAfter (is_accepted (history_of (base_of self.now) (front_of seat.new)) machine.top)
-            (states_in state desk.old.chest) (states_in state desk.new.chest) machine.top) }
+        ensures part { OnErr result
+            (IsPartAfter (is_accepted (history_of (base_of self.now) (front_of seat.new))
+            machine.top) (states_in state desk.old.chest) (states_in state desk.new.chest)
+            machine.top) }
     {
         self.call(rt, alloc, seat, session, Call::Top, desk, steps)
     }
@@ -252,27 +267,32 @@ impl<D: Shelf> Studio<D> {
         ensures job { job_out seat.new ≡ job_out seat.old }
         ensures closed { seat.new.closed ≡ seat.old.closed }
         ensures tally { tally_of seat.new ≡ tally_of seat.old }
-        ensures made { IfOk result (λ reply.
-            IsCalled (base_of self.now) session (machine.tile node.0 at) [] (reply_of reply) (known_by seat.old)
-            (known_by seat.new)) }
+        ensures made { IfOk result (λ reply. IsCalled (base_of self.now) session
+            (machine.tile node.0 at) [] (reply_of reply) (known_by seat.old) (known_by seat.new)) }
         ensures begins { IsPrefix (front_of seat.old) (front_of seat.new) }
         ensures failed { OnErr result (HasHeard (known_by seat.old) (known_by seat.new)) }
-        ensures fresh { IfOk result (λ reply. IsFreshReply (latest_of (entries_in (front_of seat.old))) (reply_of reply)) }
-        ensures shown { IfOk result (λ reply.
-            Shows (history_of (base_of self.now) (front_of seat.new)) (machine.tile node.0 at) (reply_of reply) desk.new.out) }
-        ensures no_step { IfOk result (λ _.
-            NeedsNoStep (history_of (base_of self.now) (before_last (front_of seat.new))) (machine.tile node.0 at)
-            → steps.new ≡ steps.old) }
-        ensures cost { IfOk result (λ _. steps.new
-            ≤ steps.old + most_cost (document (history_of (base_of self.now) (before_last (front_of seat.new)))) (machine.tile node.0 at)) }
+        ensures fresh { IfOk result
+            (λ reply. IsFreshReply (latest_of (entries_in (front_of seat.old))) (reply_of reply)) }
+        ensures shown { IfOk result
+            (λ reply. Shows (history_of (base_of self.now) (front_of seat.new))
+            (machine.tile node.0 at) (reply_of reply) desk.new.out) }
+        ensures no_step { IfOk result
+            (λ _. NeedsNoStep (history_of (base_of self.now) (before_last (front_of seat.new)))
+            (machine.tile node.0 at) → steps.new ≡ steps.old) }
+        ensures cost { IfOk result (λ _. steps.new ≤ steps.old + most_cost
+            (document (history_of (base_of self.now) (before_last (front_of seat.new))))
+            (machine.tile node.0 at)) }
         ensures steps_as_before { OnErr result (steps.new ≡ steps.old) }
-        ensures no_tile { IfOk result (λ reply. machine.version_shown (reply_of reply) ≡ None → steps.new ≡ steps.old) }
-        ensures chest { IfOk result (λ reply.
-            IsAfter (states_in state desk.old.chest) (states_in state desk.new.chest) (machine.tile node.0 at) (reply_of reply)) }
+        ensures no_tile { IfOk result (λ reply. machine.version_shown (reply_of reply) ≡ None
+            → steps.new ≡ steps.old) }
+        ensures chest { IfOk result (λ reply. IsAfter (states_in state desk.old.chest)
+            (states_in state desk.new.chest) (machine.tile node.0 at) (reply_of reply)) }
         ensures desk { IfOk result (λ reply. KeepsDesk (reply_of reply) desk.old.out desk.new.out) }
         ensures out_as_before { OnErr result (desk.new.out ≡ desk.old.out) }
-        ensures part { OnErr result (IsPartAfter (is_accepted (history_of (base_of self.now) (front_of seat.new)) (machine.tile node.0 at))
-            (states_in state desk.old.chest) (states_in state desk.new.chest) (machine.tile node.0 at)) }
+        ensures part { OnErr result
+            (IsPartAfter (is_accepted (history_of (base_of self.now) (front_of seat.new))
+            (machine.tile node.0 at)) (states_in state desk.old.chest)
+            (states_in state desk.new.chest) (machine.tile node.0 at)) }
     {
         self.call(rt, alloc, seat, session, Call::Tile(node, at), desk, steps)
     }
@@ -298,21 +318,24 @@ impl<D: Shelf> Studio<D> {
         ensures job { job_out seat.new ≡ job_out seat.old }
         ensures closed { seat.new.closed ≡ seat.old.closed }
         ensures tally { tally_of seat.new ≡ tally_of seat.old }
-        ensures made { IfOk result (λ reply.
-            IsCalled (base_of self.now) session (machine.peek node.0 at) [] (reply_of reply) (known_by seat.old)
-            (known_by seat.new)) }
+        ensures made { IfOk result (λ reply. IsCalled (base_of self.now) session
+            (machine.peek node.0 at) [] (reply_of reply) (known_by seat.old) (known_by seat.new)) }
         ensures begins { IsPrefix (front_of seat.old) (front_of seat.new) }
         ensures failed { OnErr result (HasHeard (known_by seat.old) (known_by seat.new)) }
-        ensures fresh { IfOk result (λ reply. IsFreshReply (latest_of (entries_in (front_of seat.old))) (reply_of reply)) }
-        ensures shown { IfOk result (λ reply.
-            Shows (history_of (base_of self.now) (front_of seat.new)) (machine.peek node.0 at) (reply_of reply) desk.new.out) }
+        ensures fresh { IfOk result
+            (λ reply. IsFreshReply (latest_of (entries_in (front_of seat.old))) (reply_of reply)) }
+        ensures shown { IfOk result
+            (λ reply. Shows (history_of (base_of self.now) (front_of seat.new))
+            (machine.peek node.0 at) (reply_of reply) desk.new.out) }
         ensures steps { steps.new ≡ steps.old }
-        ensures chest { IfOk result (λ reply.
-            IsAfter (states_in state desk.old.chest) (states_in state desk.new.chest) (machine.peek node.0 at) (reply_of reply)) }
+        ensures chest { IfOk result (λ reply. IsAfter (states_in state desk.old.chest)
+            (states_in state desk.new.chest) (machine.peek node.0 at) (reply_of reply)) }
         ensures desk { IfOk result (λ reply. KeepsDesk (reply_of reply) desk.old.out desk.new.out) }
         ensures out_as_before { OnErr result (desk.new.out ≡ desk.old.out) }
-        ensures part { OnErr result (IsPartAfter (is_accepted (history_of (base_of self.now) (front_of seat.new)) (machine.peek node.0 at))
-            (states_in state desk.old.chest) (states_in state desk.new.chest) (machine.peek node.0 at)) }
+        ensures part { OnErr result
+            (IsPartAfter (is_accepted (history_of (base_of self.now) (front_of seat.new))
+            (machine.peek node.0 at)) (states_in state desk.old.chest)
+            (states_in state desk.new.chest) (machine.peek node.0 at)) }
     {
         self.call(rt, alloc, seat, session, Call::Peek(node, at), desk, steps)
     }

@@ -86,7 +86,8 @@ impl<D: Shelf> JobDesk for Studio<D> {
         ensures weight { weight_of seat.new ≡ weight_of seat.old }
         ensures places { made_of seat.new ≡ made_of seat.old }
         ensures front { IsPrefix (front_of seat.old) (front_of seat.new) }
-        ensures begins { IsPrefix (entries_in (front_of seat.old)) (entries_in (front_of seat.new)) }
+        ensures begins { IsPrefix (entries_in (front_of seat.old))
+            (entries_in (front_of seat.new)) }
         ensures tally { tally_of seat.new ≡ tally_of seat.old }
     {
         let mut held = self.lock.enter(rt, &mut seat.seat);
@@ -103,14 +104,16 @@ impl<D: Shelf> JobDesk for Studio<D> {
     fn finish<W: Wait>(&self, rt: &W, seat: &mut Seat<D>, done: Done) -> Finished
         requires seat { IsWorker self.now seat.old }
         requires done { IsOutcomeOf (job_out seat.old) done }
-        ensures finished { result ≡ finished_by (base_of self.now) (entries_in (front_of seat.new)) (place_done done) done.version }
+        ensures finished { result ≡ finished_by (base_of self.now) (entries_in (front_of seat.new))
+            (place_done done) done.version }
         ensures seat { IsWorker self.now seat.new }
         ensures none { job_out seat.new ≡ None }
         ensures closed { seat.new.closed ≡ seat.old.closed }
         ensures weight { weight_of seat.new ≡ weight_of seat.old }
         ensures places { made_of seat.new ≡ made_of seat.old }
         ensures front { IsPrefix (front_of seat.old) (front_of seat.new) }
-        ensures begins { IsPrefix (entries_in (front_of seat.old)) (entries_in (front_of seat.new)) }
+        ensures begins { IsPrefix (entries_in (front_of seat.old))
+            (entries_in (front_of seat.new)) }
         ensures tally { tally_of seat.new ≡ counted (tally_of seat.old) result }
     {
         let mut held = self.lock.enter(rt, &mut seat.seat);

@@ -108,25 +108,29 @@ impl<D: Shelf> Shared<D> {
         requires built { IsCall (call_of call) }
         requires there { AreThere (states_in state desk.old.chest) (edits_of (call_of call)) }
 
-        ensures answered { (filters : List FilterState) → Agrees (states_in state desk.old.chest) filters
-            → IfOk result (λ reply. Adds self.old.core.history.base (moments_of self.old.core) session (call_of call)
-            (expected_tables filters (asked (call_of call) []) (reply_of reply)) (reply_of reply) (moments_of self.new.core)) }
+        ensures answered { (filters : List FilterState) → Agrees (states_in state desk.old.chest)
+            filters
+            → IfOk result (λ reply. Adds self.old.core.history.base (moments_of self.old.core)
+            session (call_of call) (expected_tables filters (asked (call_of call) [])
+            (reply_of reply)) (reply_of reply) (moments_of self.new.core)) }
         ensures calls { AddsCalls (moments_of self.old.core) (moments_of self.new.core) }
         ensures closing { self.new.closing ≡ self.old.closing }
         ensures failed { OnErr result (moments_of self.new.core ≡ moments_of self.old.core) }
         ensures base { self.new.core.history.base ≡ self.old.core.history.base }
         ensures kept { IsKept self.new.core }
         ensures fresh { IfOk result (λ reply. IsFreshReply seen (reply_of reply)) }
-        ensures shown { IfOk result (λ reply. Shows self.new.core.history (call_of call) (reply_of reply) desk.new.out) }
+        ensures shown { IfOk result (λ reply. Shows self.new.core.history (call_of call)
+            (reply_of reply) desk.new.out) }
         ensures steps { IsNoTile (call_of call) → steps.new ≡ steps.old }
         ensures no_step { NeedsNoStep self.old.core.history (call_of call) → steps.new ≡ steps.old }
         ensures full { is_full self.old.core.history ≡ true → steps.new ≡ steps.old }
         ensures steps_as_before { OnErr result (steps.new ≡ steps.old) }
         ensures cost { steps.new ≤ steps.old
             + call_cost self.old.core.cache (document self.old.core.history) (call_of call) }
-        ensures no_tile { IfOk result (λ reply. version_shown (reply_of reply) ≡ None → steps.new ≡ steps.old) }
-        ensures chest { IfOk result (λ reply.
-            IsAfter (states_in state desk.old.chest) (states_in state desk.new.chest) (call_of call) (reply_of reply)) }
+        ensures no_tile { IfOk result (λ reply. version_shown (reply_of reply) ≡ None
+            → steps.new ≡ steps.old) }
+        ensures chest { IfOk result (λ reply. IsAfter (states_in state desk.old.chest)
+            (states_in state desk.new.chest) (call_of call) (reply_of reply)) }
         ensures desk { IfOk result (λ reply. KeepsDesk (reply_of reply) desk.old.out desk.new.out) }
         ensures out_as_before { OnErr result (desk.new.out ≡ desk.old.out) }
         ensures part { OnErr result (IsPartAfter (is_accepted self.old.core.history (call_of call))
@@ -148,8 +152,8 @@ impl<D: Shelf> Shared<D> {
     /// Begins a save of a session, as the core does.
     pub(crate) fn begin(&mut self, alloc: Global, session: u8) -> Result<Begun<D>, AllocError>
         requires session { session < 8 }
-        ensures begun { IfOk result (λ begun.
-            AddsStart self.old.core.history.base (moments_of self.old.core) session begun (moments_of self.new.core)) }
+        ensures begun { IfOk result (λ begun. AddsStart self.old.core.history.base
+            (moments_of self.old.core) session begun (moments_of self.new.core)) }
         ensures hands { IfOk result (λ begun. Hands D.shelf_state self.old.core begun) }
         ensures failed { OnErr result (moments_of self.new.core ≡ moments_of self.old.core) }
         ensures base { self.new.core.history.base ≡ self.old.core.history.base }
@@ -168,8 +172,8 @@ impl<D: Shelf> Shared<D> {
     pub(crate) fn end(&mut self, session: u8, shelf: D, how: SaveEnd) -> Reply
         requires out { IsOutOf (out_of self.old.core.history) session }
         requires returns { ComesBack D.shelf_state self.old.core how shelf }
-        ensures ended { AddsEnd self.old.core.history.base (moments_of self.old.core) session how (reply_of result)
-            (moments_of self.new.core) }
+        ensures ended { AddsEnd self.old.core.history.base (moments_of self.old.core) session how
+            (reply_of result) (moments_of self.new.core) }
         ensures closing { self.new.closing ≡ self.old.closing }
         ensures base { self.new.core.history.base ≡ self.old.core.history.base }
         ensures kept { IsKept self.new.core }

@@ -53,7 +53,8 @@ impl<D: Shelf> Taking for Shared<D> {
 
     fn take(&mut self, alloc: Global) -> Result<Taken, AllocError>
         ensures taken { IfOk result (λ taken. GivesOut self.old taken) }
-        ensures after { MatchBool self.old.closing (self.new.core ≡ self.old.core) (self.new.core ≡ with_job_taken self.old.core) }
+        ensures after { MatchBool self.old.closing (self.new.core ≡ self.old.core)
+            (self.new.core ≡ with_job_taken self.old.core) }
         ensures stays { HasStayed self.old self.new }
         ensures closing { self.new.closing ≡ self.old.closing }
     {
@@ -66,8 +67,8 @@ impl<D: Shelf> Taking for Shared<D> {
     fn finish(&mut self, done: Done) -> Finished
         requires done { IsPictureOf self.old.core.history done }
         ensures finished { result ≡ finish self.old.core.cache (place_done done) done.version }
-        ensures by_history { result ≡ finished_by self.old.core.history.base self.old.core.history.entries
-            (place_done done) done.version }
+        ensures by_history { result ≡ finished_by self.old.core.history.base
+            self.old.core.history.entries (place_done done) done.version }
         ensures core { self.new.core ≡ handed_in self.old.core done }
         ensures stays { HasStayed self.old self.new }
         ensures closing { self.new.closing ≡ self.old.closing }

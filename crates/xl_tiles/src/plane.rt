@@ -100,7 +100,8 @@ impl Plane {
         requires some { 1 ≤ bpp }
         requires few { bpp ≤ 4 }
         requires full { length bytes.now ≡ w * h * bpp }
-        ensures { IfOk result (λ p. p ≡ record { width = w; height = h; bpp = bpp; bytes = bytes.now }) }
+        ensures { IfOk result (λ p. p ≡ record { width = w; height = h; bpp = bpp; bytes = bytes.now
+            }) }
     {
         let clear = [0; 4];
         let mut plane = Plane::new(alloc, w, h, bpp, &clear[..bpp as usize])?;
@@ -188,7 +189,8 @@ impl Plane {
         requires row { y < self.now.height }
         requires out { length out.old ≡ n * self.now.bpp }
         requires scratch { length scratch.old ≡ SCRATCH }
-        ensures { (k c : ℕ) → k < n → c < self.now.bpp → slice_index out.new (k * self.now.bpp + c) ≡ byte_at self.now (x + k) y c }
+        ensures { (k c : ℕ) → k < n → c < self.now.bpp → slice_index out.new (k * self.now.bpp + c)
+            ≡ byte_at self.now (x + k) y c }
     {
         let area = Area {
             x: x as usize,
@@ -259,7 +261,8 @@ impl Plane {
     pub fn tile_codes(&self, at: TileAt) -> Option<&[u8]>
         requires column { at.col < grid.tiles_along self.now.width }
         requires row { at.row < grid.tiles_along self.now.height }
-        ensures { IfSome result (λ codes. AreSpelled AnySpelling codes.now (tile_planes 1 self.now at)) }
+        ensures { IfSome result (λ codes. AreSpelled AnySpelling codes.now
+            (tile_planes 1 self.now at)) }
     {
         let sheet = Sheet {
             width: self.width as usize,
@@ -298,7 +301,8 @@ impl Plane {
     ) -> Result<TileRef, AllocFailed<TileRef>>
         requires column { at.col < grid.tiles_along self.old.width }
         requires row { at.row < grid.tiles_along self.old.height }
-        requires size { length tile ≡ sheet.tile_width self.old.width at * sheet.tile_height self.old.height at * self.old.bpp }
+        requires size { length tile ≡ sheet.tile_width self.old.width at * sheet.tile_height
+            self.old.height at * self.old.bpp }
         ensures result { IfOk result (λ old. old ≡ sheet.tile_bytes self.old at) }
         ensures after { OnOk result (self.new ≡ with_tile self.old at tile) }
         ensures back { IfErr result (λ failed. failed.value ≡ tile) }

@@ -19,7 +19,8 @@ fn plane_into(
     requires fits { from + n ≤ length planes.old }
     ensures before { take from planes.new ≡ take from planes.old }
     ensures plane { MatchResult result (λ next. plane_at bytes.now at n
-        ≡ Ok (record { pixels = take n (drop from planes.new); next = next })) (λ e. plane_at bytes.now at n ≡ Err e) }
+        ≡ Ok (record { pixels = take n (drop from planes.new); next = next }))
+        (λ e. plane_at bytes.now at n ≡ Err e) }
 {
     decode_plane(bytes, at, &mut planes[from..from + n])
 }
@@ -36,8 +37,8 @@ pub fn planes_at(
     requires few { n ≤ 4096 }
     requires bpp { bpp ≤ 4 }
     requires planes { length planes.old ≡ bpp * n }
-    ensures { MatchResult result (λ _. hierarchy.planes_at bpp bytes.now at n ≡ Ok (pieces bpp n planes.new))
-        (λ e. hierarchy.planes_at bpp bytes.now at n ≡ Err e) }
+    ensures { MatchResult result (λ _. hierarchy.planes_at bpp bytes.now at n
+        ≡ Ok (pieces bpp n planes.new)) (λ e. hierarchy.planes_at bpp bytes.now at n ≡ Err e) }
 {
     let mut at = at;
     for c in 0..bpp {

@@ -105,7 +105,8 @@ impl<N: Drop> Tree<N> {
     /// after the node is taken out.
     pub fn restack(&mut self, id: NodeId, parent: NodeId, place: u32) -> Result<(), TreeRefused>
         requires low { restack_refusal id.0 parent.0 place self.old ≡ None
-            → levels (put_into parent.0 place (branch_of id.0 self.old) (without id.0 self.old)) ≤ 8 }
+            → levels (put_into parent.0 place (branch_of id.0 self.old) (without id.0 self.old))
+            ≤ 8 }
         ensures answer { result ≡ answer_of (restack_refusal id.0 parent.0 place self.old) }
         ensures tree { self.new ≡ (if is_ok result
             then put_into parent.0 place (branch_of id.0 self.old) (without id.0 self.old)

@@ -56,7 +56,8 @@ impl<N: Drop> Tree<N> {
 
     /// The child at a place, counted from the top. None where there is no such stack or place.
     pub fn child(&self, stack: NodeId, place: u32) -> Option<NodeId>
-        ensures { option_map (λ i. i.0) result ≡ option_and_then (child_at place) (stack_at stack.0 self.now) }
+        ensures { option_map (λ i. i.0) result ≡ option_and_then (child_at place)
+            (stack_at stack.0 self.now) }
     {
         let children = self.stack(stack)?;
         match from_place(children, place).split() {

@@ -142,7 +142,8 @@ fn layer_count(layer: &Layer) -> u32
 fn changed_layer(before: &Layer, after: &Layer, scratch: &mut [u8], other_scratch: &mut [u8]) -> u32
     requires scratch { length scratch.old ≡ SCRATCH }
     requires other_scratch { length other_scratch.old ≡ SCRATCH }
-    ensures { result ≤ changed_planes before.now.plane after.now.plane + doc.changed_if_any before.now.mask after.now.mask }
+    ensures { result ≤ changed_planes before.now.plane after.now.plane + doc.changed_if_any
+        before.now.mask after.now.mask }
 {
     let plane = changed_plane(&before.plane, &after.plane, scratch, other_scratch);
     sum(
@@ -202,7 +203,8 @@ fn changed_layers(
     requires other_scratch { length other_scratch.old ≡ SCRATCH }
     requires agree { MarksAgree other.now }
     requires leaves { MarksAgree nodes }
-    ensures { result ≤ doc.over_layers doc.changed_layer (nodes_of other.now) (nodes_of nodes.entry) }
+    ensures { result ≤ doc.over_layers doc.changed_layer (nodes_of other.now)
+        (nodes_of nodes.entry) }
 {
     match nodes.split() {
         Split::Empty => 0,
@@ -224,7 +226,8 @@ fn changed_layers(
 fn layers_alone(nodes: Stack<'_, Node>, other: &Tree<Node>) -> u32
     requires agree { MarksAgree other.now }
     requires leaves { MarksAgree nodes }
-    ensures { result ≤ doc.over_layers doc.count_if_alone (nodes_of other.now) (nodes_of nodes.entry) }
+    ensures { result ≤ doc.over_layers doc.count_if_alone (nodes_of other.now)
+        (nodes_of nodes.entry) }
 {
     match nodes.split() {
         Split::Empty => 0,

@@ -24,7 +24,8 @@ use xl_filters::{Chest, PointFilter};
 // `Chest::new` gives back the boxes where memory runs out; here they go with the rest.
 fn chest_of(alloc: Global, boxes: Vec<Box<dyn PointFilter + Send>>) -> Result<Chest, AllocError>
     requires { length boxes.items < 2 ^ 32 }
-    ensures { IfOk result (λ chest. states (λ s. state s.filter) chest ≡ map (λ b. Some (state b)) boxes.items) }
+    ensures { IfOk result (λ chest. states (λ s. state s.filter) chest ≡ map (λ b. Some (state b))
+        boxes.items) }
 {
     match Chest::new(alloc, boxes) {
         Ok(chest) => Ok(chest),
@@ -62,9 +63,11 @@ fn judge<L: Ledger>(
     requires numbered { AreNumbered document.nodes }
     requires few { length chests.items ≤ 8 }
     requires full { AllByRecursion IsFull (map (λ c. states_in state c) chests.items) }
-    requires fits { FitsFilters (map length (map (λ c. states_in state c) chests.items)) (lists_of given.now.script) }
-    ensures { IfOk result (IsVerdict (start_of document (lists_of given.now.script) (map (λ c. states_in state c) chests.items))
-        given.now.output.items) }
+    requires fits { FitsFilters (map length (map (λ c. states_in state c) chests.items))
+        (lists_of given.now.script) }
+    ensures { IfOk result
+        (IsVerdict (start_of document (lists_of given.now.script)
+        (map (λ c. states_in state c) chests.items)) given.now.output.items) }
 {
     let mut steps = Steps::<L>::new(blank);
     audit(
@@ -88,10 +91,12 @@ pub fn find_verdict(
     requires numbered { AreNumbered document.nodes }
     requires few { length lists.items ≤ 8 }
     requires boxes { AllByRecursion (λ boxes. length boxes.items < 2 ^ 32) lists.items }
-    requires fits { FitsFilters (map length (states_of (λ b. state b) lists.items)) (lists_of given.now.script) }
+    requires fits { FitsFilters (map length (states_of (λ b. state b) lists.items))
+        (lists_of given.now.script) }
     requires numbers { AreNumbers (lists_of given.now.script) }
-    ensures { IfOk result (IsExact (started document (lists_of given.now.script) (states_of (λ b. state b) lists.items))
-        given.now.output.items) }
+    ensures { IfOk result
+        (IsExact (started document (lists_of given.now.script)
+        (states_of (λ b. state b) lists.items)) given.now.output.items) }
 {
     let chests = chests_of(alloc, lists)?;
     judge::<Brand>(alloc, document, given, chests, Blank::new(1))
