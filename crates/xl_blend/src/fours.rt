@@ -41,8 +41,7 @@ pub fn four_at(row: &[Pixel], at: usize) -> Four
 #[inline(always)]
 pub fn put_four(row: &mut [Pixel], at: usize, four: Four)
     requires { at + 4 ≤ length row.old }
-    ensures { row.new ≡ slice_set
-        (slice_set (slice_set (slice_set row.old at four.p) (at + 1) four.q) (at + 2) four.r)
+    ensures { row.new ≡ slice_set (slice_set (slice_set (slice_set row.old at four.p) (at + 1) four.q) (at + 2) four.r)
         (at + 3) four.s }
 {
     row[at] = four.p;
@@ -93,12 +92,12 @@ fn alphas_of(of: Four) -> u16x16
 #[inline(always)]
 fn opaque_of(lanes: u16x16) -> Four
     requires { AreBytes lanes }
-    ensures { result
-        ≡ record { p = record { r = slice_index lanes 0; g = slice_index lanes 1; b = slice_index
-        lanes 2; a = 255 }; q = record { r = slice_index lanes 4; g = slice_index lanes 5; b =
-        slice_index lanes 6; a = 255 }; r = record { r = slice_index lanes 8; g = slice_index lanes
-        9; b = slice_index lanes 10; a = 255 }; s = record { r = slice_index lanes 12; g =
-        slice_index lanes 13; b = slice_index lanes 14; a = 255 }; } }
+    ensures { result ≡ record {
+      p = record { r = slice_index lanes 0; g = slice_index lanes 1; b = slice_index lanes 2; a = 255 };
+      q = record { r = slice_index lanes 4; g = slice_index lanes 5; b = slice_index lanes 6; a = 255 };
+      r = record { r = slice_index lanes 8; g = slice_index lanes 9; b = slice_index lanes 10; a = 255 };
+      s = record { r = slice_index lanes 12; g = slice_index lanes 13; b = slice_index lanes 14; a = 255 };
+    } }
 {
     let bytes = lanes.cast::<u8>().to_array();
     Four {

@@ -44,8 +44,7 @@ pub(crate) fn part_on_canvas(doc: &Document, rect: Rect) -> Rect
 }
 
 fn layer_rect(layer: &Layer) -> Rect
-    ensures value { result ≡ record { x = layer.now.x; y = layer.now.y; w = layer.now.plane.width; h
-        = layer.now.plane.height } }
+    ensures value { result ≡ record { x = layer.now.x; y = layer.now.y; w = layer.now.plane.width; h = layer.now.plane.height } }
     ensures reach { IsReach result }
     ensures small { IsSmall result }
 {
@@ -84,8 +83,7 @@ fn past(start: i32, place: i32) -> i32
 fn shift(whole: Rect, rect: Rect) -> Rect
     requires whole { IsSmall whole }
     requires rect { IsSmall rect }
-    ensures { result ≡ record { x = whole.x +ℤ rect.x; y = whole.y +ℤ rect.y; w = rect.w; h =
-        rect.h } }
+    ensures { result ≡ record { x = whole.x +ℤ rect.x; y = whole.y +ℤ rect.y; w = rect.w; h = rect.h } }
 {
     Rect {
         x: past(whole.x, rect.x),
@@ -98,8 +96,7 @@ fn shift(whole: Rect, rect: Rect) -> Rect
 /// A rectangle in a layer's own coordinates, as one of the canvas.
 fn layer_part(layer: &Layer, rect: Rect) -> Rect
     requires { lies_on layer.now.plane.width layer.now.plane.height rect ≡ true }
-    ensures value { result ≡ record { x = layer.now.x +ℤ rect.x; y = layer.now.y +ℤ rect.y; w =
-        rect.w; h = rect.h } }
+    ensures value { result ≡ record { x = layer.now.x +ℤ rect.x; y = layer.now.y +ℤ rect.y; w = rect.w; h = rect.h } }
     ensures small { IsSmall result }
 {
     shift(layer_rect(layer), rect)

@@ -80,10 +80,8 @@ pub(crate) fn drop_mask(doc: &mut Document, id: NodeId) -> Result<(), EditRefuse
 
 fn change_layer(doc: &mut Document, id: NodeId, change: LayerChange)
     requires layer { IsLayer (λ l. Takes change (sheet_of_layer l)) (node doc.old id.0) }
-    requires limits { KeepsLimits doc.old
-        (record doc.old { nodes = with_leaf id.0 (layer_changed change) doc.old.nodes }) }
-    ensures { doc.new ≡ record doc.old { nodes = with_leaf id.0 (layer_changed change)
-        doc.old.nodes } }
+    requires limits { KeepsLimits doc.old (record doc.old { nodes = with_leaf id.0 (layer_changed change) doc.old.nodes }) }
+    ensures { doc.new ≡ record doc.old { nodes = with_leaf id.0 (layer_changed change) doc.old.nodes } }
 {
     change_layer_in(&mut doc.tree, id, change);
 }
@@ -91,8 +89,7 @@ fn change_layer(doc: &mut Document, id: NodeId, change: LayerChange)
 fn change_layer_in(tree: &mut Tree<Node>, id: NodeId, change: LayerChange)
     requires ids { IsDistinct nat_eq (ids tree.old) }
     requires marks { MarksAgree tree.old }
-    requires layer { IsLayer (λ l. Takes change (sheet_of_layer l))
-        (find id.0 (nodes_of tree.old)) }
+    requires layer { IsLayer (λ l. Takes change (sheet_of_layer l)) (find id.0 (nodes_of tree.old)) }
     ensures done { nodes_of tree.new ≡ with_leaf id.0 (layer_changed change) (nodes_of tree.old) }
     ensures marks { MarksAgree tree.new }
 {

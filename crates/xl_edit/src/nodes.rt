@@ -90,8 +90,7 @@ pub(crate) fn new_layer(
     requires width { IsSide w }
     requires height { IsSide h }
     requires bytes { AreBytes name.now }
-    requires next { HasNext doc.old next_id.old (edits.new_layer parent.0 place x y w h kind
-        name.now) }
+    requires next { HasNext doc.old next_id.old (edits.new_layer parent.0 place x y w h kind name.now) }
     ensures { (table : List ℕ) → Applies (at doc.old next_id.old) (at doc.new next_id.new)
         (edits.new_layer parent.0 place x y w h kind name.now) table result }
 {
@@ -108,10 +107,8 @@ fn put_node(doc: &mut Document, parent: NodeId, place: u32, id: NodeId, node: No
     requires few { size doc.old.nodes < MAX_NODES }
     requires place { put_refusal parent.0 place doc.old.nodes ≡ None }
     requires deep { too_deep doc.old.nodes parent.0 1 ≡ None }
-    requires limits { KeepsLimits doc.old
-        (record doc.old { nodes = put_into parent.0 place (one_node id.0 node) doc.old.nodes }) }
-    ensures { doc.new ≡ record doc.old { nodes = put_into parent.0 place (one_node id.0 node)
-        doc.old.nodes } }
+    requires limits { KeepsLimits doc.old (record doc.old { nodes = put_into parent.0 place (one_node id.0 node) doc.old.nodes }) }
+    ensures { doc.new ≡ record doc.old { nodes = put_into parent.0 place (one_node id.0 node) doc.old.nodes } }
 {
     put_node_in(&mut doc.tree, parent, place, id, node);
 }
@@ -123,8 +120,7 @@ fn put_node_in(tree: &mut Tree<Node>, parent: NodeId, place: u32, id: NodeId, no
     requires few { size (nodes_of tree.old) < MAX_NODES }
     requires place { put_refusal parent.0 place (nodes_of tree.old) ≡ None }
     requires deep { too_deep (nodes_of tree.old) parent.0 1 ≡ None }
-    ensures done { nodes_of tree.new ≡ put_into parent.0 place (one_node id.0 node)
-        (nodes_of tree.old) }
+    ensures done { nodes_of tree.new ≡ put_into parent.0 place (one_node id.0 node) (nodes_of tree.old) }
     ensures marks { MarksAgree tree.new }
 {
     know_levels(tree);

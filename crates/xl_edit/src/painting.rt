@@ -24,9 +24,7 @@ pub(crate) fn put(
     bytes: &[u8],
 ) -> Result<(), AllocError>
     requires { IsLayer (IsPiece part rect bytes.now) (node doc.old id.0) }
-    ensures ok { OnOk result
-        (doc.new ≡ record doc.old { nodes = with_leaf id.0 (with_piece part rect bytes.now)
-        doc.old.nodes }) }
+    ensures ok { OnOk result (doc.new ≡ record doc.old { nodes = with_leaf id.0 (with_piece part rect bytes.now) doc.old.nodes }) }
     ensures err { OnErr result (doc.new ≡ doc.old) }
     ensures ids { IsDistinct nat_eq (ids doc.old.nodes) }
 {
@@ -45,8 +43,7 @@ fn put_at(
     requires ids { IsDistinct nat_eq (ids tree.old) }
     requires marks { MarksAgree tree.old }
     requires layer { IsLayer (IsPiece part rect bytes.now) (find id.0 (nodes_of tree.old)) }
-    ensures ok { OnOk result (nodes_of tree.new ≡ with_leaf id.0 (with_piece part rect bytes.now)
-        (nodes_of tree.old)) }
+    ensures ok { OnOk result (nodes_of tree.new ≡ with_leaf id.0 (with_piece part rect bytes.now) (nodes_of tree.old)) }
     ensures err { OnErr result (tree.new ≡ tree.old) }
     ensures marks { MarksAgree tree.new }
 {
@@ -66,8 +63,7 @@ fn put_in(
     requires leaf { IsLeaf node.old.body }
     requires piece { IsPiece part rect bytes.now (layer_of node.old) }
     ensures leaf { IsLeaf node.new.body }
-    ensures ok { OnOk result (layer_of node.new ≡ with_piece part rect bytes.now
-        (layer_of node.old)) }
+    ensures ok { OnOk result (layer_of node.new ≡ with_piece part rect bytes.now (layer_of node.old)) }
     ensures err { OnErr result (node.new ≡ node.old) }
 {
     match &mut node.body {
@@ -100,8 +96,7 @@ fn put_mask(
     bytes: &[u8],
 ) -> Result<(), AllocError>
     requires piece { IsMaskPiece rect bytes.now mask.old }
-    ensures ok { OnOk result (mask.new ≡ option_map (with_plane (λ p. written p rect bytes.now))
-        mask.old) }
+    ensures ok { OnOk result (mask.new ≡ option_map (with_plane (λ p. written p rect bytes.now)) mask.old) }
     ensures err { OnErr result (mask.new ≡ mask.old) }
 {
     match mask {

@@ -31,8 +31,8 @@ impl MemorySink {
     /// A sink that takes at most `step` bytes at a time, and fails at the writes whose numbers from 0 are in `fails`.
     pub fn new(alloc: Global, step: usize, fails: Vec<u32>) -> Self
         requires { 0 < step }
-        ensures { result ≡ record { held = []; step = step; starved = 0; calls = no_calls
-            fails.items } }
+        ensures { result
+            ≡ record { held = []; step = step; starved = 0; calls = no_calls fails.items } }
     {
         MemorySink {
             held: Vec::new(alloc),

@@ -81,8 +81,7 @@ pub trait Shelf: Send + Drop {
             (shelf_state self.new).disk (λ before after. before.moment < after.moment)) }
         ensures reading { (shelf_state self.new).reading ≡ (shelf_state self.old).reading }
         ensures loads { (shelf_state self.new).loads ≡ (shelf_state self.old).loads }
-        ensures cause { HasCause (shelf_state self.old).saving (shelf_state self.new).saving result
-            };
+        ensures cause { HasCause (shelf_state self.old).saving (shelf_state self.new).saving result };
 
     /// Adds bytes at the end of the open draft, which is not synced then.
     ///
@@ -101,8 +100,7 @@ pub trait Shelf: Send + Drop {
             (shelf_state self.new).disk (λ before after. before.moment < after.moment)) }
         ensures reading { (shelf_state self.new).reading ≡ (shelf_state self.old).reading }
         ensures loads { (shelf_state self.new).loads ≡ (shelf_state self.old).loads }
-        ensures cause { HasCause (shelf_state self.old).saving (shelf_state self.new).saving result
-            };
+        ensures cause { HasCause (shelf_state self.old).saving (shelf_state self.new).saving result };
 
     /// Brings the bytes of the open draft to the disk: it is synced then.
     ///
@@ -123,8 +121,7 @@ pub trait Shelf: Send + Drop {
             (shelf_state self.new).disk (λ before after. before.moment < after.moment)) }
         ensures reading { (shelf_state self.new).reading ≡ (shelf_state self.old).reading }
         ensures loads { (shelf_state self.new).loads ≡ (shelf_state self.old).loads }
-        ensures cause { HasCause (shelf_state self.old).saving (shelf_state self.new).saving result
-            };
+        ensures cause { HasCause (shelf_state self.old).saving (shelf_state self.new).saving result };
 
     /// The open draft takes the selected name, and a read gives its bytes. No draft is open then, after `Failed` neither.
     ///
@@ -142,8 +139,7 @@ pub trait Shelf: Send + Drop {
             (shelf_state self.new).disk (λ before after. before.moment < after.moment)) }
         ensures reading { (shelf_state self.new).reading ≡ (shelf_state self.old).reading }
         ensures loads { (shelf_state self.new).loads ≡ (shelf_state self.old).loads }
-        ensures cause { HasCause (shelf_state self.old).saving (shelf_state self.new).saving result
-            };
+        ensures cause { HasCause (shelf_state self.old).saving (shelf_state self.new).saving result };
 
     /// Settles the selected name: from then on a crash leaves what a read gives, and nothing else.
     ///
@@ -162,6 +158,5 @@ pub trait Shelf: Send + Drop {
             (shelf_state self.new).disk (λ before after. before.moment < after.moment)) }
         ensures reading { (shelf_state self.new).reading ≡ (shelf_state self.old).reading }
         ensures loads { (shelf_state self.new).loads ≡ (shelf_state self.old).loads }
-        ensures cause { HasCause (shelf_state self.old).saving (shelf_state self.new).saving result
-            };
+        ensures cause { HasCause (shelf_state self.old).saving (shelf_state self.new).saving result };
 }

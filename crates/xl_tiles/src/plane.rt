@@ -100,8 +100,8 @@ impl Plane {
         requires some { 1 ≤ bpp }
         requires few { bpp ≤ 4 }
         requires full { length bytes.now ≡ w * h * bpp }
-        ensures { IfOk result (λ p. p ≡ record { width = w; height = h; bpp = bpp; bytes = bytes.now
-            }) }
+        ensures { IfOk result
+            (λ p. p ≡ record { width = w; height = h; bpp = bpp; bytes = bytes.now }) }
     {
         let clear = [0; 4];
         let mut plane = Plane::new(alloc, w, h, bpp, &clear[..bpp as usize])?;
