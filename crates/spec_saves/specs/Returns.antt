@@ -29,7 +29,7 @@ Among (Some opened) None None R = ⊥
 Among (Some opened) None (Some now) R = ⊥
 Among (Some opened) (Some handed) None R = ⊥
 
--- a save that is done left its version alone, one that found no memory left the file as it was
+-- a save that is done left its version alone, one that found no memory left the file under the names that it had
 abbrev pub EndsOn : SaveEnd → (name : List ℕ) → Document → List Entry → (opened now : Disk) → Type 0
 EndsOn Done name base es opened now = IsVersion base es (out_version base es) (now.read name) × LeavesJust now name (now.read name)
 EndsOn Fault name base es opened now = (c : Content) → MayLeave now name c → IsIn base es opened name c (files base es)

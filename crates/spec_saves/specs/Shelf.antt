@@ -13,7 +13,7 @@ use Rattle.spec_saves.specs.Contents.{IsIn, IsSaved}
 abbrev pub file_name : ShelfState → List ℕ
 file_name s = unwrap_or s.selected []
 
--- where the file has one name, a crash leaves one content; the old one is what a read gave
+-- where a version is the file's one name, a crash leaves one content; where the old file is, a read gives what it gave
 abbrev pub IsSettled : List Named → (name : List ℕ) → (opened now : Disk) → Type 0
 IsSettled [] name opened now = Unit {0}
 IsSettled (the_old ∷ []) name opened now = now.read name ≡ opened.read name

@@ -3,6 +3,7 @@ use Rattle.std.proofs.Common.{◌≡◌, ◌⊎◌, inl, inr, ⊎_elim, ℕ, ◌
 use Rattle.std.specs.Prelude.{Contains}
 use Rattle.xl_ports.specs.Shelf.{Content}
 use Rattle.xl_ports.specs.Disk.{Disk, MayLeave, MightHaveLeft, Between, Elapses, Stays, IsQuiet, StaysThrough, OthersStay}
+use Rattle.xl_ports.specs.Disk.{KeepsDraft}
 
 -- one relation after another, where the disks are known
 pub one_then : (R S T : Disk → Disk → Type 0) → ((a b c : Disk) → R a b → S b c → T a c) → (old mid new : Option Disk)
@@ -125,3 +126,11 @@ still (Some a) = quiet_still a
 
 pub quiet_quiet : (old mid new : Option Disk) → Between old mid IsQuiet → Between mid new IsQuiet → Between old new IsQuiet
 quiet_quiet old mid new = one_then IsQuiet IsQuiet IsQuiet quiet_then old mid new
+
+-- the draft stays
+pub kept_still : (disk : Option Disk) → Between disk disk KeepsDraft
+kept_still None = tt
+kept_still (Some a) = refl
+
+pub kept_kept : (old mid new : Option Disk) → Between old mid KeepsDraft → Between mid new KeepsDraft → Between old new KeepsDraft
+kept_kept old mid new = one_then KeepsDraft KeepsDraft KeepsDraft (λ a b c first second. second ∙ first) old mid new

@@ -71,6 +71,10 @@ pub record IsQuiet (before after : Disk) : Type 0 where
   pub stays : (name : List ℕ) → Stays before after name
   pub time : Elapses before after
 
+-- the draft is what it was
+abbrev pub KeepsDraft : (before after : Disk) → Type 0
+KeepsDraft before after = after.draft ≡ before.draft
+
 -- under this name a read and a crash give what they gave, and at each moment a crash left what it might have left before
 pub record StaysThrough (before after : Disk) (name : List ℕ) : Type 0 where
   pub later : before.moment ≤ after.moment

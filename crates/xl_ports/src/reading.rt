@@ -23,7 +23,7 @@ pub fn read_all<S: Source>(
         (S.left source.new)) }
     ensures reads { S.reads source.new ≤ S.reads source.old + limit }
     ensures some { OnErr result ((bytes : List ℕ)
-        × (S.left source.old ≡ led_by bytes (S.left source.new))) }
+        × (S.left source.old ≡ led_by bytes (S.left source.new)) × (length bytes ≤ limit)) }
     ensures cause { HasCauseOrMemory (S.faults source.old) (S.faults source.new) result }
 {
     let mut bytes = Vec::new(alloc);

@@ -1,8 +1,9 @@
 -- What an audit comes to.
-use Rattle.std.proofs.Common.{◌≡◌, ℕ, List, ap, sym, subst, refl}
-use Rattle.std.specs.Prelude.{Option, IfSome, IfOk, Result, Ok, Err}
+use Rattle.std.proofs.Common.{◌≡◌, ◌∙◌, ℕ, List, ap, sym, subst, refl}
+use Rattle.std.specs.Prelude.{Option, Some, IfSome, IfOk, Result, Ok, Err}
 use Rattle.std.specs.declared.alloc.AllocError.{AllocError}
-use Rattle.xl_verdict.specs.Answers.{verdict_line}
+use Rattle.std.proofs.lemmas.Option.{none-some}
+use Rattle.xl_verdict.specs.Answers.{verdict_line, rejection_of}
 use Rattle.spec_audit.specs.Verdicts.{IsExact}
 use Rattle.spec_audit.specs.declared.Verdict.{Verdict}
 use Rattle.spec_command.specs.Arguments.{audit}
@@ -21,12 +22,17 @@ use Rattle.xl_program.specs.declared.stopped.Stopped.{Stopped}
 use Rattle.xl_program.specs.declared.stopped.Stopped.TheVariants.{SourceFault, BadHead, BadLine, ShelfFault, Refused}
 use Rattle.xl_program.specs.declared.stopped.Stopped.TheVariants.{NotFlattened, SaveFault, Rejected, SinkFault, Memory}
 use Rattle.xl_verdict.specs.Judging.{started}
+use Rattle.xl_verdict.specs.declared.answers.Rejection.{Rejection}
 use Rattle.xl_verdict.specs.Reading.{ReadsAudit}
 use Rattle.xl_verdict.specs.declared.reading.Audit.{Audit}
 use Rattle.xl_verdict.specs.declared.reading.Unread.{Unread}
 use Rattle.xl_program.proofs.Taken.{untouched}
 
 -- ---- what an audit comes to
+
+-- what is rejected for some reason was not accepted
+not_accepted : (verdict : Verdict) (why : Rejection) → rejection_of verdict ≡ Some why → verdict ≡ Accepted → ⊥
+not_accepted verdict why is accepted = none-some why (sym (ap rejection_of accepted) ∙ is)
 
 -- what was known when the output was judged
 pub record IsAuditOpened (given : Given) (before mid : ShelfState) (name : List ℕ) (d : Document) (found : Audit) : Type 0 where
@@ -61,7 +67,7 @@ module _ (given : Given) {before mid : ShelfState} {name : List ℕ} {d : Docume
   audit_comes held faults old new (Ok verdict) (Ok x) exact writes =
       (verdict_line verdict, (is_audited well verdict exact writes.1, then.untouched), writes.0)
   audit_comes held faults old new (Ok verdict) (Err (Rejected why)) exact writes =
-      (verdict_line verdict, (is_audited rejected verdict exact writes.1, then.untouched), writes.0)
+      (verdict_line verdict, (is_audited rejected verdict exact (not_accepted verdict why writes.1), then.untouched), writes.0)
   audit_comes held faults old new (Ok verdict) (Err SinkFault) exact writes =
       (verdict_line verdict, (is_audited in_part verdict exact tt, then.untouched), writes)
   audit_comes held faults old new (Ok verdict) (Err Memory) exact writes = ((ap held writes, ap faults writes), then.untouched)

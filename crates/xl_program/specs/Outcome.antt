@@ -96,7 +96,7 @@ IsBadHeadOf given (Some (audit name)) = IsBadHead given.left
 abbrev pub opened : (old new : ShelfState) → (name : List ℕ) → ShelfState
 opened old new name = record old { selected = Some name; loads = new.loads }
 
--- how often a file is loaded from at most: as often as a file has bytes that is not too long
+-- how often a file is loaded from at most: once for each byte that is asked for, which is one more than a file may have
 abbrev pub most_loads : ℕ
 most_loads = 2 ^ 31
 
@@ -307,9 +307,10 @@ module _ {S : Type 0} (left : S → Option (List ℕ)) (faults reads : S → ℕ
   abbrev pub Leaves : (old new : S) → Type 0
   Leaves old new = (left new ≡ left old) × (faults new ≡ faults old) × (reads new ≡ reads old)
 
-  -- the first bytes that the source has left were taken, in so many reads at most
+  -- the first bytes that the source has left were taken: so many at most, in so many reads at most
   abbrev pub TakesWithin : (most : ℕ) → (old new : S) → Type 0
-  TakesWithin most old new = ((bytes : List ℕ) × (left old ≡ led_by bytes (left new))) × (reads new ≤ reads old + most)
+  TakesWithin most old new =
+      ((bytes : List ℕ) × (left old ≡ led_by bytes (left new)) × (length bytes ≤ most)) × (reads new ≤ reads old + most)
 
   -- as many as for a script
   abbrev pub TakesFront : (old new : S) → Type 0

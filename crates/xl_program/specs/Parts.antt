@@ -1,8 +1,8 @@
 -- What the parts of a command come to.
-use Rattle.std.specs.Prelude.{◌≡◌, ℕ, true, false, List, Option, IfSome, IfOk, Result, Ok, Err, String, string_bytes}
+use Rattle.std.specs.Prelude.{◌≡◌, ℕ, true, false, List, Option, Some, IfSome, IfOk, Result, Ok, Err, String, string_bytes}
 use Rattle.std.specs.declared.alloc.AllocError.{AllocError}
 use Rattle.std.specs.declared.alloc.Global.{Global}
-use Rattle.xl_verdict.specs.Answers.{verdict_line}
+use Rattle.xl_verdict.specs.Answers.{verdict_line, rejection_of}
 use Rattle.spec_audit.specs.declared.Verdict.{Verdict}
 use Rattle.spec_audit.specs.declared.Verdict.TheVariants.{Accepted}
 use Rattle.spec_command.specs.Arguments.{Asked, edit, render, info, make, pack, flatten, view, audit}
@@ -113,11 +113,11 @@ module _ {K : Type 0} (held : K → Option (List ℕ)) (faults : K → ℕ) wher
   WritesViewed old new (Ok text) (Err stopped) = ⊥
   WritesViewed old new (Err e) result = (result ≡ Err Memory) × (new ≡ old)
 
-  -- the line of the verdict was written, after which a rejection stops the command; or a fault of the sink came
+  -- the line of the verdict was written, after which a rejection stops the command and is told; or a fault of the sink came
   abbrev pub WritesLineOf : (old new : K) → Verdict → Result (Unit {0}) Stopped → Type 0
   WritesLineOf old new verdict (Ok x) = WritesAll held faults old new (verdict_line verdict) × (verdict ≡ Accepted)
   WritesLineOf old new verdict (Err (Rejected why)) =
-      WritesAll held faults old new (verdict_line verdict) × (verdict ≡ Accepted → ⊥)
+      WritesAll held faults old new (verdict_line verdict) × (rejection_of verdict ≡ Some why)
   WritesLineOf old new verdict (Err SinkFault) = WritesPart held faults old new (verdict_line verdict)
   WritesLineOf old new verdict (Err Memory) = new ≡ old
   WritesLineOf old new verdict (Err SourceFault) = ⊥

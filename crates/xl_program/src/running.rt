@@ -45,7 +45,7 @@ pub struct Ended<D> {
 /// Does what the words ask for. The shelf comes back always.
 ///
 /// `chest` holds the filters of each session, those of session 0 first, each in the slot of its place; a session without a list
-/// has none. A box is dropped where its session forgets it, and at the end of the session.
+/// has none. A box is dropped where its session forgets it, and at the latest when all sessions have ended.
 ///
 /// `edit` and `make` play the sessions of their script beside each other, in threads where these can be made, and beside workers:
 /// two, or as many as the words of an edit name. An edit by session 0 alone with 0 workers takes no thread. `gate` is passed by

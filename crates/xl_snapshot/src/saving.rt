@@ -51,8 +51,9 @@ pub fn save_document<D: Shelf, C: PlaneCoder>(
     shelf: &mut D,
 ) -> SaveEnd
     requires { IsSome (D.shelf_state shelf.old).selected }
-    ensures { IsSavedOn (D.shelf_state shelf.old) document.now result
+    ensures saved { IsSavedOn (D.shelf_state shelf.old) document.now result
         (D.shelf_state shelf.new) }
+    ensures untouched { result ≡ save_end.Memory → shelf.new ≡ shelf.old }
 {
     let Ok(file) = file_of(alloc, document, coder) else {
         return SaveEnd::Memory;

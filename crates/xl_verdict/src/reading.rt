@@ -1,4 +1,4 @@
-ghost use Rattle.std.specs.Prelude.{◌≡◌, ◌≤◌, ◌+◌, ◌^◌, ℕ, List, IfOk, OnOk, Some};
+ghost use Rattle.std.specs.Prelude.{◌≡◌, ◌≤◌, ◌+◌, ◌^◌, ℕ, List, length, IfOk, OnOk, Some};
 ghost use Rattle.spec_audit.specs.Limited.{AreNumbers};
 ghost use Rattle.spec_script.specs.Fits.{FitsFilters};
 ghost use Rattle.xl_ports.specs.Source.{led_by, IsEnded};
@@ -58,7 +58,8 @@ pub fn read_audit<S: Source>(alloc: Global, source: &mut S, counts: &[u32]) -> R
     ensures reads { ReadsAudit (S.left source.old) counts.now result }
     ensures fits { IfOk result (λ audit. FitsFilters counts.now (lists_of audit.script)) }
     ensures numbers { IfOk result (λ audit. AreNumbers (lists_of audit.script)) }
-    ensures takes { (bytes : List ℕ) × (S.left source.old ≡ led_by bytes (S.left source.new)) }
+    ensures takes { (bytes : List ℕ) × (S.left source.old ≡ led_by bytes (S.left source.new))
+        × (length bytes ≤ 2 ^ 28 + 1) }
     ensures few_reads { S.reads source.new ≤ S.reads source.old + (2 ^ 28 + 1) }
     ensures ended { OnOk result (IsEnded (S.left source.new)) }
     ensures cause { HasCause (S.faults source.old) (S.faults source.new) result }

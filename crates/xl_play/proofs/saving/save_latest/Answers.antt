@@ -14,7 +14,7 @@ end_save-reply-requires-clause-returns g c κs within =
     begun_back g.D.Shelf.shelf_state c.args.core.now
     c.begin_save.new.self c.args.session s.version s.document s.shelf c.save_document-how.new.shelf
     c.save_document-how.result (rw s.is at c.in_ok-document.ensures.begun) c.requires.legal
-    (rw s.is at c.in_ok-document.ensures.right) c.save_document-how.ensures
+    (rw s.is at c.in_ok-document.ensures.right) c.save_document-how.ensures.saved
 
 pub returns-in-Done : goal.returns-in-Done
 returns-in-Done g c =

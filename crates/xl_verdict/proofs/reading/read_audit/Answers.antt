@@ -20,3 +20,6 @@ pub returns-clause-cause : goal.returns-clause-cause
 returns-clause-cause g c =
     subst (λ (n : ℕ). HasCause (g.S.Source.faults c.args.source.now) n c.parse_audit.result) (sym c.in-Ok.ensures.cause)
     (c.parse_audit.ensures.cause (g.S.Source.faults c.args.source.now))
+
+pub returns-clause-takes : goal.returns-clause-takes
+returns-clause-takes g c = (c.in-Ok.bytes.items, (c.in-Ok.ensures.given, c.in-Ok.ensures.within))
