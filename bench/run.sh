@@ -1,5 +1,6 @@
 #!/bin/sh
-# Times `BIN render` and the same work by other programs, where they are installed, on two large files, and `BIN edit`.
+# Times `BIN render` and the same work by other programs, where they are installed, on large files, and `BIN edit`: saves, all
+# tiles, fills beside workers, sessions beside each other.
 #
 #     bench/run.sh BIN [FOLDER]
 #
@@ -9,7 +10,7 @@ set -eu
 
 here=$(cd "$(dirname "$0")" && pwd)
 if [ $# -lt 1 ] || [ ! -x "$1" ]; then
-    sed -n '2,8s/^# \{0,1\}//p' "$0"
+    sed -n '2,9s/^# \{0,1\}//p' "$0"
     exit 2
 fi
 bin=$(cd "$(dirname "$1")" && pwd)/$(basename "$1")
@@ -100,14 +101,25 @@ made flat.xcf make_flat.py
 best flat.xcf xcfedit "$bin" render "$folder/flat.xcf"
 by_one flat.xcf render "$folder/flat.xcf"
 
-# a file that is loaded and saved again
-cp "$folder/layers.xcf" "$folder/saved.xcf"
-best layers.xcf "xcfedit save" sh -c 'echo "0 save" | "$0" edit "$1" --workers 0' "$bin" "$folder/saved.xcf"
-rm "$folder/saved.xcf"
+# saved NAME WORKERS LINE: a copy of the file, loaded and saved again
+saved() {
+    cp "$folder/$1" "$folder/saved.xcf"
+    best "$1" "$3" sh -c 'echo "0 save" | "$0" edit "$1" --workers "$2"' "$bin" "$folder/saved.xcf" "$2"
+    rm "$folder/saved.xcf"
+}
+saved layers.xcf 0 "xcfedit save"
+saved layers.xcf 2 "save, 2 workers"
+saved flat.xcf 0 "xcfedit save"
+
+# every tile of the ten layers, each composed once and its digest printed
+[ -e "$folder/tiles.txt" ] || awk 'BEGIN { for (row = 0; row < 47; row++) for (col = 0; col < 63; col++) print "0 tile 0", col, row }' > "$folder/tiles.txt"
+best layers.xcf "all 2961 tiles" sh -c '"$0" edit "$1" --workers 0 < "$2"' "$bin" "$folder/layers.xcf" "$folder/tiles.txt"
 
 # 1000 fills of up to 64 by 64 with a tile after each ten, on the ten layers: the first node is a group, so its layer is 2
 [ -e "$folder/fills.txt" ] || python3 "$here/make_edits.py" "$folder/fills.txt" --size 4000 3000 --fills 1000 --up-to 64 --layer 2
-best layers.xcf "xcfedit edit" sh -c '"$0" edit "$1" < "$2"' "$bin" "$folder/layers.xcf" "$folder/fills.txt"
+for workers in 0 2 4; do
+    best layers.xcf "edit, $workers workers" sh -c '"$0" edit "$1" --workers "$2" < "$3"' "$bin" "$folder/layers.xcf" "$workers" "$folder/fills.txt"
+done
 
 # 200 fills of 32 by 32 with a tile after each ten, on a document of 512 by 512 with three layers
 [ -e "$folder/small.xcf" ] || python3 "$here/make_plain.py" "$folder/small.xcf" --size 512 512
@@ -125,3 +137,6 @@ awk '{ printf "%-12s %-20s %8.2f ms each\n", "one.xcf", "xcfedit", 10 * $1 }' "$
 
 # a long save beside eight workers that have nothing to do, and without them
 python3 "$here/idle_workers.py" --binary "$bin" --folder "$folder" --runs "$runs" || true
+
+# eight sessions beside each other, and the same calls by one
+python3 "$here/sessions.py" --binary "$bin" --folder "$folder"
