@@ -6,7 +6,7 @@ use Rattle.std.specs.List.{list_any}
 use Rattle.spec_grid.specs.declared.Rect.{Rect}
 use Rattle.spec_grid.specs.declared.TileAt.{TileAt}
 use Rattle.spec_grid.specs.Rect.{do_meet}
-use Rattle.spec_grid.specs.Grid.{tiles_along, is_on_grid, tile_rect}
+use Rattle.spec_grid.specs.Grid.{same_tile, tiles_along, is_on_grid, tile_rect}
 
 -- A picture or none; the last version of which a marked slot's picture is known to be; whether the slot is marked;
 -- and the version of its
@@ -53,9 +53,6 @@ with_tiles s = tiled_from s.width 0 s.each
 
 abbrev pub change_slots : (TileAt → Slot → Slot) → Slots → Slots
 change_slots change s = record s { each = map (λ p. change p.0 p.1) (with_tiles s) }
-
-abbrev pub same_tile : TileAt → TileAt → Bool
-same_tile a b = a.col == b.col && a.row == b.row
 
 -- the slot of one tile is changed
 abbrev pub change_slot : TileAt → (Slot → Slot) → Slots → Slots

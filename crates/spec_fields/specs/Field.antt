@@ -23,11 +23,6 @@ pub record HasWord (file : List ℕ) (at n : ℕ) : Type 0 where
   pub fits : at + 4 ≤ length file
   pub is : word_value file at ≡ n
 
--- this signed word stands at the offset
-pub record HasInt (file : List ℕ) (at : ℕ) (z : ℤ) : Type 0 where
-  pub fits : at + 4 ≤ length file
-  pub is : cast_signed w32 (word_value file at) ≡ z
-
 abbrev pub word_at : (file : List ℕ) (at : ℕ) → Read ℕ
 word_at file at = if nat_le (at + 4) (length file) then Ok (word_value file at) else Err (fault Truncated at)
 

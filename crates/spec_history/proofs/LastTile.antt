@@ -2,13 +2,13 @@
 use Rattle.std.proofs.Common.{◌≡◌, ℕ, ◌≤◌, Bool, true, false, cond, List, [], ◌∷◌, ◌++◌, refl, sym, ◌∙◌, ap, arith, eqb-true}
 use Rattle.std.specs.Prelude.{not, ◌==◌, ◌&&◌, Option, Some, None}
 use Rattle.spec_grid.specs.declared.TileAt.{TileAt}
-use Rattle.spec_grid.specs.Grid.{is_on_grid}
+use Rattle.spec_grid.specs.Grid.{is_on_grid, same_tile}
 use Rattle.spec_document.specs.Document.{Document}
 use Rattle.spec_history.specs.Machine.{tile, Reply, tile_of, no_stack, outside_tile, State, latest, document_at}
 use Rattle.spec_history.specs.Machine.{initial, answer, has_stack}
 use Rattle.spec_history.specs.History.{Kind, asked, Entry, after_entry, replay_from, replay, MayBe, IsStep, RunFrom}
 use Rattle.spec_history.specs.History.{Run, is_changed}
-use Rattle.spec_history.specs.Kept.{same_tile, shown_version, or_earlier, last_tile}
+use Rattle.spec_history.specs.Kept.{shown_version, or_earlier, last_tile}
 use Rattle.spec_history.proofs.Versions.{IsSound, sound-initial, ends-run}
 use Rattle.spec_history.proofs.Stacks.{sound-entry}
 

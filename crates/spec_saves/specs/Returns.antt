@@ -51,10 +51,12 @@ CountEnds Done old new = new ≡ old
 CountEnds Fault old new = Rose old new
 CountEnds Memory old new = new ≡ old
 
--- The shelf that was handed out comes back from the save that is out after these entries.
+-- The shelf that was handed out comes back from the save that is out after these entries. A save that found no memory did not
+-- touch it.
 pub record Returns (opening handed : ShelfState) (base : Document) (es : List Entry) (how : SaveEnd) (now : ShelfState) : Type 0 where
   pub selected : now.selected ≡ opening.selected
   pub loads : now.loads ≡ handed.loads
   pub reading : now.reading ≡ handed.reading
   pub saving : CountEnds how handed.saving now.saving
+  pub untouched : how ≡ Memory → now ≡ handed
   pub contents : Among opening.disk handed.disk now.disk (DiskReturns (file_name opening) base es how)

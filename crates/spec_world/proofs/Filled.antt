@@ -5,17 +5,16 @@ use Rattle.std.specs.Prelude.{Option, Some, None, IfSome, is_some, option_and_th
 use Rattle.std.specs.List.{AllByRecursion}
 use Rattle.std.proofs.lemmas.Bool.{and_parts, eqb-true, eqb-false, ltb-false}
 use Rattle.spec_grid.specs.declared.TileAt.{TileAt}
-use Rattle.spec_grid.specs.Grid.{is_on_grid}
+use Rattle.spec_grid.specs.Grid.{is_on_grid, same_tile}
 use Rattle.spec_document.specs.Document.{Document}
 use Rattle.spec_picture.specs.Picture.{project}
 use Rattle.spec_cache.specs.declared.Finished.{Finished}
 use Rattle.spec_cache.specs.declared.Finished.TheVariants.{Installed, Late, Gone}
-use Rattle.spec_cache.specs.Slots.{Slot, Slots, slot_at, change_slot, fill_slot, same_tile}
+use Rattle.spec_cache.specs.Slots.{Slot, Slots, slot_at, change_slot, fill_slot}
 use Rattle.spec_cache.specs.Cache.{Cache, slots_of, has_slots, slot_of, change_stack, finish_at, finish, put_where}
 use Rattle.spec_cache.proofs.Order.{is_cache-changed}
 use Rattle.spec_history.specs.Machine.{State, latest, document_at, has_stack, tile, tile_of}
 use Rattle.spec_history.specs.History.{Entry, asked}
-use Rattle.spec_history.specs.Kept as history
 use Rattle.spec_history.specs.Kept.{last_tile, or_earlier}
 use Rattle.spec_history.proofs.Bounds.{last_tile-snoc}
 use Rattle.spec_world.specs.World.{World, Job, document_now, result_of}
@@ -66,8 +65,8 @@ standing-tile base w session index k place tables is on enters =
       slots = is_cache-changed base.width base.height k _ w.cache is.slots;
       stacks = λ stack. same-stacks k _ w.cache stack ∙ is.stacks stack;
       seen = λ stack at. subst (λ o. IfSome o (WasShown base s at)) (sym (last_tile-snoc stack at w.entries e))
-          (shown-here base s at place (k == stack && history.same_tile place at) (last_tile stack at w.entries) on
-          (λ b. sym (same-tile place at (and_parts (k == stack) (history.same_tile place at) b).1)) (is.seen stack at));
+          (shown-here base s at place (k == stack && same_tile place at) (last_tile stack at w.entries) on
+          (λ b. sym (same-tile place at (and_parts (k == stack) (same_tile place at) b).1)) (is.seen stack at));
       each = λ stack at slot found.
           changed-slot stack k at place (show_slot (project (document_now base s) k place)) w.cache slot
           (λ x. IsRightSlot base s stack at (last_tile stack at (w.entries ++ e ∷ [])) x) found
@@ -80,7 +79,7 @@ standing-tile base w session index k place tables is on enters =
           (right-shown base s stack at (last_tile stack at w.entries) (last_tile stack at (w.entries ++ e ∷ [])) old
           (is.each stack at old p))))
           (λ old p other.
-          let here : (k == stack && history.same_tile place at) ≡ (stack == k && same_tile at place) =
+          let here : (k == stack && same_tile place at) ≡ (stack == k && same_tile at place) =
           λ i. eq-swap k stack i && (eq-swap place.col at.col i && eq-swap place.row at.row i) in
           let same : last_tile stack at (w.entries ++ e ∷ []) ≡ last_tile stack at w.entries =
           last_tile-snoc stack at w.entries e

@@ -4,11 +4,11 @@ use Rattle.std.proofs.Common.{sym, ◌∙◌, ap, subst, true≢false, arith, eq
 use Rattle.std.specs.Prelude.{Option, Some, None, IfSome, is_some, option_and_then, unwrap_or}
 use Rattle.std.proofs.lemmas.Bool.{eqb-true}
 use Rattle.spec_grid.specs.declared.TileAt.{TileAt}
-use Rattle.spec_grid.specs.Grid.{is_on_grid}
+use Rattle.spec_grid.specs.Grid.{is_on_grid, same_tile}
 use Rattle.spec_document.specs.Document.{Document}
 use Rattle.spec_document.specs.Limits.{IsDocument}
 use Rattle.spec_picture.specs.Picture.{project}
-use Rattle.spec_cache.specs.Slots.{Slot, Slots, slot_at, change_slot, fill_slot, shown_as, shown_by, same_tile}
+use Rattle.spec_cache.specs.Slots.{Slot, Slots, slot_at, change_slot, fill_slot, shown_as, shown_by}
 use Rattle.spec_cache.specs.Cache as cache
 use Rattle.spec_cache.specs.Cache.{Place, slots_of, slot_of, change_stack, next_place, with_last}
 use Rattle.spec_cache.proofs.Found.{canvas-found, slot-there}
@@ -117,7 +117,7 @@ tile-exact base w session k place tables n stack at slot found =
     → SlotIsExact base (w.entries ++ entry k place ∷ []) x y (show_slot (project (document_now base w.state) k place) old) in
     subst (λ x. P x at) (sym s) (subst (λ y. P k y) (sym t) (shown-exact base w session k place tables old n)) p)
     (λ old p other.
-    let here : (k == stack && history.same_tile place at) ≡ (stack == k && same_tile at place) =
+    let here : (k == stack && same_tile place at) ≡ (stack == k && same_tile at place) =
     λ i. eq-swap k stack i && (eq-swap place.col at.col i && eq-swap place.row at.row i) in
     slot-stays base w (entry k place) stack at old n refl (ap (λ b. cond b (Some (latest w.state)) None) (here ∙ other)) p)
   where

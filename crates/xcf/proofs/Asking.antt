@@ -14,7 +14,7 @@ use Rattle.spec_tables.specs.Tables.{tables_for, expected_tables}
 use Rattle.xl_core.specs.Editing.{Editing, IsSubmitted}
 use Rattle.xl_standing.specs.History.{Answers}
 use Rattle.xl_core.proofs.Submitted.{submitted_answers}
-use Rattle.xl_edit.specs.Built.{IsBuilt}
+use Rattle.xl_edit.specs.Built.{IsNoPeek}
 use Rattle.xcf.specs.Asked.{IsPlainCall}
 use Rattle.xcf.specs.Plain.{is_plain, unplain_from}
 use Rattle.xcf.proofs.UnderWay.{plain_view, first_plain}
@@ -94,13 +94,13 @@ plain_is_call (machine.tile stack at) plain = tt
 plain_is_call (machine.peek stack at) plain = absurd plain
 plain_is_call machine.top plain = tt
 
-plain_is_built : (call : Call) → IsPlainCall call → IsBuilt call
-plain_is_built (machine.edit guard es) plain = plain.0
-plain_is_built (machine.undo named) plain = tt
-plain_is_built machine.redo plain = tt
-plain_is_built (machine.tile stack at) plain = tt
-plain_is_built (machine.peek stack at) plain = absurd plain
-plain_is_built machine.top plain = tt
+plain_is_no_peek : (call : Call) → IsPlainCall call → IsNoPeek call
+plain_is_no_peek (machine.edit guard es) plain = plain.0
+plain_is_no_peek (machine.undo named) plain = tt
+plain_is_no_peek machine.redo plain = tt
+plain_is_no_peek (machine.tile stack at) plain = tt
+plain_is_no_peek (machine.peek stack at) plain = absurd plain
+plain_is_no_peek machine.top plain = tt
 
 pub call_is_there : (call : Call) → IsPlainCall call → AreThere [] (edits_of call)
 call_is_there (machine.edit guard es) plain = are_there 0 es plain.1
@@ -115,5 +115,5 @@ pub answered : {K : Type 0} (old new : Editing K) (session : ℕ) (call : Call) 
     → IsSubmitted old session call seen (expected_tables [] (asked call []) reply) reply new
     → Answers old.history session call [] reply new.history
 answered old new session call seen reply plain is =
-    submitted_answers old new session call seen [] reply (plain_is_built call plain)
+    submitted_answers old new session call seen [] reply (plain_is_no_peek call plain)
     (subst (λ tables. IsSubmitted old session call seen tables reply new) (expects_none call reply plain) is)

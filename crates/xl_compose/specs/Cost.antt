@@ -28,7 +28,7 @@ visible_of (Some nodes) = visible_in nodes
 abbrev pub visible_below : Document → (stack : ℕ) → ℕ
 visible_below d stack = visible_of (stack_at stack d.nodes)
 
--- the tile's own pixels, fewer than 4096 at the edge of the canvas
+-- the tile's own pixels: 4096, or fewer where the canvas ends within it
 abbrev pub tile_points : Document → TileAt → ℕ
 tile_points d at = (tile_rect d.width d.height at).w * (tile_rect d.width d.height at).h
 

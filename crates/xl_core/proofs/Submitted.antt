@@ -10,7 +10,7 @@ use Rattle.spec_history.specs.Calls.{IsCall, most_entries}
 use Rattle.spec_world.specs.World.{World, entries_owed, free_entries}
 use Rattle.spec_world.specs.Events as events
 use Rattle.spec_world.specs.Events.{Outcome}
-use Rattle.xl_edit.specs.Built.{IsBuilt}
+use Rattle.xl_edit.specs.Built.{IsNoPeek}
 use Rattle.spec_cache.specs.Cache.{install}
 use Rattle.spec_filters.specs.declared.FilterState.{FilterState}
 use Rattle.spec_history.specs.Machine.{Call, Reply, answer}
@@ -52,16 +52,16 @@ right_same one old same is = subst (λ c. worlds.IsRight c.history.base (world c
 -- ---- calls that are no peeks
 
 -- they are calls
-pub built_is : (call : Call) → IsBuilt call → IsCall call
-built_is (machine.edit guard edits) built = built
-built_is (machine.undo named) built = tt
-built_is machine.redo built = tt
-built_is (machine.tile stack at) built = tt
-built_is (machine.peek stack at) built = tt
-built_is machine.top built = tt
+pub no_peek_is_call : (call : Call) → IsNoPeek call → IsCall call
+no_peek_is_call (machine.edit guard edits) built = built
+no_peek_is_call (machine.undo named) built = tt
+no_peek_is_call machine.redo built = tt
+no_peek_is_call (machine.tile stack at) built = tt
+no_peek_is_call (machine.peek stack at) built = tt
+no_peek_is_call machine.top built = tt
 
 -- they are answered as the machine answers them
-machine_reply : (base : Document) (w : World) (call : Call) (seen : ℕ) (tables : List (List ℕ)) → IsBuilt call
+machine_reply : (base : Document) (w : World) (call : Call) (seen : ℕ) (tables : List (List ℕ)) → IsNoPeek call
     → events.reply_to base w call seen tables ≡ (answer base w.state call tables).reply
 machine_reply base w (machine.edit guard edits) seen tables built = refl
 machine_reply base w (machine.undo named) seen tables built = refl
@@ -75,7 +75,7 @@ same_full most n = grind (arith, nat_tests)
 
 -- so the history goes on as the machine does
 pub submitted_answers : {K : Type 0} (old new : Editing K) (session : ℕ) (call : Call) (seen : ℕ) (tables : List (List ℕ))
-    (reply : Reply) → IsBuilt call
+    (reply : Reply) → IsNoPeek call
     → IsSubmitted old session call seen tables reply new → Answers old.history session call tables reply new.history
 submitted_answers old new session call seen tables reply built is =
     subst (λ b. MatchBool b full went)

@@ -38,6 +38,7 @@ fn until_zero_len(text: &[u8]) -> usize
 #[tactic(auto, unfolding(spec_fields::specs::Field::name_at))]
 pub fn string_at(bytes: &[u8], at: usize) -> Result<Span, ReadRefused>
     ensures read { SpanOf bytes.now result (name_at bytes.now at) }
+    ensures start { IfOk result (λ s. s.start ≡ at + 4) }
     ensures after { IfOk result (λ s. (at + 4 ≤ s.next) × (s.next ≤ at + 4101)) }
     ensures inside { IfOk result (λ s. (s.start + s.len ≤ s.next) × (s.next ≤ length bytes.now)) }
 {

@@ -3,7 +3,7 @@ ghost use Rattle.spec_grid.specs.Grid as tiles;
 
 use spec_grid::{Rect, TileAt};
 
-/// The side of a tile. Those in the last column and row are smaller.
+/// The side of a tile. Those in the last column and row may be smaller.
 pub const TILE_SIDE: u32 = 64;
 
 fn tiles_along(side: u32) -> u32
