@@ -146,6 +146,10 @@ NotesOrNot old new = Notes old new ⊎ (new ≡ old)
 abbrev pub shown : MemoryState → Option Content
 shown s = option_map (λ h. h.read) s.here
 
+-- the names that are known are those of before
+abbrev pub KnowsSame : (old new : MemoryState) → Type 0
+KnowsSame old new = (other : List ℕ) → is_known_at new.here new.files other ≡ is_known_at old.here old.files other
+
 -- what is kept under each name stays
 pub record KeepsFiles (old new : MemoryState) : Type 0 where
   pub here : new.here ≡ old.here

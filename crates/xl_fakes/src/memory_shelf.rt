@@ -7,6 +7,7 @@ ghost use Rattle.xl_ports.specs.Shelf.{absent, file, GivesPart};
 ghost use Rattle.xl_ports.specs.Disk.{IsQuiet, SwapsIn, SettlesAt, empty_draft};
 ghost use Rattle.xl_fakes.specs.Fakes.{next_count};
 ghost use Rattle.xl_fakes.specs.Calls.{NextCallFails, IsStopped, IsListed, with_reading, with_saving, no_shelf_calls};
+ghost use Rattle.xl_fakes.specs.Kept.{KnowsSame};
 ghost use Rattle.xl_fakes.specs.Kept.{is_known_at, standing, found, disk_of, contents, content_of, kept_content};
 ghost use Rattle.xl_fakes.specs.Kept.{handed_in, Notes, NotesOrNot, KeepsFiles, EndsReading, EndsSaving, IsSwapped};
 ghost use Rattle.xl_fakes.specs.Kept.{IsSettled, KnowsToo, LeavesBoth, draft_in, shown, known_content};
@@ -29,7 +30,7 @@ pub struct MemoryShelf {
     here: Option<Kept>,
     files: Vec<Kept>,
     draft: Option<Draft>,
-    // An entry for each call.
+    // An entry for each call that found memory for one.
     log: Vec<Option<Settled>>,
     starved: u64,
     loads: u64,
@@ -374,6 +375,7 @@ impl Shelf for MemoryShelf {
         ensures counted { Counted self.old.loads self.new.loads }
         ensures cause { HasCause self.old.calls.reading self.new.calls.reading result }
         ensures ends { EndsReading (shown self.old ≡ Some absent) result self.old self.new }
+        ensures known { KnowsSame self.old self.new }
     {
         self.load_part(at, buf)
     }
@@ -391,6 +393,7 @@ impl Shelf for MemoryShelf {
         ensures loads { self.new.loads ≡ self.old.loads }
         ensures cause { HasCause self.old.calls.saving self.new.calls.saving result }
         ensures ends { EndsSaving result self.old self.new }
+        ensures known { KnowsSame self.old self.new }
     {
         self.open_draft()
     }
@@ -410,6 +413,7 @@ impl Shelf for MemoryShelf {
         ensures loads { self.new.loads ≡ self.old.loads }
         ensures cause { HasCause self.old.calls.saving self.new.calls.saving result }
         ensures ends { EndsSaving result self.old self.new }
+        ensures known { KnowsSame self.old self.new }
     {
         self.add_to_draft(bytes)
     }
@@ -430,6 +434,7 @@ impl Shelf for MemoryShelf {
         ensures loads { self.new.loads ≡ self.old.loads }
         ensures cause { HasCause self.old.calls.saving self.new.calls.saving result }
         ensures ends { EndsSaving result self.old self.new }
+        ensures known { KnowsSame self.old self.new }
     {
         self.sync_draft()
     }
@@ -452,6 +457,7 @@ impl Shelf for MemoryShelf {
             → LeavesBoth self.old self.new }
         ensures starved { OnErr result (NextCallFails self.old.calls ⊎
             (self.new.here ≡ self.old.here)) }
+        ensures known { KnowsSame self.old self.new }
     {
         self.swap_draft()
     }
@@ -469,6 +475,7 @@ impl Shelf for MemoryShelf {
         ensures loads { self.new.loads ≡ self.old.loads }
         ensures cause { HasCause self.old.calls.saving self.new.calls.saving result }
         ensures ends { EndsSaving result self.old self.new }
+        ensures known { KnowsSame self.old self.new }
     {
         self.settle_name()
     }

@@ -73,6 +73,7 @@ impl Sink for MemorySink {
             self.new.starved) }
         ensures step { IfOk result (λ k. k ≤ self.old.step) }
         ensures same_step { self.new.step ≡ self.old.step }
+        ensures listed { NextFails self.old.calls → self.new.starved ≡ self.old.starved }
         ensures not_starved { OnOk result (self.new.starved ≡ self.old.starved) }
         ensures counted { CountsStarved self.old.starved self.new.starved }
         ensures calls { self.new.calls ≡ with_call (is_err result) self.old.calls }

@@ -11,6 +11,7 @@ use Rattle.xl_ports.proofs.Moments.{stays_then, stays_back, one_then}
 use Rattle.xl_save.specs.Save.{SavesOnly, HasSaved}
 use Rattle.xl_save.proofs.AfterCalls.{saves}
 use Rattle.xl_snapshot.specs.Saving.{IsSavedOn, Puts}
+use Rattle.xl_snapshot.proofs.Putting.{done_not_memory, fault_not_memory}
 use Rattle.xl_program.proofs.Earlier.{quiet_left}
 
 -- ---- a save behind a quiet call
@@ -48,6 +49,7 @@ module _ (d : Document) (opening mid after : ShelfState) where
         loads = loads;
         reading = save.reading ∙ reading;
         saving = save.saving ∙ saving;
+        untouched = done_not_memory;
         contents = (
           puts.0,
           puts.1,
@@ -70,6 +72,7 @@ module _ (d : Document) (opening mid after : ShelfState) where
         loads = loads;
         reading = save.reading ∙ reading;
         saving = subst (λ (n : ℕ). Rose n after.saving) saving save.saving;
+        untouched = fault_not_memory;
         contents = (
           puts.0,
           puts.1,

@@ -35,6 +35,7 @@ use Rattle.xl_standing.specs.History.{document as last_document}
 use Rattle.xl_program.specs.Parts.{IsSummedUp, StopsMaking, SumsUp, WritesReplies}
 use Rattle.xl_play.specs.Versions.{AreWithin}
 use Rattle.xl_snapshot.specs.Saving.{IsSavedOn}
+use Rattle.xl_snapshot.proofs.Putting.{done_not_memory}
 use Rattle.xl_play.specs.declared.playing.Replies.{Replies}
 use Rattle.xl_program.specs.declared.stopped.Stopped.{Stopped}
 use Rattle.xl_program.specs.declared.stopped.Stopped.TheVariants.{SourceFault, BadHead, BadLine, ShelfFault, Refused}
@@ -163,6 +164,7 @@ saved_as_now before first now name d same saved = record {
   loads = sym same;
   reading = saved.reading;
   saving = saved.saving;
+  untouched = done_not_memory;
   contents = saved.contents;
 }
 

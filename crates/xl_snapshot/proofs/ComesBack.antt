@@ -74,6 +74,7 @@ comes_back opening handed now base es session index d how legal right is saves =
       loads = saves.loads;
       reading = saves.reading;
       saving = saves.saving;
+      untouched = saves.untouched;
       contents = among legal (start_is base es session index legal)
           (file_name opening) how opening.disk handed.disk now.disk right.contents
           (subst (λ (x : Document). Puts how x (file_name opening) handed.disk now.disk) is puts);

@@ -91,5 +91,6 @@ module _ (base : Document) (es more : List Entry) (legal : IsLegal base es) (sam
     loads = r.loads;
     reading = r.reading;
     saving = r.saving;
+    untouched = r.untouched;
     contents = among_later how (file_name opening) opening.disk handed.disk now.disk r.contents;
   }

@@ -1,9 +1,9 @@
 -- A save of the code is one of the shelf as it is known.
-use Rattle.std.proofs.Common.{◌≡◌, false, true, List, ℕ, [], Some, None}
+use Rattle.std.proofs.Common.{◌≡◌, false, true, List, ℕ, [], Some, None, sym, subst}
 use Rattle.std.specs.Prelude.{Option, IsSome, IfSome, unwrap_or}
 use Rattle.spec_document.specs.Document.{Document}
 use Rattle.spec_layout.specs.Layout.{Written}
-use Rattle.spec_world.specs.declared.SaveEnd.TheVariants.{Done, Fault}
+use Rattle.spec_world.specs.declared.SaveEnd.TheVariants.{Done, Fault, Memory}
 use Rattle.xl_ports.specs.Disk.{Disk, Between}
 use Rattle.xl_ports.specs.Faults.{Rose}
 use Rattle.xl_ports.specs.State.{ShelfState}
@@ -25,6 +25,13 @@ put_fault : (bytes : List ℕ) (s : Option (List ℕ)) (before after : Option Di
 put_fault bytes None before after some only = let bad : false ≡ true = some in cc
 put_fault bytes (Some name) before after some only = only
 
+-- such a save found memory
+pub done_not_memory : {P : Type 0} → Done ≡ Memory → P
+done_not_memory e = let bad : Done ≡ Memory = e in cc
+
+pub fault_not_memory : {P : Type 0} → Fault ≡ Memory → P
+fault_not_memory e = let bad : Fault ≡ Memory = e in cc
+
 pub saved_done : (d : Document) (bytes : List ℕ) (old new : ShelfState) → Written bytes d → IsSome old.selected
     → IfSome old.selected (λ name. Between old.disk new.disk (SavesOnly name bytes))
     → IfSome old.selected (λ name. IfSome new.disk (HasSaved name bytes)) → new.selected ≡ old.selected → new.loads ≡ old.loads
@@ -35,6 +42,7 @@ saved_done d bytes old new wrote some only has selected loads reading saving = r
   loads = loads;
   reading = reading;
   saving = saving;
+  untouched = done_not_memory;
   contents = (bytes, wrote, put_done bytes old.selected old.disk new.disk some only has);
 }
 
@@ -46,5 +54,14 @@ saved_fault d bytes old new wrote some only selected loads reading saving = reco
   loads = loads;
   reading = reading;
   saving = saving;
+  untouched = fault_not_memory;
   contents = (bytes, wrote, put_fault bytes old.selected old.disk new.disk some only);
 }
+
+-- what was saved is a file as it was coded
+pub coded_there : (P : List ℕ → Type 0) (s : Option (List ℕ)) (after : Option Disk) (coded bytes : List ℕ) → P coded → bytes ≡ coded
+    → IfSome s (λ name. IfSome after (HasSaved name bytes))
+    → IfSome s (λ name. IfSome after (λ disk. (file : List ℕ) × P file × HasSaved name file disk))
+coded_there P None after coded bytes is same has = tt
+coded_there P (Some name) None coded bytes is same has = tt
+coded_there P (Some name) (Some disk) coded bytes is same has = (bytes, (subst P (sym same) is, has))

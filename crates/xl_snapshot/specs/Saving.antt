@@ -23,4 +23,5 @@ pub record IsSavedOn (old : ShelfState) (d : Document) (how : SaveEnd) (new : Sh
   pub loads : new.loads ≡ old.loads
   pub reading : new.reading ≡ old.reading
   pub saving : CountEnds how old.saving new.saving
+  pub untouched : how ≡ Memory → new ≡ old
   pub contents : Puts how d (file_name old) old.disk new.disk

@@ -1,7 +1,11 @@
-ghost use Rattle.std.specs.Prelude.{◌≡◌, IfOk, OnOk, OnErr, IsSome};
+ghost use Rattle.std.specs.Prelude.{◌≡◌, ℕ, List, IfOk, OnOk, OnErr, IfSome, IsSome};
 ghost use Rattle.spec_document.specs.Document.{Document as Plain};
-ghost use Rattle.spec_layout.specs.Layout.{Written};
+ghost use Rattle.spec_layout.specs.BytePlanes.{planes_of};
+ghost use Rattle.spec_layout.specs.Layout.{Written, WrittenBy};
 ghost use Rattle.spec_world.specs.declared.SaveEnd.TheVariants as save_end;
+ghost use Rattle.xl_ports.specs.Disk.{Between};
+ghost use Rattle.xl_rle.specs.Follows.{FollowsEach};
+ghost use Rattle.xl_save.specs.Save.{SavesOnly, HasSaved};
 ghost use Rattle.xl_snapshot.specs.Saving.{IsSavedOn};
 
 use std::alloc::{AllocError, Global};
@@ -19,7 +23,10 @@ pub fn file_of<C: PlaneCoder>(
     document: &Document,
     coder: &mut C,
 ) -> Result<Vec<u8>, AllocError>
-    ensures { IfOk result (λ file. Written file.items document.now) }
+    ensures written { IfOk result (λ file. Written file.items document.now) }
+    ensures coded { IfOk result (λ file. WrittenBy C.fits file.items document.now) }
+    ensures followed { OnOk result (FollowsEach C.follows coder.old (planes_of document.now)
+        coder.new) }
 {
     let mut pictures = Recompose::new();
     match encode(alloc, document, coder, &mut pictures) {
@@ -31,6 +38,11 @@ pub fn file_of<C: PlaneCoder>(
 /// Saves the file of a document on a shelf.
 pub fn save_file<D: Shelf>(file: &[u8], shelf: &mut D) -> Result<(), Failed>
     requires { IsSome (D.shelf_state shelf.old).selected }
+    ensures moments { IfSome (D.shelf_state shelf.old).selected
+        (λ name. Between (D.shelf_state shelf.old).disk (D.shelf_state shelf.new).disk
+        (SavesOnly name file.now)) }
+    ensures whole { OnOk result (IfSome (D.shelf_state shelf.old).selected
+        (λ name. IfSome (D.shelf_state shelf.new).disk (HasSaved name file.now))) }
     ensures saved { OnOk result ((d : Plain) → Written file.now d
         → IsSavedOn (D.shelf_state shelf.old) d save_end.Done
         (D.shelf_state shelf.new)) }
@@ -54,6 +66,9 @@ pub fn save_document<D: Shelf, C: PlaneCoder>(
     ensures saved { IsSavedOn (D.shelf_state shelf.old) document.now result
         (D.shelf_state shelf.new) }
     ensures untouched { result ≡ save_end.Memory → shelf.new ≡ shelf.old }
+    ensures coded { result ≡ save_end.Done → IfSome (D.shelf_state shelf.old).selected
+        (λ name. IfSome (D.shelf_state shelf.new).disk (λ disk. (bytes : List ℕ)
+        × WrittenBy C.fits bytes document.now × HasSaved name bytes disk)) }
 {
     let Ok(file) = file_of(alloc, document, coder) else {
         return SaveEnd::Memory;

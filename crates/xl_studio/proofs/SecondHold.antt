@@ -11,7 +11,6 @@ use Rattle.spec_history.specs.Kept.{IsLegal}
 use Rattle.spec_history.proofs.Growing.{replay-append, replay-snoc}
 use Rattle.spec_history.proofs.Versions.{latest_of-legal}
 use Rattle.spec_world.specs.declared.SaveEnd.{SaveEnd}
-use Rattle.spec_world.specs.declared.SaveEnd.TheVariants.{Memory}
 use Rattle.spec_world.specs.Events.{end_reply, IsOutOf}
 use Rattle.spec_saves.specs.Names.{Named, the_old, names, after_one, after_kind, version_out}
 use Rattle.xl_ports.specs.State.{ShelfState}
@@ -237,9 +236,9 @@ module _ {K : Type 0} where
 
   pub is_whole : (see : K → ShelfState) (opening : K) (base : Document) (session : ℕ) (d : Document) (handed shelf : K)
       (how : SaveEnd) (reply : Reply) (old mid new : Known K) → HasStarted see opening base session d handed old mid
-      → IsSavedOn (see handed) d how (see shelf) → (how ≡ Memory → shelf ≡ handed) → HasEnded base session how reply mid new
+      → IsSavedOn (see handed) d how (see shelf) → HasEnded base session how reply mid new
       → IsWhole see opening base session reply old new
-  is_whole see opening base session d handed shelf how reply old mid new s saves untouched e =
+  is_whole see opening base session d handed shelf how reply old mid new s saves e =
       let xs : List (Moment K) = s.out.entered in
       let es : List Entry = entries_in xs in
       let first : Moment K = Made (start_of (history_of base xs) session) (Some handed) in
@@ -258,7 +257,6 @@ module _ {K : Type 0} where
         calls = e.calls;
         right = s.right;
         returns = returns_saved see opening base session d handed shelf how old mid s saves;
-        untouched = untouched;
         reply_is = e.reply_is ∙ (ap (λ (o : Option Saving). end_reply how (version_out o)) out ∙ ap (end_reply how) v);
         front = e.front
             ∙ (ap (λ (o : Option Saving). mid.front ++ e.between ++ m (index_out o) ∷ []) out

@@ -7,7 +7,6 @@ use Rattle.spec_history.specs.Machine as machine
 use Rattle.spec_history.specs.Machine.{Reply}
 use Rattle.spec_history.specs.History.{Entry, ends, next_index, latest_of}
 use Rattle.spec_world.specs.declared.SaveEnd.{SaveEnd}
-use Rattle.spec_world.specs.declared.SaveEnd.TheVariants.{Memory}
 use Rattle.spec_world.specs.Events.{end_reply}
 use Rattle.spec_saves.specs.Shelf.{ShelfIsRight}
 use Rattle.xl_ports.specs.State.{ShelfState}
@@ -37,8 +36,8 @@ pub record FoundNoRoom {K : Type 0} (base : Document) (reply : Reply) (old new :
 --
 -- The shelf came back as `Returns` says: at each moment since it was handed out a crash left one of the `files` of
 -- the history that ends with the start. Where the save is done, a crash leaves its version alone. It ended by a fault
--- only where the count of saving faults rose since it was handed out. Where memory ran out for the file it is the very
--- shelf that was handed out.
+-- only where the count of saving faults rose since it was handed out. Where memory ran out for the file it is as it was
+-- handed out.
 pub record IsWhole {K : Type 0} (see : K
     → ShelfState) (opening : K) (base : Document) (session : ℕ) (reply : Reply) (old new : Known K) : Type 0 where
   pub entered : List (Moment K)
@@ -51,7 +50,6 @@ pub record IsWhole {K : Type 0} (see : K
   pub right : ShelfIsRight (see opening) base (entries_in entered) (see shelf)
   pub returns : Returns (see opening) (see shelf) base (entries_in entered
       ++ start_of (history_of base entered) session ∷ []) how (see back)
-  pub untouched : how ≡ Memory → back ≡ shelf
   pub reply_is : reply ≡ end_reply how (latest_of (entries_in entered))
   pub front : new.front ≡ entered ++ Made (start_of (history_of base entered) session) (Some shelf) ∷ [] ++ between
       ++ Made (end_behind (entries_in entered) session reply) None ∷ []

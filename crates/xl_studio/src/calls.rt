@@ -247,7 +247,7 @@ impl<D: Shelf> Studio<D> {
 
     /// The tile of a stack at the latest version, which is in the desk after `Tile`. Where the tile was kept at the latest version
     /// before the call's own entry, it takes no step, nor with any other reply than `Tile`, nor after out of memory. Else the tile is
-    /// composed once: that takes at most one step for each pixel of the tile and each visible node below the stack.
+    /// composed at most once: that takes at most one step for each pixel of the tile and each visible node below the stack.
     pub fn tile<W: Wait, L: Ledger>(
         &self,
         rt: &W,

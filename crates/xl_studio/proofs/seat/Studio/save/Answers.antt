@@ -20,6 +20,5 @@ returns-in-Snapshot-clause-saved g c =
           (opening_shelf c.args.self.now) (base_of c.args.self.now) c.args.session s.document s.shelf
           c.save_document-how.new.shelf c.save_document-how.result (reply_of c.end.result) (known_by c.args.seat.now)
           (known_by c.begin_when_in.new.seat) (known_by c.end.new.seat)
-          (rw s.is at c.in_ok-document.ensures.begun) c.save_document-how.ensures.saved c.save_document-how.ensures.untouched
-          c.end.ensures.ended);
+          (rw s.is at c.in_ok-document.ensures.begun) c.save_document-how.ensures.saved c.end.ensures.ended);
     }
