@@ -1,5 +1,5 @@
 -- Which names a shelf in memory knows after a call.
-use Rattle.std.proofs.Common.{◌≡◌, inl, inr, ◌∙◌, ℕ, Bool, true, List, Option, Some, None, refl, sym, ap}
+use Rattle.std.proofs.Common.{◌≡◌, inl, inr, ◌∙◌, ℕ, Bool, true, false, List, Option, Some, None, refl, sym, ap}
 use Rattle.std.specs.Prelude.{bytes_eq, if◌then◌else◌, IfSome, IsSome, option_map, Result, Ok, Err}
 use Rattle.xl_fakes.specs.Kept.{Standing, MemoryState, is_known, is_known_at, draft_in, KnowsSame, KeepsFiles, IsSwapped, IsSettled}
 
@@ -37,7 +37,7 @@ swap_names result a b some is files = names_stay a b (by_here a.here refl some i
 
     by_here : (here : Option Standing) → a.here ≡ here → IsSome here
         → IfSome here (λ h. IsSwapped result h (draft_in a.draft) b.here) → name_of b.here ≡ name_of a.here
-    by_here None old some new = absurd some
+    by_here None old some new = let bad : false ≡ true = some in cc
     by_here (Some h) old some new = of_result result h new ∙ sym (ap name_of old)
 
 -- after the name was to be settled
@@ -52,5 +52,5 @@ settle_names result a b some is files = names_stay a b (by_here a.here refl some
 
     by_here : (here : Option Standing) → a.here ≡ here → IsSome here
         → IfSome here (λ h. IsSettled result h a.log b.here b.log) → name_of b.here ≡ name_of a.here
-    by_here None old some new = absurd some
+    by_here None old some new = let bad : false ≡ true = some in cc
     by_here (Some h) old some new = of_result result h new ∙ sym (ap name_of old)
