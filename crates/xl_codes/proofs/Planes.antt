@@ -1,11 +1,12 @@
 -- Planes whose spellings stand one after another.
-use Rattle.std.proofs.Common.{◌≡◌, ◌≢◌, ℕ, suc, ◌+◌, ◌-◌, ◌<◌, ◌≤◌, List, [], ◌∷◌, ◌++◌, length, take, drop, refl, sym, ap, ◌∙◌}
+use Rattle.std.proofs.Common.{◌≡◌, ℕ, suc, ◌+◌, ◌-◌, ◌<◌, ◌≤◌, List, [], ◌∷◌, ◌++◌, length, take, drop, refl, sym, ap, ◌∙◌}
 use Rattle.std.proofs.Common.{subst, arith}
-use Rattle.std.specs.Prelude.{Option, Some, None, Ok, Err, IfSome}
+use Rattle.std.specs.Prelude.{Ok, Err}
 use Rattle.std.specs.List.{AllByRecursion}
 use Rattle.std.proofs.Math.Seq.{take-add}
 use Rattle.std.proofs.lemmas.List.{drop-drop}
 use Rattle.spec_fields.specs.Reading.{Read, ◌>>=◌}
+use Rattle.spec_fields.proofs.Steps.{onward}
 use Rattle.spec_rle.specs.Reading.{Part, plane_at}
 use Rattle.spec_rle.proofs.SpelledBack.{spelled_has}
 use Rattle.spec_hierarchy.specs.Reading.{planes_at}
@@ -26,8 +27,8 @@ planes_more : (file : List ℕ) (at n k : ℕ) (part : Part) (list : List (List 
     → planes_at k file part.next n ≡ Ok list → planes_at (suc k) file at n ≡ Ok (part.pixels ∷ list)
 unfolding planes_at
 planes_more file at n k part list one rest =
-    ap (λ (r : Read Part). r >>= (λ p. planes_at k file p.next n >>= (λ l. Ok (p.pixels ∷ l)))) one
-    ∙ ap (λ (r : Read (List (List ℕ))). r >>= (λ l. Ok (part.pixels ∷ l))) rest
+    onward (plane_at file at n) part (λ p. planes_at k file p.next n >>= (λ l. Ok (p.pixels ∷ l))) one
+    ∙ onward (planes_at k file part.next n) list (λ l. Ok (part.pixels ∷ l)) rest
 
 pub no_planes : (file : List ℕ) (at n : ℕ) → at ≤ length file → StandTo file at n 0 at
 unfolding planes_at
@@ -85,10 +86,9 @@ one_more file at n k next end all some e short rest =
     }
 
 -- one plane before those that stand
-pub stand_more : (file : List ℕ) (at n planes next : ℕ) (result : Option ℕ) → AllByRecursion (λ b. b < 256) file → 1 ≤ n
-    → planes ≢ 0 → next_of (plane_at file at n) ≡ Ok next → next ≤ at + n + 64
-    → IfSome result (λ end. StandTo file next n (planes - 1) end) → IfSome result (λ end. StandTo file at n planes end)
-stand_more file at n planes next None all some more e short stands = tt
-stand_more file at n planes next (Some end) all some more e short stands =
-    let count : suc (planes - 1) ≡ planes = omega (arith, more) in
-    subst (λ k. StandTo file at n k end) count (one_more file at n (planes - 1) next end all some e short stands)
+pub one_before : (file : List ℕ) (at n planes c next end : ℕ) → AllByRecursion (λ b. b < 256) file → 1 ≤ n → c < planes
+    → next_of (plane_at file at n) ≡ Ok next → next ≤ at + n + 64 → StandTo file next n (planes - (c + 1)) end
+    → StandTo file at n (planes - c) end
+one_before file at n planes c next end all some less e short stands =
+    let count : suc (planes - (c + 1)) ≡ planes - c = omega (arith, less) in
+    subst (λ k. StandTo file at n k end) count (one_more file at n (planes - (c + 1)) next end all some e short stands)

@@ -10,8 +10,8 @@ use xl_rle::check_plane;
 /// How many bytes more than the plane a spelling has at most that is kept.
 const MORE: usize = 64;
 
-// Tells contracts that bytes are numbers below 256.
-fn know_bytes(bytes: &[u8])
+/// Tells contracts that bytes are numbers below 256.
+pub fn know_bytes(bytes: &[u8])
     ensures { AreBytes bytes.now }
 {
     let _len = bytes.len();
@@ -25,16 +25,17 @@ fn end_of_codes(bytes: &[u8], at: usize, n: usize, planes: usize) -> Option<usiz
     ensures { IfSome result (λ end. StandTo bytes.now at n planes end) }
 {
     know_bytes(bytes);
-    if planes == 0 {
-        return Some(at);
+    let mut end = at;
+    for _c in 0..planes {
+        let Ok(next) = check_plane(bytes, end, n) else {
+            return None;
+        };
+        if next.saturating_sub(end) > n + MORE {
+            return None;
+        }
+        end = next;
     }
-    let Ok(next) = check_plane(bytes, at, n) else {
-        return None;
-    };
-    if next.saturating_sub(at) > n + MORE {
-        return None;
-    }
-    end_of_codes(bytes, next, n, planes - 1)
+    Some(end)
 }
 
 /// The codes of so many planes of n bytes, which stand one after another from an offset on.

@@ -8,4 +8,4 @@ mod tiling;
 pub use covering::tiles_of;
 pub use rects::{hull, is_empty, meet};
 pub use spec_grid::{MAX_SIDE, Rect, TileAt};
-pub use tiling::{TILE_SIDE, grid, tile_rect};
+pub use tiling::{TILE_SIDE, grid, tile_rect, tiles_along};

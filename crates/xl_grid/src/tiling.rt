@@ -6,10 +6,11 @@ use spec_grid::{Rect, TileAt};
 /// The side of a tile. Those in the last column and row may be smaller.
 pub const TILE_SIDE: u32 = 64;
 
-fn tiles_along(side: u32) -> u32
+/// How many tiles lie along a side.
+pub fn tiles_along(side: usize) -> usize
     ensures { result ≡ tiles.tiles_along side }
 {
-    side.div_ceil(TILE_SIDE)
+    side.div_ceil(TILE_SIDE as usize)
 }
 
 /// The columns and rows of tiles of a sheet of these sides.
@@ -17,7 +18,9 @@ pub fn grid(w: u32, h: u32) -> (u32, u32)
     ensures columns { result.0 ≡ tiles.tiles_along w }
     ensures rows { result.1 ≡ tiles.tiles_along h }
 {
-    (tiles_along(w), tiles_along(h))
+    let columns = tiles_along(w as usize);
+    let rows = tiles_along(h as usize);
+    (columns as u32, rows as u32)
 }
 
 /// The rectangle of a tile of a sheet of these sides.
