@@ -1,7 +1,7 @@
 -- What the entry of a word adds to what is known at a place of a walk.
-use Rattle.std.proofs.Common.{◌≡◌, ℕ, zero, suc, ◌+◌, ◌<◌, ◌≤◌, Bool, true, false, cond, List, [], ◌∷◌, ◌++◌, length, refl, sym, ◌∙◌}
+use Rattle.std.proofs.Common.{◌≡◌, ℕ, ◌+◌, ◌<◌, Bool, true, false, cond, List, [], ◌∷◌, ◌++◌, length, refl, sym, ◌∙◌}
 use Rattle.std.proofs.Common.{ap, subst, arith, inl, inr, eq-eqb}
-use Rattle.std.specs.Prelude.{◌==◌, ◌⊎◌, Option, Some, None, Result, Ok, Err, slice_get, slice_index, slice_set, unwrap_or, IfSome}
+use Rattle.std.specs.Prelude.{◌==◌, ◌⊎◌, Option, Some, None, Result, Ok, Err, slice_index, slice_set}
 use Rattle.std.proofs.lemmas.Bool.Decides.{eqb_tells}
 use Rattle.std.proofs.lemmas.List.{get_or-set_same, get_or-set_other}
 use Rattle.spec_grid.specs.declared.TileAt.{TileAt}
@@ -10,8 +10,8 @@ use Rattle.spec_edit.specs.Edit.{Edit}
 use Rattle.spec_edit.specs.Apply.{At, Refused, apply_group}
 use Rattle.spec_filters.specs.declared.FilterState.{FilterState}
 use Rattle.spec_history.specs.Machine as machine
-use Rattle.spec_history.specs.Machine.{Call, Reply, State, Saving, latest, document_at, names, stays, made, undo_answer, redo_answer, answer}
-use Rattle.spec_history.specs.History.{Entry, Kind, asked, starts, ends, next_index, replay, is_changed, latest_of, mine, Run, MayEnd, EndsWith, PeekAnswers}
+use Rattle.spec_history.specs.Machine.{Call, Reply, State, Saving, latest, document_at, names, stays, made, answer}
+use Rattle.spec_history.specs.History.{Entry, Kind, asked, starts, ends, next_index, replay, is_changed, latest_of, mine, MayEnd, EndsWith, PeekAnswers}
 use Rattle.spec_history.specs.Kept.{IsFreshReply, IsLegal, MeetsKept, kept}
 use Rattle.spec_history.proofs.Growing.{latest_of-cons}
 use Rattle.spec_history.proofs.Versions.{latest_of-legal}
@@ -20,11 +20,10 @@ use Rattle.spec_script.specs.Script.{Line}
 use Rattle.spec_tables.specs.Acceptance.{refused_in}
 use Rattle.spec_tables.specs.Tables.{edits_made, expected_tables, tables_for, filters_after, filters_along}
 use Rattle.spec_tables.proofs.Accepted.{same_refused}
-use Rattle.spec_tables.proofs.Made.{tables_made}
 use Rattle.spec_text.specs.declared.OrderWord.{OrderWord}
 use Rattle.spec_text.specs.Text.{shown_digest}
 use Rattle.spec_audit.specs.Output.{Output}
-use Rattle.spec_audit.specs.Walk.{Start, seen_from, seen_by, call_at, printed_at, kind_of, reply_of, entry_at, IsAllowed, Passes}
+use Rattle.spec_audit.specs.Walk.{Start, seen_by, call_at, printed_at, kind_of, reply_of, entry_at, IsAllowed}
 use Rattle.spec_audit.specs.Deciding.{IsPlainCall}
 use Rattle.spec_audit.proofs.Along.{now_after, seen_append, now_append, filters_snoc}
 use Rattle.spec_audit.proofs.Links.{filters_at}

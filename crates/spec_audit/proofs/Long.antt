@@ -1,6 +1,6 @@
 -- How long an order is, and how many entries stand at a place of a walk along it.
 use Rattle.std.proofs.Common.{◌≡◌, ℕ, zero, suc, ◌+◌, ◌*◌, ◌<◌, ◌≤◌, Bool, true, false, cond, List, [], ◌∷◌, ◌++◌, length, refl, sym, ◌∙◌}
-use Rattle.std.proofs.Common.{ap, subst, arith, map, filter, take, drop, get_or, inl, inr, eq-eqb}
+use Rattle.std.proofs.Common.{ap, arith, map, drop, get_or, inl, inr}
 use Rattle.std.specs.Prelude.{◌==◌, ◌&&◌, ◌^◌, not, Option, Some, None}
 use Rattle.std.specs.List.{AllByRecursion, cons_option}
 use Rattle.spec_grid.specs.Rect.{count_from}
@@ -11,7 +11,7 @@ use Rattle.spec_history.specs.Machine.{State, Saving, initial}
 use Rattle.spec_history.specs.History.{Entry, Kind, asked, starts, ends, is_end_kind, MayBe, MayEnd, after_kind, after_entry, replay, replay_from, RunFrom}
 use Rattle.spec_history.proofs.Growing.{out-answer}
 use Rattle.spec_script.specs.Fits.{FitsFilters, count_calls}
-use Rattle.spec_script.specs.Script.{Line, list_at, is_call}
+use Rattle.spec_script.specs.Script.{Line, list_at}
 use Rattle.spec_text.specs.declared.OrderWord.{OrderWord}
 use Rattle.spec_text.specs.Printed.{word_of_entry}
 use Rattle.spec_text.specs.Text.{calls_along, calls_of, made_by}
