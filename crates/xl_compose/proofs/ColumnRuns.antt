@@ -81,22 +81,8 @@ more_columns mode skip from done wide top y rows w h of old mid new neat before 
     (place_by top y rows v) of (neat v k hv hk)
     (before v k hv hk) (here v k hv hk) (either_side k (skip + done))
 
--- the same, where the columns and the rows that were laid have other names
-pub more_columns_at : (mode : Mode) (skip from done wide top y rows w h left x n yy high : ℕ) (of : ℕ → ℕ
-    → Pixel) (old mid new : List Pixel) → AreNeat w h old
-    → left ≡ skip + done → x ≡ from + done → n ≡ wide → yy ≡ y → high ≡ rows
-    → AreLaidTo mode skip from done top y rows w h of old mid
-    → AreLaidTo mode left x n top yy high w h of mid new
-    → AreLaidTo mode skip from (done + wide) top y rows w h of old new
-more_columns_at mode skip from done wide top y rows w h left x n yy high of old mid new neat left_is x_is n_is y_is high_is before
-    here =
-    more_columns mode skip from done wide top y rows w h of old mid new neat before (λ v k hv hk.
-    here v k hv hk ∙ (λ i. over mode (pixel mid (v * w + k))
-    (at_place (place_by (left_is i) (x_is i) (n_is i) k) (place_by top (y_is i) (high_is i) v) of)))
-
-pub column_cost : (old mid new h done wide ph pw : ℕ) → mid ≡ old + h * done → new ≡ mid + ph * pw → ph ≡ h → pw ≡ wide
-    → new ≡ old + h * (done + wide)
-column_cost old mid new h done wide ph pw before here high is =
-    let part : ph * pw ≡ h * wide = (λ i. high i * is i) in
+-- the steps of some columns more
+pub column_cost : (old mid new h done wide : ℕ) → mid ≡ old + h * done → new ≡ mid + h * wide → new ≡ old + h * (done + wide)
+column_cost old mid new h done wide before here =
     let all : h * (done + wide) ≡ h * done + h * wide = omega arith in
-    omega (arith, before, here, part, all)
+    omega (arith, before, here, all)

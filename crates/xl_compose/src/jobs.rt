@@ -9,7 +9,7 @@ ghost use Rattle.xl_compose.specs.Pieces.{weights};
 
 use crate::adding::add_stack;
 use crate::clean::CleanTiles;
-use crate::pieces::Piece;
+use crate::pieces::Pile;
 use crate::planned::Job;
 use crate::span::Band;
 use std::alloc::{AllocError, Global};
@@ -33,27 +33,27 @@ fn band_of(doc: &Document, at: TileAt) -> Band
     }
 }
 
-// The pieces of a stack, and how many levels they have.
+// The pieces of a stack.
 fn pieces_of<K: CleanTiles>(
     alloc: Global,
     doc: &Document,
     node: NodeId,
     at: TileAt,
     clean: &K,
-) -> Result<(Vec<Piece>, u32), AllocError>
+) -> Result<Pile, AllocError>
     requires stack { IsSome (stack_at node.0 doc.now.nodes) }
     requires clean { AreClean (K.clean_tile clean.now) doc.now at }
-    ensures some { IfOk result (λ made. 1 ≤ made.1) }
-    ensures few { IfOk result (λ made. made.1 ≤ 10) }
-    ensures made { IfOk result (λ made. AreFor made.1 doc.now node.0 at made.0.items) }
-    ensures cost { IfOk result (λ made. weights made.0.items
+    ensures some { IfOk result (λ pile. 1 ≤ pile.levels) }
+    ensures few { IfOk result (λ pile. pile.levels ≤ 10) }
+    ensures made { IfOk result (λ pile. AreFor pile.levels doc.now node.0 at pile.pieces.items) }
+    ensures cost { IfOk result (λ pile. weights pile.pieces.items
         ≡ laid_below (λ id. K.clean_tile clean.now id at) doc.now node.0) }
 {
     let nodes = doc.tree.stack(node).unwrap();
-    let deep = nodes.levels() + 2;
+    let levels = nodes.levels() + 2;
     let mut pieces = Vec::new(alloc);
     add_stack(alloc, nodes, 0, at, clean, &mut pieces)?;
-    Ok((pieces, deep))
+    Ok(Pile { pieces, levels })
 }
 
 /// A job for a tile of a stack of a document. Where `clean` has the picture of a group below the stack, it is taken as it is: the
@@ -74,7 +74,7 @@ pub fn job<K: CleanTiles>(
         ≡ laid_below (λ id. K.clean_tile clean.now id at) doc.now node.0 * tile_points doc.now at) }
 {
     let band = band_of(doc, at);
-    let (pieces, deep) = pieces_of(alloc, doc, node, at, clean)?;
+    let pile = pieces_of(alloc, doc, node, at, clean)?;
     let colours = doc.colours.share(alloc)?;
-    Job::new(alloc, node, at, version, colours, band, pieces, deep)
+    Job::new(alloc, node, at, version, colours, band, pile)
 }

@@ -12,7 +12,7 @@ ghost use Rattle.xl_tiles.specs.declared.tile.TheConstants.{SCRATCH};
 use crate::lay::lay_part;
 use crate::own::own_row;
 use crate::pieces::{Piece, What};
-use crate::source::lay_layer;
+use crate::source::{LaidLayer, lay_layer};
 use crate::span::Band;
 use crate::stacks::clear_row;
 use std::sync::ledger::Ledger;
@@ -83,10 +83,14 @@ fn lay_piece<L: Ledger>(
             opacity,
             layer,
         } => {
+            let laid = LaidLayer {
+                mode: *mode,
+                colours,
+                opacity: *opacity,
+                layer,
+            };
             let picture = &mut scratch[at..at + n];
-            lay_layer(
-                *mode, colours, *opacity, layer, band, picture, source, bytes, steps,
-            );
+            lay_layer(laid, band, picture, source, bytes, steps);
         }
         What::Clean { picture } => kept_row(picture.bytes(), &mut scratch[at..at + n]),
         What::Stack { mode, opacity } => lay_next(*mode, *opacity, at, n, scratch, source, steps),

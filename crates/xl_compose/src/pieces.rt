@@ -11,6 +11,13 @@ pub struct Piece {
     pub what: What,
 }
 
+/// The pieces of a stack, in the order in which they are laid, and for how many levels there is to be room.
+#[derive(Drop)]
+pub struct Pile {
+    pub pieces: Vec<Piece>,
+    pub levels: u32,
+}
+
 /// What becomes of the picture of a level.
 #[derive(Drop)]
 pub enum What {

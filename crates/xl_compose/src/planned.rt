@@ -7,7 +7,7 @@ ghost use Rattle.xl_compose.specs.Pieces.{AllFit};
 
 use crate::clean::Done;
 use crate::laying::lay_pieces;
-use crate::pieces::Piece;
+use crate::pieces::{Piece, Pile};
 use crate::span::Band;
 use crate::stacks::CLEAR;
 use crate::tile::Picture;
@@ -63,7 +63,7 @@ fn byte_room(alloc: Global, width: u32) -> Result<Vec<u8>, AllocError>
 }
 
 impl Job {
-    /// A job of pieces on so many levels.
+    /// A job of a pile of pieces.
     pub(crate) fn new(
         alloc: Global,
         node: NodeId,
@@ -71,17 +71,18 @@ impl Job {
         version: u32,
         colours: ColourMap,
         band: Band,
-        pieces: Vec<Piece>,
-        deep: u32,
+        pile: Pile,
     ) -> Result<Job, AllocError>
         requires tile { IsTile band }
-        requires some { 1 ≤ deep }
-        requires deep { deep ≤ 10 }
-        requires fit { AllFit deep band pieces.items }
-        ensures { IfOk result (λ job. job ≡ planned node.0 at version colours band pieces.items) }
+        requires some { 1 ≤ pile.levels }
+        requires deep { pile.levels ≤ 10 }
+        requires fit { AllFit pile.levels band pile.pieces.items }
+        ensures { IfOk result
+            (λ job. job ≡ planned node.0 at version colours band pile.pieces.items) }
     {
+        let Pile { pieces, levels } = pile;
         let points = band.h as usize * band.w as usize;
-        let scratch = clear_scratch(alloc, deep, points)?;
+        let scratch = clear_scratch(alloc, levels, points)?;
         let source = clear_scratch(alloc, 1, points)?;
         let bytes = byte_room(alloc, band.w)?;
         let out = Picture::blank(alloc)?;

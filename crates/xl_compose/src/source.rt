@@ -14,12 +14,31 @@ ghost use Rattle.spec_grid.specs.declared.TheConstants.{MAX_SIDE};
 
 use crate::lay::lay_part;
 use crate::own::own_row;
-use crate::span::{Band, Span, overlap};
+use crate::span::{Band, Meeting, Span, overlap};
 use spec_grid::MAX_SIDE;
 use std::sync::ledger::Ledger;
 use xl_blend::{Mode, Pixel, Steps, fade_row, fade_row_by};
 use xl_doc::{Layer, Rect};
 use xl_tiles::SCRATCH;
+
+/// A layer as it is laid: how, in which colours of the image, and with how much opacity.
+#[derive(Clone, Copy)]
+pub struct LaidLayer<'a> {
+    pub mode: Mode,
+    pub colours: &'a [[u8; 3]],
+    pub opacity: u8,
+    pub layer: &'a Layer,
+}
+
+// A part of a layer, unpacked: its bytes, those of its mask, and the column and the row of a band where it begins.
+#[derive(Clone, Copy)]
+struct Patch<'a> {
+    part: Rect,
+    bytes: &'a [u8],
+    masks: &'a [u8],
+    left: u32,
+    top: u32,
+}
 
 // Fades a row by the mask, where there is one and it is applied. The bytes are those of a part of the mask.
 fn mask_row(layer: &Layer, part: Rect, masks: &[u8], y: u32, row: &mut [Pixel])
@@ -39,31 +58,36 @@ fn mask_row(layer: &Layer, part: Rect, masks: &[u8], y: u32, row: &mut [Pixel])
     }
 }
 
-// The pixels of a row of a part of a layer, whose bytes and those of its mask are given.
-fn source_row(
-    colours: &[[u8; 3]],
-    opacity: u8,
-    layer: &Layer,
-    part: Rect,
-    bytes: &[u8],
-    masks: &[u8],
-    y: u32,
-    row: &mut [Pixel],
-)
-    requires within { IsWithin layer.now.plane.width layer.now.plane.height part }
-    requires bytes { bytes.now ≡ bytes_in layer.now.plane part }
-    requires masks { AreMasks layer.now.mask layer.now.apply_mask part masks.now }
-    requires row { y < part.h }
-    requires wide { length row.old ≡ part.w }
+// The pixels of a row of a patch.
+fn source_row(laid: LaidLayer<'_>, patch: Patch<'_>, y: u32, row: &mut [Pixel])
+    requires within { IsWithin laid.layer.now.plane.width laid.layer.now.plane.height patch.part }
+    requires bytes { patch.bytes.now ≡ bytes_in laid.layer.now.plane patch.part }
+    requires masks { AreMasks laid.layer.now.mask laid.layer.now.apply_mask patch.part
+        patch.masks.now }
+    requires row { y < patch.part.h }
+    requires wide { length row.old ≡ patch.part.w }
     ensures length { length row.new ≡ length row.old }
-    ensures each { (k : ℕ) → k < length row.old → pixel row.new k ≡ sheet_pixel colours.now opacity
-        layer.now (part_above_0 part.x + k) (part_above_0 part.y + y) }
+    ensures each { (k : ℕ) → k < length row.old → pixel row.new k ≡ sheet_pixel
+        laid.entry.colours.now laid.entry.opacity laid.entry.layer.now
+        (part_above_0 patch.entry.part.x + k) (part_above_0 patch.entry.part.y + y) }
 {
-    own_row(layer.kind, colours, layer.plane.row_in(part, bytes, y), row);
+    let LaidLayer {
+        colours,
+        opacity,
+        layer,
+        ..
+    } = laid;
+    let part = patch.part;
+    own_row(
+        layer.kind,
+        colours,
+        layer.plane.row_in(part, patch.bytes, y),
+        row,
+    );
     if opacity < 255 {
         fade_row(row, opacity);
     }
-    mask_row(layer, part, masks, y, row);
+    mask_row(layer, part, patch.masks, y, row);
 }
 
 // Reads a part of a layer's mask, where there is one and it is applied.
@@ -81,65 +105,61 @@ fn read_mask(layer: &Layer, part: Rect, masks: &mut [u8], tile: &mut [u8])
     }
 }
 
-// Lays the rows of a part of a layer, whose bytes are given, over a band, from a column and a row of the band on.
+// Lays a patch over a band, row by row.
 fn lay_rows<L: Ledger>(
-    mode: Mode,
-    colours: &[[u8; 3]],
-    opacity: u8,
-    layer: &Layer,
-    part: Rect,
-    bytes: &[u8],
-    masks: &[u8],
-    left: u32,
-    top: u32,
+    laid: LaidLayer<'_>,
+    patch: Patch<'_>,
     band: Band,
     picture: &mut [Pixel],
     source: &mut [Pixel],
     steps: &mut Steps<L>,
 )
-    requires within { IsWithin layer.now.plane.width layer.now.plane.height part }
-    requires bytes { bytes.now ≡ bytes_in layer.now.plane part }
-    requires masks { AreMasks layer.now.mask layer.now.apply_mask part masks.now }
-    requires across { left + part.w ≤ band.w }
-    requires down { top + part.h ≤ band.h }
+    requires within { IsWithin laid.layer.now.plane.width laid.layer.now.plane.height patch.part }
+    requires bytes { patch.bytes.now ≡ bytes_in laid.layer.now.plane patch.part }
+    requires masks { AreMasks laid.layer.now.mask laid.layer.now.apply_mask patch.part
+        patch.masks.now }
+    requires across { patch.left + patch.part.w ≤ band.w }
+    requires down { patch.top + patch.part.h ≤ band.h }
     requires wide { band.w ≤ MAX_SIDE }
     requires high { band.h ≤ 64 }
     requires picture { length picture.old ≡ band.h * band.w }
-    requires source { part.w ≤ length source.old }
+    requires source { patch.part.w ≤ length source.old }
     requires neat { (v k : ℕ) → v < band.h → k < band.w
         → IsNeat (pixel picture.old (v * band.w + k)) }
     ensures length { length picture.new ≡ length picture.old }
     ensures each { (v k : ℕ) → v < band.h → k < band.w → pixel picture.new (v * band.w + k)
-        ≡ over mode (pixel picture.old (v * band.w + k))
-        (at_place (place_by left (part_above_0 part.x) part.w k)
-        (place_by top (part_above_0 part.y) part.h v) (sheet_pixel colours.now opacity layer.now)) }
-    ensures cost { steps.new ≡ steps.old + part.h * part.w }
+        ≡ over laid.entry.mode (pixel picture.old (v * band.w + k))
+        (at_place (place_by patch.entry.left (part_above_0 patch.entry.part.x) patch.entry.part.w k)
+        (place_by patch.entry.top (part_above_0 patch.entry.part.y) patch.entry.part.h v)
+        (sheet_pixel laid.entry.colours.now laid.entry.opacity laid.entry.layer.now)) }
+    ensures cost { steps.new ≡ steps.old + patch.entry.part.h * patch.entry.part.w }
 {
-    let row = &mut source[..part.w as usize];
-    for r in 0..part.h {
-        source_row(colours, opacity, layer, part, bytes, masks, r, row);
-        let at = (top + r) as usize * band.w as usize + left as usize;
+    let mode = laid.mode;
+    let row = &mut source[..patch.part.w as usize];
+    for r in 0..patch.part.h {
+        source_row(laid, patch, r, row);
+        let at = (patch.top + r) as usize * band.w as usize + patch.left as usize;
         lay_part(mode, picture, at, row, steps);
     }
 }
 
 // The common part of a band and a layer, in the layer's own coordinates.
-fn common(layer: &Layer, across: Span, down: Span) -> Rect
-    requires columns { across.from + across.count ≤ layer.now.plane.width }
-    requires rows { down.from + down.count ≤ layer.now.plane.height }
+fn common(layer: &Layer, meeting: Meeting) -> Rect
+    requires columns { meeting.across.from + meeting.across.count ≤ layer.now.plane.width }
+    requires rows { meeting.down.from + meeting.down.count ≤ layer.now.plane.height }
     ensures within { IsWithin layer.now.plane.width layer.now.plane.height result }
-    ensures x { part_above_0 result.x ≡ across.from }
-    ensures y { part_above_0 result.y ≡ down.from }
-    ensures w { result.w ≡ across.count }
-    ensures h { result.h ≡ down.count }
+    ensures x { part_above_0 result.x ≡ meeting.across.from }
+    ensures y { part_above_0 result.y ≡ meeting.down.from }
+    ensures w { result.w ≡ meeting.across.count }
+    ensures h { result.h ≡ meeting.down.count }
 {
     prove!(layer.plane.width() <= MAX_SIDE);
     prove!(layer.plane.height() <= MAX_SIDE);
     Rect {
-        x: across.from as i32,
-        y: down.from as i32,
-        w: across.count,
-        h: down.count,
+        x: meeting.across.from as i32,
+        y: meeting.down.from as i32,
+        w: meeting.across.count,
+        h: meeting.down.count,
     }
 }
 
@@ -157,24 +177,20 @@ fn size_of(layer: &Layer, part: Rect, band: Band) -> (usize, usize)
     (pixels, pixels * layer.plane.bpp() as usize)
 }
 
-// Lays a part of a layer over a band, from a column and a row of the band on.
+// Lays the common columns and rows of a layer and a band, which are unpacked all at once.
 fn lay_rect<L: Ledger>(
-    mode: Mode,
-    colours: &[[u8; 3]],
-    opacity: u8,
-    layer: &Layer,
-    part: Rect,
-    left: u32,
-    top: u32,
+    laid: LaidLayer<'_>,
+    meeting: Meeting,
     band: Band,
     picture: &mut [Pixel],
     source: &mut [Pixel],
     bytes: &mut [u8],
     steps: &mut Steps<L>,
 )
-    requires within { IsWithin layer.now.plane.width layer.now.plane.height part }
-    requires across { left + part.w ≤ band.w }
-    requires down { top + part.h ≤ band.h }
+    requires columns { meeting.across.from + meeting.across.count ≤ laid.layer.now.plane.width }
+    requires rows { meeting.down.from + meeting.down.count ≤ laid.layer.now.plane.height }
+    requires across { meeting.across.skip + meeting.across.count ≤ band.w }
+    requires down { meeting.down.skip + meeting.down.count ≤ band.h }
     requires wide { band.w ≤ MAX_SIDE }
     requires high { band.h ≤ 64 }
     requires picture { length picture.old ≡ band.h * band.w }
@@ -184,20 +200,28 @@ fn lay_rect<L: Ledger>(
         → IsNeat (pixel picture.old (v * band.w + k)) }
     ensures length { length picture.new ≡ length picture.old }
     ensures each { (v k : ℕ) → v < band.h → k < band.w → pixel picture.new (v * band.w + k)
-        ≡ over mode (pixel picture.old (v * band.w + k))
-        (at_place (place_by left (part_above_0 part.x) part.w k)
-        (place_by top (part_above_0 part.y) part.h v) (sheet_pixel colours.now opacity layer.now)) }
-    ensures cost { steps.new ≡ steps.old + part.h * part.w }
+        ≡ over laid.entry.mode (pixel picture.old (v * band.w + k))
+        (at_place (place_by meeting.across.skip meeting.across.from meeting.across.count k)
+        (place_by meeting.down.skip meeting.down.from meeting.down.count v)
+        (sheet_pixel laid.entry.colours.now laid.entry.opacity laid.entry.layer.now)) }
+    ensures cost { steps.new ≡ steps.old + meeting.down.count * meeting.across.count }
 {
+    let layer = laid.layer;
+    let part = common(layer, meeting);
     let (tile, rest) = bytes.split_at_mut(SCRATCH);
     let (count, size) = size_of(layer, part, band);
     let (masks, rest) = rest.split_at_mut(count);
     let pixels = &mut rest[..size];
     layer.plane.read_rect(part, pixels, tile);
     read_mask(layer, part, masks, tile);
-    lay_rows(
-        mode, colours, opacity, layer, part, pixels, masks, left, top, band, picture, source, steps,
-    );
+    let patch = Patch {
+        part,
+        bytes: pixels,
+        masks,
+        left: meeting.across.skip,
+        top: meeting.down.skip,
+    };
+    lay_rows(laid, patch, band, picture, source, steps);
 }
 
 // The most columns of a layer that are unpacked at a time. The pixels of so many are still in the processor's cache when their rows
@@ -216,22 +240,18 @@ fn columns_at(from: u32, left: u32) -> u32
 
 // Lays the common columns and rows of a layer and a band, some columns at a time.
 fn lay_columns<L: Ledger>(
-    mode: Mode,
-    colours: &[[u8; 3]],
-    opacity: u8,
-    layer: &Layer,
-    across: Span,
-    down: Span,
+    laid: LaidLayer<'_>,
+    meeting: Meeting,
     band: Band,
     picture: &mut [Pixel],
     source: &mut [Pixel],
     bytes: &mut [u8],
     steps: &mut Steps<L>,
 )
-    requires columns { across.from + across.count ≤ layer.now.plane.width }
-    requires rows { down.from + down.count ≤ layer.now.plane.height }
-    requires across { across.skip + across.count ≤ band.w }
-    requires down { down.skip + down.count ≤ band.h }
+    requires columns { meeting.across.from + meeting.across.count ≤ laid.layer.now.plane.width }
+    requires rows { meeting.down.from + meeting.down.count ≤ laid.layer.now.plane.height }
+    requires across { meeting.across.skip + meeting.across.count ≤ band.w }
+    requires down { meeting.down.skip + meeting.down.count ≤ band.h }
     requires wide { band.w ≤ MAX_SIDE }
     requires high { band.h ≤ 64 }
     requires picture { length picture.old ≡ band.h * band.w }
@@ -241,12 +261,15 @@ fn lay_columns<L: Ledger>(
         → IsNeat (pixel picture.old (v * band.w + k)) }
     ensures length { length picture.new ≡ length picture.old }
     ensures each { (v k : ℕ) → v < band.h → k < band.w → pixel picture.new (v * band.w + k)
-        ≡ over mode (pixel picture.old (v * band.w + k))
-        (at_place (place_by across.skip across.from across.count k)
-        (place_by down.skip down.from down.count v) (sheet_pixel colours.now opacity layer.now)) }
-    ensures cost { steps.new ≡ steps.old + down.count * across.count }
+        ≡ over laid.entry.mode (pixel picture.old (v * band.w + k))
+        (at_place (place_by meeting.across.skip meeting.across.from meeting.across.count k)
+        (place_by meeting.down.skip meeting.down.from meeting.down.count v)
+        (sheet_pixel laid.entry.colours.now laid.entry.opacity laid.entry.layer.now)) }
+    ensures cost { steps.new ≡ steps.old + meeting.down.count * meeting.across.count }
 {
+    let layer = laid.layer;
     prove!(layer.plane.width() <= MAX_SIDE);
+    let Meeting { across, down } = meeting;
     let mut done = 0;
     while done < across.count {
         let span = Span {
@@ -254,11 +277,8 @@ fn lay_columns<L: Ledger>(
             from: across.from + done,
             count: columns_at(across.from + done, across.count - done),
         };
-        let part = common(layer, span, down);
-        lay_rect(
-            mode, colours, opacity, layer, part, span.skip, down.skip, band, picture, source,
-            bytes, steps,
-        );
+        let run = Meeting { across: span, down };
+        lay_rect(laid, run, band, picture, source, bytes, steps);
         done += span.count;
     }
 }
@@ -266,10 +286,7 @@ fn lay_columns<L: Ledger>(
 /// Lays the part of a layer that lies in a band of the canvas over the band's picture, some columns at a time and these row by row.
 /// `source` has room for a row, and `bytes` for a tile and for the bytes of the part and of its mask. Each tile is unpacked once.
 pub fn lay_layer<L: Ledger>(
-    mode: Mode,
-    colours: &[[u8; 3]],
-    opacity: u8,
-    layer: &Layer,
+    laid: LaidLayer<'_>,
     band: Band,
     picture: &mut [Pixel],
     source: &mut [Pixel],
@@ -286,16 +303,17 @@ pub fn lay_layer<L: Ledger>(
         → IsNeat (pixel picture.old (v * band.w + k)) }
     ensures length { length picture.new ≡ length picture.old }
     ensures each { (v k : ℕ) → v < band.h → k < band.w → pixel picture.new (v * band.w + k)
-        ≡ over mode (pixel picture.old (v * band.w + k)) (sheet_source colours.now opacity layer.now
-        (band.x + k) (band.y + v)) }
+        ≡ over laid.entry.mode (pixel picture.old (v * band.w + k))
+        (sheet_source laid.entry.colours.now laid.entry.opacity laid.entry.layer.now (band.x + k)
+        (band.y + v)) }
     ensures cost { steps.new ≤ steps.old + band.h * band.w }
 {
+    let layer = laid.layer;
     let down = overlap(layer.y, layer.plane.height(), band.y, band.h);
     let across = overlap(layer.x, layer.plane.width(), band.x, band.w);
     if down.count == 0 || across.count == 0 {
         return;
     }
-    lay_columns(
-        mode, colours, opacity, layer, across, down, band, picture, source, bytes, steps,
-    );
+    let meeting = Meeting { across, down };
+    lay_columns(laid, meeting, band, picture, source, bytes, steps);
 }

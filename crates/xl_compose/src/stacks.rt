@@ -7,12 +7,13 @@ ghost use Rattle.spec_picture.specs.Picture.{any_visible, laid, stack_pixel, mod
 ghost use Rattle.xl_doc.specs.Nodes.{IsLeaf, MarksAgree, layer_of, nodes_of};
 ghost use Rattle.xl_compose.specs.Cost.{one_if, visible_in};
 ghost use Rattle.xl_compose.specs.Laid.{pixel};
+ghost use Rattle.xl_compose.specs.Source.{sheet_source};
 ghost use Rattle.xl_compose.specs.Neat.{IsNeat};
 ghost use Rattle.spec_grid.specs.declared.TheConstants.{MAX_SIDE};
 ghost use Rattle.xl_tiles.specs.declared.tile.TheConstants.{SCRATCH};
 
 use crate::lay::lay_part;
-use crate::source::lay_layer;
+use crate::source::{LaidLayer, lay_layer};
 use crate::span::Band;
 use std::sync::ledger::Ledger;
 use xl_blend::{Mode, Pixel, Steps, fade_row};
@@ -44,50 +45,22 @@ pub fn mode_above(some_under: bool, mode: Mode) -> Mode
     if some_under { mode } else { Mode::Normal }
 }
 
-// Lays a layer over what is under it, where it is visible.
-fn lay_leaf<L: Ledger>(
-    colours: &[[u8; 3]],
-    node: &Node,
-    some_under: bool,
-    band: Band,
-    picture: &mut [Pixel],
-    scratch: &mut [Pixel],
-    bytes: &mut [u8],
-    steps: &mut Steps<L>,
-)
-    requires leaf { IsLeaf node.now.body }
-    requires right { band.x + band.w ≤ MAX_SIDE }
-    requires below { band.y + band.h ≤ MAX_SIDE }
-    requires high { band.h ≤ 64 }
-    requires picture { length picture.old ≡ band.h * band.w }
-    requires scratch { band.w ≤ length scratch.old }
-    requires bytes { SCRATCH + 320 * band.w ≤ length bytes.old }
-    requires neat { (v k : ℕ) → v < band.h → k < band.w
-        → IsNeat (pixel picture.old (v * band.w + k)) }
-    ensures length { length picture.new ≡ length picture.old }
-    ensures each { (v k : ℕ) → v < band.h → k < band.w → pixel picture.new (v * band.w + k)
-        ≡ laid node.now.visible (mode_over some_under node.now.mode)
-        (pixel picture.old (v * band.w + k)) (layer_source colours.now (layer_of node.now)
-        (band.x + k) (band.y + v)) }
-    ensures cost { steps.new ≤ steps.old + one_if node.now.visible * (band.h * band.w) }
+// A layer as it is laid over what is under it.
+fn laid_leaf<'a>(colours: &'a [[u8; 3]], node: &'a Node, some_under: bool) -> LaidLayer<'a>
+    requires { IsLeaf node.now.body }
+    ensures mode { result.mode ≡ mode_over some_under node.now.mode }
+    ensures source { (x y : ℕ) → sheet_source result.colours.now result.opacity result.layer.now x y
+        ≡ layer_source colours.now (layer_of node.now) x y }
 {
-    if !node.visible {
-        return;
-    }
-    let mode = mode_above(some_under, node.mode);
-    match &node.body {
-        Body::Leaf(layer) => lay_layer(
-            mode,
-            colours,
-            node.opacity,
-            layer,
-            band,
-            picture,
-            scratch,
-            bytes,
-            steps,
-        ),
+    let layer = match &node.body {
+        Body::Leaf(layer) => layer,
         Body::Group => unreachable!(),
+    };
+    LaidLayer {
+        mode: mode_above(some_under, node.mode),
+        colours,
+        opacity: node.opacity,
+        layer,
     }
 }
 
@@ -141,10 +114,12 @@ pub fn lay_stack<L: Ledger>(
         }
         Split::Leaf { node, under, .. } => {
             let some_under = lay_stack(colours, under, band, picture, scratch, bytes, steps);
-            lay_leaf(
-                colours, node, some_under, band, picture, scratch, bytes, steps,
-            );
-            node.visible || some_under
+            if !node.visible {
+                return some_under;
+            }
+            let laid = laid_leaf(colours, node, some_under);
+            lay_layer(laid, band, picture, scratch, bytes, steps);
+            true
         }
         Split::Group {
             node,

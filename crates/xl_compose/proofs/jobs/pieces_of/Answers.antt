@@ -28,7 +28,7 @@ returns-clause-made g c =
     let tree = c.doc.inside.tree in
     let s = c.unwrap-nodes.result in
     let pieces = c.add_stack.new.pieces.items in
-    let deep = c.levels-deep.result + 2 in
+    let deep = c.levels-levels.result + 2 in
     let is : stack_at stack tree ≡ Some s = sym c.stack.ensures.value ∙ c.unwrap-nodes.ensures in
     let nodes_is : d.nodes ≡ nodes_of tree = ap (λ d. d.nodes) (sym c.doc.view_is) in
     let stack_is : stack_at stack d.nodes ≡ Some (nodes_of s) = ap (stack_at stack) nodes_is
@@ -38,7 +38,7 @@ returns-clause-made g c =
     let right = right_below (g.K.CleanTiles.clean_tile c.args.clean.now) d c.args.at c.requires.clean own some stack
     (nodes_of s) stack_is in
     let added : AreAdded deep d.colours (tile_band d c.args.at) 0 (nodes_of s) c.new-pieces.result.items pieces =
-    c.in_ok-add_stack.ensures.added deep d.colours (tile_band d c.args.at) (omega (arith, c.levels-deep.ensures.levels)) right in
+    c.in_ok-add_stack.ensures.added deep d.colours (tile_band d c.args.at) (omega (arith, c.levels-levels.ensures.levels)) right in
     are_for deep d stack c.args.at (nodes_of s) c.new-pieces.result.items pieces c.new-pieces.ensures.items stack_is added
 
 pub returns-clause-cost : goal.returns-clause-cost

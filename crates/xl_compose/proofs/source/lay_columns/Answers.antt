@@ -1,8 +1,7 @@
-use Rattle.std.proofs.Common.{◌≡◌, ◌+◌, refl, ◌∙◌, subst, arith}
-use Rattle.spec_grid.specs.Rect.{part_above_0}
+use Rattle.std.proofs.Common.{◌≡◌, refl, ◌∙◌, subst, arith}
 use Rattle.xl_compose.specs.Source.{sheet_pixel}
 use Rattle.xl_compose.proofs.BandRows.{AreLaidTo}
-use Rattle.xl_compose.proofs.ColumnRuns.{no_columns, more_columns_at, still_neat, column_cost}
+use Rattle.xl_compose.proofs.ColumnRuns.{no_columns, more_columns, still_neat, column_cost}
 use Rattle.xl_compose.proofs.source.lay_columns.Goals as goal
 
 pub loop-done-init : goal.loop-done-init
@@ -10,39 +9,34 @@ loop-done-init g c = record {
   few = omega arith;
   size = refl;
   cost = omega arith;
-  laid = no_columns c.args.mode c.args.across.skip c.args.across.from c.args.down.skip c.args.down.from c.args.down.count
+  laid = no_columns c.args.laid.mode c.args.meeting.across.skip c.args.meeting.across.from c.args.meeting.down.skip c.args.meeting.down.from c.args.meeting.down.count
       c.args.band.w c.args.band.h
-      (sheet_pixel c.args.colours.now c.args.opacity c.args.layer.now) c.args.picture.now c.requires.neat;
+      (sheet_pixel c.args.laid.colours.now c.args.laid.opacity c.args.laid.layer.now) c.args.picture.now c.requires.neat;
 }
 
 pub loop-done-preserved : goal.loop-done-preserved
 loop-done-preserved g c = record {
   few = omega (arith, c.columns_at.ensures.within);
   size = c.lay_rect.ensures.length ∙ c.loop-done.invariant.size;
-  cost = column_cost c.args.steps.now c.loop-done.steps c.lay_rect.new.steps c.args.down.count c.loop-done.done c.columns_at.result
-      c.common-part.result.h c.common-part.result.w
-      c.loop-done.invariant.cost c.lay_rect.ensures.cost c.common-part.ensures.h c.common-part.ensures.w;
-  laid = more_columns_at c.args.mode c.args.across.skip c.args.across.from c.loop-done.done c.columns_at.result c.args.down.skip
-      c.args.down.from c.args.down.count c.args.band.w c.args.band.h
-      (c.args.across.skip + c.loop-done.done) (part_above_0 c.common-part.result.x) c.common-part.result.w
-      (part_above_0 c.common-part.result.y) c.common-part.result.h
-      (sheet_pixel c.args.colours.now c.args.opacity c.args.layer.now) c.args.picture.now c.loop-done.picture c.lay_rect.new.picture
-      c.requires.neat
-      refl c.common-part.ensures.x c.common-part.ensures.w c.common-part.ensures.y c.common-part.ensures.h
-      c.loop-done.invariant.laid c.lay_rect.ensures.each;
+  cost = column_cost c.args.steps.now c.loop-done.steps c.lay_rect.new.steps c.args.meeting.down.count c.loop-done.done
+      c.columns_at.result c.loop-done.invariant.cost c.lay_rect.ensures.cost;
+  laid = more_columns c.args.laid.mode c.args.meeting.across.skip c.args.meeting.across.from c.loop-done.done c.columns_at.result
+      c.args.meeting.down.skip c.args.meeting.down.from c.args.meeting.down.count c.args.band.w c.args.band.h
+      (sheet_pixel c.args.laid.colours.now c.args.laid.opacity c.args.laid.layer.now) c.args.picture.now c.loop-done.picture
+      c.lay_rect.new.picture c.requires.neat c.loop-done.invariant.laid c.lay_rect.ensures.each;
 }
 
 pub lay_rect-requires-clause-neat : goal.lay_rect-requires-clause-neat
 lay_rect-requires-clause-neat g c =
-    still_neat c.args.mode c.args.across.skip c.args.across.from c.loop-done.done c.args.down.skip c.args.down.from
-    c.args.down.count c.args.band.w c.args.band.h
-    (sheet_pixel c.args.colours.now c.args.opacity c.args.layer.now) c.args.picture.now c.loop-done.picture c.requires.neat
+    still_neat c.args.laid.mode c.args.meeting.across.skip c.args.meeting.across.from c.loop-done.done c.args.meeting.down.skip c.args.meeting.down.from
+    c.args.meeting.down.count c.args.band.w c.args.band.h
+    (sheet_pixel c.args.laid.colours.now c.args.laid.opacity c.args.laid.layer.now) c.args.picture.now c.loop-done.picture c.requires.neat
     c.loop-done.invariant.laid
 
 pub returns-clause-each : goal.returns-clause-each
 returns-clause-each g c =
-    let all : c.loop-done.done ≡ c.args.across.count = omega (arith, c.loop-done.invariant.few) in
-    subst (λ (n : _). AreLaidTo c.args.mode c.args.across.skip c.args.across.from n c.args.down.skip c.args.down.from
-    c.args.down.count c.args.band.w c.args.band.h
-    (sheet_pixel c.args.colours.now c.args.opacity c.args.layer.now) c.args.picture.now c.loop-done.picture) all
+    let all : c.loop-done.done ≡ c.args.meeting.across.count = omega (arith, c.loop-done.invariant.few) in
+    subst (λ (n : _). AreLaidTo c.args.laid.mode c.args.meeting.across.skip c.args.meeting.across.from n c.args.meeting.down.skip c.args.meeting.down.from
+    c.args.meeting.down.count c.args.band.w c.args.band.h
+    (sheet_pixel c.args.laid.colours.now c.args.laid.opacity c.args.laid.layer.now) c.args.picture.now c.loop-done.picture) all
     c.loop-done.invariant.laid

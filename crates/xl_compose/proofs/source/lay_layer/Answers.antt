@@ -25,9 +25,9 @@ returns-then-down-eq0-clause-each g c = λ v k hv hk.
     ap (λ n. place i.x n (c.args.band.x + k)) (sym c.width.ensures.value)
     ∙ (simp to_z-of_z at (c.overlap-across.ensures.place k hk)) in
     rw (← c.layer.view_is) (elim c.then-down-eq0.either [
-      | inl none ↦ no_row_there c.args.mode c.args.colours.now c.args.opacity s (c.args.band.x + k)
+      | inl none ↦ no_row_there c.args.laid.mode c.args.laid.colours.now c.args.laid.opacity s (c.args.band.x + k)
           (c.args.band.y + v) down.skip down.from down.count v p (c.requires.neat v k hv hk) row none
-      | inr others ↦ no_column_there c.args.mode c.args.colours.now c.args.opacity s (c.args.band.x + k)
+      | inr others ↦ no_column_there c.args.laid.mode c.args.laid.colours.now c.args.laid.opacity s (c.args.band.x + k)
           (c.args.band.y + v) across.skip across.from across.count k p (c.requires.neat v k hv hk) column others.1
     ])
 
@@ -53,5 +53,5 @@ returns-clause-each g c = λ v k hv hk.
     ap (λ n. place i.x n (c.args.band.x + k)) (sym c.width.ensures.value)
     ∙ (simp to_z-of_z at (c.overlap-across.ensures.place k hk)) in
     c.lay_columns.ensures.each v k hv hk
-    ∙ rw (← c.layer.view_is) (by_place c.args.mode c.args.colours.now c.args.opacity s (c.args.band.x + k) (c.args.band.y + v)
+    ∙ rw (← c.layer.view_is) (by_place c.args.laid.mode c.args.laid.colours.now c.args.laid.opacity s (c.args.band.x + k) (c.args.band.y + v)
     (place_by across.skip across.from across.count k) (place_by down.skip down.from down.count v) p column row)

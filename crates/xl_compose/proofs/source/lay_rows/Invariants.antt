@@ -7,8 +7,8 @@ use Rattle.xl_compose.proofs.source.lay_rows.Given as goal
 -- the rows so far are laid
 abbrev pub invariant-loop-r : goal.invariant-loop-r
 invariant-loop-r g l = record {
-  row : length l.row ≡ l.fn.part.w;
-  cost : l.steps ≡ l.fn.steps + l.r * l.fn.part.w;
-  laid : AreLaidTo l.fn.mode l.fn.left (part_above_0 l.fn.part.x) l.fn.part.w l.fn.top
-      (part_above_0 l.fn.part.y) l.r l.fn.band.w l.fn.band.h (sheet_pixel l.colours l.fn.opacity l.layer) l.fn.picture l.picture;
+  row : length l.row ≡ l.fn.patch.part.w;
+  cost : l.steps ≡ l.fn.steps + l.r * l.fn.patch.part.w;
+  laid : AreLaidTo l.fn.laid.mode l.fn.patch.left (part_above_0 l.fn.patch.part.x) l.fn.patch.part.w l.fn.patch.top
+      (part_above_0 l.fn.patch.part.y) l.r l.fn.band.w l.fn.band.h (sheet_pixel l.fn.laid.colours.now l.fn.laid.opacity l.fn.laid.layer.now) l.fn.picture l.picture;
 }
