@@ -1,5 +1,5 @@
 -- What stands accepts a group of edits where the machine does.
-use Rattle.std.proofs.Common.{◌≡◌, ℕ, ◌+◌, ◌<◌, ◌≤◌, Bool, true, false, cond, not, nat_le, List, [], length, refl, sym, ◌∙◌, ap, subst, arith}
+use Rattle.std.proofs.Common.{◌≡◌, ℕ, ◌+◌, ◌<◌, Bool, true, false, cond, not, nat_le, List, [], length, refl, sym, ◌∙◌, ap, subst, arith}
 use Rattle.std.specs.Prelude.{Option, Result, Ok, Err, is_ok, ◌&&◌}
 use Rattle.std.proofs.lemmas.Bool.Decides.{nat_tests}
 use Rattle.spec_document.specs.Document.{Document}
@@ -12,8 +12,8 @@ use Rattle.spec_history.specs.Calls.{most_entries}
 use Rattle.spec_history.specs.History.{Entry, is_changed, replay}
 use Rattle.spec_world.specs.World.{entries_owed}
 use Rattle.spec_tables.specs.Agrees.{IsPartUsed, IsPartAfter}
-use Rattle.xl_standing.specs.History.{History, is_full, is_accepted, reply_to}
-use Rattle.xl_standing.specs.Now.{Now, Stands, accepts, now_of}
+use Rattle.xl_standing.specs.History.{History, is_accepted, reply_to}
+use Rattle.xl_standing.specs.Now.{Now, Stands, accepts}
 
 -- a group of edits is answered by a change where its guard has not moved and none of its edits is refused
 changed_where : (s : State) (old : At) (edits : List Edit) (named : Bool) (r : Result At Refused)

@@ -1,5 +1,5 @@
 -- How many steps a call takes at most.
-use Rattle.std.proofs.Common.{◌≡◌, ℕ, ◌+◌, ◌*◌, ◌≤◌, Bool, true, false, List, refl, sym, ap, ◌∙◌, arith, mul-le-mul_right}
+use Rattle.std.proofs.Common.{◌≡◌, ℕ, ◌+◌, ◌≤◌, Bool, true, false, List, refl, sym, ap, ◌∙◌, arith, mul-le-mul_right}
 use Rattle.std.specs.Prelude.{Option, Some, None}
 use Rattle.spec_forest.specs.Forest.{none, leaf, group, stack_at}
 use Rattle.spec_grid.specs.declared.TileAt.{TileAt}

@@ -8,6 +8,7 @@ use Rattle.spec_document.specs.Limits.{AreBytes}
 use Rattle.spec_edit.specs.declared.EditRefused.{EditRefused}
 use Rattle.spec_edit.specs.Edit as edits
 use Rattle.spec_edit.specs.Edit.{IsEdit}
+use Rattle.spec_edit.specs.Limited.{IsAt}
 use Rattle.spec_edit.specs.Refusal.{refusal}
 use Rattle.spec_edit.specs.Effect.{effect, makes_node}
 use Rattle.spec_damage.specs.Damage as pairs
@@ -217,3 +218,7 @@ pub is_damaged : (old now : At) (edits : List Edit) (tables : List (List ℕ)) (
 is_damaged old now edits tables index taken damage way past =
     sym (append-nil damage) ∙ (ap (λ rest. damage
     ++ damage_along now (edits_of rest) (drop taken tables)) (sym (drop_all index edits past)) ∙ way.along)
+
+pub is_within : (old now : At) (edits : List Edit) (tables : List (List ℕ)) (index taken : ℕ) (damage : List Pair)
+    → IsUnderWay old now edits tables index taken damage → IsAt now
+is_within old now edits tables index taken damage way = way.ids.is

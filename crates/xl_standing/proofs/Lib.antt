@@ -4,7 +4,7 @@ mod CleanTiles
 mod Trails
 mod Simulates
 mod GroupNumbers
-mod Groups
+pub mod Groups
 mod Asking
 mod Sides
 pub mod Opened

@@ -1,15 +1,10 @@
--- The ids and the stacks of a document are those of its tree.
-use Rattle.std.proofs.Common.{◌≡◌, ℕ, ◌∷◌, ◌++◌, refl, ◌∙◌, ap}
+-- The stacks of a document are those of its tree.
+use Rattle.std.proofs.Common.{◌≡◌, ℕ, refl, ◌∙◌, ap}
 use Rattle.std.specs.Prelude.{Option, Some, None, option_map, is_some}
-use Rattle.spec_forest.specs.Forest.{Forest, none, leaf, group, ids, stack_at}
+use Rattle.spec_forest.specs.Forest.{Forest, stack_at}
 use Rattle.xl_doc.specs.declared.node.Node.{Node}
 use Rattle.xl_doc.specs.Nodes.{nodes_of}
 use Rattle.xl_doc.proofs.NodesOf.{stack-nodes_of}
-
-pub ids-nodes_of : (f : Forest Node Node) → ids (nodes_of f) ≡ ids f
-ids-nodes_of none = refl
-ids-nodes_of (leaf id n under) = ap (λ is. id ∷ is) (ids-nodes_of under)
-ids-nodes_of (group id n children under) = λ i. id ∷ (ids-nodes_of children i ++ ids-nodes_of under i)
 
 mapped_is_some : {A B : Type 0} (f : A → B) (o : Option A) → is_some (option_map f o) ≡ is_some o
 mapped_is_some f None = refl

@@ -17,7 +17,8 @@ zero_at zero i = refl
 zero_at (suc n) zero = refl
 zero_at (suc n) (suc i) = zero_at n i
 
-small_ids : (d : Document) → AreNumbered d.nodes → AllByRecursion (λ id. id ≤ 2 ^ 31) (ids d.nodes)
+-- the ids of a numbered document are small
+pub small_ids : (d : Document) → AreNumbered d.nodes → AllByRecursion (λ id. id ≤ 2 ^ 31) (ids d.nodes)
 small_ids d numbered =
     let few = numbered.few in
     all-each (λ id. id ≤ size d.nodes) (λ id. id ≤ 2 ^ 31) (ids d.nodes) (λ id le. omega (arith, le, few)) numbered.within

@@ -1,7 +1,7 @@
 -- A trail, whose oldest group stands first, beside the groups that can be undone or redone, whose next one stands first.
 use Rattle.std.proofs.Common.{◌≡◌, ℕ, zero, suc, ◌+◌, ◌-◌, ◌<◌, ◌≤◌, inl, inr, List, [], ◌∷◌, ◌++◌, length, take, drop}
-use Rattle.std.proofs.Common.{refl, sym, ◌∙◌, ap, subst, arith, length-append}
-use Rattle.std.specs.Prelude.{reverse, Option, Some, None, option_map, slice_get, option_to_list}
+use Rattle.std.proofs.Common.{refl, sym, ◌∙◌, ap, arith, length-append}
+use Rattle.std.specs.Prelude.{reverse, Some, option_map, slice_get}
 use Rattle.std.proofs.lemmas.List.{take_at, take_all, take-append-drop, length-drop, reverse-append, reverse-reverse, length-reverse}
 use Rattle.std.proofs.lemmas.Bool.{cases_lt}
 use Rattle.spec_document.specs.Document.{Document}

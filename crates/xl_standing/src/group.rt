@@ -6,6 +6,7 @@ ghost use Rattle.spec_damage.specs.Damage as pairs;
 ghost use Rattle.spec_document.specs.Limits.{AreBytes};
 ghost use Rattle.spec_edit.specs.Apply.{apply_group, is_filter, first_table};
 ghost use Rattle.spec_edit.specs.Edit.{IsEdit};
+ghost use Rattle.spec_edit.specs.Limited.{IsAt};
 ghost use Rattle.spec_history.specs.Calls.{most_edits};
 ghost use Rattle.spec_tables.specs.Acceptance.{filter_count, refused_in, slot_of};
 ghost use Rattle.spec_tables.specs.Agrees.{AreThere, AreAsked, IsPartUsed};
@@ -17,6 +18,7 @@ ghost use Rattle.xl_edit.specs.Edits.{edit_of, edits_of};
 ghost use Rattle.xl_filters.specs.Chests.{states_in};
 ghost use Rattle.xl_marks.specs.Group.{damage_along};
 
+use crate::bytes::know_table;
 use std::alloc::{AllocError, Global};
 use xl_doc::Document;
 use xl_edit::{Edit, EditRefused, EditRefusedOrMemory, apply};
@@ -25,7 +27,7 @@ use xl_marks::Damage;
 
 /// Why a group was not made: memory ran out, or an edit is refused, which is counted from 0.
 #[derive(Drop)]
-pub(crate) enum GroupRefusedOrMemory {
+pub enum GroupRefusedOrMemory {
     Memory,
     Refused { index: u32, cause: EditRefused },
 }
@@ -41,7 +43,7 @@ impl From<AllocError> for GroupRefusedOrMemory {
 /// What a group of edits leaves: a document and its next id, the tables that the group's filters answered, and what
 /// of which pictures the group may have changed.
 #[derive(Drop)]
-pub(crate) struct Made {
+pub struct Made {
     pub document: Document,
     pub next_id: u32,
     pub tables: Tables,
@@ -107,8 +109,8 @@ fn check_group(
     Ok(())
 }
 
-// Makes a group of edits with tables for its filters on a share of a document.
-fn try_group(
+/// Makes a group of edits, each filter with the next table, on a share of a document.
+pub fn try_group(
     alloc: Global,
     document: &Document,
     next_id: u32,
@@ -124,6 +126,7 @@ fn try_group(
     ensures tables { IfOk result (λ made. made.tables ≡ tables) }
     ensures damage { IfOk result (λ made. made.damage ≡ damage_along (at document.now next_id)
         (edits_of edits.now) tables) }
+    ensures within { IfOk result (λ made. IsAt (at made.document made.next_id)) }
     ensures refused { IfErr result (IsRefusal (at document.now next_id) (edits_of edits.now)
         tables) }
 {
@@ -150,7 +153,7 @@ fn try_group(
 // `damage` what the edits so far may have changed.
 //
 // A refusal and out of memory leave what the edits before have made, which the caller drops.
-#[tactic(auto, using(crate::proofs::Groups::begins, crate::proofs::Groups::next_is_edit, crate::proofs::Groups::next_has_id, crate::proofs::Groups::next_has_table, crate::proofs::Groups::stops, crate::proofs::Groups::is_done, crate::proofs::Groups::is_damaged))]
+#[tactic(auto, using(crate::proofs::Groups::begins, crate::proofs::Groups::next_is_edit, crate::proofs::Groups::next_has_id, crate::proofs::Groups::next_has_table, crate::proofs::Groups::stops, crate::proofs::Groups::is_done, crate::proofs::Groups::is_damaged, crate::proofs::Groups::is_within))]
 fn apply_group(
     alloc: Global,
     document: &mut Document,
@@ -168,12 +171,13 @@ fn apply_group(
         (edits_of edits.now) tables.now result }
     ensures damage { OnOk result (damage.new ≡ damage_along (at document.old next_id.old)
         (edits_of edits.now) tables.now) }
+    ensures within { OnOk result (IsAt (at document.new next_id.new)) }
 {
     let blank = blank_table();
     let mut taken = 0;
     for (index, edit) in edits.iter().enumerate() {
         let table = table_for(edit, tables, taken, &blank);
-        know_bytes(table);
+        know_table(table);
         taken += filter_count(edit);
         match apply_one(alloc, document, next_id, edit, table, damage) {
             Ok(()) => {}
@@ -307,22 +311,9 @@ fn ask_filters(alloc: Global, edits: &[Edit], chest: &mut Chest) -> Result<Table
     for edit in edits {
         if let Some(slot) = slot_of(edit) {
             let table = chest.table(slot);
-            know_bytes(&table);
+            know_table(&table);
             tables.push(table)?;
         }
     }
     Ok(tables)
-}
-
-// Tells contracts that a table has bytes.
-fn know_bytes(table: &Table)
-    ensures { AreBytes table.now }
-{
-    know_slice(table.as_slice());
-}
-
-fn know_slice(bytes: &[u8])
-    ensures { AreBytes bytes.now }
-{
-    let _len = bytes.len();
 }

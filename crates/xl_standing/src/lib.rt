@@ -6,14 +6,19 @@
 #![tactic(auto)]
 
 mod answered;
+mod bytes;
 mod desk;
 mod group;
+mod next_id;
 mod standing;
 mod step;
 mod tile;
 
 pub use answered::Answered;
+pub use bytes::{know_bytes, know_table};
 pub use desk::Desk;
+pub use group::{GroupRefusedOrMemory, Made, try_group};
+pub use next_id::next_id_of;
 pub use standing::{MOST_ENTRIES, Standing};
 pub use step::Step;
 pub use tile::{has_stack, has_tile};

@@ -29,7 +29,8 @@ ghost use Rattle.xl_filters.specs.Chests.{states_in};
 use crate::answered::{Answered, is_named, without_filters};
 use crate::desk::Desk;
 use crate::group::{GroupRefusedOrMemory, Made, make_group};
-use crate::step::{Step, limits};
+use crate::next_id::next_id_of;
+use crate::step::Step;
 use crate::tile::{has_stack, has_tile, look, show};
 use std::alloc::{AllocError, Global};
 use std::marker::Model;
@@ -37,6 +38,7 @@ use std::mem;
 use std::sync::ledger::Ledger;
 use xl_blend::Steps;
 use xl_cache::{Cache, Finished};
+use xl_checks::know_limits;
 use xl_compose::{Done, Job, Picture, job};
 use xl_doc::{Document, NodeId, TileAt};
 use xl_edit::{Call, Edit, Reply};
@@ -95,7 +97,7 @@ impl Standing {
         ensures first { result ≡ first_now document }
         ensures within { IsDocument document }
     {
-        let next_id = document.tree.greatest_id() + 1;
+        let next_id = next_id_of(&document);
         Standing {
             document,
             undo,
@@ -243,8 +245,8 @@ impl Standing {
             self.new }
     {
         let group = self.next_group;
-        limits(&self.document);
-        limits(&document);
+        know_limits(&self.document);
+        know_limits(&document);
         let mut change = change;
         change.go(&mut self.cache, self.version + 1);
         let before = mem::replace(&mut self.document, document);

@@ -1,11 +1,11 @@
 //! Steps back and forth over groups of edits.
 ghost use Rattle.std.specs.Prelude.{◌≡◌, ◌≤◌};
-ghost use Rattle.spec_document.specs.Limits.{IsDocument};
 ghost use Rattle.xl_standing.specs.Steps.{IsChange, change_of, stepped};
 ghost use Rattle.xl_marks.specs.Change.{IsCacheOf, gone_along};
 
 use std::marker::Model;
 use xl_cache::Cache;
+use xl_checks::know_limits;
 use xl_doc::Document;
 use xl_marks::Change;
 use xl_undo::Record;
@@ -54,16 +54,9 @@ impl Step {
         ensures cache { cache.new ≡ gone_along (change_of self.old) version cache.old }
         ensures back { self.new ≡ stepped self.old }
     {
-        limits(document);
+        know_limits(document);
         self.lead.revert(document);
-        limits(document);
+        know_limits(document);
         self.change.go(cache, version);
     }
-}
-
-/// The limits that a document keeps by its type.
-pub(crate) fn limits(document: &Document)
-    ensures { IsDocument document.now }
-{
-    let _width = document.width;
 }

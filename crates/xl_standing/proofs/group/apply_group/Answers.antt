@@ -18,4 +18,4 @@ loop-index-preserved c =
     (goes_on old (at c.loop-index.document c.loop-index.next_id) new c.args.edits.now c.args.tables.now c.loop-index.index
     c.loop-index.taken c.loop-index.damage
     c.index-edits-index.result c.table_for-table.result.now c.loop-index.invariant inside c.index-edits-index.is
-    c.table_for-table.ensures c.know_bytes.ensures c.in-Ok.ensures.applied))
+    c.table_for-table.ensures c.know_table.ensures c.in-Ok.ensures.applied))

@@ -31,7 +31,7 @@ loop-edit-preserved g c =
           (asks_filter _ _ _ c.args.edits.now c.loop-edit.edit-index c.loop-edit.tables c.edit-item.result w.in-Some.slot
           w.table-table.result c.loop-edit.invariant inside
           c.edit-item.is (sym c.slot_of.ensures
-          ∙ w.in-Some.is) w.table-table.ensures.table w.table-table.ensures.after w.know_bytes.ensures)
+          ∙ w.in-Some.is) w.table-table.ensures.table w.table-table.ensures.after w.know_table.ensures)
       | in_default w ↦
           let none : slot_of (edit_of c.edit-item.result) ≡ None = search rules in
           rw (w.chest-is, w.tables-is)
