@@ -1,23 +1,22 @@
 -- A call of plain edits needs no filter, and its reply is the machine's.
-use Rattle.std.proofs.Common.{◌≡◌, ℕ, suc, true, List, [], ◌∷◌, refl, sym, ◌∙◌, subst, true≢false}
+use Rattle.std.proofs.Common.{◌≡◌, ℕ, suc, true, List, [], ◌∷◌, refl, sym, subst, true≢false}
 use Rattle.std.specs.Prelude.{Option, None}
 use Rattle.spec_edit.specs.Edit as edits
 use Rattle.spec_edit.specs.Edit.{Edit}
-use Rattle.spec_history.specs.Calls.{IsCall}
 use Rattle.spec_history.specs.History.{asked}
 use Rattle.spec_history.specs.Limited.{edits_of}
 use Rattle.spec_history.specs.Machine as machine
 use Rattle.spec_history.specs.Machine.{Call, Reply}
-use Rattle.spec_filters.specs.declared.FilterState.{FilterState}
 use Rattle.spec_tables.specs.Agrees.{AreThere}
 use Rattle.spec_tables.specs.Tables.{tables_for, expected_tables}
+use Rattle.spec_tables.proofs.Asked.{no_filters-tables}
 use Rattle.xl_core.specs.Editing.{Editing, IsSubmitted}
 use Rattle.xl_standing.specs.History.{Answers}
 use Rattle.xl_core.proofs.Submitted.{submitted_answers}
 use Rattle.xl_edit.specs.Built.{IsNoPeek}
 use Rattle.xcf.specs.Asked.{IsPlainCall}
 use Rattle.xcf.specs.Plain.{is_plain, unplain_from}
-use Rattle.xcf.proofs.UnderWay.{plain_view, first_plain}
+use Rattle.xcf.proofs.Plain.{first_plain, no_filters}
 
 -- a plain edit asks no chest
 there_plain : (e : Edit) (rest : List Edit) → is_plain e ≡ true → AreThere [] rest → AreThere [] (e ∷ rest)
@@ -53,13 +52,6 @@ are_there place (e ∷ es) none =
     let both = first_plain place e es none in
     there_plain e es both.0 (are_there (suc place) es both.1)
 
--- so nothing answers tables
-no_tables : (place : ℕ) (es : List Edit) → unplain_from place es ≡ None → tables_for [] es ≡ []
-no_tables place [] none = refl
-no_tables place (e ∷ es) none =
-    let both = first_plain place e es none in
-    (plain_view e both.0).tables [] es ∙ no_tables (suc place) es both.1
-
 none_expected : (es : List Edit) (guard : Option ℕ) (reply : Reply) → tables_for [] es ≡ []
     → expected_tables [] (asked (machine.edit guard es) []) reply ≡ []
 none_expected es guard (machine.changed version group next) none = none
@@ -79,20 +71,12 @@ none_expected es guard (machine.save_memory version) none = refl
 none_expected es guard machine.history_full none = refl
 
 pub expects_none : (call : Call) (reply : Reply) → IsPlainCall call → expected_tables [] (asked call []) reply ≡ []
-expects_none (machine.edit guard es) reply plain = none_expected es guard reply (no_tables 0 es plain.1)
+expects_none (machine.edit guard es) reply plain = none_expected es guard reply (no_filters-tables [] es (no_filters 0 es plain.1))
 expects_none (machine.undo named) reply plain = refl
 expects_none machine.redo reply plain = refl
 expects_none (machine.tile stack at) reply plain = refl
 expects_none (machine.peek stack at) reply plain = absurd plain
 expects_none machine.top reply plain = refl
-
-pub plain_is_call : (call : Call) → IsPlainCall call → IsCall call
-plain_is_call (machine.edit guard es) plain = plain.0
-plain_is_call (machine.undo named) plain = tt
-plain_is_call machine.redo plain = tt
-plain_is_call (machine.tile stack at) plain = tt
-plain_is_call (machine.peek stack at) plain = absurd plain
-plain_is_call machine.top plain = tt
 
 plain_is_no_peek : (call : Call) → IsPlainCall call → IsNoPeek call
 plain_is_no_peek (machine.edit guard es) plain = plain.0

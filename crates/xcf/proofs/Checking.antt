@@ -1,7 +1,7 @@
 -- How far the edits of a group are checked.
-use Rattle.std.proofs.Common.{◌≡◌, ℕ, suc, ◌+◌, ◌<◌, ◌≤◌, Bool, true, false, cond, List, [], ◌∷◌}
-use Rattle.std.proofs.Common.{length, drop, get_or, refl, sym, ◌∙◌, ap, subst, arith, add-one}
-use Rattle.std.specs.Prelude.{Option, Some, None}
+use Rattle.std.proofs.Common.{◌≡◌, ℕ, suc, ◌+◌, ◌<◌, ◌≤◌, Bool, true, false, cond, List}
+use Rattle.std.proofs.Common.{length, drop, get_or, refl, sym, ◌∙◌, ap, subst, add-one}
+use Rattle.std.specs.Prelude.{Some, None}
 use Rattle.std.specs.List.{AllByRecursion}
 use Rattle.std.proofs.lemmas.List.{drop_all}
 use Rattle.spec_edit.specs.Edit as edits
@@ -9,7 +9,7 @@ use Rattle.spec_edit.specs.Edit.{IsEdit}
 use Rattle.xl_edit.specs.declared.edit.Edit.{Edit}
 use Rattle.xl_edit.specs.Edits.{edit_of, edits_of}
 use Rattle.xcf.specs.Plain.{is_plain, unplain_from, first_unplain}
-use Rattle.xcf.proofs.UnderWay.{front}
+use Rattle.xl_standing.proofs.Groups.{front}
 
 -- the edits before are plain and within the limits of their types, so that those that are left decide
 pub record IsSeen (edits : List Edit) (index : ℕ) : Type 0 where

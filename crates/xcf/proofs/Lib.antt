@@ -1,6 +1,5 @@
 mod Colours
 mod Checking
-mod UnderWay
-mod Numbers
+mod Plain
 mod Asking
 mod Outcomes

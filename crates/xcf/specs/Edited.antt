@@ -3,23 +3,14 @@ use Rattle.std.specs.Prelude.{◌≡◌, ℕ, ◌+◌, ◌^◌, ◌≤◌, List,
 use Rattle.spec_edit.specs.Apply.{At, apply, apply_group}
 use Rattle.spec_edit.specs.Edit.{Edit}
 use Rattle.spec_history.specs.Calls.{most_edits}
-use Rattle.xcf.specs.Plain.{IsChecked}
+use Rattle.xcf.specs.Plain.{IsPlainGroup, IsChecked}
 use Rattle.xcf.specs.declared.errors.NotEdited.{NotEdited}
 use Rattle.xcf.specs.declared.errors.NotEdited.TheVariants.{Memory, NotGroup, NoIds, Refused}
 
--- The edits of a group are made in turn, or the first that is refused is named, or memory ran out. Only where all are made is it
--- said what is left.
-abbrev pub MakesAll : (old new : At) → List Edit → Result (Unit {0}) NotEdited → Type 0
-MakesAll old new edits (Ok done) = apply_group old edits [] ≡ Ok new
-MakesAll old new edits (Err (Refused index cause)) = apply_group old edits [] ≡ Err (record { index = index; cause = cause })
-MakesAll old new edits (Err (NotGroup flaw)) = ⊥
-MakesAll old new edits (Err NoIds) = ⊥
-MakesAll old new edits (Err Memory) = Unit {0}
-
 -- The whole group is made. Or the image is as before: the first edit that is refused is named, or what is wrong with the group, or
--- not so many ids are left as a group may take, or memory ran out.
+-- no more ids are left than a group may take, or memory ran out.
 abbrev pub Edits : (old new : At) → List Edit → Result (Unit {0}) NotEdited → Type 0
-Edits old new edits (Ok done) = apply_group old edits [] ≡ Ok new
+Edits old new edits (Ok done) = IsPlainGroup edits × (apply_group old edits [] ≡ Ok new)
 Edits old new edits (Err (Refused index cause)) =
     (apply_group old edits [] ≡ Err (record { index = index; cause = cause })) × (new ≡ old)
 Edits old new edits (Err (NotGroup flaw)) = IsChecked edits (Err flaw) × (new ≡ old)

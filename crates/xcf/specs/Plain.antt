@@ -1,19 +1,15 @@
 -- Groups of edits that need nothing beside them: no filter, and each edit within the limits of its type.
-use Rattle.std.specs.Prelude.{◌≡◌, ◌⊎◌, ℕ, suc, ◌<◌, ◌≤◌, ◌&&◌, Bool, true, false, nat_le, if◌then◌else◌, List, [], ◌∷◌}
+use Rattle.std.specs.Prelude.{◌≡◌, ◌⊎◌, ℕ, suc, ◌<◌, ◌≤◌, ◌&&◌, Bool, true, false, if◌then◌else◌, List, [], ◌∷◌}
 use Rattle.std.specs.Prelude.{length, Option, Some, None, Result, Ok, Err}
-use Rattle.spec_grid.specs.declared.TheConstants.{MAX_SIDE}
 use Rattle.spec_edit.specs.Edit.{Edit, fill, write, filter, copy_rect, fill_mask, fill_channel, set_opacity, set_mode}
 use Rattle.spec_edit.specs.Edit.{set_visible, set_lock_alpha, set_lock_content, set_offset, rename, set_apply_mask, add_mask}
 use Rattle.spec_edit.specs.Edit.{drop_mask, new_layer, new_group, delete, restack, select, select_none, add_channel, drop_channel}
 use Rattle.spec_edit.specs.Edit.{set_colours}
+use Rattle.spec_file.specs.Header.{is_side}
 use Rattle.spec_script.specs.Commands.{are_colours}
-use Rattle.spec_history.specs.Calls.{most_edits}
+use Rattle.spec_history.specs.Calls.{most_edits, IsGroupOfEdits}
 use Rattle.xcf.specs.declared.errors.NotGroup.{NotGroup}
 use Rattle.xcf.specs.declared.errors.NotGroup.TheVariants.{Count, NotPlain}
-
--- so many pixels may be a side of a layer
-abbrev pub is_side : ℕ → Bool
-is_side n = nat_le 1 n && nat_le n MAX_SIDE
 
 abbrev pub is_plain : Edit → Bool
 is_plain (filter id rect slot) = false
@@ -50,8 +46,12 @@ unplain_from place (edit ∷ edits) = if is_plain edit then unplain_from (suc pl
 abbrev pub first_unplain : List Edit → Option ℕ
 first_unplain edits = unplain_from 0 edits
 
--- all edits of the group are plain, or what is wrong with it
+-- 1 to 1024 edits, each within its type, and all of them plain
+abbrev pub IsPlainGroup : List Edit → Type 0
+IsPlainGroup edits = IsGroupOfEdits edits × (first_unplain edits ≡ None)
+
+-- it is a group of plain edits, or what is wrong with it
 abbrev pub IsChecked : List Edit → Result (Unit {0}) NotGroup → Type 0
-IsChecked edits (Ok done) = first_unplain edits ≡ None
+IsChecked edits (Ok done) = IsPlainGroup edits
 IsChecked edits (Err Count) = (edits ≡ []) ⊎ (most_edits < length edits)
 IsChecked edits (Err (NotPlain place)) = (length edits ≤ most_edits) × (first_unplain edits ≡ Some place)

@@ -1,7 +1,8 @@
-ghost use Rattle.std.specs.Prelude.{◌≡◌, ◌<◌, [], None, IfOk, IfErr, OnErr};
+ghost use Rattle.std.specs.Prelude.{◌≡◌, ◌<◌, [], None, IfOk, IfErr, OnOk, OnErr};
 ghost use Rattle.spec_history.specs.Machine as machine;
 ghost use Rattle.xcf.specs.Asked.{IsPlainCall, Fails};
 ghost use Rattle.xcf.specs.Opened.{Opens, history_of};
+ghost use Rattle.xcf.specs.Plain.{IsPlainGroup};
 ghost use Rattle.xl_standing.specs.History.{Answers, document, version};
 ghost use Rattle.xl_edit.specs.Calls.{call_of};
 ghost use Rattle.xl_edit.specs.Edits.{edits_of};
@@ -100,6 +101,7 @@ impl Editor {
     pub fn edit(&mut self, alloc: Global, edits: Edits) -> Result<Reply, NotAsked>
         ensures answered { IfOk result (λ reply.
             Answers self.old 0 (machine.edit None (edits_of edits)) [] (reply_of reply) self.new) }
+        ensures group { OnOk result (IsPlainGroup (edits_of edits)) }
         ensures fails { IfErr result (Fails (edits_of edits)) }
         ensures as_before { OnErr result (self.new ≡ self.old) }
     {

@@ -38,8 +38,8 @@ pub enum NotEdited {
     Memory,
     #[error("no group: {0}")]
     NotGroup(NotGroup),
-    /// The image has used up the ids of 32 bits that new nodes get.
-    #[error("the ids of new nodes are used up")]
+    /// At most 1024 ids are left for new nodes, which get those up to 2^32 - 2.
+    #[error("at most 1024 ids are left for new nodes")]
     NoIds,
     /// The first edit that is refused, counted from 0, and why.
     #[error("edit {index} is refused: {cause}")]

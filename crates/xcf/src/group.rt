@@ -4,16 +4,17 @@ ghost use Rattle.std.specs.List.{AllByRecursion};
 ghost use Rattle.spec_document.specs.Limits.{AreBytes};
 ghost use Rattle.spec_edit.specs.Edit as edits;
 ghost use Rattle.spec_edit.specs.Edit.{IsEdit};
-ghost use Rattle.spec_history.specs.Calls.{IsGroupOfEdits};
+ghost use Rattle.spec_file.specs.Header.{is_side};
 ghost use Rattle.spec_script.specs.Commands.{are_colours};
 ghost use Rattle.spec_tables.specs.Agrees.{AreThere};
-ghost use Rattle.xcf.specs.Plain.{is_side, is_plain, first_unplain, IsChecked};
+ghost use Rattle.xcf.specs.Plain.{is_plain, first_unplain, IsChecked};
 ghost use Rattle.xl_edit.specs.Edits.{edit_of, edits_of};
 
 use crate::errors::NotGroup;
 use spec_history::MAX_EDITS;
 use xl_doc::{Bytes, MAX_SIDE};
 use xl_edit::Edit;
+use xl_standing::know_bytes;
 
 fn is_side(pixels: u32) -> bool
     ensures { result ≡ is_side pixels }
@@ -36,8 +37,8 @@ fn are_sides(w: u32, h: u32) -> bool
     is_side(w) && is_side(h)
 }
 
-/// Whether an edit needs nothing beside it: it is no filter, and within the limits of its type.
-pub(crate) fn is_plain(edit: &Edit) -> bool
+// Whether an edit needs nothing beside it: it is no filter, and within the limits of its type.
+fn is_plain(edit: &Edit) -> bool
     ensures { result ≡ is_plain (edit_of edit.now) }
 {
     match edit {
@@ -73,14 +74,7 @@ pub(crate) fn is_plain(edit: &Edit) -> bool
 fn know(bytes: &Bytes)
     ensures { AreBytes bytes.now }
 {
-    know_slice(bytes.as_slice());
-}
-
-/// The same of a slice.
-pub(crate) fn know_slice(bytes: &[u8])
-    ensures { AreBytes bytes.now }
-{
-    let _len = bytes.len();
+    know_bytes(bytes.as_slice());
 }
 
 fn know_byte(value: u8)
@@ -95,8 +89,8 @@ fn know_colours(bytes: &Bytes)
     know(bytes);
 }
 
-/// Tells contracts that a plain edit is within the limits of its type.
-pub(crate) fn know_edit(edit: &Edit)
+// Tells contracts that a plain edit is within the limits of its type.
+fn know_edit(edit: &Edit)
     requires { is_plain (edit_of edit.now) ≡ true }
     ensures { IsEdit (edit_of edit.now) }
 {
@@ -151,7 +145,6 @@ fn first_unplain(edits: &[Edit]) -> Option<usize>
 /// Errors: `Count`, or else `NotPlain` with the first edit that is a filter or past its limits, counted from 0.
 pub fn check_group(edits: &[Edit]) -> Result<(), NotGroup>
     ensures checked { IsChecked (edits_of edits.now) result }
-    ensures group { OnOk result (IsGroupOfEdits (edits_of edits.now)) }
     ensures there { OnOk result (AreThere [] (edits_of edits.now)) }
 {
     if edits.is_empty() || edits.len() > MAX_EDITS as usize {

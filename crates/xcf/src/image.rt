@@ -1,4 +1,5 @@
 ghost use Rattle.std.specs.Prelude.{◌≡◌, IfOk};
+ghost use Rattle.spec_document.specs.Limits.{AreBytes};
 ghost use Rattle.spec_edit.specs.Edit as edits;
 ghost use Rattle.spec_filters.specs.Filters.{table_of};
 ghost use Rattle.xcf.specs.Opened.{Opens, image_of};
@@ -8,14 +9,14 @@ ghost use Rattle.xl_edit.specs.Edits.{edits_of};
 
 use crate::errors::{NotEdited, NotOpened};
 use crate::group::check_group;
-use crate::making::{first_table, make_all};
 use crate::opening::open;
 use spec_history::MAX_EDITS;
 use std::alloc::Global;
 use std::marker::Model;
 use xl_doc::{Document, NodeId, Rect};
 use xl_edit::{Edit, EditRefusedOrMemory, apply};
-use xl_filters::FilterKind;
+use xl_filters::{FilterKind, FilterState, Table, Tables};
+use xl_standing::{GroupRefusedOrMemory, Made, know_table, next_id_of, try_group};
 
 /// A document, and the id that its next new node gets, which is above all ids that it has or had.
 #[derive(Drop)]
@@ -39,6 +40,20 @@ impl Model for Image {
     ghost invariant = { λ i. IsAt (record { document = i.document; next = i.next_id }) };
 }
 
+// The table of a filter that was never used: for each byte the byte that takes its place.
+fn first_table(kind: FilterKind, amount: u8) -> Table
+    ensures table { result ≡ table_of (record { kind = kind; amount = amount; uses = 0 }) }
+    ensures bytes { AreBytes result }
+{
+    let table = Table::of(FilterState {
+        kind,
+        amount,
+        uses: 0,
+    });
+    know_table(&table);
+    table
+}
+
 impl Image {
     /// The image that a file holds, from the file's bytes. Its tiles stay in these bytes and are unpacked as they are looked at.
     ///
@@ -56,7 +71,7 @@ impl Image {
         requires { AreNumbered document.nodes }
         ensures { result ≡ image_of document }
     {
-        let next_id = document.tree.greatest_id() + 1;
+        let next_id = next_id_of(&document);
         Image { document, next_id }
     }
 
@@ -70,9 +85,9 @@ impl Image {
     /// Makes a group of 1 to 1024 edits in turn, all or none. Filters are made by [`Image::filter`].
     ///
     /// Errors, after each of which the image is as before: `Refused` with the first edit that is refused and why, `NotGroup` for no
-    /// edits, too many, a filter among them, or one that is past the limits of its type, `NoIds` where fewer than 1024 ids for new
-    /// nodes are left, `Memory`.
-    #[tactic(auto, using(crate::proofs::Outcomes::not_made))]
+    /// edits, too many, a filter among them, or one that is past the limits of its type, `NoIds` where at most 1024 ids are left
+    /// for new nodes, `Memory`.
+    #[tactic(auto, using(crate::proofs::Plain::few, crate::proofs::Plain::each, crate::proofs::Plain::no_tables, crate::proofs::Plain::bare))]
     pub fn edit(&mut self, alloc: Global, edits: &[Edit]) -> Result<(), NotEdited>
         ensures { Edits self.old self.new (edits_of edits.now) result }
     {
@@ -80,11 +95,23 @@ impl Image {
         if self.next_id >= u32::MAX - MAX_EDITS {
             return Err(NotEdited::NoIds);
         }
-        let mut document = self.document.share(alloc)?;
-        let mut next_id = self.next_id;
-        make_all(alloc, &mut document, &mut next_id, edits)?;
-        *self = Image { document, next_id };
-        Ok(())
+        let tables = Tables::new(alloc);
+        match try_group(alloc, &self.document, self.next_id, edits, tables) {
+            Ok(made) => {
+                let Made {
+                    document,
+                    next_id,
+                    ..
+                } = made;
+                *self = Image { document, next_id };
+                Ok(())
+            }
+            Err(GroupRefusedOrMemory::Refused { index, cause }) => Err(NotEdited::Refused {
+                index,
+                cause,
+            }),
+            Err(GroupRefusedOrMemory::Memory) => Err(NotEdited::Memory),
+        }
     }
 
     /// Puts the colour bytes in a rectangle of a layer, in its own coordinates, through a filter that was never used, and through

@@ -9,7 +9,6 @@ mod editor;
 mod errors;
 mod group;
 mod image;
-mod making;
 mod no_shelf;
 mod opening;
 mod showing;

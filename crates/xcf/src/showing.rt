@@ -1,9 +1,8 @@
-ghost use Rattle.std.specs.Prelude.{◌≡◌, ◌*◌, ◌<◌, IfOk, IsSome, IsTrue, OnOk, Ok, length};
+ghost use Rattle.std.specs.Prelude.{◌≡◌, IfOk, IsSome, IsTrue, OnOk, Ok, length};
 ghost use Rattle.spec_document.specs.Document.{renumber};
 ghost use Rattle.spec_file.specs.Reading.{reading};
 ghost use Rattle.spec_forest.specs.Forest.{stack_at};
 ghost use Rattle.spec_grid.specs.Grid.{is_on_grid};
-ghost use Rattle.spec_history.specs.Machine.{has_stack as document_has_stack};
 ghost use Rattle.spec_layout.specs.Layout.{Written};
 ghost use Rattle.spec_picture.specs.Picture.{picture_bytes, project};
 ghost use Rattle.xcf.specs.Shown.{Shows};
@@ -15,23 +14,8 @@ use std::sync::ledger::{Blank, Ledger};
 use xl_blend::Steps;
 use xl_compose::{Picture, Recompose, recompose_tile};
 use xl_doc::{Document, NodeId, Pictures, Rect, TileAt};
-use xl_grid::grid;
+use xl_standing::{has_stack, has_tile};
 use xl_write::{Kept, encode};
-
-// Whether the document has this stack.
-fn has_stack(document: &Document, node: NodeId) -> bool
-    ensures { result ≡ document_has_stack document.now node.0 }
-{
-    document.tree.stack(node).is_some()
-}
-
-// Whether the canvas has this tile.
-fn has_tile(document: &Document, at: TileAt) -> bool
-    ensures { result ≡ is_on_grid document.now.width document.now.height at }
-{
-    let (columns, rows) = grid(document.width, document.height);
-    at.col < columns && at.row < rows
-}
 
 // The picture of a tile that is there, with a counter of steps of its own.
 fn compose_tile<L: Ledger>(

@@ -1,7 +1,6 @@
-ghost use Rattle.std.specs.Prelude.{◌≡◌, ◌<◌, ◌-◌, ◌^◌, ◌⊎◌, [], IfOk, IsSome, Some};
+ghost use Rattle.std.specs.Prelude.{◌≡◌, ◌<◌, ◌⊎◌, [], IfOk, IsSome, Some};
 ghost use Rattle.spec_command.specs.Arguments.{flatten as flatten_of};
 ghost use Rattle.spec_document.specs.Document.{Document as Plain};
-ghost use Rattle.spec_document.specs.Ids.{next_id};
 ghost use Rattle.spec_layout.specs.Layout.{Written};
 ghost use Rattle.xl_doc.specs.Numbered.{AreNumbered};
 ghost use Rattle.xl_program.specs.Flattening.{made_flat, GivesGroup, IsFlatGroup, SavesAndTells};
@@ -25,6 +24,7 @@ use xl_ports::{Shelf, Sink, write_all};
 use xl_rle::Kept;
 use xl_sessions::desk_of;
 use xl_snapshot::{file_of, save_file};
+use xl_standing::next_id_of;
 
 /// The session that makes the group.
 const SESSION: u8 = 0;
@@ -76,15 +76,6 @@ pub fn flatten<K: Sink, D: Shelf>(alloc: Global, name: &str, sink: &mut K, mut s
     };
     let result = save_flat(&file, sink, &mut shelf);
     Done { result, shelf }
-}
-
-// The id that the next new node of a document gets.
-fn next_id_of(document: &Document) -> u32
-    requires { AreNumbered document.now.nodes }
-    ensures next { result ≡ next_id document.now }
-    ensures another { result < 2 ^ 32 - 1 }
-{
-    document.tree.greatest_id() + 1
 }
 
 // The group that makes a document flat.

@@ -1,5 +1,5 @@
 -- One more edit is plain.
-use Rattle.std.proofs.Common.{◌≡◌, ℕ, ◌<◌, true, length, rules}
+use Rattle.std.proofs.Common.{◌≡◌, ◌<◌, true, length, rules}
 use Rattle.xl_edit.specs.Edits.{edit_of}
 use Rattle.xcf.specs.Plain.{is_plain}
 use Rattle.xcf.proofs.Checking.{goes_by}
