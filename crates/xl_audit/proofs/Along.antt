@@ -1,30 +1,28 @@
 -- The walk along the order, word by word.
-use Rattle.std.proofs.Common.{◌≡◌, ℕ, zero, suc, ◌+◌, ◌<◌, ◌≤◌, ◌^◌, Bool, true, false, List, [], ◌∷◌, ◌++◌, length, map, refl, sym, ◌∙◌, ap}
+use Rattle.std.proofs.Common.{◌≡◌, ℕ, zero, suc, ◌+◌, ◌<◌, ◌^◌, Bool, true, false, List, [], ◌∷◌, ◌++◌, length, map, refl, sym, ◌∙◌, ap}
 use Rattle.std.proofs.Common.{subst, arith, inl, inr, get_or}
-use Rattle.std.specs.Prelude.{◌==◌, Option, Some, None, is_some, slice_get, slice_set, slice_index, unwrap_or, IfSome, MatchBool}
+use Rattle.std.specs.Prelude.{Option, Some, None, is_some, slice_get, slice_set, slice_index, unwrap_or}
 use Rattle.std.specs.List.{AllByRecursion}
 use Rattle.std.proofs.lemmas.Bool.Decides.{eqb_tells}
 use Rattle.std.proofs.lemmas.List.{length-set, get_or-set_same, get_or-set_other}
-use Rattle.std.proofs.lemmas.Option.{unwrap_or-slice_get}
 use Rattle.spec_document.specs.Document.{Document}
 use Rattle.spec_filters.specs.declared.FilterState.{FilterState}
 use Rattle.spec_history.specs.Machine as machine
 use Rattle.spec_history.specs.Machine.{Saving}
-use Rattle.spec_history.specs.History.{Entry, replay, mine, is_end_kind}
+use Rattle.spec_history.specs.History.{Entry, replay}
 use Rattle.spec_script.specs.Fits.{FitsFilters}
 use Rattle.spec_script.specs.Script as lines
 use Rattle.spec_script.specs.Script.{Line}
 use Rattle.spec_tables.specs.Agrees.{Agrees, SameSlots}
 use Rattle.spec_text.specs.declared.OrderWord.{OrderWord}
 use Rattle.spec_text.specs.Text.{is_save_memory}
-use Rattle.spec_audit.specs.Output.{Printed, Output, IsText, IsPrinted, IsMerge, IsShaped, AreReplies, calls_for, is_save, names_save}
-use Rattle.spec_audit.specs.Walk.{Start, call_at, printed_at, entry_at, Passes, AllPass, FailsAt}
+use Rattle.spec_audit.specs.Output.{Printed, Output, IsText, IsPrinted, IsMerge, IsShaped, calls_for, is_save}
+use Rattle.spec_audit.specs.Walk.{Start, call_at, printed_at, entry_at}
 use Rattle.spec_audit.proofs.Going.{filters_elsewhere}
 use Rattle.spec_audit.proofs.Links.{IsCallLine}
 use Rattle.spec_audit.proofs.Long.{walked_few}
 use Rattle.spec_audit.proofs.Merged.{all_get, merge_named, call_line, names_save_at}
-use Rattle.spec_audit.proofs.Walking.{Walked, OutFits, walked_begin, walked_more, walked_fails, walked_all, walked_index, walked_out}
-use Rattle.xl_standing.specs.Now.{Stands}
+use Rattle.spec_audit.proofs.Walking.{Walked, OutFits, walked_begin, walked_more, walked_index, walked_out}
 use Rattle.xl_standing.proofs.GoesOn.{few-versions, few_made, kept-stands}
 use Rattle.xl_standing.proofs.Ids.{has_ids}
 use Rattle.xl_audit.specs.Auditing.{filters_in, IsFull}

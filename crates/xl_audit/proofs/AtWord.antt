@@ -1,5 +1,5 @@
 -- The loop along an order, as it goes over desks and over a list that is the order.
-use Rattle.std.proofs.Common.{◌≡◌, ℕ, ◌+◌, ◌<◌, ◌≤◌, ◌^◌, Bool, true, false, List, [], length, map, sym, ◌∙◌, ap, subst, refl, arith, get_or}
+use Rattle.std.proofs.Common.{◌≡◌, ℕ, ◌+◌, ◌<◌, ◌≤◌, ◌^◌, Bool, true, false, List, [], length, map, ap, subst, refl, arith, get_or}
 use Rattle.std.specs.Prelude.{Option, slice_index, slice_set}
 use Rattle.std.specs.List.{AllByRecursion}
 use Rattle.std.proofs.lemmas.List.{length-map}

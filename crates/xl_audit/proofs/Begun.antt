@@ -1,13 +1,13 @@
 -- A walk that has not begun.
-use Rattle.std.proofs.Common.{◌≡◌, ℕ, zero, suc, ◌<◌, Bool, List, [], ◌∷◌, length, refl, sym, ap, subst, replicate}
-use Rattle.std.specs.Prelude.{slice_index, Option, None, Some}
+use Rattle.std.proofs.Common.{◌≡◌, ℕ, zero, suc, Bool, List, [], ◌∷◌, refl, sym, subst, replicate}
+use Rattle.std.specs.Prelude.{slice_index}
 use Rattle.spec_document.specs.Document.{Document}
 use Rattle.spec_document.specs.Limits.{IsDocument}
 use Rattle.spec_world.specs.Exact.{SlotsAreExact}
 use Rattle.spec_world.proofs.Exact.{starts-exact}
 use Rattle.xl_doc.specs.Numbered.{AreNumbered}
 use Rattle.spec_history.specs.Machine.{initial}
-use Rattle.xl_standing.specs.Now.{Now, first_now, world_of, Stands}
+use Rattle.xl_standing.specs.Now.{Now, first_now, world_of}
 use Rattle.xl_standing.proofs.Opened.{stands_opened}
 use Rattle.xl_audit.specs.Versions.{with_share, HasVersions}
 use Rattle.xl_audit.specs.Walking.{HasCome}

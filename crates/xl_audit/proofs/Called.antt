@@ -1,51 +1,36 @@
 -- A call other than a peek passes, and the walk has come through its entry, or it fails.
-use Rattle.std.proofs.Common.{◌≡◌, ℕ, ◌+◌, ◌<◌, ◌≤◌, Bool, true, false, cond, not, List, [], ◌∷◌, ◌++◌, length, refl, sym, ◌∙◌}
-use Rattle.std.proofs.Common.{ap, subst, arith, inl, inr}
-use Rattle.std.specs.Prelude.{Option, Some, None, slice_index, slice_set, IfSome, MatchBool, option_map, slice_get, unwrap_or}
-use Rattle.std.proofs.lemmas.List.{length-set}
-use Rattle.std.proofs.lemmas.Bool.Decides.{eqb_tells}
-use Rattle.spec_grid.specs.declared.TileAt.{TileAt}
-use Rattle.spec_grid.specs.Grid.{is_on_grid}
+use Rattle.std.proofs.Common.{◌≡◌, ℕ, ◌+◌, ◌<◌, Bool, true, false, List, [], ◌∷◌, ◌++◌, length, refl, sym, ◌∙◌}
+use Rattle.std.proofs.Common.{ap, subst, arith}
+use Rattle.std.specs.Prelude.{Option, slice_index, slice_set, MatchBool, slice_get, unwrap_or}
 use Rattle.spec_document.specs.Document.{Document}
-use Rattle.spec_picture.specs.Picture.{project}
 use Rattle.spec_filters.specs.declared.FilterState.{FilterState}
-use Rattle.spec_cache.specs.Cache as cache
 use Rattle.spec_history.specs.Calls.{IsCall, most_entries}
 use Rattle.spec_history.specs.Machine as machine
-use Rattle.spec_history.specs.Machine.{Call, Reply, State, Saving, latest, document_at, answer, has_stack, tile_reply, tile_of}
-use Rattle.spec_history.specs.History.{Entry, Kind, asked, starts, ends, replay, next_index, is_changed, mine, document_of, IsStep, EndsWith}
-use Rattle.spec_history.specs.Kept.{kept, PeekMeetsKept}
-use Rattle.spec_history.proofs.Canvas.{canvas-document}
-use Rattle.spec_history.proofs.Growing.{replay-snoc}
+use Rattle.spec_history.specs.Machine.{Call, Reply, latest, answer}
+use Rattle.spec_history.specs.History.{Entry, asked, replay, is_changed}
 use Rattle.spec_script.specs.Script as lines
-use Rattle.spec_script.specs.Script.{Line}
 use Rattle.spec_tables.specs.Agrees.{Agrees}
-use Rattle.spec_tables.specs.Tables.{edits_made, expected_tables, tables_for, filters_after, filters_along}
+use Rattle.spec_tables.specs.Tables.{edits_made, expected_tables, tables_for}
 use Rattle.spec_tables.proofs.Made.{tables_made, filters_made}
 use Rattle.spec_text.specs.declared.OrderWord.{OrderWord}
-use Rattle.spec_text.specs.Text.{digest_of, shown_digest, is_save_memory}
+use Rattle.spec_text.specs.Text.{shown_digest}
 use Rattle.spec_world.specs.World.{entries_owed}
 use Rattle.spec_world.specs.Events as events
 use Rattle.xl_marks.proofs.Between.{leaves-between}
 use Rattle.xl_marks.proofs.Joined.{group-joined}
 use Rattle.spec_audit.specs.Output.{Printed, Output}
 use Rattle.spec_audit.specs.Reading.{plain}
-use Rattle.spec_audit.specs.Walk.{Start, call_at, printed_at, entry_at, seen_by, IsAllowed, Passes}
-use Rattle.spec_audit.specs.Deciding.{IsPlainCall, IsPlain, PeekPasses}
-use Rattle.spec_audit.proofs.Decides.{plain_passes, passes_plain, peek_passes, passes_peek, seen_latest}
-use Rattle.spec_audit.proofs.Pieces.{and_parts, and_both}
+use Rattle.spec_audit.specs.Walk.{Start, call_at, printed_at, entry_at, IsAllowed}
+use Rattle.spec_audit.specs.Deciding.{IsPlainCall}
+use Rattle.spec_audit.proofs.Decides.{plain_passes, passes_plain}
 use Rattle.spec_audit.proofs.Going as going
 use Rattle.xl_standing.specs.Now.{Now, world_of, Stands}
 use Rattle.xl_standing.proofs.GoesOn.{GoesOn, goes_on, shows}
-use Rattle.xl_standing.proofs.Pictures.{is_right}
-use Rattle.xl_standing.proofs.SaveEntries.{stands_started, stands_ended}
-use Rattle.xl_audit.specs.Judging.{peek_fits, end_fits, digest_with, Decides, shows_of, shows_version, PeekIsRight}
-use Rattle.xl_audit.specs.Versions.{share_at, version_named, version_shown, WantsIfAny, is_wanted}
-use Rattle.xl_audit.specs.Walking.{HasCome, IsNextWord, IsJudged, IsCounted, IsCalled, MayStand, filters_at}
+use Rattle.xl_audit.specs.Judging.{digest_with}
+use Rattle.xl_audit.specs.Walking.{HasCome, IsNextWord, IsJudged, IsCounted, IsCalled, filters_at}
 use Rattle.xl_audit.specs.declared.walk.Walk.{Walk}
-use Rattle.xl_audit.proofs.Entering.{come_quietly, come_called, stands_peeked, out_called, entry_peek}
-use Rattle.xl_audit.proofs.Judged.{IsThereAt, fits_peek, peek_is_fit, fits_end, end_is_fit}
-use Rattle.xl_audit.proofs.Shown.{same_bytes, bytes_same, called_digest, kept_is}
+use Rattle.xl_audit.proofs.Entering.{come_called}
+use Rattle.xl_audit.proofs.Shown.{called_digest}
 
 version_now : (base : Document) (es : List Entry) (now : Now) (made : List ℕ) → Stands base es now made
     → now.version ≡ latest (replay base es)

@@ -1,18 +1,13 @@
 -- Desks for the sessions, one after another.
-use Rattle.std.proofs.Common.{◌≡◌, ℕ, zero, suc, ◌+◌, ◌-◌, ◌<◌, ◌≤◌, List, [], ◌∷◌, ◌++◌, length, map, replicate, refl, sym, ◌∙◌, ap, subst, arith, get_or}
+use Rattle.std.proofs.Common.{◌≡◌, ℕ, zero, suc, ◌-◌, ◌<◌, ◌≤◌, List, [], ◌∷◌, ◌++◌, length, map, replicate, refl, sym, ◌∙◌, ap, arith, get_or}
 use Rattle.std.proofs.Common.{append_assoc, append-nil, length-append}
 use Rattle.std.specs.Prelude.{Option, slice_get, slice_set, unwrap_or}
-use Rattle.std.proofs.lemmas.List.{length-map}
-use Rattle.std.proofs.lemmas.Option.{unwrap_or-slice_get}
+use Rattle.std.proofs.lemmas.List.{length-map, map_push, get_or-map, get_or_default}
 use Rattle.spec_filters.specs.declared.FilterState.{FilterState}
 use Rattle.xl_filters.specs.declared.chest.Chest.{Chest}
 use Rattle.xl_filters.specs.Chests.{states_in}
 use Rattle.xl_standing.specs.declared.desk.Desk.{Desk}
 use Rattle.xl_audit.specs.Auditing.{padded}
-
-map_more : {D X : Type 0} (f : D → X) (ds : List D) (d : D) → map f (ds ++ d ∷ []) ≡ map f ds ++ f d ∷ []
-map_more f [] d = refl
-map_more f (x ∷ ds) d = ap (λ xs. f x ∷ xs) (map_more f ds d)
 
 -- ---- a desk for each chest
 
@@ -22,7 +17,7 @@ pub desks_more : {D C X : Type 0} (f : D → X) (g : C → X) (desks new : List 
     → map f new ++ map g more ≡ map g all
 desks_more f g desks new rest more all d c so_far next pushed same =
     ap (λ ds. map f ds ++ map g more) pushed
-    ∙ (ap (λ xs. xs ++ map g more) (map_more f desks d)
+    ∙ (ap (λ xs. xs ++ map g more) (map_push f desks d)
     ∙ (append_assoc (map f desks) (f d ∷ []) (map g more)
     ∙ (ap (λ x. map f desks ++ x ∷ map g more) same
     ∙ (ap (λ cs. map f desks ++ map g cs) (sym next) ∙ so_far))))
@@ -86,19 +81,9 @@ pub desk_written : {D X : Type 0} (f : D → X) (ds new : List D) (i : ℕ) (d :
     → map f new ≡ slice_set (map f ds) i (f d)
 desk_written f ds new i d is = ap (map f) is ∙ map_set f ds i d
 
-map_at : {D X : Type 0} (f : D → X) (ds : List D) (i : ℕ) (d : D) (e : X) → i < length ds → get_or (map f ds) i e ≡ f (get_or ds i d)
-map_at f [] i d e lt = absurd (omega (arith, lt))
-map_at f (x ∷ ds) zero d e lt = refl
-map_at f (x ∷ ds) (suc i) d e lt = map_at f ds i d e (omega (arith, lt))
-
 pub desk_at : {D X : Type 0} (f : D → X) (ds : List D) (i : ℕ) (d : D) (e : X) → i < length ds → d ≡ get_or ds i d
     → get_or (map f ds) i e ≡ f d
-desk_at f ds i d e lt is = map_at f ds i d e lt ∙ ap f (sym is)
-
-any_default : {D : Type 0} (ds : List D) (i : ℕ) (d e : D) → i < length ds → get_or ds i d ≡ get_or ds i e
-any_default [] i d e lt = absurd (omega (arith, lt))
-any_default (x ∷ ds) zero d e lt = refl
-any_default (x ∷ ds) (suc i) d e lt = any_default ds i d e (omega (arith, lt))
+desk_at f ds i d e lt is = get_or-map f ds i d e lt ∙ ap f (sym is)
 
 -- ---- desks, as a walk sees them
 
@@ -134,7 +119,7 @@ module _ {X : Type 0} {H : X → Type 0} (state : (x : X) × H x → FilterState
   chests_padded desks new d lt pushed none =
       let long = length-map desks chest_of in
       ap (λ (ds : List (Desk X H)). padded (chests_of ds)) pushed
-      ∙ (ap padded (map_more chest_of desks d)
+      ∙ (ap padded (map_push chest_of desks d)
       ∙ (ap (λ (c : List (Option FilterState)). padded (chests_of desks ++ c ∷ [])) none
       ∙ padded_more (chests_of desks) (omega (arith, long, lt))))
 
@@ -156,7 +141,7 @@ module _ {X : Type 0} {H : X → Type 0} (state : (x : X) × H x → FilterState
   -- the chest of the desk at a place, and the chests once that desk is written
   pub chest_at : (desks : List (Desk X H)) (i : ℕ) (d e : Desk X H) → i < length desks → d ≡ get_or desks i e
       → chest_of d ≡ get_or (chests_of desks) i []
-  chest_at desks i d e lt is = sym (desk_at chest_of desks i d [] lt (is ∙ any_default desks i e d lt))
+  chest_at desks i d e lt is = sym (desk_at chest_of desks i d [] lt (is ∙ get_or_default desks i e d lt))
 
   pub chest_written : (desks new : List (Desk X H)) (i : ℕ) (d : Desk X H) → new ≡ slice_set desks i d
       → chests_of new ≡ slice_set (chests_of desks) i (chest_of d)

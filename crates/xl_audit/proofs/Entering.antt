@@ -1,5 +1,5 @@
 -- A walk comes through one entry more.
-use Rattle.std.proofs.Common.{◌≡◌, ℕ, ◌+◌, ◌<◌, ◌≤◌, Bool, true, false, cond, List, [], ◌∷◌, ◌++◌, length, refl, sym, ◌∙◌}
+use Rattle.std.proofs.Common.{◌≡◌, ℕ, ◌+◌, ◌<◌, Bool, true, false, cond, List, [], ◌∷◌, ◌++◌, length, refl, sym, ◌∙◌}
 use Rattle.std.proofs.Common.{ap, subst, arith, length-append}
 use Rattle.std.specs.Prelude.{Option, Some, None, slice_index, slice_set, IfSome}
 use Rattle.std.proofs.lemmas.List.{length-set}
@@ -8,8 +8,8 @@ use Rattle.spec_document.specs.Document.{Document}
 use Rattle.spec_history.specs.Calls.{most_entries}
 use Rattle.spec_history.specs.Limited.{AsksCall}
 use Rattle.spec_history.specs.Machine as machine
-use Rattle.spec_history.specs.Machine.{Call, Reply, State, Saving, latest, document_at, answer}
-use Rattle.spec_history.specs.History.{Entry, asked, replay, next_index, is_changed, latest_of, document_of, IsStep}
+use Rattle.spec_history.specs.Machine.{Call, Reply, State, Saving, latest, document_at}
+use Rattle.spec_history.specs.History.{Entry, asked, replay, is_changed, IsStep}
 use Rattle.spec_history.specs.Kept.{PeekMeetsKept, shown_version}
 use Rattle.spec_history.proofs.Growing.{AsksCall-last, replay-snoc, latest_of-snoc, document_of-append}
 use Rattle.spec_history.proofs.Versions.{latest_of-legal}
@@ -18,7 +18,6 @@ use Rattle.spec_world.specs.Exact.{SlotsAreExact}
 use Rattle.spec_world.specs.Events.{submits}
 use Rattle.spec_world.proofs.Exact.{next-entry, stays-exact}
 use Rattle.spec_world.proofs.StaysExact.{stays-so}
-use Rattle.spec_audit.specs.Walk.{seen_by}
 use Rattle.spec_audit.proofs.Going.{seen_set}
 use Rattle.xl_standing.specs.Now.{Now, now_of, world_of, Stands}
 use Rattle.xl_standing.proofs.GoesOn.{GoesOn, counted, out-call, submitted}

@@ -1,7 +1,7 @@
 -- The loop along an order: how it begins, a word more, and how it ends.
-use Rattle.std.proofs.Common.{◌≡◌, ℕ, ◌+◌, ◌-◌, ◌<◌, ◌≤◌, ◌^◌, Bool, true, false, List, [], ◌∷◌, ◌++◌, length, map, refl, sym, ◌∙◌, ap}
-use Rattle.std.proofs.Common.{subst, arith, get_or}
-use Rattle.std.specs.Prelude.{Option, Some, None, slice_get, slice_set, slice_index, unwrap_or}
+use Rattle.std.proofs.Common.{◌≡◌, ℕ, ◌+◌, ◌-◌, ◌<◌, ◌≤◌, ◌^◌, Bool, true, false, List, [], length, map, refl, sym, ◌∙◌, ap}
+use Rattle.std.proofs.Common.{subst, get_or}
+use Rattle.std.specs.Prelude.{Option, slice_set, slice_index}
 use Rattle.std.specs.List.{AllByRecursion}
 use Rattle.spec_document.specs.Document.{Document}
 use Rattle.spec_filters.specs.declared.FilterState.{FilterState}

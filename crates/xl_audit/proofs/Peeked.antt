@@ -1,7 +1,7 @@
 -- A peek passes, and the walk has come through its entry, or it fails.
-use Rattle.std.proofs.Common.{◌≡◌, ℕ, ◌+◌, ◌<◌, ◌≤◌, ◌^◌, Bool, true, false, cond, not, List, [], ◌∷◌, ◌++◌, length, refl, sym, ◌∙◌}
+use Rattle.std.proofs.Common.{◌≡◌, ℕ, ◌+◌, ◌≤◌, Bool, true, false, cond, not, List, [], ◌∷◌, ◌++◌, length, refl, sym, ◌∙◌}
 use Rattle.std.proofs.Common.{ap, subst, arith, inl, inr}
-use Rattle.std.specs.Prelude.{◌&&◌, ◌⊎◌, Option, Some, None, slice_index, slice_set, slice_get, unwrap_or, IfSome, MatchBool, option_map, nat_le}
+use Rattle.std.specs.Prelude.{◌&&◌, Option, slice_index, slice_set, slice_get, unwrap_or, MatchBool, option_map, nat_le}
 use Rattle.std.specs.Str.{bytes_eq}
 use Rattle.std.proofs.lemmas.List.{length-set}
 use Rattle.std.proofs.lemmas.Bool.{leb-true}
@@ -13,22 +13,19 @@ use Rattle.spec_filters.specs.declared.FilterState.{FilterState}
 use Rattle.spec_cache.specs.Cache as cache
 use Rattle.spec_history.specs.Calls.{most_entries}
 use Rattle.spec_history.specs.Machine as machine
-use Rattle.spec_history.specs.Machine.{Reply, State, latest, document_at, answer, has_stack, tile_reply, tile_of}
-use Rattle.spec_history.specs.History.{Entry, asked, replay, next_index, is_changed, document_of, Answers, PeekAnswers, MayPeek}
+use Rattle.spec_history.specs.Machine.{Reply, State, latest, document_at, answer, has_stack, tile_of}
+use Rattle.spec_history.specs.History.{Entry, asked, replay, is_changed, document_of, Answers, PeekAnswers, MayPeek}
 use Rattle.spec_history.specs.Kept.{kept}
 use Rattle.spec_history.proofs.Canvas.{canvas-document}
 use Rattle.spec_history.proofs.Growing.{cond_both}
 use Rattle.spec_script.specs.Script as lines
 use Rattle.spec_tables.specs.Agrees.{Agrees}
-use Rattle.spec_tables.specs.Tables.{expected_tables}
 use Rattle.spec_tables.proofs.Made.{tables_made, filters_made}
 use Rattle.spec_text.specs.declared.OrderWord.{OrderWord}
 use Rattle.spec_text.specs.Text.{digest_of, shown_digest}
-use Rattle.spec_world.specs.World.{entries_owed}
 use Rattle.spec_audit.specs.Output.{Printed, Output}
 use Rattle.spec_audit.specs.Reading.{plain}
 use Rattle.spec_audit.specs.Walk.{Start, call_at, printed_at, entry_at, seen_by, IsAllowed, Passes}
-use Rattle.spec_audit.specs.Deciding.{PeekPasses}
 use Rattle.spec_audit.proofs.Decides.{peek_passes, passes_peek}
 use Rattle.spec_audit.proofs.Pieces.{and_parts, and_both}
 use Rattle.spec_audit.proofs.Going as going
@@ -36,7 +33,7 @@ use Rattle.xl_standing.specs.Now.{Now, world_of, Stands}
 use Rattle.xl_standing.proofs.GoesOn.{few-versions}
 use Rattle.xl_standing.proofs.Pictures.{is_right}
 use Rattle.xl_audit.specs.Judging.{peek_fits, Decides, shows_of, shows_version, PeekIsRight}
-use Rattle.xl_audit.specs.Versions.{share_at, version_named, version_shown, WantsIfAny, is_wanted, HasVersions}
+use Rattle.xl_audit.specs.Versions.{version_named, version_shown, WantsIfAny, HasVersions}
 use Rattle.xl_audit.specs.Walking.{HasCome, IsNextWord, IsJudged, IsCounted, filters_at}
 use Rattle.xl_audit.specs.declared.walk.Walk.{Walk}
 use Rattle.xl_audit.proofs.Entering.{come_quietly, stands_peeked, out_called, entry_peek}

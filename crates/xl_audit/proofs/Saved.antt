@@ -1,10 +1,8 @@
 -- A save's start passes, and its end passes or fails.
-use Rattle.std.proofs.Common.{◌≡◌, ℕ, ◌+◌, ◌<◌, ◌≤◌, Bool, true, false, List, [], ◌∷◌, ◌++◌, length, refl, sym, ◌∙◌, ap, subst, arith}
+use Rattle.std.proofs.Common.{◌≡◌, ℕ, ◌+◌, Bool, true, false, List, [], ◌∷◌, ◌++◌, length, refl, sym, ◌∙◌, ap, subst, arith}
 use Rattle.std.specs.Prelude.{Option, Some, None, slice_index, slice_set, slice_get, unwrap_or, IfSome}
 use Rattle.std.proofs.lemmas.List.{length-set}
-use Rattle.spec_document.specs.Document.{Document}
 use Rattle.spec_filters.specs.declared.FilterState.{FilterState}
-use Rattle.spec_history.specs.Calls.{most_entries}
 use Rattle.spec_history.specs.Machine as machine
 use Rattle.spec_history.specs.Machine.{Reply, State, Saving, latest}
 use Rattle.spec_history.specs.History.{Entry, starts, ends, replay, is_changed, EndsWith}
@@ -13,8 +11,8 @@ use Rattle.spec_script.specs.Script as lines
 use Rattle.spec_script.specs.Script.{Line}
 use Rattle.spec_tables.specs.Agrees.{Agrees}
 use Rattle.spec_text.specs.declared.OrderWord.{OrderWord}
-use Rattle.spec_audit.specs.Output.{Printed, Output}
-use Rattle.spec_audit.specs.Walk.{Start, call_at, printed_at, entry_at, IsAllowed, Passes}
+use Rattle.spec_audit.specs.Output.{Output}
+use Rattle.spec_audit.specs.Walk.{Start, call_at, printed_at, entry_at, IsAllowed}
 use Rattle.spec_audit.proofs.Going as going
 use Rattle.xl_standing.specs.Now.{Now, Stands}
 use Rattle.xl_standing.proofs.SaveEntries.{stands_started, stands_ended}

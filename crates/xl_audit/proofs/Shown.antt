@@ -1,5 +1,5 @@
 -- The digest that is printed with a reply, and what is kept of a tile.
-use Rattle.std.proofs.Common.{◌≡◌, ℕ, ◌+◌, ◌≤◌, Bool, true, false, cond, not, List, [], ◌∷◌, ◌++◌, length, refl, sym, ◌∙◌, ap, subst, arith}
+use Rattle.std.proofs.Common.{◌≡◌, ℕ, ◌≤◌, Bool, true, false, cond, not, List, [], ◌∷◌, ◌++◌, refl, sym, ◌∙◌, ap, subst, arith}
 use Rattle.std.specs.Prelude.{◌==◌, ◌&&◌, Option, Some, None, Result, Ok, Err, option_map, option_and_then, is_some}
 use Rattle.std.specs.Str.{bytes_eq}
 use Rattle.std.proofs.Common.{eq-eqb}
@@ -16,7 +16,7 @@ use Rattle.spec_cache.specs.Cache.{slots_of, slot_of}
 use Rattle.spec_cache.proofs.Found.{canvas-found, slot-there}
 use Rattle.spec_history.specs.Machine as machine
 use Rattle.spec_history.specs.Machine.{Call, Reply, State, Done, Answer, latest, document_at, names, stays, made, undo_answer, redo_answer, answer, has_stack, tile_reply, tile_of}
-use Rattle.spec_history.specs.History.{Entry, asked, replay, document_of}
+use Rattle.spec_history.specs.History.{Entry, asked, replay}
 use Rattle.spec_history.specs.Kept as history
 use Rattle.spec_history.specs.Slots.{version_kept, IsExact}
 use Rattle.spec_history.proofs.Growing.{cond_both, document_of-append}

@@ -1,17 +1,15 @@
 -- The versions that the words of an order want.
-use Rattle.std.proofs.Common.{◌≡◌, ℕ, ◌+◌, ◌<◌, ◌≤◌, Bool, true, List, [], ◌∷◌, ◌++◌, length, take, refl, sym, ◌∙◌, subst, get_or}
-use Rattle.std.specs.Prelude.{Option, Some, None, IfSome}
-use Rattle.std.specs.List.{AllByRecursion}
+use Rattle.std.proofs.Common.{◌≡◌, ℕ, ◌+◌, ◌<◌, ◌≤◌, Bool, List, [], ◌∷◌, length, take, sym, subst, get_or}
+use Rattle.std.specs.Prelude.{Option, Some, None}
 use Rattle.std.proofs.Common.{take_all}
 use Rattle.std.proofs.lemmas.List.{take_more}
 use Rattle.spec_document.proofs.Elements.{all-append, all-each}
-use Rattle.spec_history.specs.Calls.{most_entries}
 use Rattle.spec_text.specs.declared.OrderWord.{OrderWord}
 use Rattle.spec_audit.specs.Output.{Printed}
 use Rattle.spec_audit.specs.Walk.{printed_at}
 use Rattle.spec_script.specs.Script.{Line}
 use Rattle.xl_audit.specs.Calls.{line_in}
-use Rattle.xl_audit.specs.Versions.{version_named, is_wanted, WantsIfAny, WantsMore, WantsOfWord, AreWanted}
+use Rattle.xl_audit.specs.Versions.{version_named, WantsIfAny, WantsMore, WantsOfWord, AreWanted}
 
 pub wants_more : (old new : List Bool) (named : Option ℕ) → WantsMore old new → WantsIfAny old named → WantsIfAny new named
 wants_more old new None more wants = tt

@@ -8,7 +8,7 @@ use Rattle.spec_document.specs.Limits.{AreBytes}
 use Rattle.spec_filters.specs.declared.FilterState.{FilterState}
 use Rattle.spec_cache.specs.Cache.{kept}
 use Rattle.spec_history.specs.Calls.{most_edits, most_entries}
-use Rattle.spec_history.specs.Machine.{Call, Reply, Saving, latest}
+use Rattle.spec_history.specs.Machine.{Call, Reply, Saving}
 use Rattle.spec_history.specs.History.{Entry, replay, next_index, mine, is_changed}
 use Rattle.spec_script.specs.Script as lines
 use Rattle.spec_script.specs.Script.{Line}
@@ -24,7 +24,7 @@ use Rattle.xl_standing.specs.Group.{HasIds}
 use Rattle.xl_standing.specs.Now.{Now, at_now, response, world_of, Gives, ShowsNow, IsKeptNow, Stands}
 use Rattle.xl_audit.specs.Calls.{IsNoCall}
 use Rattle.xl_audit.specs.Judging.{digest_with, Decides, PeekIsRight}
-use Rattle.xl_audit.specs.Versions.{shares_after, HasVersions, WantsIfAny, version_named}
+use Rattle.xl_audit.specs.Versions.{shares_after, HasVersions}
 use Rattle.xl_audit.specs.declared.walk.Walk.{Walk}
 
 -- ---- what stands at a place

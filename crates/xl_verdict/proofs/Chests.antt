@@ -1,6 +1,5 @@
 -- The chests of the sessions, one after another.
 use Rattle.std.proofs.Common.{◌≡◌, ℕ, ◌≤◌, List, [], ◌∷◌, ◌++◌, length, map, refl, sym, ◌∙◌, ap, subst, arith}
-use Rattle.std.proofs.Common.{append_assoc, append-nil}
 use Rattle.std.specs.Prelude.{Option, Some, Vec}
 use Rattle.std.specs.declared.alloc.Global.{Global}
 use Rattle.std.specs.List.{AllByRecursion}
@@ -9,6 +8,7 @@ use Rattle.spec_filters.specs.declared.FilterState.{FilterState}
 use Rattle.spec_script.specs.Fits.{FitsFilters}
 use Rattle.spec_script.specs.Script.{Line}
 use Rattle.xl_audit.specs.Auditing.{filters_in, IsFull}
+use Rattle.xl_audit.proofs.Desks.{desks_more, desks_all}
 use Rattle.xl_filters.specs.Chests.{states_of}
 use Rattle.xl_verdict.specs.Judging.{full_chests}
 
@@ -25,10 +25,6 @@ pub record AreUpTo {C B : Type 0} (see : C → List (Option FilterState)) (state
   pub short : AllByRecursion Short rest
 
 module _ {C B : Type 0} (see : C → List (Option FilterState)) (state : B → FilterState) (Short : Vec B Global → Type 0) where
-  map_more : (cs : List C) (c : C) → map see (cs ++ c ∷ []) ≡ map see cs ++ see c ∷ []
-  map_more [] c = refl
-  map_more (x ∷ cs) c = ap (λ (xs : List (List (Option FilterState))). see x ∷ xs) (map_more cs c)
-
   pub chests_begin : (chests : List C) (rest all : List (Vec B Global)) → chests ≡ [] → rest ≡ all → AllByRecursion Short all
       → AreUpTo see state Short chests rest all
   chests_begin chests rest all none is short = record {
@@ -44,12 +40,7 @@ module _ {C B : Type 0} (see : C → List (Option FilterState)) (state : B → F
       → AreUpTo see state Short chests rest all → rest ≡ b ∷ more → new ≡ chests ++ c ∷ [] → see c ≡ boxed state b
       → AreUpTo see state Short new more all
   chests_more chests new rest more all b c up next pushed same = record {
-    so_far =
-        ap (λ (cs : List C). map see cs ++ map (boxed state) more) pushed
-        ∙ (ap (λ (xs : List (List (Option FilterState))). xs ++ map (boxed state) more) (map_more chests c)
-        ∙ (append_assoc (map see chests) (see c ∷ []) (map (boxed state) more)
-        ∙ (ap (λ (x : List (Option FilterState)). map see chests ++ x ∷ map (boxed state) more) same
-        ∙ (ap (λ (bs : List (Vec B Global)). map see chests ++ map (boxed state) bs) (sym next) ∙ up.so_far))));
+    so_far = desks_more see (boxed state) chests new rest more all c b up.so_far next pushed same;
     short = (subst (AllByRecursion Short) next up.short).1;
   }
 
@@ -66,8 +57,7 @@ module _ {C B : Type 0} (see : C → List (Option FilterState)) (state : B → F
   pub chests_all : (chests : List C) (rest all : List (Vec B Global)) → AreUpTo see state Short chests rest all → rest ≡ []
       → map see chests ≡ full_chests (states_of state all)
   chests_all chests rest all up none =
-      sym (append-nil (map see chests))
-      ∙ (ap (λ (bs : List (Vec B Global)). map see chests ++ map (boxed state) bs) (sym none) ∙ (up.so_far ∙ full_of all))
+      desks_all see (boxed state) chests rest all up.so_far none ∙ full_of all
 
 -- ---- what they are
 

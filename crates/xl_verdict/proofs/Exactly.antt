@@ -1,9 +1,7 @@
 -- What is found by full chests is found by their filters, and exactly so.
-use Rattle.std.proofs.Common.{◌≡◌, ℕ, ◌^◌, ◌≤◌, ◌∙◌, List, length, map, ap, subst, arith}
+use Rattle.std.proofs.Common.{◌≡◌, ℕ, ◌∙◌, List, length, map, ap, subst}
 use Rattle.std.specs.Prelude.{Option, IfOk, Result, Ok, Err}
 use Rattle.std.specs.declared.alloc.AllocError.{AllocError}
-use Rattle.std.specs.List.{AllByRecursion}
-use Rattle.spec_document.proofs.Elements.{all-each}
 use Rattle.spec_audit.specs.Limited.{AreNumbers}
 use Rattle.spec_audit.specs.Verdicts.{IsExact, IsVerdict}
 use Rattle.spec_audit.specs.Walk.{Start}
@@ -12,18 +10,13 @@ use Rattle.spec_audit.proofs.Exact.{exact}
 use Rattle.spec_document.specs.Document.{Document}
 use Rattle.spec_document.specs.Limits.{IsDocument}
 use Rattle.spec_filters.specs.declared.FilterState.{FilterState}
-use Rattle.spec_forest.specs.Forest.{ids, size}
 use Rattle.spec_script.specs.Fits.{FitsFilters}
 use Rattle.spec_script.specs.Script.{Line}
 use Rattle.xl_audit.specs.Auditing.{start_of}
 use Rattle.xl_doc.specs.Numbered.{AreNumbered}
+use Rattle.xl_standing.proofs.Opened.{small_ids}
 use Rattle.xl_verdict.specs.Judging.{full_chests, started}
 use Rattle.xl_verdict.proofs.Chests.{full_in}
-
-small_ids : (d : Document) → AreNumbered d.nodes → AllByRecursion (λ id. id ≤ 2 ^ 31) (ids d.nodes)
-small_ids d numbered =
-    let few = numbered.few in
-    all-each (λ id. id ≤ size d.nodes) (λ id. id ≤ 2 ^ 31) (ids d.nodes) (λ id le. omega (arith, le, few)) numbered.within
 
 start_is : (d : Document) (lists : List (List Line)) (chests : List (List (Option FilterState))) (filters : List (List FilterState))
     → chests ≡ full_chests filters → start_of d lists chests ≡ started d lists filters

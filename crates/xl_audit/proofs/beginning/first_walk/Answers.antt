@@ -1,6 +1,4 @@
-use Rattle.std.proofs.Common.{List, [], ◌∙◌, ap}
-use Rattle.std.specs.Prelude.{Bool, Option}
-use Rattle.spec_document.specs.Document.{Document}
+use Rattle.std.proofs.Common.{◌∙◌, ap}
 use Rattle.xl_audit.specs.Versions.{with_share}
 use Rattle.xl_audit.proofs.Begun.{begun}
 use Rattle.xl_audit.proofs.beginning.first_walk.Goals as goal

@@ -1,5 +1,3 @@
-use Rattle.std.proofs.Common.{map}
-use Rattle.xl_filters.specs.Chests.{states_in}
 use Rattle.xl_script.specs.Lines.{lists_of}
 use Rattle.xl_audit.specs.Auditing.{start_of}
 use Rattle.xl_audit.proofs.Along.{IsAlong}

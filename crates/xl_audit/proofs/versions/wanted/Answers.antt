@@ -1,4 +1,4 @@
-use Rattle.std.proofs.Common.{◌≡◌, ◌∙◌, ap, arith}
+use Rattle.std.proofs.Common.{◌≡◌, ◌∙◌, ap}
 use Rattle.spec_audit.specs.Output.{Output}
 use Rattle.xl_audit.proofs.Wanting.{wanted_on}
 use Rattle.xl_audit.proofs.versions.wanted.Goals as goal
