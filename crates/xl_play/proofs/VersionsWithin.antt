@@ -1,5 +1,5 @@
 -- Where nothing was done the document is its only version.
-use Rattle.std.proofs.Common.{ℕ, zero, suc, []}
+use Rattle.std.proofs.Common.{zero, suc, []}
 use Rattle.spec_document.specs.Document.{Document}
 use Rattle.spec_document.specs.Limits.{IsDocument}
 use Rattle.xl_play.specs.Versions.{AreWithin}

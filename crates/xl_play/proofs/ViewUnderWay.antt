@@ -1,5 +1,5 @@
 -- The lines of a script that is viewed, of which some were taken and some are left.
-use Rattle.std.proofs.Common.{◌≡◌, ℕ, ◌+◌, ◌*◌, ◌≤◌, List, [], ◌∷◌, length, map, Some, refl, ap, sym, ◌∙◌, subst}
+use Rattle.std.proofs.Common.{◌≡◌, ℕ, List, [], ◌∷◌, length, map, Some, refl, ap, sym, ◌∙◌, subst}
 use Rattle.std.specs.Prelude.{IsSome, Option, None}
 use Rattle.std.specs.List.{AllByRecursion}
 use Rattle.spec_filters.specs.declared.FilterState.{FilterState}

@@ -1,7 +1,7 @@
 -- The text of a script that is viewed, and how it grows by a call.
-use Rattle.std.proofs.Common.{◌≡◌, ℕ, ◌+◌, ◌≤◌, Bool, true, false, cond, List, [], ◌∷◌, ◌++◌, None, Some, refl, ap, sym, ◌∙◌, subst, arith}
+use Rattle.std.proofs.Common.{◌≡◌, ℕ, ◌+◌, Bool, true, false, cond, List, [], ◌∷◌, ◌++◌, None, Some, refl, ap, sym, ◌∙◌, subst, arith}
 use Rattle.std.proofs.Common.{append-nil, flat_map}
-use Rattle.std.specs.Prelude.{not, Option, IfSome, IsTrue, IfOk, Result, String, string_bytes}
+use Rattle.std.specs.Prelude.{not, Option, IfOk, Result, String, string_bytes}
 use Rattle.std.specs.declared.alloc.AllocError.{AllocError}
 use Rattle.std.specs.declared.alloc.Global.{Global}
 use Rattle.std.specs.List.{AllByRecursion}
@@ -11,7 +11,7 @@ use Rattle.spec_grid.specs.Grid.{is_on_grid}
 use Rattle.spec_document.specs.Document.{Document}
 use Rattle.spec_filters.specs.declared.FilterState.{FilterState}
 use Rattle.spec_history.specs.Machine.{Call, edit, undo, redo, tile, peek, top, Reply, tile_of, no_stack, outside_tile, latest}
-use Rattle.spec_history.specs.Machine.{has_stack, tile_reply, document_at}
+use Rattle.spec_history.specs.Machine.{has_stack, tile_reply}
 use Rattle.spec_history.specs.History.{Entry, Kind, asked, starts, ends, replay, next_index, latest_of, document_of, is_changed}
 use Rattle.spec_history.specs.Kept.{IsLegal}
 use Rattle.spec_history.proofs.Growing.{document_of-append, latest_of-snoc}
@@ -20,7 +20,7 @@ use Rattle.spec_text.specs.Printed.{line_text}
 use Rattle.spec_text.specs.Text.{digest_of}
 use Rattle.spec_text.proofs.Shown.{IsUpTo}
 use Rattle.spec_view.specs.Script.{is_viewed_call}
-use Rattle.spec_view.specs.Text.{IsViewed, of_tile, view_digest, view_line, view_text}
+use Rattle.spec_view.specs.Text.{IsViewed, view_digest, view_line, view_text}
 use Rattle.spec_window.specs.declared.WindowRefused.TheVariants.{NoStack, OutsideTile}
 use Rattle.spec_window.specs.Window.{window, window_refusal}
 use Rattle.xl_core.specs.Editing.{Editing}

@@ -8,7 +8,6 @@ use Rattle.spec_document.specs.Limits.{IsDocument}
 use Rattle.spec_flat.specs.Flat.{flat_refusal}
 use Rattle.spec_flat.specs.Flattened.{BecomesFlat}
 use Rattle.spec_layout.specs.Layout.{Written}
-use Rattle.spec_saves.specs.Shelf.{file_name}
 use Rattle.spec_world.specs.declared.SaveEnd.TheVariants.{Done, Fault}
 use Rattle.xl_edit.specs.declared.call.Group.{Group}
 use Rattle.xl_layout.proofs.Short.{read}

@@ -13,7 +13,7 @@ use Rattle.xl_ports.specs.Faults.{HasCause, Rose}
 use Rattle.xl_ports.specs.State.{ShelfState}
 use Rattle.xl_program.specs.Files.{HoldsDocument, HasLength}
 use Rattle.xl_program.specs.Outcome.{FailsAtShelf, FaultsRose, IsUntouched, opened}
-use Rattle.xl_program.specs.Packing.{IsPacked, MayBePacked}
+use Rattle.xl_program.specs.Packing.{IsPacked}
 use Rattle.xl_program.proofs.FirstSaves.{saves_earlier}
 use Rattle.xl_save.specs.Save.{SavesOnly}
 

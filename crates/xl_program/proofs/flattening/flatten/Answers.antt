@@ -1,4 +1,4 @@
-use Rattle.std.proofs.Common.{◌≡◌, sym, ◌∙◌, ap, arith}
+use Rattle.std.proofs.Common.{◌≡◌, ap, arith}
 use Rattle.xl_program.specs.Flattening.{made_flat, SavesAndTells}
 use Rattle.xl_program.proofs.FlatSaves.{IsFlatRead, flat_comes, flat_cause, flat_read, flat_stops, handed_back, saved_there}
 use Rattle.xl_program.proofs.flattening.flatten.Given as given
