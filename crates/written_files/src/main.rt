@@ -5,21 +5,13 @@
 //! lengths and digests are those of `bench/xcf_written.py`, which knows nothing of the engine.
 #![tactic(auto)]
 
-ghost use Rattle.std.specs.Prelude.{IfSome};
-ghost use Rattle.spec_document.specs.Limits.{IsDocument};
-
 use sha2::{Digest, Sha256};
 use std::alloc::{AllocError, Global};
 use std::process::ExitCode;
-use std::sync::Arc;
 use std::{fs, io};
+use xcf::{Document, open, picture};
 use xl_compose::Recompose;
-use xl_doc::{Document, NodeId, Pictures, Rect};
-use xl_read::decode;
 use xl_write::{Greedy, Kept, PlaneCoder, encode};
-
-/// No file of more bytes is read.
-const MOST_BYTES: usize = 1 << 31;
 
 const NAMES: [&str; 31] = [
     "one.xcf",
@@ -55,61 +47,20 @@ const NAMES: [&str; 31] = [
     "selection-soft.xcf",
 ];
 
-// The document that a file holds, or None.
-fn document_of(alloc: Global, bytes: Vec<u8>) -> Option<Document>
-    ensures { IfSome result (λ document. IsDocument document) }
-{
-    if bytes.len() > MOST_BYTES {
-        return None;
-    }
-    let Ok(file) = Arc::new(alloc, bytes) else {
-        return None;
-    };
-    decode(alloc, &file).ok()
-}
-
-fn file_of<C: PlaneCoder + Copy>(alloc: Global, document: &Document, coder: C) -> Option<Vec<u8>>
-    requires { IsDocument document.now }
-{
+fn file_of<C: PlaneCoder + Copy>(alloc: Global, document: &Document, coder: C) -> Option<Vec<u8>> {
     let mut coder = coder;
     encode(alloc, document, &mut coder, &mut Recompose::new()).ok()
 }
 
-// The picture of the image.
-fn picture(alloc: Global, document: &Document) -> Option<Vec<u8>>
-    requires { IsDocument document.now }
-{
-    let rect = Rect {
-        x: 0,
-        y: 0,
-        w: document.width,
-        h: document.height,
-    };
-    let count = 4 * (document.width as usize * document.height as usize);
-    let Ok(mut bytes) = vec![in alloc; 0; count] else {
-        return None;
-    };
-    let mut pictures = Recompose::new();
-    match pictures.fill(alloc, document, NodeId(0), rect, bytes.as_mut_slice()) {
-        Ok(()) => Some(bytes),
-        Err(AllocError) => None,
-    }
-}
-
-fn same_picture(alloc: Global, document: &Document, other: &Document) -> bool
-    requires document { IsDocument document.now }
-    requires other { IsDocument other.now }
-{
+fn same_picture(alloc: Global, document: &Document, other: &Document) -> bool {
     match (picture(alloc, document), picture(alloc, other)) {
-        (Some(bytes), Some(others)) => bytes == others,
+        (Ok(bytes), Ok(others)) => bytes == others,
         _ => false,
     }
 }
 
 // The digest of the file of a document, or none where there is none.
-fn digest_of<C: PlaneCoder + Copy>(alloc: Global, document: &Document, coder: C) -> Option<String>
-    requires { IsDocument document.now }
-{
+fn digest_of<C: PlaneCoder + Copy>(alloc: Global, document: &Document, coder: C) -> Option<String> {
     match file_of(alloc, document, coder) {
         Some(file) => hex::encode(alloc, &Sha256::digest(&file)).ok(),
         None => None,
@@ -123,10 +74,8 @@ fn is_read_back<C: PlaneCoder + Copy>(
     document: &Document,
     coder: C,
     digest: &str,
-) -> bool
-    requires { IsDocument document.now }
-{
-    let Some(other) = document_of(alloc, file) else {
+) -> bool {
+    let Ok(other) = open(alloc, file) else {
         return false;
     };
     match digest_of(alloc, &other, coder) {
@@ -140,9 +89,7 @@ fn copy_text<C: PlaneCoder + Copy>(
     alloc: Global,
     document: &Document,
     coder: C,
-) -> Result<String, AllocError>
-    requires { IsDocument document.now }
-{
+) -> Result<String, AllocError> {
     let Some(file) = file_of(alloc, document, coder) else {
         return Err(AllocError);
     };
@@ -155,10 +102,7 @@ fn copy_text<C: PlaneCoder + Copy>(
     }
 }
 
-fn at_other_compression(document: Document) -> Document
-    requires { IsDocument document }
-    ensures { IsDocument result }
-{
+fn at_other_compression(document: Document) -> Document {
     let mut document = document;
     document.compression = 1 - document.compression;
     document
@@ -166,7 +110,7 @@ fn at_other_compression(document: Document) -> Document
 
 // The line of a file.
 fn line_of(alloc: Global, name: &str, bytes: Vec<u8>) -> Result<String, AllocError> {
-    let Some(document) = document_of(alloc, bytes) else {
+    let Ok(document) = open(alloc, bytes) else {
         return format!(in alloc; "{name} is refused");
     };
     let own = copy_text(alloc, &document, Greedy)?;
