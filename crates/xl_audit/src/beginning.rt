@@ -12,7 +12,11 @@ use xl_standing::Standing;
 use xl_undo::Trail;
 
 /// A walk that has not begun, from the document of the run and the versions that it will be asked for.
-pub fn first_walk(alloc: Global, base: Document, wanted: Vec<bool>) -> Result<Walk, AllocError>
+pub(crate) fn first_walk(
+    alloc: Global,
+    base: Document,
+    wanted: Vec<bool>,
+) -> Result<Walk, AllocError>
     requires { AreNumbered base.nodes }
     ensures come { IfOk result (HasCome base []) }
     ensures wanted { IfOk result (λ walk. walk.versions.wanted.items ≡ wanted.items) }

@@ -13,7 +13,7 @@ use xl_script::{Line, OrderWord, SESSIONS, Script};
 
 /// The calls of a session: its lines but those by which it drops a filter.
 #[derive(Drop)]
-pub struct Calls<'a> {
+pub(crate) struct Calls<'a> {
     items: Vec<&'a Line>,
 }
 
@@ -70,7 +70,10 @@ fn session_calls<'a>(alloc: Global, lines: &'a [Line]) -> Result<Calls<'a>, Allo
 }
 
 /// The calls of each of the eight sessions.
-pub fn script_calls<'a>(alloc: Global, script: &'a Script) -> Result<Vec<Calls<'a>>, AllocError>
+pub(crate) fn script_calls<'a>(
+    alloc: Global,
+    script: &'a Script,
+) -> Result<Vec<Calls<'a>>, AllocError>
     ensures { IfOk result (λ calls. calls.items ≡ calls_in (lists_of script.now)) }
 {
     let mut calls = Vec::new(alloc);

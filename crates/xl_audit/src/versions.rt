@@ -62,7 +62,11 @@ fn want_of_word(
 }
 
 /// Which versions are shown by the printed replies to peeks.
-pub fn wanted(alloc: Global, calls: &[Calls], output: &Output) -> Result<Vec<bool>, AllocError>
+pub(crate) fn wanted(
+    alloc: Global,
+    calls: &[Calls],
+    output: &Output,
+) -> Result<Vec<bool>, AllocError>
     ensures { IfOk result (λ wanted. AreWanted calls.now output.now.replies wanted.items
         output.now.order) }
 {
@@ -75,14 +79,14 @@ pub fn wanted(alloc: Global, calls: &[Calls], output: &Output) -> Result<Vec<boo
 
 /// Shares of the versions that are wanted, as far as they were made.
 #[derive(Drop)]
-pub struct Versions {
-    pub wanted: Vec<bool>,
-    pub shares: Vec<Option<Document>>,
+pub(crate) struct Versions {
+    pub(crate) wanted: Vec<bool>,
+    pub(crate) shares: Vec<Option<Document>>,
 }
 
 impl Versions {
     /// No version was made.
-    pub fn new(alloc: Global, wanted: Vec<bool>) -> Versions
+    pub(crate) fn new(alloc: Global, wanted: Vec<bool>) -> Versions
         ensures wanted { result.wanted ≡ wanted }
         ensures shares { result.shares.items ≡ [] }
     {
@@ -102,7 +106,7 @@ impl Versions {
     }
 
     /// The document of the next version.
-    pub fn add(&mut self, alloc: Global, document: &Document) -> Result<(), AllocError>
+    pub(crate) fn add(&mut self, alloc: Global, document: &Document) -> Result<(), AllocError>
         ensures wanted { OnOk result (self.new.wanted ≡ self.old.wanted) }
         ensures shares { OnOk result (self.new.shares.items
             ≡ with_share self.old.wanted.items document.now self.old.shares.items) }
@@ -121,7 +125,7 @@ impl Versions {
     }
 
     /// The document of a version that is wanted and was made.
-    pub fn document(&self, version: u32) -> Option<&Document>
+    pub(crate) fn document(&self, version: u32) -> Option<&Document>
         ensures { MatchOption result
             (share_at self.now.shares.items version ≡ None)
             (λ d. share_at self.now.shares.items version ≡ Some d.now) }

@@ -144,17 +144,18 @@ impl Walk {
         &self,
         alloc: Global,
         seen: u32,
-        node: NodeId,
-        at: TileAt,
+        tile: (NodeId, TileAt),
         printed: &Printed,
         picture: &mut Picture,
         steps: &mut Steps<L>,
     ) -> Result<bool, AllocError>
         ensures { IfOk result (judging.PeekIsRight self.now.standing.document
             self.now.standing.version seen
-            (option_map (λ k. k.version) (kept self.now.standing.cache node.0 at
-            self.now.standing.version)) self.now.versions.shares.items node.0 at printed.now) }
+            (option_map (λ k. k.version) (kept self.now.standing.cache tile.0.0 tile.1
+            self.now.standing.version)) self.now.versions.shares.items tile.0.0 tile.1
+            printed.now) }
     {
+        let (node, at) = tile;
         let document = self.standing.document();
         if !has_stack(document, node) {
             return Ok(is_plain(Reply::NoStack { node: node.0 }, printed));
@@ -174,19 +175,18 @@ impl Walk {
         &mut self,
         alloc: Global,
         session: u8,
-        node: NodeId,
-        at: TileAt,
+        tile: (NodeId, TileAt),
         printed: &Printed,
         picture: &mut Picture,
         steps: &mut Steps<L>,
     ) -> Result<bool, AllocError>
         requires session { session < 8 }
         requires few { slice_index self.old.made session < 2 ^ 31 }
-        ensures { IfOk result (λ passed. IsPeeked self.old session node.0 at printed.now passed
-            self.new) }
+        ensures { IfOk result (λ passed. IsPeeked self.old session tile.0.0 tile.1 printed.now
+            passed self.new) }
     {
         let seen = self.seen[session as usize];
-        if !self.peek_is_right(alloc, seen, node, at, printed, picture, steps)? {
+        if !self.peek_is_right(alloc, seen, tile, printed, picture, steps)? {
             return Ok(false);
         }
         self.count(session);
@@ -223,7 +223,7 @@ impl Walk {
     }
 
     /// The next word of the order passes, or it fails; then what stands is of no use any more.
-    pub fn word<L: Ledger>(
+    pub(crate) fn word<L: Ledger>(
         &mut self,
         alloc: Global,
         calls: &[Calls],
@@ -256,9 +256,9 @@ impl Walk {
             return Ok(true);
         };
         match tile_peeked(call) {
-            Some((node, at)) => {
+            Some(tile) => {
                 let out = &mut desk.out;
-                self.peek(alloc, word.session, node, at, &printed, out, steps)
+                self.peek(alloc, word.session, tile, &printed, out, steps)
             }
             None => self.call(alloc, word.session, call, &printed, desk, steps),
         }

@@ -56,24 +56,24 @@ pub(crate) fn show<L: Ledger>(
     alloc: Global,
     document: &Document,
     cache: &mut Cache,
-    node: NodeId,
-    at: TileAt,
+    tile: (NodeId, TileAt),
     version: u32,
     out: &mut Picture,
     steps: &mut Steps<L>,
 ) -> Result<(), AllocError>
     requires kept { IsKept document.now cache.old version }
-    requires stack { IsSome (stack_at node.0 document.now.nodes) }
-    requires on_grid { IsTrue (is_on_grid document.now.width document.now.height at) }
-    ensures picture { OnOk result (out.new ≡ project document.now node.0 at) }
-    ensures cache { OnOk result (cache.new ≡ change_stack node.0
-        (change_slot at (show_slot (project document.now node.0 at))) cache.old) }
-    ensures steps { is_clean cache.old node.0 at ≡ true → steps.new ≡ steps.old }
-    ensures cost { steps.new ≤ steps.old + tile_cost cache.old document.now node.0 at }
+    requires stack { IsSome (stack_at tile.0.0 document.now.nodes) }
+    requires on_grid { IsTrue (is_on_grid document.now.width document.now.height tile.1) }
+    ensures picture { OnOk result (out.new ≡ project document.now tile.0.0 tile.1) }
+    ensures cache { OnOk result (cache.new ≡ change_stack tile.0.0
+        (change_slot tile.1 (show_slot (project document.now tile.0.0 tile.1))) cache.old) }
+    ensures steps { is_clean cache.old tile.0.0 tile.1 ≡ true → steps.new ≡ steps.old }
+    ensures cost { steps.new ≤ steps.old + tile_cost cache.old document.now tile.0.0 tile.1 }
     ensures steps_as_before { OnErr result (steps.new ≡ steps.old) }
     ensures as_before { OnErr result (cache.new ≡ cache.old) }
     ensures out_as_before { OnErr result (out.new ≡ out.old) }
 {
+    let (node, at) = tile;
     if copy_clean(cache, node, at, out) {
         return Ok(());
     }

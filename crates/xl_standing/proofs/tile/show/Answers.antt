@@ -4,21 +4,21 @@ use Rattle.xl_standing.proofs.CleanTiles.{are_clean, copied_is, marked-where, sh
 use Rattle.xl_standing.proofs.tile.show.Goals as goal
 
 pub job-requires-clause-clean : goal.job-requires-clause-clean
-job-requires-clause-clean g c = are_clean c.args.document.now c.args.cache.now c.args.version c.args.at c.requires.kept
+job-requires-clause-clean g c = are_clean c.args.document.now c.args.cache.now c.args.version c.args.tile.1 c.requires.kept
 
 pub returns-then-copy_clean-clause-picture : goal.returns-then-copy_clean-clause-picture
 returns-then-copy_clean-clause-picture g c =
-    copied_is c.args.document.now c.args.cache.now c.args.version c.args.node.0 c.args.at _ c.requires.kept
+    copied_is c.args.document.now c.args.cache.now c.args.version c.args.tile.0.0 c.args.tile.1 _ c.requires.kept
     (sym c.copy_clean.ensures.found ∙ c.if-copy_clean.true) c.copy_clean.ensures.copied
 
 pub returns-then-copy_clean-clause-cache : goal.returns-then-copy_clean-clause-cache
 returns-then-copy_clean-clause-cache g c =
-    shows-clean c.args.document.now c.args.cache.now c.args.version c.args.node.0 c.args.at c.requires.kept
+    shows-clean c.args.document.now c.args.cache.now c.args.version c.args.tile.0.0 c.args.tile.1 c.requires.kept
     (sym c.copy_clean.ensures.found ∙ c.if-copy_clean.true)
 
 pub returns-clause-cache : goal.returns-clause-cache
 returns-clause-cache g c =
-    shows-done c.args.document.now c.args.cache.now c.install.new.self c.args.version c.args.node.0 c.args.at
+    shows-done c.args.document.now c.args.cache.now c.install.new.self c.args.version c.args.tile.0.0 c.args.tile.1
     (record { stack = c.compose-done.result.node.0; at = c.compose-done.result.at }) c.compose-done.result.version
     c.compose-done.result.picture
     c.requires.kept c.requires.stack c.requires.on_grid (sym c.copy_clean.ensures.found ∙ c.if-copy_clean.false)
@@ -30,7 +30,7 @@ returns-clause-cache g c =
 
 pub returns-clause-steps : goal.returns-clause-steps
 returns-clause-steps g c = λ clean.
-    absurd (true≢false (sym clean ∙ marked-where c.args.document.now c.args.cache.now c.args.version c.args.node.0 c.args.at
+    absurd (true≢false (sym clean ∙ marked-where c.args.document.now c.args.cache.now c.args.version c.args.tile.0.0 c.args.tile.1
     c.requires.kept (sym c.copy_clean.ensures.found ∙ c.if-copy_clean.false)))
 
 pub returns-clause-cost : goal.returns-clause-cost

@@ -27,7 +27,7 @@ returns-in-Some-tile_peeked-clause-judged g c =
     IfOk-weaker c.peek.result _ _
     (λ passed peeked. λ s earlier calls next has agrees wants.
     word_peeked s c.args.output.now earlier c.args.word c.args.calls.now c.args.self.now c.peek.new.self
-    c.in-Some-tile_peeked.node.0 c.in-Some-tile_peeked.at
+    c.in-Some-tile_peeked.tile.0.0 c.in-Some-tile_peeked.tile.1
     (states_in (λ z. (goal.PointFilter-dyn g z).state z.1) c.args.desk.now.chest) passed _ calls next has agrees wants c.if-word.false
     (c.in-Some.ensures ∙ ap lines.call c.in-Some-tile_peeked.ensures) peeked (search rules)) c.peek.ensures
 
