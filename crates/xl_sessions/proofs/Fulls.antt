@@ -120,12 +120,6 @@ module _ {K : Type 0} where
   pub count_line : (n most : ℕ) (old new : Known K) → n ≡ most → MakesAtMost most old new → MakesAtMost n old new
   count_line n most old new is made = omega (arith, is, made)
 
-  pub full_line : {A : Type 0} (r : Result A Unplayed) (n : ℕ) (old new : Known K) → n ≡ 2
-      → IfErr r (λ why. why ≡ HistoryFull → FindsFull old new)
-      → IfErr r (λ why. why ≡ HistoryFull → (n ≡ 2) × FindsFull old new)
-  full_line (Ok a) n old new is full = tt
-  full_line (Err why) n old new is full = λ so. (is, full so)
-
   -- where a line found the history full, the session stops there
   pub stopped_at : (old new : Known K) (all left rest : List Line) (line : Line) → left ≡ line ∷ rest
       → length old.made + most_made left ≤ most_made all → (most_made (line ∷ []) ≡ 2) × FindsFull old new

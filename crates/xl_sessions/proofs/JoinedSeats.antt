@@ -1,17 +1,17 @@
 -- The seats of a run, joined one after another.
-use Rattle.std.proofs.Common.{◌≡◌, ◌⊎◌, inl, inr, ℕ, ◌+◌, Bool, true, false, List, [], ◌∷◌, ◌++◌, length, map, flat_map}
-use Rattle.std.proofs.Common.{Option, None, refl, sym, ap, ◌∙◌}
+use Rattle.std.proofs.Common.{◌≡◌, ℕ, ◌+◌, Bool, true, false, List, [], ◌∷◌, ◌++◌, length, map, flat_map}
+use Rattle.std.proofs.Common.{Option, None, Some, refl, sym, ap, ◌∙◌}
 use Rattle.std.proofs.Common.{subst, arith, append_assoc, append-nil}
 use Rattle.std.specs.Prelude.{◌&&◌, is_none, string_bytes, String, Vec}
+use Rattle.std.specs.Option.{option_or}
 use Rattle.std.specs.List.{AllByRecursion, list_all}
 use Rattle.std.specs.declared.alloc.Global.{Global}
 use Rattle.std.proofs.lemmas.List.Concat.{flat_map-cons}
 use Rattle.std.proofs.lemmas.List.{map-append}
-use Rattle.std.proofs.Math.Bool.{and-true, and_assoc}
 use mathlib.Core.List.{IsPrefix}
 use Rattle.xl_sessions.specs.Full.{IsNotFull}
 use Rattle.xl_sessions.specs.Outcomes.{texts_of}
-use Rattle.xl_sessions.specs.Players.{places_of, shown_of, weight_in, AreKnown, AreSeats, HasWorked}
+use Rattle.xl_sessions.specs.Players.{first_stopped, places_of, shown_of, weight_in, AreKnown, AreSeats, HasWorked}
 use Rattle.xl_sessions.specs.declared.players.Player.{Player}
 use Rattle.xl_sessions.specs.declared.players.Worker.{Worker}
 use Rattle.xl_sessions.specs.declared.unplayed.Unplayed.{Unplayed}
@@ -28,12 +28,33 @@ use Rattle.xl_turn.proofs.Fronts.{prefix_self, prefix_trans}
 none_is_not_full : IsNotFull None
 none_is_not_full is = let bad : true ≡ false = ap is_none is in cc
 
-one_of_two : (first second still : Option Unplayed) → (still ≡ first) ⊎ (still ≡ second) → IsNotFull first → IsNotFull second
-    → IsNotFull still
-one_of_two first second still (inl is) not_first not_second = subst IsNotFull (sym is) not_first
-one_of_two first second still (inr is) not_first not_second = subst IsNotFull (sym is) not_second
+first_not_full : (first second : Option Unplayed) → IsNotFull first → IsNotFull second → IsNotFull (option_or first second)
+first_not_full None second not_first not_second = not_second
+first_not_full (Some why) second not_first not_second = not_first
+
+first_is_none : (first second : Option Unplayed) → is_none (option_or first second) ≡ (is_none first && is_none second)
+first_is_none None second = refl
+first_is_none (Some why) second = refl
+
+or_assoc : (one two three : Option Unplayed) → option_or (option_or one two) three ≡ option_or one (option_or two three)
+or_assoc None two three = refl
+or_assoc (Some why) two three = refl
+
+or_none : (one : Option Unplayed) → option_or one None ≡ one
+or_none None = refl
+or_none (Some why) = refl
 
 module _ {K : Type 0} {C : Ghosts (State K) (Moment K)} {X : Type 0} {H : X → Type 0} where
+  none_stopped : (players : List (Player (Seat K C) X H))
+      → is_none (first_stopped players) ≡ list_all (λ (p : Player (Seat K C) X H). is_none p.stopped) players
+  none_stopped [] = refl
+  none_stopped (p ∷ ps) = first_is_none p.stopped (first_stopped ps) ∙ ap (λ (b : Bool). is_none p.stopped && b) (none_stopped ps)
+
+  all_not_full : (players : List (Player (Seat K C) X H)) → AllByRecursion (λ (p : Player (Seat K C) X H). IsNotFull p.stopped) players
+      → IsNotFull (first_stopped players)
+  all_not_full [] none_full = none_is_not_full
+  all_not_full (p ∷ ps) none_full = first_not_full p.stopped (first_stopped ps) none_full.0 (all_not_full ps none_full.1)
+
   -- some players were joined, and these are left
   pub record IsJoining (studio : Studio K) (before : Seat K C) (all left : List (Player (Seat K C) X H)) (own : Seat K C)
       (texts : List (Vec (String Global) Global)) (stopped : Option Unplayed) : Type 0 where
@@ -45,10 +66,7 @@ module _ {K : Type 0} {C : Ghosts (State K) (Moment K)} {X : Type 0} {H : X → 
     pub known : (front : List (Moment K)) → IsPrefix (front_of own) front → AreKnown front left
         → IsPrefix (front_of before) front × AreKnown front all
     pub shown : texts_of texts ++ map shown_of left ≡ map shown_of all
-    pub done_is : (is_none stopped && list_all (λ (p : Player (Seat K C) X H). is_none p.stopped) left)
-        ≡ list_all (λ (p : Player (Seat K C) X H). is_none p.stopped) all
-    pub not_full : AllByRecursion (λ (p : Player (Seat K C) X H). IsNotFull p.stopped) all
-        → IsNotFull stopped × AllByRecursion (λ (p : Player (Seat K C) X H). IsNotFull p.stopped) left
+    pub first : option_or stopped (first_stopped left) ≡ first_stopped all
 
   pub joining_none : (studio : Studio K) (own : Seat K C) (all left : List (Player (Seat K C) X H))
       (texts : List (Vec (String Global) Global)) → left ≡ all → texts ≡ [] → IsSeatOf studio own → AreSeats studio all
@@ -63,8 +81,7 @@ module _ {K : Type 0} {C : Ghosts (State K) (Moment K)} {X : Type 0} {H : X → 
         weight = refl;
         known = λ front begins known. (begins, known);
         shown = refl;
-        done_is = refl;
-        not_full = λ none_full. (none_is_not_full, none_full);
+        first = refl;
       }))
 
   module _ {studio : Studio K} {before own : Seat K C} {all left : List (Player (Seat K C) X H)}
@@ -84,9 +101,8 @@ module _ {K : Type 0} {C : Ghosts (State K) (Moment K)} {X : Type 0} {H : X → 
         → job_out new ≡ job_out own
         → made_of new ≡ made_of own ++ made_of p.seat → weight_of new ≡ weight_of own + weight_of p.seat
         → IsPrefix (front_of own) (front_of new) → IsPrefix (front_of p.seat) (front_of new) → more ≡ texts ++ p.digests ∷ []
-        → is_none still ≡ (is_none stopped && is_none p.stopped) → (still ≡ stopped) ⊎ (still ≡ p.stopped)
-        → IsJoining studio before all rest new more still
-    joining_more new more still seat job made weight begins other longer still_is either =
+        → still ≡ option_or stopped p.stopped → IsJoining studio before all rest new more still
+    joining_more new more still seat job made weight begins other longer still_is =
         let was = now.weight in
         record {
           seat = seat;
@@ -102,11 +118,8 @@ module _ {K : Type 0} {C : Ghosts (State K) (Moment K)} {X : Type 0} {H : X → 
               ∙ ap (λ (ts : List (List (List ℕ))). ts ++ map shown_of rest)
               (map-append (λ (ts : Vec (String Global) Global). map string_bytes ts.items) texts (p.digests ∷ []))
               ∙ append_assoc (texts_of texts) (shown_of p ∷ []) (map shown_of rest) ∙ now.shown;
-          done_is = ap (λ (b : Bool). b && list_all (λ (q : Player (Seat K C) X H). is_none q.stopped) rest) still_is
-              ∙ and_assoc (is_none stopped) (is_none p.stopped) (list_all (λ (q : Player (Seat K C) X H). is_none q.stopped) rest)
-              ∙ now.done_is;
-          not_full = λ none_full.
-              let were = now.not_full none_full in (one_of_two stopped p.stopped still either were.0 were.1.0, were.1.1);
+          first = ap (λ (why : Option Unplayed). option_or why (first_stopped rest)) still_is
+              ∙ or_assoc stopped p.stopped (first_stopped rest) ∙ now.first;
         }
 
   module _ {studio : Studio K} {before own : Seat K C} {all left : List (Player (Seat K C) X H)}
@@ -133,11 +146,14 @@ module _ {K : Type 0} {C : Ghosts (State K) (Moment K)} {X : Type 0} {H : X → 
     pub joined_shown : texts_of texts ≡ map shown_of all
     joined_shown = sym (append-nil (texts_of texts)) ∙ end.shown
 
+    pub joined_first : stopped ≡ first_stopped all
+    joined_first = sym (or_none stopped) ∙ end.first
+
     pub joined_done : is_none stopped ≡ list_all (λ (p : Player (Seat K C) X H). is_none p.stopped) all
-    joined_done = sym (and-true (is_none stopped)) ∙ end.done_is
+    joined_done = ap is_none joined_first ∙ none_stopped all
 
     pub joined_not_full : AllByRecursion (λ (p : Player (Seat K C) X H). IsNotFull p.stopped) all → IsNotFull stopped
-    joined_not_full none_full = (end.not_full none_full).0
+    joined_not_full none_full = subst IsNotFull (sym joined_first) (all_not_full all none_full)
 
 module _ {K : Type 0} {C : Ghosts (State K) (Moment K)} where
   -- some workers were joined, and these are left

@@ -17,6 +17,7 @@ pub mod SaveMore
 pub mod SoFar
 -- some lines were played, and some are left
 pub mod UnderWay
+pub mod Keeps
 -- lists beside each other
 pub mod Zips
 -- what the sessions bring

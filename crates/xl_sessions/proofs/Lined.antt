@@ -79,11 +79,15 @@ end_lined (Some o) session index (save_fault version) may h = tt
 end_lined (Some o) session index (save_memory version) may h = let bad : true ≡ false = h in cc
 end_lined (Some o) session index r may h = absurd may.2
 
+asked_lined : (base : Document) (s : State) (earlier : List Entry) (e : Entry) (c : Call) (tables : List (List ℕ))
+    → MayBe base s earlier e (asked c tables) → IsPrinted e.reply
+asked_lined base s earlier e (peek stack at) tables may =
+    peek_lined base s stack (answer base s (peek stack at) tables).reply e.reply (answer_lined base s (peek stack at) tables) may.1
+asked_lined base s earlier e c tables may = subst IsPrinted (sym may.1) (answer_lined base s c tables)
+
 entry_lined : (base : Document) (s : State) (earlier : List Entry) (e : Entry) (k : Kind) → MayBe base s earlier e k
     → is_save_memory e.reply ≡ false → IsPrinted e.reply
-entry_lined base s earlier e (asked (peek stack at) tables) may h =
-    peek_lined base s stack (answer base s (peek stack at) tables).reply e.reply (answer_lined base s (peek stack at) tables) may.1
-entry_lined base s earlier e (asked c tables) may h = subst IsPrinted (sym may.1) (answer_lined base s c tables)
+entry_lined base s earlier e (asked c tables) may h = asked_lined base s earlier e c tables may
 entry_lined base s earlier e starts may h = subst IsPrinted (sym may.2) tt
 entry_lined base s earlier e ends may h = end_lined s.out e.session e.index e.reply may h
 
@@ -100,12 +104,6 @@ pub legal_has_lines : (base : Document) (es : List Entry) → IsLegal base es
 legal_has_lines base es legal h = run_lined base (initial base) [] es legal.run h
 
 -- a call that is the last entry of a legal history is printed, so that its reply is none of a full history
-asked_lined : (base : Document) (s : State) (earlier : List Entry) (e : Entry) (c : Call) (tables : List (List ℕ))
-    → MayBe base s earlier e (asked c tables) → IsPrinted e.reply
-asked_lined base s earlier e (peek stack at) tables may =
-    peek_lined base s stack (answer base s (peek stack at) tables).reply e.reply (answer_lined base s (peek stack at) tables) may.1
-asked_lined base s earlier e c tables may = subst IsPrinted (sym may.1) (answer_lined base s c tables)
-
 last_lined : (base : Document) (s : State) (earlier es : List Entry) (e : Entry) (c : Call) (tables : List (List ℕ))
     → e.kind ≡ asked c tables → RunFrom base s earlier (es ++ e ∷ []) → IsPrinted e.reply
 last_lined base s earlier [] e c tables is run = asked_lined base s earlier e c tables (subst (MayBe base s earlier e) is run.0)

@@ -1,7 +1,8 @@
 -- The players of a run, from their parts to what they have made.
 use Rattle.std.proofs.Common.{◌≡◌, ℕ, suc, ◌<◌, List, [], ◌∷◌, ◌++◌, length, map, take, drop, None, refl, sym, ap, ◌∙◌, subst, arith}
 use Rattle.std.proofs.Math.Seq.{take-append_seam}
-use Rattle.std.specs.Prelude.{is_none, string_bytes}
+use Rattle.std.specs.Prelude.{is_none, string_bytes, Vec}
+use Rattle.std.specs.declared.alloc.Global.{Global}
 use Rattle.std.specs.List.{AllByRecursion, AllZip}
 use mathlib.Core.List.{IsPrefix}
 use Rattle.spec_filters.specs.declared.FilterState.{FilterState}
@@ -80,6 +81,13 @@ module _ {K : Type 0} {C : Ghosts (State K) (Moment K)} {X : Type 0} {H : X → 
       (λ part a b at plays. subst (λ (n : ℕ). HasPlayed state studio part n b) at.light
       (subst (λ (q : Part X H). HasPlayed state studio q (weight_of a.seat) b) at.part_is plays))
       seated played
+
+  -- the parts were taken out of the room
+  pub seated_same : (studio : Studio K) (front : List (Moment K)) (taken parts : Vec (Part X H) Global)
+      (players : List (Player (Seat K C) X H))
+      → taken ≡ parts → AreSeated studio front taken.items players → AreSeated studio front parts.items players
+  seated_same studio front taken parts players same seated =
+      subst (λ (v : Vec (Part X H) Global). AreSeated studio front v.items players) same seated
 
   -- the lists that were lent, and what came back
   pub lent_can_play : (state : Slot X H → FilterState) (studio : Studio K) (front : List (Moment K)) (parts : List (Part X H))

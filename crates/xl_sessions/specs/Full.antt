@@ -8,7 +8,7 @@ use Rattle.xl_sessions.specs.declared.unplayed.Unplayed.TheVariants.{HistoryFull
 use Rattle.xl_studio.specs.Calling.{Known}
 use Rattle.xl_studio.specs.Moments.{entries_in}
 
--- the entries that these lines make at most: one for a call, and two for a save
+-- the entries that these lines make at most: two for each call and save, the second of which only a save makes
 abbrev pub most_made : List Line → ℕ
 most_made lines = 2 * length (calls_of lines)
 

@@ -1,6 +1,8 @@
 -- the printed lines of the sessions
 pub mod Printing
 pub mod Playing
+-- a session's seat
+pub mod Keeping
 -- a full history
 pub mod Full
 -- what became of the lines of the sessions

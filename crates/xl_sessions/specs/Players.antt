@@ -1,6 +1,7 @@
 -- The sessions and the workers of a run: what they bring, their seats, and what they have made.
-use Rattle.std.specs.Prelude.{◌≡◌, ℕ, ◌+◌, ◌<◌, ◌≤◌, true, false, List, [], length, map, option_map, Some, None, slice_get}
+use Rattle.std.specs.Prelude.{◌≡◌, ℕ, ◌+◌, ◌<◌, ◌≤◌, true, false, List, [], ◌∷◌, length, map, Option, option_map, Some, None, slice_get}
 use Rattle.std.specs.Prelude.{unwrap_or, is_none, string_bytes, vec_capacity, Vec}
+use Rattle.std.specs.Option.{option_or}
 use Rattle.std.specs.List.{AllByRecursion, AllZip}
 use Rattle.std.specs.declared.alloc.Global.{Global}
 use mathlib.Core.List.{IsPrefix}
@@ -24,6 +25,7 @@ use Rattle.xl_sessions.specs.declared.players.Part.{Part}
 use Rattle.xl_sessions.specs.declared.players.Player.{Player}
 use Rattle.xl_sessions.specs.declared.players.Worker.{Worker}
 use Rattle.xl_sessions.specs.declared.players.Room.{Room}
+use Rattle.xl_sessions.specs.declared.unplayed.Unplayed.{Unplayed}
 use Rattle.xl_sessions.specs.declared.unplayed.Unplayed.TheVariants.{HistoryFull}
 use Rattle.xl_studio.specs.declared.moment.Moment.{Moment}
 use Rattle.xl_studio.specs.declared.seat.Seat.{Seat}
@@ -92,6 +94,11 @@ module _ {K : Type 0} {C : Ghosts (State K) (Moment K)} {X : Type 0} {H : X → 
 
   abbrev pub weight_in : Player (Seat K C) X H → ℕ
   weight_in p = weight_of p.seat
+
+  -- why the first session ended that ended before its last line
+  abbrev pub first_stopped : List (Player (Seat K C) X H) → Option Unplayed
+  first_stopped [] = None
+  first_stopped (p ∷ ps) = option_or p.stopped (first_stopped ps)
 
   -- the part with a seat that knows this front, has made nothing and has no job out
   pub record IsSeated (studio : Studio K) (front : List (Moment K)) (part : Part X H) (p : Player (Seat K C) X H) : Type 0 where

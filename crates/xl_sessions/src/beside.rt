@@ -25,7 +25,7 @@ ghost use Rattle.xl_studio.specs.Moments.{entries_in};
 ghost use Rattle.xl_studio.specs.Seats.{base_of, opening_shelf, front_of, made_of, weight_of, IsSeatOf};
 
 use crate::joining::{join_players, join_workers};
-use crate::players::{Part, Player, Room, Worker};
+use crate::players::{Player, Room, Worker};
 use crate::printing::print_history;
 use crate::seating::{room_for, seat_players, seat_workers};
 use crate::threads::run;
@@ -53,39 +53,36 @@ fn play_seated<R: Threads + Wait + Sync, D: Shelf, G: Gate>(
     studio: &Studio<D>,
     gate: &G,
     own: &mut Seat<D>,
-    parts: Vec<Part>,
-    players: &mut Vec<Player<Seat<D>>>,
+    room: &mut Room<Seat<D>>,
     number: u8,
-    workers: &mut Vec<Worker<Seat<D>>>,
 )
     requires own { IsSeatOf studio.now own.old }
     requires unchanged { latest_of (entries_in (front_of own.old)) ≡ 0 }
-    requires fit { AreFitParts (in_slots state) parts.items }
-    requires eight { length parts.items ≡ 8 }
+    requires fit { AreFitParts (in_slots state) room.old.parts.items }
     requires few { number ≤ 8 }
     requires weight { 17 ≤ weight_of own.old }
-    requires none_seated { players.old.items ≡ [] }
-    requires none_working { workers.old.items ≡ [] }
-    requires room { 8 ≤ vec_capacity players.old }
-    requires room_for_workers { number ≤ vec_capacity workers.old }
+    requires room { HasRoom number room.old }
     ensures own { IsSeatOf studio.now own.new }
     ensures made { made_of own.new ≡ made_of own.old }
     ensures job { job_out own.new ≡ job_out own.old }
     ensures weight { weight_of own.new + 8 + number ≡ weight_of own.old }
-    ensures played { HavePlayed (in_slots state) studio.now parts.items players.new.items }
-    ensures worked { AllByRecursion (HasWorked studio.now) workers.new.items }
-    ensures count { length workers.new.items ≡ number }
+    ensures played { HavePlayed (in_slots state) studio.now room.old.parts.items
+        room.new.players.items }
+    ensures worked { AllByRecursion (HasWorked studio.now) room.new.workers.items }
+    ensures count { length room.new.workers.items ≡ number }
+    ensures digests { room.new.digests ≡ room.old.digests }
 {
-    seat_players(alloc, studio, own, parts, players);
-    seat_workers(studio, own, number, workers);
+    let parts = std::mem::replace(&mut room.parts, Vec::new(alloc));
+    seat_players(alloc, studio, own, parts, &mut room.players);
+    seat_workers(studio, own, number, &mut room.workers);
     run(
         rt,
         alloc,
         studio,
         gate,
         own,
-        players.as_mut_slice(),
-        workers.as_mut_slice(),
+        room.players.as_mut_slice(),
+        room.workers.as_mut_slice(),
     );
 }
 
@@ -156,7 +153,7 @@ fn play_opened<R: Threads + Wait + Sync, D: Shelf, G: Gate>(
     alloc: Global,
     studio: Studio<D>,
     mut own: Seat<D>,
-    room: Room<Seat<D>>,
+    mut room: Room<Seat<D>>,
     number: u8,
     gate: &G,
 ) -> PlayedBeside<D>
@@ -179,23 +176,13 @@ fn play_opened<R: Threads + Wait + Sync, D: Shelf, G: Gate>(
         → IfOk result.text (λ text. IsTextOf (string_bytes text) (base_of studio) lists chests
         result.core.history.entries) }
 {
+    play_seated(rt, alloc, &studio, gate, &mut own, &mut room, number);
     let Room {
-        parts,
-        mut players,
-        mut workers,
+        parts: _,
+        players,
+        workers,
         digests,
     } = room;
-    play_seated(
-        rt,
-        alloc,
-        &studio,
-        gate,
-        &mut own,
-        parts,
-        &mut players,
-        number,
-        &mut workers,
-    );
     finish(alloc, studio, own, players, workers, digests)
 }
 

@@ -1,9 +1,9 @@
 //! The seats of a run, joined again.
 ghost use Rattle.std.specs.List.{AllByRecursion, list_all};
-ghost use Rattle.std.specs.Prelude.{◌≡◌, ◌⊎◌, ◌+◌, ◌≤◌, [], ◌++◌, length, map, flat_map, vec_capacity, ◌&&◌, is_none};
+ghost use Rattle.std.specs.Prelude.{◌≡◌, ◌+◌, ◌≤◌, [], ◌++◌, length, map, flat_map, vec_capacity, is_none};
 ghost use mathlib.Core.List.{IsPrefix};
 ghost use Rattle.xl_sessions.specs.Full.{IsNotFull};
-ghost use Rattle.xl_sessions.specs.Players.{places_of, shown_of, weight_in, AreKnown, AreSeats, HasWorked};
+ghost use Rattle.xl_sessions.specs.Players.{first_stopped, places_of, shown_of, weight_in, AreKnown, AreSeats, HasWorked};
 ghost use Rattle.xl_sessions.specs.Outcomes.{texts_of};
 ghost use Rattle.xl_studio.specs.Jobs.{job_out};
 ghost use Rattle.xl_studio.specs.Seats.{front_of, made_of, weight_of, IsSeatOf};
@@ -13,17 +13,6 @@ use crate::players::{Player, Worker};
 use crate::unplayed::Unplayed;
 use xl_ports::Shelf;
 use xl_studio::{Seat, Studio};
-
-// The first of two, or the second where there is no first.
-fn first_of(first: Option<Unplayed>, second: Option<Unplayed>) -> Option<Unplayed>
-    ensures none { is_none result ≡ (is_none first && is_none second) }
-    ensures either { (result ≡ first) ⊎ (result ≡ second) }
-{
-    match first {
-        Some(_) => first,
-        None => second,
-    }
-}
 
 /// Joins the seats of the sessions, and takes their digests, those of the first session first.
 /// Answers why the first of those ended that did before their last line.
@@ -44,6 +33,7 @@ pub(crate) fn join_players<D: Shelf>(
     ensures begins { IsPrefix (front_of own.old) (front_of own.new) }
     ensures known { AreKnown (front_of own.new) players.items }
     ensures digests { texts_of digests.new.items ≡ map shown_of players.items }
+    ensures first { result ≡ first_stopped players.items }
     ensures done { is_none result ≡ list_all (λ p. is_none p.stopped) players.items }
     ensures not_full { AllByRecursion (λ p. IsNotFull p.stopped) players.items → IsNotFull result }
 {
@@ -57,7 +47,7 @@ pub(crate) fn join_players<D: Shelf>(
         } = player;
         studio.join(own, seat);
         digests.push_reserved(shown);
-        stopped = first_of(stopped, why);
+        stopped = stopped.or(why);
     }
     stopped
 }

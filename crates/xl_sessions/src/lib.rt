@@ -9,12 +9,13 @@ mod players;
 mod printing;
 mod seating;
 mod session;
+mod stage;
 mod threads;
 mod unplayed;
 
 pub use beside::{PlayedBeside, play_beside};
 pub use desk::desk_of;
-pub use played::play_session;
 pub use printing::{each_entry_is_printed, order_words, print_history};
 pub use seating::first_boxes;
+pub use stage::Stage;
 pub use unplayed::Unplayed;

@@ -1,5 +1,4 @@
 ghost use Rattle.std.specs.Prelude.{◌≡◌, ℕ, ◌<◌, true, [], ◌∷◌, ◌++◌, map, IfOk, IfErr, OnOk, List, string_bytes};
-ghost use mathlib.Core.List.{IsPrefix};
 ghost use Rattle.spec_filters.specs.declared.FilterState.{FilterState};
 ghost use Rattle.spec_history.specs.Calls.{IsCall};
 ghost use Rattle.spec_history.specs.History.{asked, latest_of};
@@ -15,17 +14,18 @@ ghost use Rattle.xl_edit.specs.Replies.{reply_of};
 ghost use Rattle.xl_filters.specs.Chests.{states_in};
 ghost use Rattle.xl_script.specs.Lines.{line_of};
 ghost use Rattle.xl_studio.specs.Calling.{IsCalled};
-ghost use Rattle.xl_studio.specs.Jobs.{job_out};
 ghost use Rattle.xl_studio.specs.Moments.{entries_in};
-ghost use Rattle.xl_studio.specs.Seats.{base_of, opening_shelf, history_of, front_of, made_of, weight_of, known_by, IsSeatOf};
+ghost use Rattle.xl_studio.specs.Seats.{base_of, opening_shelf, history_of, front_of, made_of, known_by, IsSeatOf};
 ghost use Rattle.spec_seats.specs.Made.{IsOf};
 ghost use Rattle.xl_studio.specs.Saving.{IsSaved};
 ghost use Rattle.xl_sessions.specs.Full.{most_made, MakesAtMost, FindsFull};
+ghost use Rattle.xl_sessions.specs.Keeping.{KeepsSeat};
 ghost use Rattle.xl_sessions.specs.Playing.{FitsChest, IsCallMade, IsSaveMade, IsLineMade, said};
 ghost use Rattle.xl_sessions.specs.Printing.{IsPrinted};
 ghost use Rattle.xl_sessions.specs.declared.unplayed.Unplayed.TheVariants.{HistoryFull, Memory};
 
 use crate::printing::asks_tile;
+use crate::stage::Stage;
 use crate::unplayed::Unplayed;
 use std::alloc::{AllocError, Global};
 use std::sync::Wait;
@@ -38,7 +38,7 @@ use xl_ports::{Actor, Gate, Place, Shelf};
 use xl_report::digest;
 use xl_rle::Kept;
 use xl_script::Line;
-use xl_studio::{Seat, Studio};
+use xl_studio::Seat;
 
 // Why a run with this reply prints nothing, where it prints nothing.
 fn check_printed(reply: &Reply) -> Result<(), Unplayed>
@@ -74,194 +74,154 @@ fn say(
     Ok(())
 }
 
-// Makes a call of a session, and passes the gate before it and after it.
-fn make_call<W: Wait, L: Ledger, D: Shelf, G: Gate>(
-    rt: &W,
-    alloc: Global,
-    studio: &Studio<D>,
-    gate: &G,
-    session: u8,
-    call: Call,
-    desk: &mut Desk,
-    seat: &mut Seat<D>,
-    steps: &mut Steps<L>,
-) -> Result<Reply, AllocError>
-    requires seat { IsSeatOf studio.now seat.old }
-    requires session { session < 8 }
-    requires call { IsCall (call_of call) }
-    requires there { AreThere (states_in state desk.old.chest) (edits_of (call_of call)) }
-    requires of { IsOf session (made_of seat.old) (entries_in (front_of seat.old)) }
+impl<'a, W: Wait, D: Shelf, G: Gate> Stage<'a, W, D, G> {
+    // Makes a call of a session, and passes the gate before it and after it.
+    fn make_call<L: Ledger>(
+        &self,
+        call: Call,
+        desk: &mut Desk,
+        seat: &mut Seat<D>,
+        steps: &mut Steps<L>,
+    ) -> Result<Reply, AllocError>
+        requires seat { IsSeatOf self.now.studio.now seat.old }
+        requires session { self.now.session < 8 }
+        requires call { IsCall (call_of call) }
+        requires there { AreThere (states_in state desk.old.chest) (edits_of (call_of call)) }
+        requires of { IsOf self.now.session (made_of seat.old) (entries_in (front_of seat.old)) }
 
-    ensures seat { IsSeatOf studio.now seat.new }
-    ensures weight { weight_of seat.new ≡ weight_of seat.old }
-    ensures job { job_out seat.new ≡ job_out seat.old }
-    ensures begins { IsPrefix (front_of seat.old) (front_of seat.new) }
-    ensures of { IsOf session (made_of seat.new) (entries_in (front_of seat.new)) }
+        ensures keeps { KeepsSeat self.now.studio.now self.now.session seat.old seat.new }
+        ensures answered { (filters : List FilterState) → Agrees (states_in state desk.old.chest)
+            filters → IfOk result (λ reply. IsCalled (base_of self.now.studio.now) self.now.session
+            (call_of call) (expected_tables filters (asked (call_of call) []) (reply_of reply))
+            (reply_of reply) (known_by seat.old) (known_by seat.new)) }
+        ensures fresh { IfOk result
+            (λ reply. IsFreshReply (latest_of (entries_in (front_of seat.old))) (reply_of reply)) }
+        ensures shown { IfOk result (λ reply. Shows (history_of (base_of self.now.studio.now)
+            (front_of seat.new)) (call_of call) (reply_of reply) desk.new.out) }
+        ensures chest { IfOk result (λ reply. IsAfter (states_in state desk.old.chest)
+            (states_in state desk.new.chest) (call_of call) (reply_of reply)) }
+        ensures count { MakesAtMost 1 (known_by seat.old) (known_by seat.new) }
+        ensures full { IfOk result (λ reply. reply_of reply ≡ history_full
+            → FindsFull (known_by seat.old) (known_by seat.new)) }
+    {
+        self.gate
+            .pass(Actor::Session(self.session), Place::BeforeCall);
+        let reply = self
+            .studio
+            .call(self.rt, self.alloc, seat, self.session, call, desk, steps);
+        self.gate
+            .pass(Actor::Session(self.session), Place::AfterCall);
+        reply
+    }
 
-    ensures answered { (filters : List FilterState) → Agrees (states_in state desk.old.chest)
-        filters → IfOk result (λ reply. IsCalled (base_of studio.now) session (call_of call)
-        (expected_tables filters (asked (call_of call) []) (reply_of reply)) (reply_of reply)
-        (known_by seat.old) (known_by seat.new)) }
-    ensures fresh { IfOk result (λ reply. IsFreshReply (latest_of (entries_in (front_of seat.old)))
-        (reply_of reply)) }
-    ensures shown { IfOk result
-        (λ reply. Shows (history_of (base_of studio.now) (front_of seat.new)) (call_of call)
-        (reply_of reply) desk.new.out) }
-    ensures chest { IfOk result (λ reply. IsAfter (states_in state desk.old.chest)
-        (states_in state desk.new.chest) (call_of call) (reply_of reply)) }
-    ensures count { MakesAtMost 1 (known_by seat.old) (known_by seat.new) }
-    ensures full { IfOk result (λ reply. reply_of reply ≡ history_full
-        → FindsFull (known_by seat.old) (known_by seat.new)) }
-{
-    gate.pass(Actor::Session(session), Place::BeforeCall);
-    let reply = studio.call(rt, alloc, seat, session, call, desk, steps);
-    gate.pass(Actor::Session(session), Place::AfterCall);
-    reply
-}
+    // Makes a call of a session, and appends the digest of the tile that it is shown.
+    fn play_call<L: Ledger>(
+        &self,
+        call: Call,
+        desk: &mut Desk,
+        seat: &mut Seat<D>,
+        steps: &mut Steps<L>,
+        digests: &mut Vec<String>,
+    ) -> Result<(), Unplayed>
+        requires seat { IsSeatOf self.now.studio.now seat.old }
+        requires session { self.now.session < 8 }
+        requires call { IsCall (call_of call) }
+        requires there { AreThere (states_in state desk.old.chest) (edits_of (call_of call)) }
+        requires of { IsOf self.now.session (made_of seat.old) (entries_in (front_of seat.old)) }
 
-// Makes a call of a session, and appends the digest of the tile that it is shown.
-fn play_call<W: Wait, L: Ledger, D: Shelf, G: Gate>(
-    rt: &W,
-    alloc: Global,
-    studio: &Studio<D>,
-    gate: &G,
-    session: u8,
-    call: Call,
-    desk: &mut Desk,
-    seat: &mut Seat<D>,
-    steps: &mut Steps<L>,
-    digests: &mut Vec<String>,
-) -> Result<(), Unplayed>
-    requires seat { IsSeatOf studio.now seat.old }
-    requires session { session < 8 }
-    requires call { IsCall (call_of call) }
-    requires there { AreThere (states_in state desk.old.chest) (edits_of (call_of call)) }
-    requires of { IsOf session (made_of seat.old) (entries_in (front_of seat.old)) }
+        ensures keeps { KeepsSeat self.now.studio.now self.now.session seat.old seat.new }
+        ensures made { OnOk result ((told : List (List ℕ))
+            × (map string_bytes digests.new.items ≡ map string_bytes digests.old.items ++ told)
+            × IsCallMade (base_of self.now.studio.now) self.now.session (call_of call)
+            (states_in state desk.old.chest) (states_in state desk.new.chest) (known_by seat.old)
+            (known_by seat.new) told) }
+        ensures count { MakesAtMost 2 (known_by seat.old) (known_by seat.new) }
+        ensures full { IfErr result (λ why. why ≡ HistoryFull → FindsFull (known_by seat.old)
+            (known_by seat.new)) }
+    {
+        let asks = asks_tile(&call);
+        let reply = self.make_call(call, desk, seat, steps)?;
+        check_printed(&reply)?;
+        say(self.alloc, asks, &reply, desk, digests)?;
+        Ok(())
+    }
 
-    ensures seat { IsSeatOf studio.now seat.new }
-    ensures weight { weight_of seat.new ≡ weight_of seat.old }
-    ensures job { job_out seat.new ≡ job_out seat.old }
-    ensures begins { IsPrefix (front_of seat.old) (front_of seat.new) }
-    ensures of { IsOf session (made_of seat.new) (entries_in (front_of seat.new)) }
+    // Makes a save of a session, and passes the gate before it and after it.
+    fn make_save(&self, seat: &mut Seat<D>) -> Result<Reply, AllocError>
+        requires seat { IsSeatOf self.now.studio.now seat.old }
+        requires session { self.now.session < 8 }
+        requires of { IsOf self.now.session (made_of seat.old) (entries_in (front_of seat.old)) }
 
-    ensures made { OnOk result ((told : List (List ℕ))
-        × (map string_bytes digests.new.items ≡ map string_bytes digests.old.items ++ told)
-        × IsCallMade (base_of studio.now) session (call_of call) (states_in state desk.old.chest)
-        (states_in state desk.new.chest) (known_by seat.old) (known_by seat.new) told) }
-    ensures count { MakesAtMost 2 (known_by seat.old) (known_by seat.new) }
-    ensures full { IfErr result (λ why. why ≡ HistoryFull → FindsFull (known_by seat.old)
-        (known_by seat.new)) }
-{
-    let asks = asks_tile(&call);
-    let reply = make_call(rt, alloc, studio, gate, session, call, desk, seat, steps)?;
-    check_printed(&reply)?;
-    say(alloc, asks, &reply, desk, digests)?;
-    Ok(())
-}
+        ensures keeps { KeepsSeat self.now.studio.now self.now.session seat.old seat.new }
+        ensures saved { IfOk result (λ reply. IsSaved D.shelf_state
+            (opening_shelf self.now.studio.now) (base_of self.now.studio.now) self.now.session
+            (reply_of reply) (known_by seat.old) (known_by seat.new)) }
+        ensures count { MakesAtMost 2 (known_by seat.old) (known_by seat.new) }
+        ensures full { IfOk result (λ reply. reply_of reply ≡ history_full
+            → FindsFull (known_by seat.old) (known_by seat.new)) }
+    {
+        self.gate
+            .pass(Actor::Session(self.session), Place::BeforeCall);
+        let mut coder = Kept;
+        let reply = self
+            .studio
+            .save(self.rt, self.alloc, seat, self.session, &mut coder);
+        self.gate
+            .pass(Actor::Session(self.session), Place::AfterCall);
+        reply
+    }
 
-// Makes a save of a session, and passes the gate before it and after it.
-fn make_save<W: Wait, D: Shelf, G: Gate>(
-    rt: &W,
-    alloc: Global,
-    studio: &Studio<D>,
-    gate: &G,
-    session: u8,
-    seat: &mut Seat<D>,
-) -> Result<Reply, AllocError>
-    requires seat { IsSeatOf studio.now seat.old }
-    requires session { session < 8 }
-    requires of { IsOf session (made_of seat.old) (entries_in (front_of seat.old)) }
+    // Makes a save of a session, which ends the session where its reply has no text.
+    fn play_save(&self, seat: &mut Seat<D>) -> Result<(), Unplayed>
+        requires seat { IsSeatOf self.now.studio.now seat.old }
+        requires session { self.now.session < 8 }
+        requires of { IsOf self.now.session (made_of seat.old) (entries_in (front_of seat.old)) }
 
-    ensures seat { IsSeatOf studio.now seat.new }
-    ensures weight { weight_of seat.new ≡ weight_of seat.old }
-    ensures job { job_out seat.new ≡ job_out seat.old }
-    ensures begins { IsPrefix (front_of seat.old) (front_of seat.new) }
-    ensures of { IsOf session (made_of seat.new) (entries_in (front_of seat.new)) }
-    ensures saved { IfOk result (λ reply.
-        IsSaved D.shelf_state (opening_shelf studio.now) (base_of studio.now) session
-        (reply_of reply) (known_by seat.old) (known_by seat.new)) }
-    ensures count { MakesAtMost 2 (known_by seat.old) (known_by seat.new) }
-    ensures full { IfOk result (λ reply. reply_of reply ≡ history_full
-        → FindsFull (known_by seat.old) (known_by seat.new)) }
-{
-    gate.pass(Actor::Session(session), Place::BeforeCall);
-    let mut coder = Kept;
-    let reply = studio.save(rt, alloc, seat, session, &mut coder);
-    gate.pass(Actor::Session(session), Place::AfterCall);
-    reply
-}
+        ensures keeps { KeepsSeat self.now.studio.now self.now.session seat.old seat.new }
+        ensures made { OnOk result (IsSaveMade D.shelf_state (opening_shelf self.now.studio.now)
+            (base_of self.now.studio.now) self.now.session (known_by seat.old)
+            (known_by seat.new)) }
+        ensures count { MakesAtMost 2 (known_by seat.old) (known_by seat.new) }
+        ensures full { IfErr result (λ why. why ≡ HistoryFull → FindsFull (known_by seat.old)
+            (known_by seat.new)) }
+    {
+        let reply = self.make_save(seat)?;
+        check_printed(&reply)
+    }
 
-// Makes a save of a session, which ends the session where its reply has no text.
-fn play_save<W: Wait, D: Shelf, G: Gate>(
-    rt: &W,
-    alloc: Global,
-    studio: &Studio<D>,
-    gate: &G,
-    session: u8,
-    seat: &mut Seat<D>,
-) -> Result<(), Unplayed>
-    requires seat { IsSeatOf studio.now seat.old }
-    requires session { session < 8 }
-    requires of { IsOf session (made_of seat.old) (entries_in (front_of seat.old)) }
+    // Makes what a line of a session says.
+    pub(crate) fn play_line<L: Ledger>(
+        &self,
+        line: Line,
+        desk: &mut Desk,
+        seat: &mut Seat<D>,
+        steps: &mut Steps<L>,
+        digests: &mut Vec<String>,
+    ) -> Result<(), Unplayed>
+        requires seat { IsSeatOf self.now.studio.now seat.old }
+        requires session { self.now.session < 8 }
+        requires fit { FitsChest (states_in state desk.old.chest) (line_of line) }
+        requires of { IsOf self.now.session (made_of seat.old) (entries_in (front_of seat.old)) }
 
-    ensures seat { IsSeatOf studio.now seat.new }
-    ensures weight { weight_of seat.new ≡ weight_of seat.old }
-    ensures job { job_out seat.new ≡ job_out seat.old }
-    ensures begins { IsPrefix (front_of seat.old) (front_of seat.new) }
-    ensures of { IsOf session (made_of seat.new) (entries_in (front_of seat.new)) }
-    ensures made { OnOk result (
-        IsSaveMade D.shelf_state (opening_shelf studio.now) (base_of studio.now)
-        session (known_by seat.old) (known_by seat.new)) }
-    ensures count { MakesAtMost 2 (known_by seat.old) (known_by seat.new) }
-    ensures full { IfErr result (λ why. why ≡ HistoryFull → FindsFull (known_by seat.old)
-        (known_by seat.new)) }
-{
-    let reply = make_save(rt, alloc, studio, gate, session, seat)?;
-    check_printed(&reply)
-}
-
-// Makes what a line of a session says.
-pub(crate) fn play_line<W: Wait, L: Ledger, D: Shelf, G: Gate>(
-    rt: &W,
-    alloc: Global,
-    studio: &Studio<D>,
-    gate: &G,
-    session: u8,
-    line: Line,
-    desk: &mut Desk,
-    seat: &mut Seat<D>,
-    steps: &mut Steps<L>,
-    digests: &mut Vec<String>,
-) -> Result<(), Unplayed>
-    requires seat { IsSeatOf studio.now seat.old }
-    requires session { session < 8 }
-    requires fit { FitsChest (states_in state desk.old.chest) (line_of line) }
-    requires of { IsOf session (made_of seat.old) (entries_in (front_of seat.old)) }
-
-    ensures seat { IsSeatOf studio.now seat.new }
-    ensures weight { weight_of seat.new ≡ weight_of seat.old }
-    ensures job { job_out seat.new ≡ job_out seat.old }
-    ensures begins { IsPrefix (front_of seat.old) (front_of seat.new) }
-    ensures of { IsOf session (made_of seat.new) (entries_in (front_of seat.new)) }
-
-    ensures made { OnOk result ((told : List (List ℕ))
-        × (map string_bytes digests.new.items ≡ map string_bytes digests.old.items ++ told)
-        × IsLineMade D.shelf_state (opening_shelf studio.now) (base_of studio.now)
-        session (line_of line) (states_in state desk.old.chest) (states_in state desk.new.chest)
-        (known_by seat.old) (known_by seat.new) told) }
-    ensures count { MakesAtMost (most_made (line_of line ∷ [])) (known_by seat.old)
-        (known_by seat.new) }
-    ensures full { IfErr result (λ why. why ≡ HistoryFull
-        → (most_made (line_of line ∷ []) ≡ 2) × FindsFull (known_by seat.old) (known_by seat.new)) }
-{
-    match line {
-        Line::Call(call) => play_call(
-            rt, alloc, studio, gate, session, call, desk, seat, steps, digests,
-        ),
-        Line::Save => play_save(rt, alloc, studio, gate, session, seat),
-        Line::Forget(slot) => {
-            desk.chest.forget(slot);
-            Ok(())
+        ensures keeps { KeepsSeat self.now.studio.now self.now.session seat.old seat.new }
+        ensures made { OnOk result ((told : List (List ℕ))
+            × (map string_bytes digests.new.items ≡ map string_bytes digests.old.items ++ told)
+            × IsLineMade D.shelf_state (opening_shelf self.now.studio.now)
+            (base_of self.now.studio.now) self.now.session (line_of line)
+            (states_in state desk.old.chest) (states_in state desk.new.chest) (known_by seat.old)
+            (known_by seat.new) told) }
+        ensures count { MakesAtMost (most_made (line_of line ∷ [])) (known_by seat.old)
+            (known_by seat.new) }
+        ensures full { IfErr result (λ why. why ≡ HistoryFull → (most_made (line_of line ∷ []) ≡ 2)
+            × FindsFull (known_by seat.old) (known_by seat.new)) }
+    {
+        match line {
+            Line::Call(call) => self.play_call(call, desk, seat, steps, digests),
+            Line::Save => self.play_save(seat),
+            Line::Forget(slot) => {
+                desk.chest.forget(slot);
+                Ok(())
+            }
         }
     }
 }

@@ -7,8 +7,8 @@ ghost use Rattle.xl_studio.specs.Calling.{HasHeard};
 ghost use Rattle.xl_studio.specs.Jobs.{job_out};
 ghost use Rattle.xl_studio.specs.Seats.{known_by, weight_of, IsSeatOf};
 
-use crate::played::play_session;
 use crate::players::{Player, Worker};
+use crate::stage::Stage;
 use std::alloc::Global;
 use std::marker::Brand;
 use std::sync::Wait;
@@ -32,12 +32,14 @@ fn play<W: Wait, D: Shelf, G: Gate>(
     ensures { Plays (in_slots state) studio.now player.old player.new }
 {
     let lines = std::mem::replace(&mut player.part.lines, Vec::new(alloc));
-    let played = play_session(
+    let stage = Stage {
         rt,
         alloc,
         studio,
         gate,
-        player.part.session,
+        session: player.part.session,
+    };
+    let played = stage.play_session(
         lines,
         &mut player.part.desk,
         &mut player.seat,

@@ -2,7 +2,8 @@ use Rattle.std.proofs.Common.{ap, ◌∙◌, [], ◌∷◌, length, length-appen
 use Rattle.std.proofs.lemmas.List.{nil_from_length}
 use Rattle.xl_sessions.proofs.JoinedSeats.{joining_none, joining_seat, joining_free, joining_more, joined_made, joined_job}
 use Rattle.xl_sessions.proofs.JoinedSeats.{joined_weight}
-use Rattle.xl_sessions.proofs.JoinedSeats.{joined_begins, joined_known, joined_shown, joined_done, joined_not_full}
+use Rattle.xl_sessions.proofs.JoinedSeats.{joined_begins, joined_known, joined_shown, joined_first, joined_done}
+use Rattle.xl_sessions.proofs.JoinedSeats.{joined_not_full}
 use Rattle.xl_sessions.proofs.joining.join_players.Goals as goal
 
 pub loop-player-init : goal.loop-player-init
@@ -39,7 +40,7 @@ loop-player-preserved g c =
       joining_more c.in-Some.player c.next.new.self.rest.items c.loop-player.invariant.0 c.in-Some.ensures.steps.0 c.join.new.seat
           c.push_reserved.new.self.items _
           c.join.ensures.seat c.join.ensures.job c.join.ensures.made c.join.ensures.weight c.join.ensures.begins c.join.ensures.other
-          c.push_reserved.ensures.items c.first_of-stopped.ensures.none c.first_of-stopped.ensures.either,
+          c.push_reserved.ensures.items c.or-stopped.ensures,
       omega (arith, one, room, grown, same),
     )
 
@@ -65,6 +66,10 @@ returns-clause-known g c = joined_known c.loop-player.invariant.0
 
 pub returns-clause-digests : goal.returns-clause-digests
 returns-clause-digests g c = joined_shown c.loop-player.invariant.0
+    (nil_from_length _ (omega (arith, c.in-None.ensures.steps.0, c.loop-player.player-iterator.rest.ok)))
+
+pub returns-clause-first : goal.returns-clause-first
+returns-clause-first g c = joined_first c.loop-player.invariant.0
     (nil_from_length _ (omega (arith, c.in-None.ensures.steps.0, c.loop-player.player-iterator.rest.ok)))
 
 pub returns-clause-done : goal.returns-clause-done

@@ -1,7 +1,7 @@
 use Rattle.std.proofs.Common.{ap}
 use Rattle.xl_edit.specs.Replies.{reply_of}
 use Rattle.xl_sessions.specs.Playing.{said}
-use Rattle.xl_sessions.proofs.session.play_call.Goals as goal
+use Rattle.xl_sessions.proofs.stage.Stage.play_call.Goals as goal
 
 pub returns-clause-made : goal.returns-clause-made
 returns-clause-made g c = (
