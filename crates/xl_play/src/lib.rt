@@ -1,17 +1,21 @@
 //! A script that is played on an opened document, and the text of it.
 //!
 //! `run_script` makes the calls and saves of its sessions: beside each other and beside workers, or, where session 0 is alone and no
-//! worker is asked for, straight on a core, without threads. `view_script` makes those of session 0 that save nothing, each tile with
-//! those to its right and below.
+//! worker is asked for, straight on a core, without threads. `View::view_script` makes those of session 0 that save nothing, each tile
+//! with those to its right and below.
 #![tactic(auto)]
 
+mod host;
 mod opening;
 mod playing;
 mod saving;
 mod script_runs;
+mod transcript;
+mod view;
 mod windows;
 
+pub use host::Host;
 pub use opening::open_core;
 pub use playing::{Replies, has_save_fault};
 pub use script_runs::{Played, run_script};
-pub use windows::view_script;
+pub use view::View;

@@ -20,6 +20,7 @@ ghost use Rattle.spec_script.specs.Script.{list_at};
 ghost use Rattle.xl_sessions.specs.Playing.{FitsChest};
 
 use crate::saving::save_latest;
+use crate::transcript::Transcript;
 use std::alloc::{AllocError, Global};
 use std::marker::Brand;
 use std::sync::ledger::{Blank, Ledger};
@@ -57,16 +58,15 @@ fn play_call<L: Ledger, D: Shelf, G: Gate>(
     alloc: Global,
     core: &mut Core<D>,
     gate: &G,
-    index: u32,
     call: Call,
     desk: &mut Desk,
     steps: &mut Steps<L>,
-    text: &mut String,
+    transcript: &mut Transcript,
 ) -> Result<(), AllocError>
     requires played { ArePlayed core.old.history.base core.old.history.entries
-        (string_bytes text.old) }
+        (string_bytes transcript.old.text) }
     requires inside { IsSome core.old.shelf }
-    requires index { index ≡ next_index core.old.history.entries 0 }
+    requires index { transcript.old.index ≡ next_index core.old.history.entries 0 }
     requires few { length core.old.history.entries + 2 ≤ most_entries }
     requires kept { KeepsExactly core.old }
     requires call { IsCall (call_of call) }
@@ -76,14 +76,21 @@ fn play_call<L: Ledger, D: Shelf, G: Gate>(
         (states_in state desk.old.chest) (states_in state desk.new.chest) core.new.history) }
     ensures kept { OnOk result (KeepsExactly core.new) }
     ensures played { OnOk result (ArePlayed core.new.history.base core.new.history.entries
-        (string_bytes text.new)) }
+        (string_bytes transcript.new.text)) }
 {
     let seen = core.version();
     gate.pass(Actor::Session(ALONE), Place::BeforeCall);
     let reply = core.submit(alloc, ALONE, call, seen, desk, steps)?;
     gate.pass(Actor::Session(ALONE), Place::AfterCall);
     let digest = shown_digest(alloc, &reply, desk)?;
-    print_reply(alloc, text, ALONE, index, &reply, digest.as_str())
+    print_reply(
+        alloc,
+        &mut transcript.text,
+        ALONE,
+        transcript.index,
+        &reply,
+        digest.as_str(),
+    )
 }
 
 // Makes a save of session 0, passes the gate before it and after it, and prints its line.
@@ -91,14 +98,13 @@ fn play_save<D: Shelf, G: Gate>(
     alloc: Global,
     core: &mut Core<D>,
     gate: &G,
-    index: u32,
-    text: &mut String,
+    transcript: &mut Transcript,
 ) -> Result<(), AllocError>
     requires played { ArePlayed core.old.history.base core.old.history.entries
-        (string_bytes text.old) }
+        (string_bytes transcript.old.text) }
     requires inside { IsSome core.old.shelf }
     requires selected { IsSome (D.shelf_state core.old.opening).selected }
-    requires index { index ≡ next_index core.old.history.entries 0 }
+    requires index { transcript.old.index ≡ next_index core.old.history.entries 0 }
     requires few { length core.old.history.entries + 2 ≤ most_entries }
     requires kept { KeepsExactly core.old }
     ensures between { IsBetweenLines core.old.history.base core.old.opening core.new }
@@ -106,30 +112,36 @@ fn play_save<D: Shelf, G: Gate>(
         × (core.new.history ≡ with_save core.old.history 0 reply)) }
     ensures kept { OnOk result (KeepsExactly core.new) }
     ensures played { OnOk result (ArePlayed core.new.history.base core.new.history.entries
-        (string_bytes text.new)) }
+        (string_bytes transcript.new.text)) }
 {
     gate.pass(Actor::Session(ALONE), Place::BeforeCall);
     let reply = save_latest(alloc, core, ALONE)?;
     gate.pass(Actor::Session(ALONE), Place::AfterCall);
-    print_reply(alloc, text, ALONE, index, &reply, "")
+    print_reply(
+        alloc,
+        &mut transcript.text,
+        ALONE,
+        transcript.index,
+        &reply,
+        "",
+    )
 }
 
-// Makes what a line says, and prints its line. It answers the index of the next call.
+// Makes what a line says, and prints its line.
 fn play_line<L: Ledger, D: Shelf, G: Gate>(
     alloc: Global,
     core: &mut Core<D>,
     gate: &G,
-    index: u32,
     line: Line,
     desk: &mut Desk,
     steps: &mut Steps<L>,
-    text: &mut String,
-) -> Result<u32, AllocError>
+    transcript: &mut Transcript,
+) -> Result<(), AllocError>
     requires played { ArePlayed core.old.history.base core.old.history.entries
-        (string_bytes text.old) }
+        (string_bytes transcript.old.text) }
     requires inside { IsSome core.old.shelf }
     requires selected { IsSome (D.shelf_state core.old.opening).selected }
-    requires index { index ≡ next_index core.old.history.entries 0 }
+    requires index { transcript.old.index ≡ next_index core.old.history.entries 0 }
     requires few { length core.old.history.entries + 2 * length (calls_of (line_of line ∷ []))
         ≤ most_entries }
     requires kept { KeepsExactly core.old }
@@ -137,23 +149,27 @@ fn play_line<L: Ledger, D: Shelf, G: Gate>(
     ensures between { IsBetweenLines core.old.history.base core.old.opening core.new }
     ensures made { OnOk result (IsMade core.old.history 0 (line_of line)
         (states_in state desk.old.chest) (states_in state desk.new.chest) core.new.history) }
-    ensures next { IfOk result (λ next. next ≡ next_index core.new.history.entries 0) }
+    ensures next { OnOk result (transcript.new.index ≡ next_index core.new.history.entries 0) }
     ensures kept { OnOk result (KeepsExactly core.new) }
     ensures played { OnOk result (ArePlayed core.new.history.base core.new.history.entries
-        (string_bytes text.new)) }
+        (string_bytes transcript.new.text)) }
 {
     match line {
         Line::Call(call) => {
-            play_call(alloc, core, gate, index, call, desk, steps, text)?;
-            Ok(index + 1)
+            let index = transcript.index;
+            play_call(alloc, core, gate, call, desk, steps, transcript)?;
+            transcript.index = index + 1;
+            Ok(())
         }
         Line::Save => {
-            play_save(alloc, core, gate, index, text)?;
-            Ok(index + 1)
+            let index = transcript.index;
+            play_save(alloc, core, gate, transcript)?;
+            transcript.index = index + 1;
+            Ok(())
         }
         Line::Forget(slot) => {
             desk.chest.forget(slot);
-            Ok(index)
+            Ok(())
         }
     }
 }
@@ -185,14 +201,20 @@ fn play_lines<L: Ledger, D: Shelf, G: Gate>(
 {
     let mut desk = desk_of(alloc, boxes)?;
     let mut steps = Steps::<L>::new(blank);
-    let mut text = String::new(alloc);
-    let mut index = 0;
+    let text = String::new(alloc);
+    let mut transcript = Transcript { index: 0, text };
     for line in lines {
-        index = play_line(
-            alloc, core, gate, index, line, &mut desk, &mut steps, &mut text,
+        play_line(
+            alloc,
+            core,
+            gate,
+            line,
+            &mut desk,
+            &mut steps,
+            &mut transcript,
         )?;
     }
-    Ok(text)
+    Ok(transcript.text)
 }
 
 /// The lines of session 0.

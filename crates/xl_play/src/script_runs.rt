@@ -9,6 +9,7 @@ ghost use Rattle.xl_play.specs.Playing.{AreOfFirst, KeepsExactly};
 ghost use Rattle.xl_script.specs.Lines.{lists_of};
 ghost use Rattle.xl_filters.specs.Chests.{states_of};
 
+use crate::host::Host;
 use crate::opening::open_core;
 use crate::playing::{Replies, has_save_fault, play};
 use std::alloc::{AllocError, Global};
@@ -128,14 +129,12 @@ fn play_together<R: Threads + Wait + Sync, D: Shelf, G: Gate>(
 /// Makes the calls and saves of a script: without threads where session 0 is alone and no worker is asked for, and else beside
 /// workers.
 pub fn run_script<R: Threads + Wait + Sync, D: Shelf, G: Gate>(
-    rt: &R,
-    alloc: Global,
+    host: &Host<'_, R, G>,
     document: Document,
     script: Script,
     chest: Vec<Vec<Box<dyn PointFilter + Send>>>,
     workers: u8,
     shelf: D,
-    gate: &G,
 ) -> Played<D>
     requires limits { IsDocument document }
     requires numbered { AreNumbered document.nodes }
@@ -148,6 +147,7 @@ pub fn run_script<R: Threads + Wait + Sync, D: Shelf, G: Gate>(
         (D.shelf_state result.shelf)
         document (lists_of script) (states_of (λ b. state b) chest.items) workers result.replies }
 {
+    let alloc = host.alloc;
     let core = match open_core(alloc, document, shelf) {
         Ok(core) => core,
         Err(shelf) => return Played {
@@ -157,7 +157,7 @@ pub fn run_script<R: Threads + Wait + Sync, D: Shelf, G: Gate>(
     };
     let script = know_eight(script);
     if is_alone(&script, workers) {
-        return play_alone(alloc, core, script, chest, gate);
+        return play_alone(alloc, core, script, chest, host.gate);
     }
-    play_together(rt, alloc, core, script, chest, workers, gate)
+    play_together(host.rt, alloc, core, script, chest, workers, host.gate)
 }

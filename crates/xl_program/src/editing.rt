@@ -16,7 +16,7 @@ use std::alloc::{AllocError, Global};
 use std::sync::Wait;
 use std::thread::Threads;
 use xl_filters::PointFilter;
-use xl_play::{Replies, run_script};
+use xl_play::{Host, Replies, run_script};
 use xl_ports::{FailedOrMemory, Gate, Shelf, Sink, Source, read_all, write_all};
 use xl_script::{BadLineOrMemory, Script, parse};
 
@@ -28,15 +28,13 @@ pub(crate) const MOST_BYTES: usize = (1 << 24) + 1;
 ///
 /// The script is read before the file, and all the text is made before its first byte is written. The shelf comes back always.
 pub fn edit<R: Threads + Wait + Sync, S: Source, K: Sink, D: Shelf, G: Gate>(
-    rt: &R,
-    alloc: Global,
+    host: &Host<'_, R, G>,
     name: &str,
     workers: u8,
     source: &mut S,
     sink: &mut K,
     mut shelf: D,
     chest: Vec<Vec<Box<dyn PointFilter + Send>>>,
-    gate: &G,
 ) -> Done<D>
     requires boxes { AllByRecursion (λ boxes. length boxes.items < 2 ^ 32) chest.items }
     requires workers { workers ≤ 8 }
@@ -54,6 +52,7 @@ pub fn edit<R: Threads + Wait + Sync, S: Source, K: Sink, D: Shelf, G: Gate>(
     ensures selected { ((D.shelf_state result.shelf).selected ≡ (D.shelf_state shelf).selected) ⊎
         ((D.shelf_state result.shelf).selected ≡ Some name.now) }
 {
+    let alloc = host.alloc;
     let script = match read_script(alloc, source, &chest) {
         Ok(script) => script,
         Err(stopped) => return Done {
@@ -68,7 +67,7 @@ pub fn edit<R: Threads + Wait + Sync, S: Source, K: Sink, D: Shelf, G: Gate>(
             shelf,
         },
     };
-    let played = run_script(rt, alloc, document, script, chest, workers, shelf, gate);
+    let played = run_script(host, document, script, chest, workers, shelf);
     Done {
         result: write_replies(sink, played.replies),
         shelf: played.shelf,

@@ -26,6 +26,7 @@ use std::sync::Wait;
 use std::thread::Threads;
 use xl_command::command_of;
 use xl_filters::PointFilter;
+use xl_play::Host;
 use xl_ports::{Gate, Shelf, Sink, Source};
 
 const DONE: u8 = 0;
@@ -150,7 +151,8 @@ pub fn run<R: Threads + Wait + Sync, S: Source, K: Sink, D: Shelf, G: Gate>(
             shelf,
         };
     };
-    let done = obey(rt, alloc, command, source, sink, shelf, chest, gate);
+    let host = Host { rt, alloc, gate };
+    let done = obey(&host, command, source, sink, shelf, chest);
     let status = match done.result {
         Ok(()) => DONE,
         Err(stopped) => write_stop(alloc, sink, stopped),

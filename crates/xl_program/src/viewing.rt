@@ -22,30 +22,28 @@ use crate::stopped::Stopped;
 use std::alloc::{AllocError, Global};
 use xl_doc::Document;
 use xl_filters::PointFilter;
-use xl_play::{open_core, view_script};
+use xl_play::{View, open_core};
 use xl_ports::{FailedOrMemory, Shelf, Sink, Source, read_all, write_all};
 use xl_script::{BadLineOrMemory, Script, parse_viewed};
 
 /// Makes the calls of a script of session 0 on the document of a file, without threads, and writes the replies. The digest of a
-/// tile's line is that of the tiles from there on to its right and below, `cols` by `rows`, as far as the grid goes.
+/// tile's line is that of the tiles from there on to its right and below, as many as `view` says, as far as the grid goes.
 ///
 /// The script is read before the file, and all the text is made before its first byte is written. Nothing is saved. The shelf comes
 /// back always.
 pub fn view<S: Source, K: Sink, D: Shelf>(
-    alloc: Global,
+    view: &View,
     name: &str,
-    cols: u32,
-    rows: u32,
     source: &mut S,
     sink: &mut K,
     mut shelf: D,
     chest: Vec<Vec<Box<dyn PointFilter + Send>>>,
 ) -> Done<D>
     requires boxes { AllByRecursion (λ boxes. length boxes.items < 2 ^ 32) chest.items }
-    requires size { IsWindowSize cols rows }
+    requires size { IsWindowSize view.now.cols view.now.rows }
     ensures comes { ComesTo K.held K.faults (given_of (S.left source.old) (λ b. state b)
-        chest.items) (D.shelf_state shelf) (D.shelf_state result.shelf) (view_of name.now cols rows)
-        sink.old sink.new result.result }
+        chest.items) (D.shelf_state shelf) (D.shelf_state result.shelf)
+        (view_of name.now view.now.cols view.now.rows) sink.old sink.new result.result }
     ensures stops { StopsView (given_of (S.left source.old) (λ b. state b) chest.items)
         (read_at (D.shelf_state shelf).disk name.now) result.result }
     ensures takes { TakesFront S.left S.faults S.reads source.old source.new }
@@ -57,6 +55,7 @@ pub fn view<S: Source, K: Sink, D: Shelf>(
     ensures selected { ((D.shelf_state result.shelf).selected ≡ (D.shelf_state shelf).selected) ⊎
         ((D.shelf_state result.shelf).selected ≡ Some name.now) }
 {
+    let alloc = view.alloc;
     let script = match read_script(alloc, source, &chest) {
         Ok(script) => script,
         Err(stopped) => return Done {
@@ -71,7 +70,7 @@ pub fn view<S: Source, K: Sink, D: Shelf>(
             shelf,
         },
     };
-    let viewed = view_document(alloc, document, script, chest, cols, rows, shelf);
+    let viewed = view_document(view, document, script, chest, shelf);
     Done {
         result: write_text(sink, viewed.text),
         shelf: viewed.shelf,
@@ -128,35 +127,33 @@ struct Viewed<D> {
 
 // Makes the calls of a script on a document.
 fn view_document<D: Shelf>(
-    alloc: Global,
+    view: &View,
     document: Document,
     script: Script,
     chest: Vec<Vec<Box<dyn PointFilter + Send>>>,
-    cols: u32,
-    rows: u32,
     shelf: D,
 ) -> Viewed<D>
     requires limits { IsDocument document }
     requires numbered { AreNumbered document.nodes }
     requires selected { IsSome (D.shelf_state shelf).selected }
-    requires size { IsWindowSize cols rows }
+    requires size { IsWindowSize view.now.cols view.now.rows }
     requires boxes { AllByRecursion (λ boxes. length boxes.items < 2 ^ 32) chest.items }
     requires fits { FitsFilters (length (list_at (states_of (λ b. state b) chest.items) 0) ∷ [])
         (lists_of script) }
     requires viewed { AllByRecursion IsViewedLine (list_at (lists_of script) 0) }
     ensures shelf { result.shelf ≡ shelf }
     ensures views { IfOk result.text (λ text. Views (string_bytes text) document
-        (list_at (lists_of script) 0) (list_at (states_of (λ b. state b) chest.items) 0) cols
-        rows) }
+        (list_at (lists_of script) 0) (list_at (states_of (λ b. state b) chest.items) 0)
+        view.now.cols view.now.rows) }
 {
-    let mut core = match open_core(alloc, document, shelf) {
+    let mut core = match open_core(view.alloc, document, shelf) {
         Ok(core) => core,
         Err(shelf) => return Viewed {
             text: Err(AllocError),
             shelf,
         },
     };
-    let text = view_script(alloc, &mut core, cols, rows, script, chest);
+    let text = view.view_script(&mut core, script, chest);
     Viewed {
         text,
         shelf: core.into_shelf(),

@@ -49,8 +49,8 @@ returns-clause-played g c =
     let room : HasRoom c.args.core.now.history = record { free = c.requires.few; ended = c.requires.played.ended } in
     on_ok_weaker c.print_reply.result
     (λ e. chest_printed _ c.args.core.now (call_of c.args.call) c.version-seen.result
-    (reply_of c.in_ok-reply.reply) c.submit.new.self c.submit.new.desk.out (string_bytes c.args.text.now)
-    c.args.index c.as_str.result.now (string_bytes c.print_reply.new.out) room c.requires.kept c.version-seen.ensures
+    (reply_of c.in_ok-reply.reply) c.submit.new.self c.submit.new.desk.out (string_bytes c.args.transcript.now.text)
+    c.args.transcript.now.index c.as_str.result.now (string_bytes c.print_reply.new.out) room c.requires.kept c.version-seen.ensures
     c.requires.played
     (λ filters agrees. c.in_ok-reply.ensures.answered filters agrees) c.in_ok-reply.ensures.legal c.in_ok-reply.ensures.shown
     c.requires.index (c.as_str.ensures.value ∙ c.in_ok-digest.ensures) e)

@@ -24,8 +24,8 @@ play_line-requires-clause-fit g c κs within =
 pub loop-line-preserved : goal.loop-line-preserved
 loop-line-preserved g c =
     under_way_more c.in-Some.line c.next.new.self.rest.items c.loop-line.invariant c.in-Some.ensures.steps.0
-    _ c.play_line.new.core _ (string_bytes c.play_line.new.text) c.play_line.ensures.between c.in_ok-index.ensures.made
-    c.in_ok-index.ensures.next c.in_ok-index.ensures.kept c.in_ok-index.ensures.played
+    _ c.play_line.new.core _ (string_bytes c.play_line.new.transcript.text) c.play_line.ensures.between c.in_ok-play_line.ensures.made
+    c.in_ok-play_line.ensures.next c.in_ok-play_line.ensures.kept c.in_ok-play_line.ensures.played
 
 pub returns-clause-made : goal.returns-clause-made
 returns-clause-made g c =

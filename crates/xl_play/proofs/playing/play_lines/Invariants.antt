@@ -6,5 +6,5 @@ use Rattle.xl_play.proofs.playing.play_lines.Given as goal
 abbrev pub invariant-loop-line : goal.invariant-loop-line
 invariant-loop-line g l =
     IsUnderWay (map (λ b. (goal.PointFilter-dyn g (b.vtable, b.value)).state b.value) l.fn.boxes.items) l.fn.core l.fn.lines.items
-    l.line-iterator.rest.items l.index (states_in (λ b. (goal.PointFilter-dyn g b).state b.1) l.desk.chest) l.core
-    (string_bytes l.text)
+    l.line-iterator.rest.items l.transcript.index (states_in (λ b. (goal.PointFilter-dyn g b).state b.1) l.desk.chest) l.core
+    (string_bytes l.transcript.text)

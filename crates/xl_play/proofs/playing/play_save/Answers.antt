@@ -15,7 +15,7 @@ pub returns-clause-played : goal.returns-clause-played
 returns-clause-played g c =
     on_ok_weaker c.print_reply.result
     (λ e. saved_printed c.args.core.now.history c.save_latest.new.core.history c.in_ok-reply.reply
-    (string_bytes c.args.text.now) c.args.index [] (string_bytes c.print_reply.new.out)
+    (string_bytes c.args.transcript.now.text) c.args.transcript.now.index [] (string_bytes c.print_reply.new.out)
     c.requires.played c.in_ok-reply.ensures.text c.in_ok-reply.ensures.saved c.in_ok-reply.ensures.between.legal c.requires.index
     refl e)
     c.print_reply.ensures.ok

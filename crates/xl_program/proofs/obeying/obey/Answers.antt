@@ -1,3 +1,4 @@
+use Rattle.std.proofs.Common.{arith}
 use Rattle.spec_command.specs.Arguments.{render, info, edit, view, audit}
 use Rattle.xl_program.specs.Outcome.{Given, given_of}
 use Rattle.xl_program.proofs.Causes.{cause_of}
@@ -72,7 +73,14 @@ returns-in-View-clause-shelf_cause g c =
     c.view.result.result (λ rose. rose) c.view.ensures.shelf_cause)
 
 pub view-requires-clause-size : goal.view-requires-clause-size
-view-requires-clause-size g c κs within = rw c.in-View.is at c.requires.range
+view-requires-clause-size g c κs within =
+    let range = rw c.in-View.is at c.requires.range in
+    record {
+      some_cols = omega (arith, range.some_cols, range.some_rows);
+      few_cols = omega (arith, range.few_cols, range.few_rows);
+      some_rows = omega (arith, range.some_cols, range.some_rows);
+      few_rows = omega (arith, range.few_cols, range.few_rows);
+    }
 
 pub returns-in-Audit-clause-comes : goal.returns-in-Audit-clause-comes
 returns-in-Audit-clause-comes g c = rw c.in-Audit.is c.audit-result.ensures.comes

@@ -22,7 +22,7 @@ returns-clause-comes g c =
       read = c.in-Ok.ensures.reads;
       untouched = loaded.untouched;
     } in
-    viewed_comes given then (see c.view_document-viewed.result.shelf) (ap see c.view_document-viewed.ensures.shelf) c.args.cols c.args.rows
+    viewed_comes given then (see c.view_document-viewed.result.shelf) (ap see c.view_document-viewed.ensures.shelf) c.args.view.now.cols c.args.view.now.rows
     g.K.Sink.held g.K.Sink.faults c.args.sink.now c.write_text.new.sink c.view_document-viewed.result.text c.write_text.result
     c.view_document-viewed.ensures.views c.write_text.ensures
 
@@ -33,7 +33,7 @@ returns-in-Err-clause-comes g c =
     c.args.chest.items in
     let before : ShelfState =
     g.D.Shelf.shelf_state c.args.shelf in
-    view_stopped g.K.Sink.held g.K.Sink.faults given before c.args.name.now c.args.cols c.args.rows c.args.sink.now c.in-Err.stopped
+    view_stopped g.K.Sink.held g.K.Sink.faults given before c.args.name.now c.args.view.now.cols c.args.view.now.rows c.args.sink.now c.in-Err.stopped
     c.in-Err.ensures.reads
 
 pub returns-in-Err-clause-stops : goal.returns-in-Err-clause-stops

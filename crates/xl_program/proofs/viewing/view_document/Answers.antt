@@ -10,5 +10,5 @@ use Rattle.xl_program.proofs.viewing.view_document.Goals as goal
 pub returns-clause-views : goal.returns-clause-views
 returns-clause-views g c =
     subst (λ (d : Document). IfOk c.view_script-text.result (λ text. Views (string_bytes text) d (list_at (lists_of c.args.script) 0)
-    (list_at (states_of (λ b. (goal.PointFilter-dyn g (b.vtable, b.value)).state b.value) c.args.chest.items) 0) c.args.cols
-    c.args.rows)) c.in-Ok.ensures.base c.view_script-text.ensures.views
+    (list_at (states_of (λ b. (goal.PointFilter-dyn g (b.vtable, b.value)).state b.value) c.args.chest.items) 0) c.args.view.now.cols
+    c.args.view.now.rows)) c.in-Ok.ensures.base c.view_script-text.ensures.views

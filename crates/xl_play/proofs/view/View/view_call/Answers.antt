@@ -8,7 +8,7 @@ use Rattle.xl_play.specs.Windows.{IsLastTile, window_digest}
 use Rattle.xl_play.proofs.Saved.{call_between}
 use Rattle.xl_play.proofs.Submitted.{HasRoom, chest_called, chest_keeps, chest_text}
 use Rattle.xl_play.proofs.Windowed.{last_tile, call_shown}
-use Rattle.xl_play.proofs.windows.view_call.Goals as goal
+use Rattle.xl_play.proofs.view.View.view_call.Goals as goal
 
 pub returns-clause-between : goal.returns-clause-between
 returns-clause-between g c =
@@ -70,11 +70,11 @@ returns-clause-shown g c =
     let room : HasRoom c.args.core.now.history = record { free = c.requires.few; ended = c.requires.shown.played.ended } in
     let new = c.submit.new.self in
     let digest = c.as_str.ensures.value ∙ c.in_ok-digest.ensures.digest
-    ∙ ap (λ place. window_digest new.history c.args.cols c.args.rows place (reply_of c.in_ok-reply.reply)) c.asked_tile-tile.ensures in
+    ∙ ap (λ place. window_digest new.history c.args.self.now.cols c.args.self.now.rows place (reply_of c.in_ok-reply.reply)) c.asked_tile-tile.ensures in
     on_ok_weaker c.print_reply.result
     (λ e. call_shown _ c.args.core.now new (call_of c.args.call) c.version-seen.result
-    (reply_of c.in_ok-reply.reply) c.args.cols c.args.rows c.args.index c.submit.new.desk.out c.as_str.result.now
-    (string_bytes c.args.text.now) (string_bytes c.print_reply.new.out) room c.requires.kept c.version-seen.ensures
+    (reply_of c.in_ok-reply.reply) c.args.self.now.cols c.args.self.now.rows c.args.transcript.now.index c.submit.new.desk.out c.as_str.result.now
+    (string_bytes c.args.transcript.now.text) (string_bytes c.print_reply.new.out) room c.requires.kept c.version-seen.ensures
     c.requires.shown
     (λ filters agrees. c.in_ok-reply.ensures.answered filters agrees) c.in_ok-reply.ensures.legal c.in_ok-reply.ensures.shown
     c.requires.index c.requires.viewed digest e)

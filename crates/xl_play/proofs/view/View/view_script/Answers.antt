@@ -4,7 +4,7 @@ use Rattle.std.specs.List.{AllByRecursion}
 use Rattle.spec_view.specs.Script.{IsViewedLine}
 use Rattle.xl_play.proofs.OfFirst.{first_few}
 use Rattle.xl_play.proofs.ViewTexts.{script_views, view_fits}
-use Rattle.xl_play.proofs.windows.view_script.Goals as goal
+use Rattle.xl_play.proofs.view.View.view_script.Goals as goal
 
 pub view_lines-requires-clause-fit : goal.view_lines-requires-clause-fit
 view_lines-requires-clause-fit g c κs within =
@@ -22,6 +22,6 @@ view_lines-requires-clause-viewed g c κs within =
 pub returns-clause-views : goal.returns-clause-views
 returns-clause-views g c =
     script_views _ c.view_lines.new.core.history.base c.args.core.now.history.base (lists_of c.args.script) c.args.chest.items
-    c.first_boxes-boxes.result.items (lines_of c.first_lines-lines.result.items) c.view_lines.new.core.history.entries c.args.cols
-    c.args.rows c.view_lines.result c.view_lines.ensures.between.base_is c.first_lines-lines.ensures
+    c.first_boxes-boxes.result.items (lines_of c.first_lines-lines.result.items) c.view_lines.new.core.history.entries c.args.self.now.cols
+    c.args.self.now.rows c.view_lines.result c.view_lines.ensures.between.base_is c.first_lines-lines.ensures
     c.first_boxes-boxes.ensures.first c.view_lines.ensures.shown c.view_lines.ensures.made

@@ -1,7 +1,7 @@
 use Rattle.std.proofs.Common.{◌∙◌, sym, ap, ◌+◌}
 use Rattle.xl_edit.specs.Calls.{call_of}
 use Rattle.xl_play.proofs.UnderWay.{called_next}
-use Rattle.xl_play.proofs.windows.view_line.Goals as goal
+use Rattle.xl_play.proofs.view.View.view_line.Goals as goal
 
 pub returns-in_ok-view_call-in-Call-clause-next : goal.returns-in_ok-view_call-in-Call-clause-next
 returns-in_ok-view_call-in-Call-clause-next g c =
