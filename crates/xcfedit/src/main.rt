@@ -15,7 +15,6 @@ use xl_filters::{Fade, Invert, PointFilter, Posterize, Threshold};
 use xl_messages::message;
 use xl_program::{Ended, run};
 use xl_real::{FileShelf, OpenGate, StdSink, StdSource};
-use xl_why::Recorded;
 
 /// The status where all went well.
 const DONE: u8 = 0;
@@ -40,7 +39,6 @@ fn run_with_filters<R: Threads + Wait + Sync>(
     rt: &HostRuntime,
     threads: &R,
     words: &[&str],
-    source: &mut Recorded<StdSource>,
 ) -> Result<Ended<FileShelf>, AllocError> {
     let alloc = rt.alloc();
     let mut chest: Vec<Vec<Box<dyn PointFilter + Send>>> = Vec::with_capacity(alloc, SESSIONS)?;
@@ -52,10 +50,18 @@ fn run_with_filters<R: Threads + Wait + Sync>(
         boxes.push(Box::new(alloc, Fade::new(100))?)?;
         chest.push(boxes)?;
     }
+    let mut source = StdSource::new(rt);
     let mut sink = StdSink::new(rt);
     let shelf = FileShelf::new(rt);
     Ok(run(
-        threads, alloc, words, source, &mut sink, shelf, chest, &OpenGate,
+        threads,
+        alloc,
+        words,
+        &mut source,
+        &mut sink,
+        shelf,
+        chest,
+        &OpenGate,
     ))
 }
 
@@ -79,10 +85,9 @@ fn start<R: Threads + Wait + Sync>(rt: &HostRuntime, threads: &R) -> Result<u8, 
     for word in &given {
         words.push(word.as_str())?;
     }
-    let mut source = Recorded::new(alloc, StdSource::new(rt));
-    let ended = run_with_filters(rt, threads, &words, &mut source)?;
+    let ended = run_with_filters(rt, threads, &words)?;
     if ended.status != DONE
-        && let Ok(text) = message(alloc, &words, ended.status, ended.cause, source.bytes())
+        && let Ok(text) = message(alloc, &words, ended.status, ended.cause)
     {
         tell(rt, text, &ended);
     }

@@ -3,10 +3,9 @@ use crate::lines::cause_text;
 use spec_fields::ReadRefused;
 use std::alloc::{AllocError, Global};
 use xl_command::{Command, command_of};
-use xl_printed::split_source;
 use xl_program::Stopped;
+use xl_script::BadLine;
 use xl_verdict::Rejection;
-use xl_why::{cause_of, cause_of_viewed};
 
 const USAGE: &str =
     "these words are no command; the commands are\n  xcfedit render FILE              writes the picture of FILE as a PAM\n  xcfedit info FILE                writes the layers of FILE as a line of JSON\n  xcfedit edit FILE [--workers N]  runs a script from standard input on FILE, N from 0 to 8\n  xcfedit make FILE --seed N       saves the document of the seed N, runs the seed's script on FILE and sums the run up in a line\n  xcfedit pack FILE [--plan]       saves FILE as small as it can be with run-length coded tiles\n  xcfedit flatten FILE             puts one layer in the place of all nodes of FILE\n  xcfedit view FILE --cols W --rows H  runs a script of session 0 on FILE, a tile with its neighbours, W and H from 1 to 16\n  xcfedit audit FILE               judges a script and what an edit of FILE by it is said to have printed, from standard input";
@@ -21,13 +20,12 @@ pub const VERSION: &str = "0.1.0";
 const MEMORY: u8 = 8;
 
 /// A sentence on how the words came to this status, other than 0: which file, what is wrong and where. `cause` is that of
-/// [`xl_program::Ended`], and `source` what was read of the source, for the bad line of its script to be quoted. It has no newline at its end.
+/// [`xl_program::Ended`]. It has no newline at its end.
 pub fn message<'a>(
     alloc: Global,
     words: &'a [&'a str],
     status: u8,
     cause: Option<Stopped>,
-    source: &[u8],
 ) -> Result<String, AllocError> {
     if status == MEMORY {
         return String::from_str(alloc, "out of memory");
@@ -35,7 +33,7 @@ pub fn message<'a>(
     let (Some(command), Some(stopped)) = (command_of(alloc, words)?, cause) else {
         return format!(in alloc; "xcfedit {VERSION}: {USAGE}");
     };
-    stop_text(alloc, command, stopped, source)
+    stop_text(alloc, command, stopped)
 }
 
 // The name of a command's file.
@@ -47,17 +45,12 @@ fn file_of(command: Command<'_>) -> &str {
     }
 }
 
-fn stop_text(
-    alloc: Global,
-    command: Command<'_>,
-    stopped: Stopped,
-    source: &[u8],
-) -> Result<String, AllocError> {
+fn stop_text(alloc: Global, command: Command<'_>, stopped: Stopped) -> Result<String, AllocError> {
     let name = file_of(command);
     match stopped {
         Stopped::SourceFault => String::from_str(alloc, "the script cannot be read"),
         Stopped::BadHead => String::from_str(alloc, HEAD),
-        Stopped::BadLine(number) => line_text(alloc, command, source, number),
+        Stopped::BadLine(bad) => line_text(alloc, bad),
         Stopped::ShelfFault => shelf_text(alloc, command),
         Stopped::Refused(refused) => refusal_text(alloc, name, refused),
         Stopped::NotFlattened(why) => format!(in alloc;
@@ -70,28 +63,11 @@ fn stop_text(
     }
 }
 
-// The script that an audit has behind its head.
-fn script_behind(source: &[u8]) -> &[u8] {
-    match split_source(source) {
-        Some((script, _)) => script,
-        None => &[],
-    }
-}
-
 // The bad line of a script.
-fn line_text(
-    alloc: Global,
-    command: Command<'_>,
-    source: &[u8],
-    number: u32,
-) -> Result<String, AllocError> {
-    let cause = match command {
-        Command::View(_, _, _) => cause_of_viewed(source, number),
-        Command::Audit(_) => cause_of(script_behind(source), number),
-        _ => cause_of(source, number),
-    };
-    let fault = cause_text(alloc, cause)?;
-    format!(in alloc; "script line {number}: {fault}")
+fn line_text(alloc: Global, bad: BadLine) -> Result<String, AllocError> {
+    let line = bad.line;
+    let fault = cause_text(alloc, bad.cause)?;
+    format!(in alloc; "script line {line}: {fault}")
 }
 
 // A fault of the shelf before the output: what is made is not read, but saved, and two commands may have failed at either.

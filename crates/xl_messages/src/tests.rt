@@ -4,16 +4,17 @@ use spec_fields::{Kind, ReadRefused};
 use std::alloc::{AllocError, Global};
 use std::test::Fail;
 use xl_program::Stopped;
+use xl_script::{BadLine, BadLineOrMemory, Cause, Script, parse, parse_viewed};
 use xl_verdict::Rejection;
 
 // The sentence on a file that is edited.
 fn of_edit(alloc: Global, status: u8, cause: Stopped) -> Result<String, AllocError> {
     let words = ["edit", "photo.xcf"];
-    message(alloc, words.as_slice(), status, Some(cause), &[])
+    message(alloc, words.as_slice(), status, Some(cause))
 }
 
 // The refused line of a script, the script, and what is said of it.
-const BAD_LINES: [(u32, &'static [u8], &'static str); 27] = [
+const BAD_LINES: [(u32, &'static [u8], &'static str); 24] = [
     (2, b"0 top\n0 blur 1\n", "unknown word \"blur\""),
     (1, b"8 top", "\"8\" is no session from 0 to 7"),
     (1, b"7\n", "a session that asks for nothing"),
@@ -78,22 +79,21 @@ const BAD_LINES: [(u32, &'static [u8], &'static str); 27] = [
         b"0 forget 1\n1 forget 1\n0 forget 1\n",
         "the session dropped filter \"1\" before",
     ),
-    (2, b"0 top\n", "not in the grammar"),
-    (1, b"", "not in the grammar"),
-    (1, b"0 top", "not in the grammar"),
 ];
+
+// The sentence on a script that was read.
+fn of_script(alloc: Global, read: Result<Script, BadLineOrMemory>) -> Result<String, AllocError> {
+    match read {
+        Ok(_) => String::from_str(alloc, "not refused"),
+        Err(BadLineOrMemory::Refused(bad)) => of_edit(alloc, 3, Stopped::BadLine(bad)),
+        Err(BadLineOrMemory::Memory) => Err(AllocError),
+    }
+}
 
 // What is said of each, where it is not what stands beside it.
 fn said_otherwise(alloc: Global) -> Result<Option<String>, AllocError> {
-    let words = ["edit", "photo.xcf"];
     for (number, script, fault) in &BAD_LINES {
-        let said = message(
-            alloc,
-            words.as_slice(),
-            3,
-            Some(Stopped::BadLine(*number)),
-            *script,
-        )?;
+        let said = of_script(alloc, parse(alloc, *script, &[4; 8]))?;
         if said.as_str() != format!(in alloc; "script line {number}: {fault}")?.as_str() {
             return Ok(Some(said));
         }
@@ -104,6 +104,20 @@ fn said_otherwise(alloc: Global) -> Result<Option<String>, AllocError> {
 #[test]
 fn the_line_of_a_script_is_named(rt: HostRuntime) -> Result<(), Fail> {
     assert_eq!(rt; said_otherwise(rt.alloc())?, None);
+    Ok(())
+}
+
+#[test]
+fn a_script_that_is_viewed_has_fewer_lines(rt: HostRuntime) -> Result<(), Fail> {
+    let alloc = rt.alloc();
+    assert_eq!(rt;
+        of_script(alloc, parse_viewed(alloc, b"0 top\n1 top\n", 4))?.as_str(),
+        "script line 2: a session other than 0, in a script that is viewed"
+    );
+    assert_eq!(rt;
+        of_script(alloc, parse_viewed(alloc, b"0 save\n", 4))?.as_str(),
+        "script line 1: \"save\" in a script that is viewed"
+    );
     Ok(())
 }
 
@@ -142,13 +156,7 @@ fn the_file_is_named(rt: HostRuntime) -> Result<(), Fail> {
 #[test]
 fn what_is_made_is_saved(rt: HostRuntime) -> Result<(), Fail> {
     let words = ["make", "photo.xcf", "--seed", "7"];
-    let text = message(
-        rt.alloc(),
-        words.as_slice(),
-        6,
-        Some(Stopped::ShelfFault),
-        &[],
-    )?;
+    let text = message(rt.alloc(), words.as_slice(), 6, Some(Stopped::ShelfFault))?;
     assert_eq!(rt; text.as_str(), "photo.xcf: the file cannot be saved");
     Ok(())
 }
@@ -166,37 +174,48 @@ fn the_output_and_memory(rt: HostRuntime) -> Result<(), Fail> {
     );
     // Memory ran out for the line of a refused script.
     assert_eq!(rt;
-        of_edit(alloc, 8, Stopped::BadLine(1))?.as_str(),
+        of_edit(
+            alloc,
+            8,
+            Stopped::BadLine(BadLine {
+                line: 1,
+                cause: Cause::TooLong
+            })
+        )?
+        .as_str(),
         "out of memory"
     );
     Ok(())
 }
 
 // The sentence on an audit.
-fn of_audit(
-    alloc: Global,
-    status: u8,
-    cause: Stopped,
-    source: &[u8],
-) -> Result<String, AllocError> {
+fn of_audit(alloc: Global, status: u8, cause: Stopped) -> Result<String, AllocError> {
     let words = ["audit", "photo.xcf"];
-    message(alloc, words.as_slice(), status, Some(cause), source)
+    message(alloc, words.as_slice(), status, Some(cause))
 }
 
 #[test]
 fn an_audit_is_told_of(rt: HostRuntime) -> Result<(), Fail> {
     let alloc = rt.alloc();
     assert!(rt;
-        of_audit(alloc, 3, Stopped::BadHead, &[])?
+        of_audit(alloc, 3, Stopped::BadHead)?
             .as_str()
             .starts_with("the input is no line \"script N\"")
     );
     assert_eq!(rt;
-        of_audit(alloc, 3, Stopped::BadLine(1), b"script 7\n0 blur\norder\n")?.as_str(),
-        "script line 1: unknown word \"blur\""
+        of_audit(
+            alloc,
+            3,
+            Stopped::BadLine(BadLine {
+                line: 2,
+                cause: Cause::Tab
+            })
+        )?
+        .as_str(),
+        "script line 2: a tab, where words stand one blank apart"
     );
     assert_eq!(rt;
-        of_audit(alloc, 10, Stopped::Rejected(Rejection::Shape), &[])?.as_str(),
+        of_audit(alloc, 10, Stopped::Rejected(Rejection::Shape))?.as_str(),
         "photo.xcf: the output is not one line for each call of the script and the line of their order"
     );
     let reply = Rejection::Reply {
@@ -204,11 +223,11 @@ fn an_audit_is_told_of(rt: HostRuntime) -> Result<(), Fail> {
         index: 5,
     };
     assert_eq!(rt;
-        of_audit(alloc, 10, Stopped::Rejected(reply), &[])?.as_str(),
+        of_audit(alloc, 10, Stopped::Rejected(reply))?.as_str(),
         "photo.xcf: the reply of call 5 of session 2, both counted from 0, is none that may stand there"
     );
     assert_eq!(rt;
-        of_audit(alloc, 6, Stopped::ShelfFault, &[])?.as_str(),
+        of_audit(alloc, 6, Stopped::ShelfFault)?.as_str(),
         "photo.xcf: the file cannot be read"
     );
     Ok(())
@@ -218,7 +237,7 @@ fn an_audit_is_told_of(rt: HostRuntime) -> Result<(), Fail> {
 fn the_commands_are_listed(rt: HostRuntime) -> Result<(), Fail> {
     let alloc = rt.alloc();
     let words = ["edit"];
-    let text = message(alloc, words.as_slice(), 2, None, &[])?;
+    let text = message(alloc, words.as_slice(), 2, None)?;
     let front = format!(in alloc; "xcfedit {VERSION}: these words are no command;")?;
     assert!(rt; text.as_str().starts_with(front.as_str()));
     assert_eq!(rt; text.as_str().lines().count(), 9);

@@ -73,7 +73,7 @@ module _ (given : Given) {before mid : ShelfState} {name : List ℕ} {d : Docume
   audit_comes held faults old new (Ok verdict) (Err Memory) exact writes = ((ap held writes, ap faults writes), then.untouched)
   audit_comes held faults old new (Ok verdict) (Err SourceFault) exact writes = absurd writes
   audit_comes held faults old new (Ok verdict) (Err BadHead) exact writes = absurd writes
-  audit_comes held faults old new (Ok verdict) (Err (BadLine number)) exact writes = absurd writes
+  audit_comes held faults old new (Ok verdict) (Err (BadLine bad)) exact writes = absurd writes
   audit_comes held faults old new (Ok verdict) (Err ShelfFault) exact writes = absurd writes
   audit_comes held faults old new (Ok verdict) (Err (Refused why)) exact writes = absurd writes
   audit_comes held faults old new (Ok verdict) (Err (NotFlattened why)) exact writes = absurd writes
@@ -90,7 +90,7 @@ pub audit_stopped : {K : Type 0} (held : K → Option (List ℕ)) (faults : K �
     → ComesTo held faults given s s (audit name) sink sink (Err why)
 audit_stopped held faults given s name sink SourceFault reads = ((refl, refl), untouched s)
 audit_stopped held faults given s name sink BadHead reads = ((refl, refl), untouched s)
-audit_stopped held faults given s name sink (BadLine number) reads = ((refl, refl), untouched s)
+audit_stopped held faults given s name sink (BadLine bad) reads = ((refl, refl), untouched s)
 audit_stopped held faults given s name sink ShelfFault reads = absurd reads
 audit_stopped held faults given s name sink (Refused cause) reads = absurd reads
 audit_stopped held faults given s name sink (NotFlattened cause) reads = absurd reads
@@ -103,7 +103,7 @@ pub source_stops : (given : Given) (content : Option Content) (why : Stopped) �
     → StopsAudit given content (Err why)
 source_stops given content SourceFault reads = tt
 source_stops given content BadHead reads = reads
-source_stops given content (BadLine number) reads = reads
+source_stops given content (BadLine bad) reads = reads
 source_stops given content ShelfFault reads = absurd reads
 source_stops given content (Refused why) reads = absurd reads
 source_stops given content (NotFlattened why) reads = absurd reads
@@ -117,7 +117,7 @@ pub audit_file_stops : (given : Given) (content : Option Content) (found : Audit
     → ReadsSourceOf given (Ok found) → Loads content (Err why) → StopsAudit given content (Err why)
 audit_file_stops given content found SourceFault has loads = absurd loads
 audit_file_stops given content found BadHead has loads = absurd loads
-audit_file_stops given content found (BadLine number) has loads = absurd loads
+audit_file_stops given content found (BadLine bad) has loads = absurd loads
 audit_file_stops given content found ShelfFault has loads = (lists_of found.script, found.output.items, has)
 audit_file_stops given content found (Refused why) has loads = ((lists_of found.script, found.output.items, has), loads)
 audit_file_stops given content found (NotFlattened why) has loads = absurd loads
@@ -133,7 +133,7 @@ pub verdict_stops : {K : Type 0} (held : K → Option (List ℕ)) (faults : K �
 verdict_stops held faults old new given content (Ok verdict) (Ok x) writes = tt
 verdict_stops held faults old new given content (Ok verdict) (Err SourceFault) writes = absurd writes
 verdict_stops held faults old new given content (Ok verdict) (Err BadHead) writes = absurd writes
-verdict_stops held faults old new given content (Ok verdict) (Err (BadLine number)) writes = absurd writes
+verdict_stops held faults old new given content (Ok verdict) (Err (BadLine bad)) writes = absurd writes
 verdict_stops held faults old new given content (Ok verdict) (Err ShelfFault) writes = absurd writes
 verdict_stops held faults old new given content (Ok verdict) (Err (Refused why)) writes = absurd writes
 verdict_stops held faults old new given content (Ok verdict) (Err (NotFlattened why)) writes = absurd writes
@@ -148,7 +148,7 @@ pub unread_source : (given : Given) (left : Option (List ℕ)) (why : Stopped) �
     → ReadsToEnd left (Err why)
 unread_source given left SourceFault reads = tt
 unread_source given left BadHead reads = tt
-unread_source given left (BadLine number) reads = tt
+unread_source given left (BadLine bad) reads = tt
 unread_source given left ShelfFault reads = absurd reads
 unread_source given left (Refused why) reads = absurd reads
 unread_source given left (NotFlattened why) reads = absurd reads

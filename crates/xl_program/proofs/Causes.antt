@@ -15,7 +15,7 @@ pub cause_of : (before after : ShelfState) (command : Asked) (result : Result (U
 cause_of before after command (Ok x) rises cause = cause
 cause_of before after command (Err SourceFault) rises cause = cause
 cause_of before after command (Err BadHead) rises cause = cause
-cause_of before after command (Err (BadLine number)) rises cause = cause
+cause_of before after command (Err (BadLine bad)) rises cause = cause
 cause_of before after command (Err ShelfFault) rises cause = rises cause
 cause_of before after command (Err (Refused why)) rises cause = cause
 cause_of before after command (Err (NotFlattened why)) rises cause = cause

@@ -87,7 +87,7 @@ module _ {given : Given} {before mid : ShelfState} {name : List ℕ} {d : Docume
       (string_bytes replies.text, replies_of replies AnyFailed played (λ n h. tt), writes)
   played_comes held faults old new (Ok replies) (Err SourceFault) played writes = absurd writes
   played_comes held faults old new (Ok replies) (Err BadHead) played writes = absurd writes
-  played_comes held faults old new (Ok replies) (Err (BadLine number)) played writes = absurd writes
+  played_comes held faults old new (Ok replies) (Err (BadLine bad)) played writes = absurd writes
   played_comes held faults old new (Ok replies) (Err ShelfFault) played writes = absurd writes
   played_comes held faults old new (Ok replies) (Err (Refused refused)) played writes = absurd writes
   played_comes held faults old new (Ok replies) (Err (NotFlattened why)) played writes = absurd writes
@@ -104,7 +104,7 @@ pub read_stopped : {K : Type 0} (held : K → Option (List ℕ)) (faults : K →
     → (workers : ℕ) → ComesTo held faults given s s (edit name workers) sink sink (Err why)
 read_stopped held faults given s name sink SourceFault reads workers = ((refl, refl), untouched s)
 read_stopped held faults given s name sink BadHead reads workers = absurd reads
-read_stopped held faults given s name sink (BadLine number) reads workers = ((refl, refl), untouched s)
+read_stopped held faults given s name sink (BadLine bad) reads workers = ((refl, refl), untouched s)
 read_stopped held faults given s name sink ShelfFault reads workers = absurd reads
 read_stopped held faults given s name sink (Refused refused) reads workers = absurd reads
 read_stopped held faults given s name sink (NotFlattened cause) reads workers = absurd reads
@@ -118,7 +118,7 @@ pub load_stops : (given : Given) (content : Option Content) (lists : List (List 
     → Loads content (Err why) → StopsEdit given content (Err why)
 load_stops given content lists SourceFault has loads = absurd loads
 load_stops given content lists BadHead has loads = absurd loads
-load_stops given content lists (BadLine number) has loads = absurd loads
+load_stops given content lists (BadLine bad) has loads = absurd loads
 load_stops given content lists ShelfFault has loads = (lists, has)
 load_stops given content lists (Refused refused) has loads = ((lists, has), loads)
 load_stops given content lists (NotFlattened cause) has loads = absurd loads
@@ -134,7 +134,7 @@ pub play_stops : {K : Type 0} (held : K → Option (List ℕ)) (faults : K → �
 play_stops held faults old new given content lists (Ok replies) (Ok x) has writes = tt
 play_stops held faults old new given content lists (Ok replies) (Err SourceFault) has writes = absurd writes
 play_stops held faults old new given content lists (Ok replies) (Err BadHead) has writes = absurd writes
-play_stops held faults old new given content lists (Ok replies) (Err (BadLine number)) has writes = absurd writes
+play_stops held faults old new given content lists (Ok replies) (Err (BadLine bad)) has writes = absurd writes
 play_stops held faults old new given content lists (Ok replies) (Err ShelfFault) has writes = absurd writes
 play_stops held faults old new given content lists (Ok replies) (Err (Refused refused)) has writes = absurd writes
 play_stops held faults old new given content lists (Ok replies) (Err (NotFlattened why)) has writes = absurd writes

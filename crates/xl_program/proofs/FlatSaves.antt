@@ -97,7 +97,7 @@ module _ {before mid : ShelfState} {name : List ℕ} {d : Document} (known_then 
       ((ap held saves.1, ap faults saves.1), inr (failed_save saves.0))
   flat_comes held faults given old new (Err SourceFault) saves = absurd saves
   flat_comes held faults given old new (Err BadHead) saves = absurd saves
-  flat_comes held faults given old new (Err (BadLine number)) saves = absurd saves
+  flat_comes held faults given old new (Err (BadLine bad)) saves = absurd saves
   flat_comes held faults given old new (Err (Refused why)) saves = absurd saves
   flat_comes held faults given old new (Err (NotFlattened why)) saves = absurd saves
   flat_comes held faults given old new (Err SaveFault) saves = absurd saves
@@ -112,7 +112,7 @@ module _ {before mid : ShelfState} {name : List ℕ} {d : Document} (known_then 
   flat_cause held faults old new (Err ShelfFault) saves = inr (failed_save saves.0).saved.saving
   flat_cause held faults old new (Err SourceFault) saves = absurd saves
   flat_cause held faults old new (Err BadHead) saves = absurd saves
-  flat_cause held faults old new (Err (BadLine number)) saves = absurd saves
+  flat_cause held faults old new (Err (BadLine bad)) saves = absurd saves
   flat_cause held faults old new (Err (Refused why)) saves = absurd saves
   flat_cause held faults old new (Err (NotFlattened why)) saves = absurd saves
   flat_cause held faults old new (Err SaveFault) saves = absurd saves
@@ -166,7 +166,7 @@ flat_stops held faults d opening now old new content (Err SinkFault) saves = tt
 flat_stops held faults d opening now old new content (Err ShelfFault) saves = tt
 flat_stops held faults d opening now old new content (Err SourceFault) saves = absurd saves
 flat_stops held faults d opening now old new content (Err BadHead) saves = absurd saves
-flat_stops held faults d opening now old new content (Err (BadLine number)) saves = absurd saves
+flat_stops held faults d opening now old new content (Err (BadLine bad)) saves = absurd saves
 flat_stops held faults d opening now old new content (Err (Refused why)) saves = absurd saves
 flat_stops held faults d opening now old new content (Err (NotFlattened why)) saves = absurd saves
 flat_stops held faults d opening now old new content (Err SaveFault) saves = absurd saves

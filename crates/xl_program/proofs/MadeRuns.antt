@@ -216,7 +216,7 @@ module _ (d : Document) (lists : List (List Line)) (sessions : IsMade d lists) (
       (string_bytes told.text, summary_is told AnyFailed summed_up (λ n h. tt), writes)
   made_comes held faults U F old new (Ok told) (Err SourceFault) summed_up writes = absurd writes
   made_comes held faults U F old new (Ok told) (Err BadHead) summed_up writes = absurd writes
-  made_comes held faults U F old new (Ok told) (Err (BadLine number)) summed_up writes = absurd writes
+  made_comes held faults U F old new (Ok told) (Err (BadLine bad)) summed_up writes = absurd writes
   made_comes held faults U F old new (Ok told) (Err ShelfFault) summed_up writes = absurd writes
   made_comes held faults U F old new (Ok told) (Err (Refused refused)) summed_up writes = absurd writes
   made_comes held faults U F old new (Ok told) (Err (NotFlattened why)) summed_up writes = absurd writes
@@ -235,7 +235,7 @@ pub made_stops : {K : Type 0} (held : K → Option (List ℕ)) (faults : K → �
 made_stops held faults old new (Ok told) (Ok x) writes = tt
 made_stops held faults old new (Ok told) (Err SourceFault) writes = absurd writes
 made_stops held faults old new (Ok told) (Err BadHead) writes = absurd writes
-made_stops held faults old new (Ok told) (Err (BadLine number)) writes = absurd writes
+made_stops held faults old new (Ok told) (Err (BadLine bad)) writes = absurd writes
 made_stops held faults old new (Ok told) (Err ShelfFault) writes = absurd writes
 made_stops held faults old new (Ok told) (Err (Refused refused)) writes = absurd writes
 made_stops held faults old new (Ok told) (Err (NotFlattened why)) writes = absurd writes
@@ -252,7 +252,7 @@ pub made_cause : {K : Type 0} (held : K → Option (List ℕ)) (faults : K → �
 made_cause held faults old new before after name seed (Ok told) (Ok x) same writes = same
 made_cause held faults old new before after name seed (Ok told) (Err SourceFault) same writes = absurd writes
 made_cause held faults old new before after name seed (Ok told) (Err BadHead) same writes = absurd writes
-made_cause held faults old new before after name seed (Ok told) (Err (BadLine number)) same writes = absurd writes
+made_cause held faults old new before after name seed (Ok told) (Err (BadLine bad)) same writes = absurd writes
 made_cause held faults old new before after name seed (Ok told) (Err ShelfFault) same writes = absurd writes
 made_cause held faults old new before after name seed (Ok told) (Err (Refused refused)) same writes = absurd writes
 made_cause held faults old new before after name seed (Ok told) (Err (NotFlattened why)) same writes = absurd writes

@@ -116,7 +116,7 @@ others_come held faults given old new command before after (Err SourceFault) com
     others_untouched (name_of command) old new comes.1
 others_come held faults given old new command before after (Err BadHead) comes =
     others_untouched (name_of command) old new comes.1
-others_come held faults given old new command before after (Err (BadLine number)) comes =
+others_come held faults given old new command before after (Err (BadLine bad)) comes =
     others_untouched (name_of command) old new comes.1
 others_come held faults given old new command before after (Err ShelfFault) comes = others_failed old new command comes.1
 others_come held faults given old new command before after (Err (Refused why)) comes =

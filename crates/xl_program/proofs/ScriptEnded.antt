@@ -13,7 +13,7 @@ pub ended_anyhow : (left : Option (List ℕ)) (result : Result (Unit {0}) Stoppe
 ended_anyhow left (Ok x) ended = ended
 ended_anyhow left (Err SourceFault) ended = tt
 ended_anyhow left (Err BadHead) ended = tt
-ended_anyhow left (Err (BadLine number)) ended = tt
+ended_anyhow left (Err (BadLine bad)) ended = tt
 ended_anyhow left (Err ShelfFault) ended = ended
 ended_anyhow left (Err (Refused why)) ended = ended
 ended_anyhow left (Err (NotFlattened why)) ended = ended
@@ -26,7 +26,7 @@ ended_anyhow left (Err Memory) ended = tt
 pub unread : (given : Given) (left : Option (List ℕ)) (why : Stopped) → ReadsScript given (Err why) → ReadsToEnd left (Err why)
 unread given left SourceFault reads = tt
 unread given left BadHead reads = tt
-unread given left (BadLine number) reads = tt
+unread given left (BadLine bad) reads = tt
 unread given left ShelfFault reads = absurd reads
 unread given left (Refused refused) reads = absurd reads
 unread given left (NotFlattened cause) reads = absurd reads
@@ -43,9 +43,9 @@ ended_written held faults left SourceFault status last old new same after told r
     let bad : false ≡ true = subst ComesAfterScript (sym same ∙ told.0) after in cc
 ended_written held faults left BadHead status last old new same after told reads =
     let bad : false ≡ true = subst ComesAfterScript (sym same ∙ told.0) after in cc
-ended_written held faults left (BadLine number) status last old new same after (inl told) reads =
+ended_written held faults left (BadLine bad) status last old new same after (inl told) reads =
     let bad : false ≡ true = subst ComesAfterScript (sym same ∙ told.0) after in cc
-ended_written held faults left (BadLine number) status last old new same after (inr told) reads =
+ended_written held faults left (BadLine bad) status last old new same after (inr told) reads =
     let bad : false ≡ true = subst ComesAfterScript (sym same ∙ told.0) after in cc
 ended_written held faults left ShelfFault status last old new same after told reads = reads
 ended_written held faults left (Refused why) status last old new same after told reads = reads

@@ -18,6 +18,7 @@ use Rattle.xl_program.specs.Lines.{WritesLine}
 use Rattle.xl_program.specs.Outcome.{Given, InGrammar, IsBadHeadOf, IsBadLineOf, Keeps, ComesTo, IsOutput, RefusesSource}
 use Rattle.xl_program.specs.Outcome.{ShelfCauseOf, ShelfFails, WritesLineOr, WritesRejection, WritesStop, WritesSome}
 use Rattle.xl_program.specs.Parts.{StopsFor}
+use Rattle.xl_script.specs.declared.bad_line.BadLine as refused_line
 use Rattle.xl_program.specs.declared.stopped.Stopped.{Stopped}
 use Rattle.xl_program.specs.declared.stopped.Stopped.TheVariants.{SourceFault, BadHead, BadLine, ShelfFault, Refused}
 use Rattle.xl_program.specs.declared.stopped.Stopped.TheVariants.{NotFlattened, SaveFault, Rejected, SinkFault, Memory}
@@ -53,7 +54,7 @@ IsLate SaveFault = Unit {0}
 IsLate (Refused why) = Unit {0}
 IsLate SourceFault = ⊥
 IsLate BadHead = ⊥
-IsLate (BadLine number) = ⊥
+IsLate (BadLine bad) = ⊥
 IsLate (NotFlattened why) = ⊥
 IsLate (Rejected why) = ⊥
 IsLate SinkFault = ⊥
@@ -69,11 +70,11 @@ module _ {K : Type 0} (held : K → Option (List ℕ)) (faults : K → ℕ) wher
   is_late SourceFault status last mid new same (inl four) told = absurd (omega (arith, same, four, told.0))
   is_late SourceFault status last mid new same (inr six) told = absurd (omega (arith, same, six, told.0))
   is_late BadHead status last mid new same (inl four) told = absurd (omega (arith, same, four, told.0))
-  is_late (BadLine number) status last mid new same (inl four) (inl told) = absurd (omega (arith, same, four, told.0))
-  is_late (BadLine number) status last mid new same (inl four) (inr told) = absurd (omega (arith, same, four, told.0))
+  is_late (BadLine bad) status last mid new same (inl four) (inl told) = absurd (omega (arith, same, four, told.0))
+  is_late (BadLine bad) status last mid new same (inl four) (inr told) = absurd (omega (arith, same, four, told.0))
   is_late BadHead status last mid new same (inr six) told = absurd (omega (arith, same, six, told.0))
-  is_late (BadLine number) status last mid new same (inr six) (inl told) = absurd (omega (arith, same, six, told.0))
-  is_late (BadLine number) status last mid new same (inr six) (inr told) = absurd (omega (arith, same, six, told.0))
+  is_late (BadLine bad) status last mid new same (inr six) (inl told) = absurd (omega (arith, same, six, told.0))
+  is_late (BadLine bad) status last mid new same (inr six) (inr told) = absurd (omega (arith, same, six, told.0))
   is_late (NotFlattened why) status last mid new same (inl four) (inl told) = absurd (omega (arith, same, four, told.0))
   is_late (NotFlattened why) status last mid new same (inl four) (inr told) = absurd (omega (arith, same, four, told.0))
   is_late (NotFlattened why) status last mid new same (inr six) (inl told) = absurd (omega (arith, same, six, told.0))
@@ -98,7 +99,7 @@ module _ (given : Given) (content : List ℕ → Option Content) where
   late_in_grammar (edit name workers) (Refused why) late stops = stops.0
   late_in_grammar (edit name workers) SourceFault late stops = absurd late
   late_in_grammar (edit name workers) BadHead late stops = absurd late
-  late_in_grammar (edit name workers) (BadLine number) late stops = absurd late
+  late_in_grammar (edit name workers) (BadLine bad) late stops = absurd late
   late_in_grammar (edit name workers) (NotFlattened why) late stops = absurd late
   late_in_grammar (edit name workers) (Rejected why) late stops = absurd late
   late_in_grammar (edit name workers) SinkFault late stops = absurd late
@@ -109,7 +110,7 @@ module _ (given : Given) (content : List ℕ → Option Content) where
   late_in_grammar (view name cols rows) (Refused why) late stops = stops.0
   late_in_grammar (view name cols rows) SourceFault late stops = absurd late
   late_in_grammar (view name cols rows) BadHead late stops = absurd late
-  late_in_grammar (view name cols rows) (BadLine number) late stops = absurd late
+  late_in_grammar (view name cols rows) (BadLine bad) late stops = absurd late
   late_in_grammar (view name cols rows) (NotFlattened why) late stops = absurd late
   late_in_grammar (view name cols rows) SinkFault late stops = absurd late
   late_in_grammar (view name cols rows) Memory late stops = absurd late
@@ -118,7 +119,7 @@ module _ (given : Given) (content : List ℕ → Option Content) where
   late_in_grammar (audit name) (Refused why) late stops = stops.0
   late_in_grammar (audit name) SourceFault late stops = absurd late
   late_in_grammar (audit name) BadHead late stops = absurd late
-  late_in_grammar (audit name) (BadLine number) late stops = absurd late
+  late_in_grammar (audit name) (BadLine bad) late stops = absurd late
   late_in_grammar (audit name) (NotFlattened why) late stops = absurd late
   late_in_grammar (audit name) (Rejected why) late stops = absurd late
   late_in_grammar (audit name) SinkFault late stops = absurd late
@@ -133,16 +134,16 @@ module _ (given : Given) (content : List ℕ → Option Content) where
       late_in_grammar command stopped (is_late held faults stopped status last mid new same which told) stops
 
   -- what a refused line says of each command
-  bad_line_of : (command : Asked) (number : ℕ) → StopsFor given content command (Err (BadLine number))
-      → IsBadLineOf given (Some command) number
-  bad_line_of (render name) number stops = absurd stops
-  bad_line_of (info name) number stops = absurd stops
-  bad_line_of (make name seed) number stops = absurd stops
-  bad_line_of (pack name with_plans) number stops = absurd stops
-  bad_line_of (flatten name) number stops = absurd stops
-  bad_line_of (edit name workers) number stops = stops
-  bad_line_of (view name cols rows) number stops = stops
-  bad_line_of (audit name) number stops = stops
+  bad_line_of : (command : Asked) (bad : refused_line.BadLine) → StopsFor given content command (Err (BadLine bad))
+      → IsBadLineOf given (Some command) bad.line
+  bad_line_of (render name) bad stops = absurd stops
+  bad_line_of (info name) bad stops = absurd stops
+  bad_line_of (make name seed) bad stops = absurd stops
+  bad_line_of (pack name with_plans) bad stops = absurd stops
+  bad_line_of (flatten name) bad stops = absurd stops
+  bad_line_of (edit name workers) bad stops = stops
+  bad_line_of (view name cols rows) bad stops = stops
+  bad_line_of (audit name) bad stops = stops
 
   -- and what a refused head does
   bad_head_of : (command : Asked) → StopsFor given content command (Err BadHead) → IsBadHeadOf given (Some command)
@@ -212,12 +213,12 @@ module _ {K : Type 0} (held : K → Option (List ℕ)) (faults : K → ℕ) (giv
     bad_head_of given content command stops,
     kept_then_written held faults old mid new (stop_line bad_head) kept.0 told.1,
   )
-  bad_source_written command (BadLine number) status old mid new three kept stops (inl told) = inr (
-    number,
-    bad_line_of given content command number stops,
-    kept_then_written held faults old mid new (stop_line (bad_line number)) kept.0 told.1,
+  bad_source_written command (BadLine bad) status old mid new three kept stops (inl told) = inr (
+    bad.line,
+    bad_line_of given content command bad stops,
+    kept_then_written held faults old mid new (stop_line (bad_line bad.line)) kept.0 told.1,
   )
-  bad_source_written command (BadLine number) status old mid new three kept stops (inr told) = absurd (omega (arith, three, told.0))
+  bad_source_written command (BadLine bad) status old mid new three kept stops (inr told) = absurd (omega (arith, three, told.0))
   bad_source_written command SourceFault status old mid new three kept stops told = absurd (omega (arith, three, told.0))
   bad_source_written command ShelfFault status old mid new three kept stops told = absurd (omega (arith, three, told.0))
   bad_source_written command (Refused why) status old mid new three kept stops (inl told) = absurd (omega (arith, three, told.0))
@@ -243,8 +244,8 @@ module _ {K : Type 0} (held : K → Option (List ℕ)) (faults : K → ℕ) (giv
   )
   refusal_written command (Refused why) status old mid new four kept stops (inr told) = absurd (omega (arith, four, told.0))
   refusal_written command BadHead status old mid new four kept stops told = absurd (omega (arith, four, told.0))
-  refusal_written command (BadLine number) status old mid new four kept stops (inl told) = absurd (omega (arith, four, told.0))
-  refusal_written command (BadLine number) status old mid new four kept stops (inr told) = absurd (omega (arith, four, told.0))
+  refusal_written command (BadLine bad) status old mid new four kept stops (inl told) = absurd (omega (arith, four, told.0))
+  refusal_written command (BadLine bad) status old mid new four kept stops (inr told) = absurd (omega (arith, four, told.0))
   refusal_written command (NotFlattened why) status old mid new four kept stops (inl told) = absurd (omega (arith, four, told.0))
   refusal_written command (NotFlattened why) status old mid new four kept stops (inr told) = absurd (omega (arith, four, told.0))
   refusal_written command SourceFault status old mid new four kept stops told = absurd (omega (arith, four, told.0))
@@ -266,8 +267,8 @@ module _ {K : Type 0} (held : K → Option (List ℕ)) (faults : K → ℕ) (giv
   flat_refusal_written command (NotFlattened why) status old mid new nine kept stops (inr told) =
       absurd (omega (arith, nine, told.0))
   flat_refusal_written command BadHead status old mid new nine kept stops told = absurd (omega (arith, nine, told.0))
-  flat_refusal_written command (BadLine number) status old mid new nine kept stops (inl told) = absurd (omega (arith, nine, told.0))
-  flat_refusal_written command (BadLine number) status old mid new nine kept stops (inr told) = absurd (omega (arith, nine, told.0))
+  flat_refusal_written command (BadLine bad) status old mid new nine kept stops (inl told) = absurd (omega (arith, nine, told.0))
+  flat_refusal_written command (BadLine bad) status old mid new nine kept stops (inr told) = absurd (omega (arith, nine, told.0))
   flat_refusal_written command (Refused why) status old mid new nine kept stops (inl told) = absurd (omega (arith, nine, told.0))
   flat_refusal_written command (Refused why) status old mid new nine kept stops (inr told) = absurd (omega (arith, nine, told.0))
   flat_refusal_written command SourceFault status old mid new nine kept stops told = absurd (omega (arith, nine, told.0))
@@ -292,8 +293,8 @@ module _ {K : Type 0} (held : K → Option (List ℕ)) (faults : K → ℕ) (giv
       )
   shelf_fault_written command SourceFault status old mid new six comes cause told = absurd (omega (arith, six, told.0))
   shelf_fault_written command BadHead status old mid new six comes cause told = absurd (omega (arith, six, told.0))
-  shelf_fault_written command (BadLine number) status old mid new six comes cause (inl told) = absurd (omega (arith, six, told.0))
-  shelf_fault_written command (BadLine number) status old mid new six comes cause (inr told) = absurd (omega (arith, six, told.0))
+  shelf_fault_written command (BadLine bad) status old mid new six comes cause (inl told) = absurd (omega (arith, six, told.0))
+  shelf_fault_written command (BadLine bad) status old mid new six comes cause (inr told) = absurd (omega (arith, six, told.0))
   shelf_fault_written command (Refused why) status old mid new six comes cause (inl told) = absurd (omega (arith, six, told.0))
   shelf_fault_written command (Refused why) status old mid new six comes cause (inr told) = absurd (omega (arith, six, told.0))
   shelf_fault_written command (NotFlattened why) status old mid new six comes cause (inl told) = absurd (omega (arith, six, told.0))
@@ -323,8 +324,8 @@ module _ {K : Type 0} (held : K → Option (List ℕ)) (faults : K → ℕ) (giv
     kept_then_written held faults old mid new (stop_line source_fault) kept.0 told.1,
   )
   source_fault_written command BadHead status old mid new five kept stops told = absurd (omega (arith, five, told.0))
-  source_fault_written command (BadLine number) status old mid new five kept stops (inl told) = absurd (omega (arith, five, told.0))
-  source_fault_written command (BadLine number) status old mid new five kept stops (inr told) = absurd (omega (arith, five, told.0))
+  source_fault_written command (BadLine bad) status old mid new five kept stops (inl told) = absurd (omega (arith, five, told.0))
+  source_fault_written command (BadLine bad) status old mid new five kept stops (inr told) = absurd (omega (arith, five, told.0))
   source_fault_written command ShelfFault status old mid new five kept stops told = absurd (omega (arith, five, told.0))
   source_fault_written command (Refused why) status old mid new five kept stops (inl told) = absurd (omega (arith, five, told.0))
   source_fault_written command (Refused why) status old mid new five kept stops (inr told) = absurd (omega (arith, five, told.0))
@@ -343,8 +344,8 @@ module _ {K : Type 0} (held : K → Option (List ℕ)) (faults : K → ℕ) (giv
       subst (λ (k : K). WritesSome held faults (IsOutput given before after command rejected) old k) (sym told.1) comes
   rejection_written command SourceFault status old mid new ten comes told = absurd (omega (arith, ten, told.0))
   rejection_written command BadHead status old mid new ten comes told = absurd (omega (arith, ten, told.0))
-  rejection_written command (BadLine number) status old mid new ten comes (inl told) = absurd (omega (arith, ten, told.0))
-  rejection_written command (BadLine number) status old mid new ten comes (inr told) = absurd (omega (arith, ten, told.0))
+  rejection_written command (BadLine bad) status old mid new ten comes (inl told) = absurd (omega (arith, ten, told.0))
+  rejection_written command (BadLine bad) status old mid new ten comes (inr told) = absurd (omega (arith, ten, told.0))
   rejection_written command ShelfFault status old mid new ten comes told = absurd (omega (arith, ten, told.0))
   rejection_written command (Refused why) status old mid new ten comes (inl told) = absurd (omega (arith, ten, told.0))
   rejection_written command (Refused why) status old mid new ten comes (inr told) = absurd (omega (arith, ten, told.0))

@@ -61,7 +61,7 @@ module _ (given : Given) {before mid : ShelfState} {name : List ℕ} {d : Docume
       (string_bytes text, (is_viewed (string_bytes text) shows, left_alone, tt), writes)
   viewed_comes held faults old new (Ok text) (Err SourceFault) shows writes = absurd writes
   viewed_comes held faults old new (Ok text) (Err BadHead) shows writes = absurd writes
-  viewed_comes held faults old new (Ok text) (Err (BadLine number)) shows writes = absurd writes
+  viewed_comes held faults old new (Ok text) (Err (BadLine bad)) shows writes = absurd writes
   viewed_comes held faults old new (Ok text) (Err ShelfFault) shows writes = absurd writes
   viewed_comes held faults old new (Ok text) (Err (Refused why)) shows writes = absurd writes
   viewed_comes held faults old new (Ok text) (Err (NotFlattened why)) shows writes = absurd writes
@@ -80,7 +80,7 @@ pub view_stopped : {K : Type 0} (held : K → Option (List ℕ)) (faults : K →
     → ComesTo held faults given s s (view name cols rows) sink sink (Err why)
 view_stopped held faults given s name cols rows sink SourceFault reads = ((refl, refl), untouched s)
 view_stopped held faults given s name cols rows sink BadHead reads = absurd reads
-view_stopped held faults given s name cols rows sink (BadLine number) reads = ((refl, refl), untouched s)
+view_stopped held faults given s name cols rows sink (BadLine bad) reads = ((refl, refl), untouched s)
 view_stopped held faults given s name cols rows sink ShelfFault reads = absurd reads
 view_stopped held faults given s name cols rows sink (Refused why) reads = absurd reads
 view_stopped held faults given s name cols rows sink (NotFlattened why) reads = absurd reads
@@ -93,7 +93,7 @@ pub script_stops : (given : Given) (content : Option Content) (why : Stopped) �
     → StopsView given content (Err why)
 script_stops given content SourceFault reads = tt
 script_stops given content BadHead reads = absurd reads
-script_stops given content (BadLine number) reads = reads
+script_stops given content (BadLine bad) reads = reads
 script_stops given content ShelfFault reads = absurd reads
 script_stops given content (Refused why) reads = absurd reads
 script_stops given content (NotFlattened why) reads = absurd reads
@@ -107,7 +107,7 @@ pub file_stops : (given : Given) (content : Option Content) (lists : List (List 
     → ReadsViewed given (Ok lists) → Loads content (Err why) → StopsView given content (Err why)
 file_stops given content lists SourceFault has loads = absurd loads
 file_stops given content lists BadHead has loads = absurd loads
-file_stops given content lists (BadLine number) has loads = absurd loads
+file_stops given content lists (BadLine bad) has loads = absurd loads
 file_stops given content lists ShelfFault has loads = (list_at (lists_of lists) 0, has)
 file_stops given content lists (Refused why) has loads = ((list_at (lists_of lists) 0, has), loads)
 file_stops given content lists (NotFlattened why) has loads = absurd loads
@@ -123,7 +123,7 @@ pub text_stops : {K : Type 0} (held : K → Option (List ℕ)) (faults : K → �
 text_stops held faults old new given content lists (Ok text) (Ok x) reads writes = tt
 text_stops held faults old new given content lists (Ok text) (Err SourceFault) reads writes = absurd writes
 text_stops held faults old new given content lists (Ok text) (Err BadHead) reads writes = absurd writes
-text_stops held faults old new given content lists (Ok text) (Err (BadLine number)) reads writes = absurd writes
+text_stops held faults old new given content lists (Ok text) (Err (BadLine bad)) reads writes = absurd writes
 text_stops held faults old new given content lists (Ok text) (Err ShelfFault) reads writes = absurd writes
 text_stops held faults old new given content lists (Ok text) (Err (Refused why)) reads writes = absurd writes
 text_stops held faults old new given content lists (Ok text) (Err (NotFlattened why)) reads writes = absurd writes
@@ -138,7 +138,7 @@ pub unread_view : (given : Given) (left : Option (List ℕ)) (why : Stopped) →
     → ReadsToEnd left (Err why)
 unread_view given left SourceFault reads = tt
 unread_view given left BadHead reads = tt
-unread_view given left (BadLine number) reads = tt
+unread_view given left (BadLine bad) reads = tt
 unread_view given left ShelfFault reads = absurd reads
 unread_view given left (Refused why) reads = absurd reads
 unread_view given left (NotFlattened why) reads = absurd reads

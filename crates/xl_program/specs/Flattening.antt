@@ -79,7 +79,7 @@ GivesGroup d (Err (NotFlattened why)) = flat_refusal d ≡ Some why
 GivesGroup d (Err Memory) = Unit {0}
 GivesGroup d (Err SourceFault) = ⊥
 GivesGroup d (Err BadHead) = ⊥
-GivesGroup d (Err (BadLine number)) = ⊥
+GivesGroup d (Err (BadLine bad)) = ⊥
 GivesGroup d (Err ShelfFault) = ⊥
 GivesGroup d (Err (Refused why)) = ⊥
 GivesGroup d (Err SaveFault) = ⊥
@@ -95,7 +95,7 @@ module _ {K : Type 0} (held : K → Option (List ℕ)) (faults : K → ℕ) wher
       IsSavedOn opening d Done now × WritesPart held faults old new flattened_line
   SavesAndTells d opening now old new (Err SourceFault) = ⊥
   SavesAndTells d opening now old new (Err BadHead) = ⊥
-  SavesAndTells d opening now old new (Err (BadLine number)) = ⊥
+  SavesAndTells d opening now old new (Err (BadLine bad)) = ⊥
   SavesAndTells d opening now old new (Err (Refused why)) = ⊥
   SavesAndTells d opening now old new (Err (NotFlattened why)) = ⊥
   SavesAndTells d opening now old new (Err SaveFault) = ⊥

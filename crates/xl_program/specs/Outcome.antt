@@ -214,7 +214,7 @@ module _ {K : Type 0} (held : K → Option (List ℕ)) (faults : K → ℕ) wher
   Comes IsOut Untouched Failed Saved old new (Err SinkFault) = WritesFront (IsOut in_part) old new
   Comes IsOut Untouched Failed Saved old new (Err Memory) = Keeps old new × Saved
   Comes IsOut Untouched Failed Saved old new (Err SourceFault) = Keeps old new × Untouched
-  Comes IsOut Untouched Failed Saved old new (Err (BadLine number)) = Keeps old new × Untouched
+  Comes IsOut Untouched Failed Saved old new (Err (BadLine bad)) = Keeps old new × Untouched
   Comes IsOut Untouched Failed Saved old new (Err BadHead) = Keeps old new × Untouched
   Comes IsOut Untouched Failed Saved old new (Err ShelfFault) = Keeps old new × Failed
   Comes IsOut Untouched Failed Saved old new (Err (Refused why)) = Keeps old new × Untouched
@@ -238,7 +238,7 @@ abbrev pub fault_of : {A : Type 0} → Result A Stopped → FaultOf
 fault_of (Ok a) = of_neither
 fault_of (Err SourceFault) = of_source
 fault_of (Err BadHead) = of_neither
-fault_of (Err (BadLine number)) = of_neither
+fault_of (Err (BadLine bad)) = of_neither
 fault_of (Err ShelfFault) = of_shelf
 fault_of (Err (Refused why)) = of_neither
 fault_of (Err (NotFlattened why)) = of_neither
@@ -332,7 +332,7 @@ module _ {S : Type 0} (left : S → Option (List ℕ)) (faults reads : S → ℕ
 abbrev pub ReadsToEnd : (left : Option (List ℕ)) → Result (Unit {0}) Stopped → Type 0
 ReadsToEnd left (Ok x) = IsEnded left
 ReadsToEnd left (Err SourceFault) = Unit {0}
-ReadsToEnd left (Err (BadLine number)) = Unit {0}
+ReadsToEnd left (Err (BadLine bad)) = Unit {0}
 ReadsToEnd left (Err BadHead) = Unit {0}
 ReadsToEnd left (Err ShelfFault) = IsEnded left
 ReadsToEnd left (Err (Refused why)) = IsEnded left
@@ -403,7 +403,7 @@ module _ {K : Type 0} (held : K → Option (List ℕ)) (faults : K → ℕ) wher
   abbrev pub WritesStop : (old new : K) → Stopped → (status : ℕ) → Type 0
   WritesStop old new SourceFault status = WritesStopOf old new source_fault status
   WritesStop old new BadHead status = WritesStopOf old new bad_head status
-  WritesStop old new (BadLine number) status = WritesLineOr old new (bad_line number) status
+  WritesStop old new (BadLine bad) status = WritesLineOr old new (bad_line bad.line) status
   WritesStop old new ShelfFault status = WritesStopOf old new shelf_fault status
   WritesStop old new (Refused why) status = WritesLineOr old new (refused why) status
   WritesStop old new (NotFlattened why) status = WritesLineOr old new (flat_refused why) status

@@ -50,7 +50,7 @@ LoadsMeasured content (Err stopped) = Loads content (Err stopped)
 -- the lines of the script, or the line that is refused
 abbrev pub ReadsScript : Given → Result (List (List Line)) Stopped → Type 0
 ReadsScript given (Ok lists) = HasLines given (lists_of lists)
-ReadsScript given (Err (BadLine number)) = IsBadLine given number
+ReadsScript given (Err (BadLine bad)) = IsBadLine given bad.line
 ReadsScript given (Err SourceFault) = Unit {0}
 ReadsScript given (Err Memory) = Unit {0}
 ReadsScript given (Err stopped) = ⊥
@@ -58,7 +58,7 @@ ReadsScript given (Err stopped) = ⊥
 -- the same of a script that may be viewed
 abbrev pub ReadsViewed : Given → Result (List (List Line)) Stopped → Type 0
 ReadsViewed given (Ok lists) = HasViewLines given.left (first_filters given) (list_at (lists_of lists) 0)
-ReadsViewed given (Err (BadLine number)) = IsBadViewLine given.left (first_filters given) number
+ReadsViewed given (Err (BadLine bad)) = IsBadViewLine given.left (first_filters given) bad.line
 ReadsViewed given (Err SourceFault) = Unit {0}
 ReadsViewed given (Err Memory) = Unit {0}
 ReadsViewed given (Err stopped) = ⊥
@@ -68,7 +68,7 @@ abbrev pub ReadsSourceOf : Given → Result Audit Stopped → Type 0
 ReadsSourceOf given (Ok found) = HasAudit given.left given.chests (lists_of found.script) found.output.items
 ReadsSourceOf given (Err SourceFault) = Unit {0}
 ReadsSourceOf given (Err BadHead) = IsBadHead given.left
-ReadsSourceOf given (Err (BadLine number)) = IsBadAuditLine given.left given.chests number
+ReadsSourceOf given (Err (BadLine bad)) = IsBadAuditLine given.left given.chests bad.line
 ReadsSourceOf given (Err ShelfFault) = ⊥
 ReadsSourceOf given (Err (Refused why)) = ⊥
 ReadsSourceOf given (Err (NotFlattened why)) = ⊥
@@ -122,7 +122,7 @@ module _ {K : Type 0} (held : K → Option (List ℕ)) (faults : K → ℕ) wher
   WritesLineOf old new verdict (Err Memory) = new ≡ old
   WritesLineOf old new verdict (Err SourceFault) = ⊥
   WritesLineOf old new verdict (Err BadHead) = ⊥
-  WritesLineOf old new verdict (Err (BadLine number)) = ⊥
+  WritesLineOf old new verdict (Err (BadLine bad)) = ⊥
   WritesLineOf old new verdict (Err ShelfFault) = ⊥
   WritesLineOf old new verdict (Err (Refused why)) = ⊥
   WritesLineOf old new verdict (Err (NotFlattened why)) = ⊥
@@ -138,7 +138,7 @@ abbrev pub StopsReport : Option Content → Result (Unit {0}) Stopped → Type 0
 StopsReport content (Ok x) = Unit {0}
 StopsReport content (Err SourceFault) = ⊥
 StopsReport content (Err BadHead) = ⊥
-StopsReport content (Err (BadLine number)) = ⊥
+StopsReport content (Err (BadLine bad)) = ⊥
 StopsReport content (Err ShelfFault) = Unit {0}
 StopsReport content (Err (Refused refused)) = IfSome content (λ c. HasFault c refused)
 StopsReport content (Err (NotFlattened why)) = ⊥
@@ -152,7 +152,7 @@ abbrev pub StopsFlatten : Option Content → Result (Unit {0}) Stopped → Type 
 StopsFlatten content (Ok x) = Unit {0}
 StopsFlatten content (Err SourceFault) = ⊥
 StopsFlatten content (Err BadHead) = ⊥
-StopsFlatten content (Err (BadLine number)) = ⊥
+StopsFlatten content (Err (BadLine bad)) = ⊥
 StopsFlatten content (Err ShelfFault) = Unit {0}
 StopsFlatten content (Err (Refused refused)) = IfSome content (λ c. HasFault c refused)
 StopsFlatten content (Err (NotFlattened why)) = IfSome content (λ c. CannotBeFlat c why)
@@ -166,7 +166,7 @@ abbrev pub StopsEdit : Given → Option Content → Result (Unit {0}) Stopped �
 StopsEdit given content (Ok x) = Unit {0}
 StopsEdit given content (Err SourceFault) = Unit {0}
 StopsEdit given content (Err BadHead) = ⊥
-StopsEdit given content (Err (BadLine number)) = IsBadLine given number
+StopsEdit given content (Err (BadLine bad)) = IsBadLine given bad.line
 StopsEdit given content (Err ShelfFault) = IsScript given
 StopsEdit given content (Err (Refused refused)) = IsScript given × IfSome content (λ c. HasFault c refused)
 StopsEdit given content (Err (NotFlattened why)) = ⊥
@@ -180,7 +180,7 @@ abbrev pub StopsView : Given → Option Content → Result (Unit {0}) Stopped �
 StopsView given content (Ok x) = Unit {0}
 StopsView given content (Err SourceFault) = Unit {0}
 StopsView given content (Err BadHead) = ⊥
-StopsView given content (Err (BadLine number)) = IsBadViewLine given.left (first_filters given) number
+StopsView given content (Err (BadLine bad)) = IsBadViewLine given.left (first_filters given) bad.line
 StopsView given content (Err ShelfFault) = IsViewScript given.left (first_filters given)
 StopsView given content (Err (Refused refused)) =
     IsViewScript given.left (first_filters given) × IfSome content (λ c. HasFault c refused)
@@ -195,7 +195,7 @@ abbrev pub StopsAudit : Given → Option Content → Result (Unit {0}) Stopped �
 StopsAudit given content (Ok x) = Unit {0}
 StopsAudit given content (Err SourceFault) = Unit {0}
 StopsAudit given content (Err BadHead) = IsBadHead given.left
-StopsAudit given content (Err (BadLine number)) = IsBadAuditLine given.left given.chests number
+StopsAudit given content (Err (BadLine bad)) = IsBadAuditLine given.left given.chests bad.line
 StopsAudit given content (Err ShelfFault) = IsAuditScript given.left given.chests
 StopsAudit given content (Err (Refused refused)) = IsAuditScript given.left given.chests × IfSome content (λ c. HasFault c refused)
 StopsAudit given content (Err (NotFlattened why)) = ⊥
@@ -209,7 +209,7 @@ abbrev pub StopsMaking : Result (Unit {0}) Stopped → Type 0
 StopsMaking (Ok x) = Unit {0}
 StopsMaking (Err SourceFault) = ⊥
 StopsMaking (Err BadHead) = ⊥
-StopsMaking (Err (BadLine number)) = ⊥
+StopsMaking (Err (BadLine bad)) = ⊥
 StopsMaking (Err ShelfFault) = Unit {0}
 StopsMaking (Err (Refused refused)) = ⊥
 StopsMaking (Err (NotFlattened why)) = ⊥

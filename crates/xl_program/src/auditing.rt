@@ -82,7 +82,7 @@ fn read_source<S: Source>(
         Ok(audit) => Ok(audit),
         Err(Unread::SourceFault) => Err(Stopped::SourceFault),
         Err(Unread::BadHead) => Err(Stopped::BadHead),
-        Err(Unread::BadLine(number)) => Err(Stopped::BadLine(number)),
+        Err(Unread::BadLine(bad)) => Err(Stopped::BadLine(bad)),
         Err(Unread::Memory) => Err(Stopped::Memory),
     }
 }

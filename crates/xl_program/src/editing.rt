@@ -116,7 +116,7 @@ fn read_script<S: Source>(
     };
     match parse(alloc, &text, &counts) {
         Ok(script) => Ok(script),
-        Err(BadLineOrMemory::Refused(bad)) => Err(Stopped::BadLine(bad.line)),
+        Err(BadLineOrMemory::Refused(bad)) => Err(Stopped::BadLine(bad)),
         Err(BadLineOrMemory::Memory) => Err(Stopped::Memory),
     }
 }

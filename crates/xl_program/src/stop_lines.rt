@@ -51,7 +51,7 @@ pub fn write_stop<K: Sink>(alloc: Global, sink: &mut K, stopped: Stopped) -> u8
             write_line(sink, b"bad head\n");
             BAD_SOURCE
         }
-        Stopped::BadLine(number) => write_text(sink, bad_line_text(alloc, number), BAD_SOURCE),
+        Stopped::BadLine(bad) => write_text(sink, bad_line_text(alloc, bad.line), BAD_SOURCE),
         Stopped::ShelfFault => {
             write_line(sink, b"shelf fault\n");
             SHELF_FAULT

@@ -1,5 +1,6 @@
 use spec_fields::ReadRefused;
 use spec_flat::FlatRefused;
+use xl_script::BadLine;
 use xl_verdict::Rejection;
 
 /// Why a command did not end well.
@@ -8,8 +9,8 @@ pub enum Stopped {
     SourceFault,
     /// What is audited has no head that says how long its script is, or too few or too many bytes behind it.
     BadHead,
-    /// The script is refused at a line, counted from 1.
-    BadLine(u32),
+    /// The script is refused at a line.
+    BadLine(BadLine),
     ShelfFault,
     /// The file holds no document.
     Refused(ReadRefused),

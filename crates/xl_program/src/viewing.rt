@@ -113,7 +113,7 @@ fn read_script<S: Source>(
     };
     match parse_viewed(alloc, &text, first_count(chest)) {
         Ok(script) => Ok(script),
-        Err(BadLineOrMemory::Refused(bad)) => Err(Stopped::BadLine(bad.line)),
+        Err(BadLineOrMemory::Refused(bad)) => Err(Stopped::BadLine(bad)),
         Err(BadLineOrMemory::Memory) => Err(Stopped::Memory),
     }
 }

@@ -5,4 +5,5 @@ pub mod Looking
 pub mod Asking
 pub mod Steps
 mod Fits
+mod Fronts
 mod Scoped

@@ -1,7 +1,6 @@
 -- Lines as they are taken by the scope of their script.
-use Rattle.std.proofs.Common.{◌≡◌, ℕ, Bool, true, false, cond, List, [], ◌∷◌, map, refl, sym, ◌∙◌, ap, subst}
-use Rattle.std.specs.Prelude.{Option, Some, None, IfOk, Ok, Result, slice_get, nat_le, length, ◌^◌, Err}
-use Rattle.std.specs.List.{AllByRecursion}
+use Rattle.std.proofs.Common.{◌≡◌, ℕ, true, false, cond, List, [], ◌∷◌, map, refl, ◌∙◌, ap, subst}
+use Rattle.std.specs.Prelude.{Option, Some, None, IfOk, Ok, nat_le, length, ◌^◌, Err}
 use Rattle.spec_script.specs.Words.{◌>>=◌, lines_of, words_of}
 use Rattle.spec_script.specs.Commands.{Asked, command_of}
 use Rattle.spec_script.specs.Script.{Parsed, take_line, take_asked, take_by, is_skipped, Line, script}

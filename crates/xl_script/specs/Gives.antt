@@ -4,6 +4,7 @@ use Rattle.spec_script.specs.Script as script
 use Rattle.xl_script.specs.declared.bad_line.BadLineOrMemory.{BadLineOrMemory}
 use Rattle.xl_script.specs.declared.bad_line.BadLineOrMemory.TheVariants.{Memory, Refused}
 use Rattle.xl_script.specs.declared.script.Line.{Line}
+use Rattle.xl_script.specs.Causes.{Blames}
 use Rattle.xl_script.specs.Lines.{lists_of}
 
 -- the refused line, unless memory ran out
@@ -14,3 +15,8 @@ IsRefusal (Refused bad) read = read ≡ Err bad.line
 abbrev pub ScriptOf : Result (List (List Line)) BadLineOrMemory → Result (List (List script.Line)) ℕ → Type 0
 ScriptOf (Ok lists) read = read ≡ Ok (lists_of lists)
 ScriptOf (Err e) read = IsRefusal e read
+
+-- A word that is named as why the line is refused is one that the grammar refuses.
+abbrev pub BlamesLine : BadLineOrMemory → Type 0
+BlamesLine Memory = Unit {0}
+BlamesLine (Refused bad) = Blames bad.cause

@@ -1,14 +1,16 @@
 ghost use Rattle.std.specs.Prelude.{◌≡◌};
 ghost use Rattle.xl_script.specs.declared.bad_line.BadLineOrMemory.TheVariants.{Memory, Refused};
 
+use crate::cause::Cause;
 use std::alloc::{AllocError, AllocFailed};
 use thiserror::Error;
 
-/// The line that is refused, counted from 1.
+/// The line that is refused, counted from 1, and why.
 #[derive(Clone, Copy, Debug, PartialEq, Eq, Error)]
 #[error("bad line {line}")]
 pub struct BadLine {
     pub line: u32,
+    pub cause: Cause,
 }
 
 /// Why there is no script: memory ran out, or a line is refused.

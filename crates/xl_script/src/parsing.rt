@@ -1,15 +1,17 @@
-ghost use Rattle.std.specs.Prelude.{◌≡◌, ◌<◌, ◌≤◌, ◌^◌, [], ◌∷◌, length, map, count_by, ◌==◌, IfOk};
+ghost use Rattle.std.specs.Prelude.{◌≡◌, ◌<◌, ◌≤◌, ◌^◌, [], ◌∷◌, length, map, count_by, ◌==◌, false, IfOk, IfErr};
 ghost use Rattle.std.specs.List.{AllByRecursion};
 ghost use Rattle.spec_script.specs.Script as grammar;
 ghost use Rattle.spec_script.specs.Fits.{FitsFilters};
 ghost use Rattle.spec_script.specs.Words.{lines_of};
 ghost use Rattle.spec_view.specs.Script.{view_lists, IsViewedLine};
-ghost use Rattle.xl_script.specs.Gives.{ScriptOf};
+ghost use Rattle.xl_script.specs.Gives.{ScriptOf, BlamesLine};
 ghost use Rattle.xl_script.specs.Lines.{lists_of};
 ghost use Rattle.xl_script.specs.Scopes.{line_in, script_in};
-ghost use Rattle.xl_script.specs.Sessions.{TakenAs, ParsedAs};
+ghost use Rattle.xl_script.specs.Sessions.{TakenAs, TakenIf, ParsedAs};
+ghost use Rattle.xl_script.specs.declared.bad_line.BadLineOrMemory.TheVariants.{Refused};
 
 use crate::bad_line::{BadLine, BadLineOrMemory};
+use crate::cause::{Cause, CauseOrMemory};
 use crate::commands::command_of;
 use crate::scope::Scope;
 use crate::script::Script;
@@ -34,14 +36,38 @@ fn line_of_last(text: &[u8]) -> u32
     1 + newlines(&text[..MAX_LEN]) as u32
 }
 
+fn refused(line: u32, cause: Cause) -> BadLineOrMemory
+    ensures { result ≡ Refused (record { line = line; cause = cause }) }
+{
+    BadLineOrMemory::Refused(BadLine { line, cause })
+}
+
 fn is_skipped(line: &[u8]) -> bool
     ensures { result ≡ grammar.is_skipped line.now }
 {
     matches!(line, [] | [b'#', ..])
 }
 
+// Does what a line asks for that is not skipped, where it may stand in a script of this scope.
+#[tactic(auto, using(crate::proofs::Scoped::nothing_in, crate::proofs::Scoped::refused_in, crate::proofs::Scoped::asked_in))]
+fn take_asking(
+    alloc: Global,
+    scope: Scope,
+    sessions: &mut Sessions,
+    number: u32,
+    line: &[u8],
+) -> Result<(), CauseOrMemory>
+    requires { grammar.is_skipped line.now ≡ false }
+    ensures { TakenIf result sessions.new (grammar.take_line number (line_in scope line.now)
+        sessions.old) }
+{
+    let asked = command_of(alloc, line)?;
+    scope.check(&asked)?;
+    sessions.take(alloc, number, asked)
+}
+
 // Takes a line, where it may stand in a script of this scope.
-#[tactic(auto, using(crate::proofs::Scoped::skipped_in, crate::proofs::Scoped::nothing_in, crate::proofs::Scoped::refused_in, crate::proofs::Scoped::asked_in))]
+#[tactic(auto, using(crate::proofs::Scoped::skipped_in))]
 fn take_line(
     alloc: Global,
     scope: Scope,
@@ -49,22 +75,17 @@ fn take_line(
     number: u32,
     line: &[u8],
 ) -> Result<(), BadLineOrMemory>
-    ensures { TakenAs number result sessions.new (grammar.take_line number (line_in scope line.now)
-        sessions.old) }
+    ensures taken { TakenAs number result sessions.new (grammar.take_line number
+        (line_in scope line.now) sessions.old) }
+    ensures blamed { IfErr result BlamesLine }
 {
     if is_skipped(line) {
         return Ok(());
     }
-    let Some(asked) = command_of(alloc, line)? else {
-        return Err(BadLineOrMemory::Refused(BadLine { line: number }));
-    };
-    if !scope.may_ask(&asked) {
-        return Err(BadLineOrMemory::Refused(BadLine { line: number }));
-    }
-    if sessions.take(alloc, number, asked)? {
-        Ok(())
-    } else {
-        Err(BadLineOrMemory::Refused(BadLine { line: number }))
+    match take_asking(alloc, scope, sessions, number, line) {
+        Ok(()) => Ok(()),
+        Err(CauseOrMemory::Refused(cause)) => Err(refused(number, cause)),
+        Err(CauseOrMemory::Memory) => Err(BadLineOrMemory::Memory),
     }
 }
 
@@ -75,8 +96,9 @@ fn all_lines(
     chests: &[u32],
 ) -> Result<Sessions, BadLineOrMemory>
     requires { length text.now ≤ 2 ^ 24 }
-    ensures { ParsedAs result (grammar.take_lines 1 (map (line_in scope) (lines_of text.now))
+    ensures parsed { ParsedAs result (grammar.take_lines 1 (map (line_in scope) (lines_of text.now))
         (grammar.start chests.now)) }
+    ensures blamed { IfErr result BlamesLine }
 {
     let mut sessions = Sessions::new(alloc, chests)?;
     let mut rest = text;
@@ -92,16 +114,15 @@ fn all_lines(
 
 // The lines of each session, or the line that is refused.
 fn read(alloc: Global, scope: Scope, text: &[u8], chests: &[u32]) -> Result<Script, BadLineOrMemory>
-    ensures { ScriptOf result (script_in scope text.now chests.now) }
+    ensures read { ScriptOf result (script_in scope text.now chests.now) }
+    ensures blamed { IfErr result BlamesLine }
 {
     if text.len() > MAX_LEN {
-        return Err(BadLineOrMemory::Refused(BadLine {
-            line: line_of_last(text),
-        }));
+        return Err(refused(line_of_last(text), Cause::TooLong));
     }
     let sessions = all_lines(alloc, scope, text, chests)?;
     match sessions.never_ended() {
-        Some(line) => Err(BadLineOrMemory::Refused(BadLine { line })),
+        Some(line) => Err(refused(line, Cause::NotEnded)),
         None => Ok(sessions.into_script(alloc)?),
     }
 }
@@ -112,6 +133,7 @@ fn read(alloc: Global, scope: Scope, text: &[u8], chests: &[u32]) -> Result<Scri
 pub fn parse(alloc: Global, text: &[u8], chests: &[u32]) -> Result<Script, BadLineOrMemory>
     ensures read { ScriptOf result (grammar.script text.now chests.now) }
     ensures fits { IfOk result (λ script. FitsFilters chests.now (lists_of script)) }
+    ensures blamed { IfErr result BlamesLine }
 {
     match read(alloc, Scope::Whole, text, chests) {
         Ok(script) => Ok(script),
@@ -124,6 +146,7 @@ pub fn parse(alloc: Global, text: &[u8], chests: &[u32]) -> Result<Script, BadLi
 pub fn parse_viewed(alloc: Global, text: &[u8], filters: u32) -> Result<Script, BadLineOrMemory>
     ensures read { ScriptOf result (view_lists text.now filters) }
     ensures fits { IfOk result (λ script. FitsFilters (filters ∷ []) (lists_of script)) }
+    ensures blamed { IfErr result BlamesLine }
     ensures viewed { IfOk result (λ script. AllByRecursion IsViewedLine
         (grammar.list_at (lists_of script) 0)) }
 {

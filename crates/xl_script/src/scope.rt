@@ -3,10 +3,13 @@ ghost use Rattle.std.specs.Prelude.{◌≡◌};
 ghost use Rattle.spec_view.specs.Script as views;
 ghost use Rattle.xl_edit.specs.Calls.{call_of};
 ghost use Rattle.xl_script.specs.Commands.{asked_of, command_is};
+ghost use Rattle.xl_script.specs.Reads.{Holds};
 ghost use Rattle.xl_script.specs.Scopes as scopes;
 
+use crate::cause::Cause;
 use crate::command::Command;
 use crate::commands::Asked;
+use crate::word_front::WordFront;
 use xl_edit::Call;
 
 /// Which lines a script may have: all of the grammar, or those that may be viewed.
@@ -38,13 +41,26 @@ fn is_viewed(command: &Command) -> bool
 }
 
 impl Scope {
-    /// Whether what a line asks for may stand in such a script.
-    pub fn may_ask(self, asked: &Asked) -> bool
+    // Whether what a line asks for may stand in such a script.
+    fn may_ask(self, asked: &Asked<'_>) -> bool
         ensures { result ≡ scopes.may_ask self (asked_of asked.now) }
     {
         match self {
             Scope::Whole => true,
             Scope::Viewed => asked.session == 0 && is_viewed(&asked.command),
+        }
+    }
+
+    /// What a line asks for may stand in such a script.
+    pub fn check(self, asked: &Asked<'_>) -> Result<(), Cause>
+        ensures { Holds result (scopes.may_ask self (asked_of asked.now)) }
+    {
+        if self.may_ask(asked) {
+            Ok(())
+        } else if asked.session != 0 {
+            Err(Cause::OtherSession)
+        } else {
+            Err(Cause::NotViewed(WordFront::of(asked.keyword)))
         }
     }
 }

@@ -42,7 +42,7 @@ audit_led before after front counts (Ok audit) led how reads =
     (reads.0, parts_led before after front reads.0 audit.output.items led how reads.1, reads.2)
 audit_led before after front counts (Err SourceFault) led how reads = tt
 audit_led before after front counts (Err BadHead) led how reads = bad_head_led before after front led how reads
-audit_led before after front counts (Err (BadLine number)) led how reads =
+audit_led before after front counts (Err (BadLine bad)) led how reads =
     (reads.0, reads.1, parts_led before after front reads.0 reads.1 led how reads.2, reads.3)
 audit_led before after front counts (Err Memory) led how reads = tt
 

@@ -27,7 +27,7 @@ ReadsAudit left counts (Ok audit) =
     (text : List ℕ) × HasParts left text audit.output.items × (script text counts ≡ Ok (lists_of audit.script))
 ReadsAudit left counts (Err SourceFault) = Unit {0}
 ReadsAudit left counts (Err BadHead) = IsBadHead left
-ReadsAudit left counts (Err (BadLine number)) = IsBadLineBehind left counts number
+ReadsAudit left counts (Err (BadLine bad)) = IsBadLineBehind left counts bad.line
 ReadsAudit left counts (Err Memory) = Unit {0}
 
 -- the source's faults rise only where they are told of
@@ -35,5 +35,5 @@ abbrev pub HasCause : (before after : ℕ) → Result Audit Unread → Type 0
 HasCause before after (Ok audit) = after ≡ before
 HasCause before after (Err SourceFault) = Rose before after
 HasCause before after (Err BadHead) = after ≡ before
-HasCause before after (Err (BadLine number)) = after ≡ before
+HasCause before after (Err (BadLine bad)) = after ≡ before
 HasCause before after (Err Memory) = after ≡ before

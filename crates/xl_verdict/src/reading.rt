@@ -8,7 +8,7 @@ ghost use Rattle.xl_verdict.specs.Reading.{HasCause, ReadsAudit};
 use std::alloc::Global;
 use xl_audit::split_source;
 use xl_ports::{FailedOrMemory, Source, read_all};
-use xl_script::{BadLineOrMemory, Script, parse};
+use xl_script::{BadLine, BadLineOrMemory, Script, parse};
 
 /// How much of a source is read: one byte more than it may have.
 const MOST_BYTES: usize = (1 << 28) + 1;
@@ -26,8 +26,8 @@ pub enum Unread {
     SourceFault,
     /// The first line does not say how long the script is, or there are too few bytes behind it, or too many.
     BadHead,
-    /// The script is refused at a line, counted from 1.
-    BadLine(u32),
+    /// The script is refused at a line.
+    BadLine(BadLine),
     Memory,
 }
 
@@ -42,7 +42,7 @@ fn parse_audit(alloc: Global, bytes: &[u8], counts: &[u32]) -> Result<Audit, Unr
     };
     let script = match parse(alloc, script, counts) {
         Ok(script) => script,
-        Err(BadLineOrMemory::Refused(bad)) => return Err(Unread::BadLine(bad.line)),
+        Err(BadLineOrMemory::Refused(bad)) => return Err(Unread::BadLine(bad)),
         Err(BadLineOrMemory::Memory) => return Err(Unread::Memory),
     };
     match output.to_vec(alloc) {

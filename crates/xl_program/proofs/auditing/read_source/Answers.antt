@@ -18,7 +18,7 @@ returns-in-Ok-read_audit-clause-reads g c =
 pub returns-in-Err-BadLine-clause-reads : goal.returns-in-Err-BadLine-clause-reads
 returns-in-Err-BadLine-clause-reads g c =
     let counts = counts_same _ _ c.args.chest.now.items _ c.deref.ensures.value c.in-Ok.ensures in
-    audit_counted (g.S.Source.left c.args.source.now) _ _ (Err (BadLine c.in-Err-BadLine.number)) (c.deref-2.ensures.value ∙ counts)
+    audit_counted (g.S.Source.left c.args.source.now) _ _ (Err (BadLine c.in-Err-BadLine.bad)) (c.deref-2.ensures.value ∙ counts)
     (rw c.in-Err-BadLine.field-0-is at c.in-Err-BadLine.ensures.reads)
 
 pub returns-in-Ok-read_audit-clause-fits : goal.returns-in-Ok-read_audit-clause-fits

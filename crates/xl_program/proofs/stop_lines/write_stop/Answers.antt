@@ -4,7 +4,7 @@ use Rattle.xl_program.proofs.stop_lines.write_stop.Goals as goal
 
 pub returns-in-BadLine : goal.returns-in-BadLine
 returns-in-BadLine g c =
-    rw c.in-BadLine.is (text_written g.K.Sink.held g.K.Sink.faults c.bad_line_text.result (bad_line c.in-BadLine.number) _ _ _
+    rw c.in-BadLine.is (text_written g.K.Sink.held g.K.Sink.faults c.bad_line_text.result (bad_line c.in-BadLine.bad.line) _ _ _
     c.bad_line_text.ensures c.write_text.ensures)
 
 pub returns-in-Refused : goal.returns-in-Refused

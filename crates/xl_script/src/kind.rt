@@ -1,0 +1,40 @@
+/// What a word behind a keyword has to be.
+#[derive(Clone, Copy, Debug, PartialEq, Eq)]
+pub enum Kind {
+    /// A number of 32 bits.
+    Number,
+    /// A place or a side of a rectangle.
+    Coordinate,
+    /// A side of a new layer.
+    Side,
+    Byte,
+    /// The type of a new layer.
+    LayerType,
+    Flag,
+    /// A number of 32 bits with its sign.
+    Offset,
+    /// Bytes in hexadecimal digits.
+    Hex,
+    /// 1 to 256 colours in hexadecimal digits.
+    Colours,
+}
+
+impl Kind {
+    fn is_number(self) -> bool {
+        match self {
+            Kind::Number
+            | Kind::Coordinate
+            | Kind::Side
+            | Kind::Byte
+            | Kind::LayerType
+            | Kind::Flag
+            | Kind::Offset => true,
+            Kind::Hex | Kind::Colours => false,
+        }
+    }
+
+    /// Whether the word would be a number, were it not for a zero in front.
+    pub fn has_leading_zero(self, word: &[u8]) -> bool {
+        self.is_number() && word.iter().all(|b| b.is_ascii_digit()) && matches!(word, [b'0', _, ..])
+    }
+}

@@ -1,0 +1,99 @@
+ghost use Rattle.std.specs.Prelude.{◌≡◌, ◌<◌, ◌^◌, false, is_some, IfOk};
+ghost use Rattle.spec_script.specs.Words as grammar;
+ghost use Rattle.xl_script.specs.Causes.{Blames, has};
+ghost use Rattle.xl_script.specs.Reads.{Reads, ReadsIf};
+
+use crate::cause::{Cause, CauseOrMemory};
+use crate::digits::hex;
+use crate::kind::Kind;
+use crate::numbers::{byte, coordinate, flag, layer_type, number, side, signed_number};
+use crate::word_front::WordFront;
+use std::alloc::Global;
+use xl_edit::Bytes;
+
+/// A word behind a keyword, and its place in the line, from 1.
+#[derive(Clone, Copy, Debug)]
+pub struct Operand<'a> {
+    pub place: u8,
+    pub text: &'a [u8],
+}
+
+impl<'a> Operand<'a> {
+    /// What is wrong with the word, which is not of its kind.
+    pub fn fault(self, kind: Kind) -> Cause
+        requires { has kind self.text.now ≡ false }
+        ensures { Blames result }
+    {
+        let place = self.place;
+        let word = WordFront::of(self.text);
+        if kind.has_leading_zero(self.text) {
+            Cause::LeadingZero { place, word }
+        } else {
+            Cause::BadWord { place, word, kind }
+        }
+    }
+
+    // What the word was read as, which is none where it is not of its kind.
+    fn read<T>(self, value: Option<T>, kind: Kind) -> Result<T, Cause>
+        requires { is_some value ≡ has kind self.text.now }
+        ensures { Reads result value }
+    {
+        match value {
+            Some(value) => Ok(value),
+            None => Err(self.fault(kind)),
+        }
+    }
+
+    pub fn number(self) -> Result<u32, Cause>
+        ensures { Reads result (grammar.number self.entry.text.now) }
+    {
+        self.read(number(self.text), Kind::Number)
+    }
+
+    pub fn byte(self) -> Result<u8, Cause>
+        ensures { Reads result (grammar.number_below 256 self.entry.text.now) }
+    {
+        self.read(byte(self.text), Kind::Byte)
+    }
+
+    pub fn flag(self) -> Result<bool, Cause>
+        ensures { Reads result (grammar.flag self.entry.text.now) }
+    {
+        self.read(flag(self.text), Kind::Flag)
+    }
+
+    /// A place or a side of a rectangle.
+    pub fn coordinate(self) -> Result<u32, Cause>
+        ensures value { Reads result (grammar.coordinate self.entry.text.now) }
+        ensures below { IfOk result (λ n. n < 2 ^ 20) }
+    {
+        self.read(coordinate(self.text), Kind::Coordinate)
+    }
+
+    /// A side of a new layer.
+    pub fn side(self) -> Result<u32, Cause>
+        ensures { Reads result (grammar.side self.entry.text.now) }
+    {
+        self.read(side(self.text), Kind::Side)
+    }
+
+    pub fn layer_type(self) -> Result<u32, Cause>
+        ensures { Reads result (grammar.number_below 6 self.entry.text.now) }
+    {
+        self.read(layer_type(self.text), Kind::LayerType)
+    }
+
+    /// A number of 32 bits with its sign.
+    pub fn signed_number(self) -> Result<i32, Cause>
+        ensures { Reads result (grammar.signed_number self.entry.text.now) }
+    {
+        self.read(signed_number(self.text), Kind::Offset)
+    }
+
+    pub fn hex(self, alloc: Global) -> Result<Bytes, CauseOrMemory>
+        ensures { ReadsIf result (grammar.hex self.entry.text.now) }
+    {
+        let bytes = hex(alloc, self.text)?;
+        Ok(self.read(bytes, Kind::Hex)?)
+    }
+}

@@ -1,0 +1,218 @@
+ghost use Rattle.std.specs.Prelude.{◌≡◌, ◌<◌, None, Some, MatchResult, option_copied};
+ghost use Rattle.spec_script.specs.Words as grammar;
+ghost use Rattle.xl_script.specs.Causes.{Blames};
+ghost use Rattle.xl_script.specs.Reads.{Reads, Holds};
+ghost use Rattle.xl_script.specs.Words.{words_left};
+
+use crate::cause::Cause;
+use crate::operand::Operand;
+use crate::word_front::WordFront;
+use crate::words::{
+    eight_words, five_words, no_words, one_word, six_words, three_words, two_words,
+};
+
+/// The words behind a keyword.
+#[derive(Clone, Copy, Debug)]
+pub struct Operands<'a> {
+    pub keyword: &'a [u8],
+    /// The rest of the line, where there is one.
+    pub words: Option<&'a [u8]>,
+}
+
+/// Five words.
+pub type Five<'a> = (
+    Operand<'a>,
+    Operand<'a>,
+    Operand<'a>,
+    Operand<'a>,
+    Operand<'a>,
+);
+
+/// Six words.
+pub type Six<'a> = (
+    Operand<'a>,
+    Operand<'a>,
+    Operand<'a>,
+    Operand<'a>,
+    Operand<'a>,
+    Operand<'a>,
+);
+
+/// Eight words.
+pub type Eight<'a> = (
+    Operand<'a>,
+    Operand<'a>,
+    Operand<'a>,
+    Operand<'a>,
+    Operand<'a>,
+    Operand<'a>,
+    Operand<'a>,
+    Operand<'a>,
+);
+
+// How many words there are.
+fn count_words(words: Option<&[u8]>) -> usize {
+    match words {
+        None => 0,
+        Some(line) => 1 + line.iter().filter(|b| **b == b' ').count(),
+    }
+}
+
+// A word with its place, where so many words behind the keyword stand before it.
+fn at(before: u8, text: &[u8]) -> Operand<'_>
+    requires { before < 8 }
+    ensures { result.text.now ≡ text.now }
+{
+    Operand {
+        place: before + 3,
+        text,
+    }
+}
+
+impl<'a> Operands<'a> {
+    // There are more or fewer words than these.
+    fn miscounted(self, least: u8, most: u8) -> Cause
+        ensures { Blames result }
+    {
+        Cause::WordCount {
+            keyword: WordFront::of(self.keyword),
+            least,
+            most,
+            found: count_words(self.words),
+        }
+    }
+
+    /// The keyword stands alone.
+    pub fn none(self) -> Result<(), Cause>
+        ensures { Holds result (grammar.none (words_left (option_copied self.entry.words))) }
+    {
+        if no_words(self.words) {
+            Ok(())
+        } else {
+            Err(self.miscounted(0, 0))
+        }
+    }
+
+    pub fn one(self) -> Result<Operand<'a>, Cause>
+        ensures { MatchResult result
+            (λ a. grammar.one (words_left (option_copied self.entry.words)) ≡ Some a.text.now)
+            (λ cause. (grammar.one (words_left (option_copied self.entry.words)) ≡ None)
+            × Blames cause) }
+    {
+        match one_word(self.words) {
+            Some(a) => Ok(at(0, a)),
+            None => Err(self.miscounted(1, 1)),
+        }
+    }
+
+    pub fn two(self) -> Result<(Operand<'a>, Operand<'a>), Cause>
+        ensures { MatchResult result
+            (λ t. grammar.two (words_left (option_copied self.entry.words))
+            ≡ Some (t.0.text.now, t.1.text.now))
+            (λ cause. (grammar.two (words_left (option_copied self.entry.words)) ≡ None)
+            × Blames cause) }
+    {
+        match two_words(self.words) {
+            Some((a, b)) => Ok((at(0, a), at(1, b))),
+            None => Err(self.miscounted(2, 2)),
+        }
+    }
+
+    pub fn three(self) -> Result<(Operand<'a>, Operand<'a>, Operand<'a>), Cause>
+        ensures { MatchResult result
+            (λ t. grammar.three (words_left (option_copied self.entry.words))
+            ≡ Some (t.0.text.now, t.1.text.now, t.2.text.now))
+            (λ cause. (grammar.three (words_left (option_copied self.entry.words)) ≡ None)
+            × Blames cause) }
+    {
+        match three_words(self.words) {
+            Some((a, b, c)) => Ok((at(0, a), at(1, b), at(2, c))),
+            None => Err(self.miscounted(3, 3)),
+        }
+    }
+
+    pub fn five(self) -> Result<Five<'a>, Cause>
+        ensures { MatchResult result
+            (λ t. grammar.five (words_left (option_copied self.entry.words))
+            ≡ Some (t.0.text.now, t.1.text.now, t.2.text.now, t.3.text.now, t.4.text.now))
+            (λ cause. (grammar.five (words_left (option_copied self.entry.words)) ≡ None)
+            × Blames cause) }
+    {
+        match five_words(self.words) {
+            Some((a, b, c, d, e)) => Ok((at(0, a), at(1, b), at(2, c), at(3, d), at(4, e))),
+            None => Err(self.miscounted(5, 5)),
+        }
+    }
+
+    pub fn six(self) -> Result<Six<'a>, Cause>
+        ensures { MatchResult result
+            (λ t. grammar.six (words_left (option_copied self.entry.words))
+            ≡ Some (
+              t.0.text.now,
+              t.1.text.now,
+              t.2.text.now,
+              t.3.text.now,
+              t.4.text.now,
+              t.5.text.now,
+            ))
+            (λ cause. (grammar.six (words_left (option_copied self.entry.words)) ≡ None)
+            × Blames cause) }
+    {
+        match six_words(self.words) {
+            Some((a, b, c, d, e, f)) => Ok((
+                at(0, a),
+                at(1, b),
+                at(2, c),
+                at(3, d),
+                at(4, e),
+                at(5, f),
+            )),
+            None => Err(self.miscounted(6, 6)),
+        }
+    }
+
+    pub fn eight(self) -> Result<Eight<'a>, Cause>
+        ensures { MatchResult result
+            (λ t. grammar.eight (words_left (option_copied self.entry.words))
+            ≡ Some (
+              t.0.text.now,
+              t.1.text.now,
+              t.2.text.now,
+              t.3.text.now,
+              t.4.text.now,
+              t.5.text.now,
+              t.6.text.now,
+              t.7.text.now,
+            ))
+            (λ cause. (grammar.eight (words_left (option_copied self.entry.words)) ≡ None)
+            × Blames cause) }
+    {
+        match eight_words(self.words) {
+            Some((a, b, c, d, e, f, g, h)) => Ok((
+                at(0, a),
+                at(1, b),
+                at(2, c),
+                at(3, d),
+                at(4, e),
+                at(5, f),
+                at(6, g),
+                at(7, h),
+            )),
+            None => Err(self.miscounted(8, 8)),
+        }
+    }
+
+    /// A number, or none where there is no word.
+    pub fn optional_number(self) -> Result<Option<u32>, Cause>
+        ensures { Reads result (grammar.number_or_none
+            (words_left (option_copied self.entry.words))) }
+    {
+        if no_words(self.words) {
+            return Ok(None);
+        }
+        match one_word(self.words) {
+            Some(word) => Ok(Some(at(0, word).number()?)),
+            None => Err(self.miscounted(0, 1)),
+        }
+    }
+}
