@@ -1,5 +1,5 @@
 -- What comes of a group of edits.
-use Rattle.std.specs.Prelude.{◌≡◌, ℕ, ◌+◌, ◌^◌, ◌≤◌, List, [], Result, Ok, Err}
+use Rattle.std.specs.Prelude.{◌≡◌, ℕ, ◌+◌, ◌^◌, ◌<◌, List, [], Result, Ok, Err}
 use Rattle.spec_edit.specs.Apply.{At, apply, apply_group}
 use Rattle.spec_edit.specs.Edit.{Edit}
 use Rattle.spec_history.specs.Calls.{most_edits}
@@ -7,14 +7,18 @@ use Rattle.xcf.specs.Plain.{IsPlainGroup, IsChecked}
 use Rattle.xcf.specs.declared.errors.NotEdited.{NotEdited}
 use Rattle.xcf.specs.declared.errors.NotEdited.TheVariants.{Memory, NotGroup, NoIds, Refused}
 
+-- more ids are left than a group may take
+abbrev pub HasIds : At → Type 0
+HasIds image = image.next + most_edits + 1 < 2 ^ 32
+
 -- The whole group is made. Or the image is as before: the first edit that is refused is named, or what is wrong with the group, or
 -- no more ids are left than a group may take, or memory ran out.
 abbrev pub Edits : (old new : At) → List Edit → Result (Unit {0}) NotEdited → Type 0
-Edits old new edits (Ok done) = IsPlainGroup edits × (apply_group old edits [] ≡ Ok new)
+Edits old new edits (Ok done) = IsPlainGroup edits × HasIds old × (apply_group old edits [] ≡ Ok new)
 Edits old new edits (Err (Refused index cause)) =
-    (apply_group old edits [] ≡ Err (record { index = index; cause = cause })) × (new ≡ old)
+    IsPlainGroup edits × HasIds old × (apply_group old edits [] ≡ Err (record { index = index; cause = cause })) × (new ≡ old)
 Edits old new edits (Err (NotGroup flaw)) = IsChecked edits (Err flaw) × (new ≡ old)
-Edits old new edits (Err NoIds) = (2 ^ 32 ≤ old.next + most_edits + 1) × (new ≡ old)
+Edits old new edits (Err NoIds) = IsPlainGroup edits × (HasIds old → ⊥) × (new ≡ old)
 Edits old new edits (Err Memory) = new ≡ old
 
 -- the same of one edit that takes a table
