@@ -8,9 +8,10 @@ use Rattle.spec_picture.specs.Picture.{project}
 use Rattle.xcf.specs.declared.errors.NotShown.{NotShown}
 use Rattle.xcf.specs.declared.errors.NotShown.TheVariants.{Memory, NoStack, OutsideTile}
 
--- the picture of the tile, or which of both is not there: the stack, or the tile where the stack is there
+-- the picture of the tile, where both are there; or which is not: the stack, or the tile where the stack is there
 abbrev pub Shows : Document → (stack : ℕ) → TileAt → Result (List ℕ) NotShown → Type 0
-Shows d stack at (Ok bytes) = bytes ≡ project d stack at
+Shows d stack at (Ok bytes) =
+    (has_stack d stack ≡ true) × (is_on_grid d.width d.height at ≡ true) × (bytes ≡ project d stack at)
 Shows d stack at (Err (NoStack node)) = (node ≡ stack) × (has_stack d stack ≡ false)
 Shows d stack at (Err OutsideTile) = (has_stack d stack ≡ true) × (is_on_grid d.width d.height at ≡ false)
 Shows d stack at (Err Memory) = Unit {0}

@@ -50,6 +50,7 @@ module _ (d : Document) (opening mid after : ShelfState) where
         reading = save.reading ∙ reading;
         saving = save.saving ∙ saving;
         untouched = done_not_memory;
+        closed = save.closed;
         contents = (
           puts.0,
           puts.1,
@@ -73,6 +74,7 @@ module _ (d : Document) (opening mid after : ShelfState) where
         reading = save.reading ∙ reading;
         saving = subst (λ (n : ℕ). Rose n after.saving) saving save.saving;
         untouched = fault_not_memory;
+        closed = save.closed;
         contents = (
           puts.0,
           puts.1,

@@ -165,6 +165,7 @@ saved_as_now before first now name d same saved = record {
   reading = saved.reading;
   saving = saved.saving;
   untouched = done_not_memory;
+  closed = saved.closed;
   contents = saved.contents;
 }
 

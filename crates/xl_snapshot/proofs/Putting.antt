@@ -32,17 +32,21 @@ done_not_memory e = let bad : Done ≡ Memory = e in cc
 pub fault_not_memory : {P : Type 0} → Fault ≡ Memory → P
 fault_not_memory e = let bad : Fault ≡ Memory = e in cc
 
+pub fault_not_done : {P : Type 0} → Fault ≡ Done → P
+fault_not_done e = let bad : Fault ≡ Done = e in cc
+
 pub saved_done : (d : Document) (bytes : List ℕ) (old new : ShelfState) → Written bytes d → IsSome old.selected
     → IfSome old.selected (λ name. Between old.disk new.disk (SavesOnly name bytes))
     → IfSome old.selected (λ name. IfSome new.disk (HasSaved name bytes)) → new.selected ≡ old.selected → new.loads ≡ old.loads
     → new.reading ≡ old.reading
-    → new.saving ≡ old.saving → IsSavedOn old d Done new
-saved_done d bytes old new wrote some only has selected loads reading saving = record {
+    → new.saving ≡ old.saving → new.is_open ≡ false → IsSavedOn old d Done new
+saved_done d bytes old new wrote some only has selected loads reading saving closed = record {
   selected = selected;
   loads = loads;
   reading = reading;
   saving = saving;
   untouched = done_not_memory;
+  closed = λ done. closed;
   contents = (bytes, wrote, put_done bytes old.selected old.disk new.disk some only has);
 }
 
@@ -55,6 +59,7 @@ saved_fault d bytes old new wrote some only selected loads reading saving = reco
   reading = reading;
   saving = saving;
   untouched = fault_not_memory;
+  closed = fault_not_done;
   contents = (bytes, wrote, put_fault bytes old.selected old.disk new.disk some only);
 }
 

@@ -1,5 +1,5 @@
 -- What becomes of a shelf when a document is saved on it.
-use Rattle.std.specs.Prelude.{◌≡◌, List, ℕ, Option}
+use Rattle.std.specs.Prelude.{◌≡◌, List, ℕ, false, Option}
 use Rattle.spec_document.specs.Document.{Document}
 use Rattle.spec_layout.specs.Layout.{Written}
 use Rattle.spec_world.specs.declared.SaveEnd.{SaveEnd}
@@ -17,11 +17,12 @@ Puts Done d name before after =
 Puts Fault d name before after = (bytes : List ℕ) × Written bytes d × Between before after (SavesOnly name bytes)
 Puts Memory d name before after = after ≡ before
 
--- the shelf after a save that ended so
+-- the shelf after a save that ended so; no draft is open where it is done
 pub record IsSavedOn (old : ShelfState) (d : Document) (how : SaveEnd) (new : ShelfState) : Type 0 where
   pub selected : new.selected ≡ old.selected
   pub loads : new.loads ≡ old.loads
   pub reading : new.reading ≡ old.reading
   pub saving : CountEnds how old.saving new.saving
   pub untouched : how ≡ Memory → new ≡ old
+  pub closed : how ≡ Done → new.is_open ≡ false
   pub contents : Puts how d (file_name old) old.disk new.disk

@@ -1,9 +1,10 @@
-ghost use Rattle.std.specs.Prelude.{◌≡◌, ℕ, List, IfOk, OnOk, OnErr, IfSome, IsSome};
+ghost use Rattle.std.specs.Prelude.{◌≡◌, false, ℕ, List, IfOk, OnOk, OnErr, IfSome, IsSome};
 ghost use Rattle.spec_document.specs.Document.{Document as Plain};
 ghost use Rattle.spec_layout.specs.BytePlanes.{planes_of};
 ghost use Rattle.spec_layout.specs.Layout.{Written, WrittenBy};
 ghost use Rattle.spec_world.specs.declared.SaveEnd.TheVariants as save_end;
 ghost use Rattle.xl_ports.specs.Disk.{Between};
+ghost use Rattle.xl_ports.specs.Faults.{HasCause};
 ghost use Rattle.xl_rle.specs.Follows.{FollowsEach};
 ghost use Rattle.xl_save.specs.Save.{SavesOnly, HasSaved};
 ghost use Rattle.xl_snapshot.specs.Saving.{IsSavedOn};
@@ -49,8 +50,12 @@ pub fn save_file<D: Shelf>(file: &[u8], shelf: &mut D) -> Result<(), Failed>
     ensures failed { OnErr result ((d : Plain) → Written file.now d
         → IsSavedOn (D.shelf_state shelf.old) d save_end.Fault
         (D.shelf_state shelf.new)) }
+    ensures closed { OnOk result ((D.shelf_state shelf.new).is_open ≡ false) }
     ensures loads { (D.shelf_state shelf.new).loads ≡ (D.shelf_state shelf.old).loads }
     ensures selected { (D.shelf_state shelf.new).selected ≡ (D.shelf_state shelf.old).selected }
+    ensures reading { (D.shelf_state shelf.new).reading ≡ (D.shelf_state shelf.old).reading }
+    ensures cause { HasCause (D.shelf_state shelf.old).saving (D.shelf_state shelf.new).saving
+        result }
 {
     save(file, shelf)
 }
