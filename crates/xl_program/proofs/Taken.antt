@@ -14,14 +14,14 @@ led_by_nothing (Some more) = refl
 pub nothing_taken : {S : Type 0} (left : S → Option (List ℕ)) (faults reads : S → ℕ) (s : S) (asked : Option Asked)
     → Takes left faults reads s s asked
 nothing_taken left faults reads s None = (refl, refl, refl)
-nothing_taken left faults reads s (Some (edit name workers)) = (([], (led_by_nothing (left s), omega arith)), omega arith)
+nothing_taken left faults reads s (Some (edit name workers)) = (([], led_by_nothing (left s), omega arith), omega arith)
 nothing_taken left faults reads s (Some (render name)) = (refl, refl, refl)
 nothing_taken left faults reads s (Some (info name)) = (refl, refl, refl)
 nothing_taken left faults reads s (Some (make name seed)) = (refl, refl, refl)
 nothing_taken left faults reads s (Some (pack name with_plans)) = (refl, refl, refl)
 nothing_taken left faults reads s (Some (flatten name)) = (refl, refl, refl)
-nothing_taken left faults reads s (Some (view name cols rows)) = (([], (led_by_nothing (left s), omega arith)), omega arith)
-nothing_taken left faults reads s (Some (audit name)) = (([], (led_by_nothing (left s), omega arith)), omega arith)
+nothing_taken left faults reads s (Some (view name cols rows)) = (([], led_by_nothing (left s), omega arith), omega arith)
+nothing_taken left faults reads s (Some (audit name)) = (([], led_by_nothing (left s), omega arith), omega arith)
 
 pub untouched : (s : ShelfState) → IsUntouched s s
 untouched s = record { contents = refl; quiet = still s.disk; saving = refl }

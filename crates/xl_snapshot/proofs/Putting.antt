@@ -69,4 +69,4 @@ pub coded_there : (P : List ℕ → Type 0) (s : Option (List ℕ)) (after : Opt
     → IfSome s (λ name. IfSome after (λ disk. (file : List ℕ) × P file × HasSaved name file disk))
 coded_there P None after coded bytes is same has = tt
 coded_there P (Some name) None coded bytes is same has = tt
-coded_there P (Some name) (Some disk) coded bytes is same has = (bytes, (subst P (sym same) is, has))
+coded_there P (Some name) (Some disk) coded bytes is same has = (bytes, subst P (sym same) is, has)

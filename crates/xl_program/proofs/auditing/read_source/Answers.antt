@@ -7,7 +7,7 @@ use Rattle.xl_program.proofs.Taken.{led_by_nothing}
 use Rattle.xl_program.proofs.auditing.read_source.Goals as goal
 
 pub returns-in_default-clause-takes : goal.returns-in_default-clause-takes
-returns-in_default-clause-takes g c = (([], (led_by_nothing (g.S.Source.left c.args.source.now), omega arith)), omega arith)
+returns-in_default-clause-takes g c = (([], led_by_nothing (g.S.Source.left c.args.source.now), omega arith), omega arith)
 
 pub returns-in-Ok-read_audit-clause-reads : goal.returns-in-Ok-read_audit-clause-reads
 returns-in-Ok-read_audit-clause-reads g c =

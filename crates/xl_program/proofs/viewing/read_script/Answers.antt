@@ -31,10 +31,10 @@ pub returns-in-Err-Memory-clause-takes : goal.returns-in-Err-Memory-clause-takes
 returns-in-Err-Memory-clause-takes g c = (c.in-Err-Memory.ensures.some, omega (arith, c.read_all.ensures.reads))
 
 pub returns-in-Ok-parse_viewed-clause-takes : goal.returns-in-Ok-parse_viewed-clause-takes
-returns-in-Ok-parse_viewed-clause-takes g c = ((c.in-Ok.text.items, (c.in-Ok.ensures.given, c.in-Ok.ensures.within)), omega (arith, c.read_all.ensures.reads))
+returns-in-Ok-parse_viewed-clause-takes g c = ((c.in-Ok.text.items, c.in-Ok.ensures.given, c.in-Ok.ensures.within), omega (arith, c.read_all.ensures.reads))
 
 pub returns-in-Err-Refused-clause-takes : goal.returns-in-Err-Refused-clause-takes
-returns-in-Err-Refused-clause-takes g c = ((c.in-Ok.text.items, (c.in-Ok.ensures.given, c.in-Ok.ensures.within)), omega (arith, c.read_all.ensures.reads))
+returns-in-Err-Refused-clause-takes g c = ((c.in-Ok.text.items, c.in-Ok.ensures.given, c.in-Ok.ensures.within), omega (arith, c.read_all.ensures.reads))
 
 pub returns-clause-takes : goal.returns-clause-takes
-returns-clause-takes g c = ((c.in-Ok.text.items, (c.in-Ok.ensures.given, c.in-Ok.ensures.within)), omega (arith, c.read_all.ensures.reads))
+returns-clause-takes g c = ((c.in-Ok.text.items, c.in-Ok.ensures.given, c.in-Ok.ensures.within), omega (arith, c.read_all.ensures.reads))

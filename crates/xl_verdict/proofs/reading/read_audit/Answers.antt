@@ -22,4 +22,4 @@ returns-clause-cause g c =
     (c.parse_audit.ensures.cause (g.S.Source.faults c.args.source.now))
 
 pub returns-clause-takes : goal.returns-clause-takes
-returns-clause-takes g c = (c.in-Ok.bytes.items, (c.in-Ok.ensures.given, c.in-Ok.ensures.within))
+returns-clause-takes g c = (c.in-Ok.bytes.items, c.in-Ok.ensures.given, c.in-Ok.ensures.within)
