@@ -6,6 +6,7 @@ use Rattle.std.specs.List.{AllByRecursion}
 use Rattle.std.proofs.lemmas.List.{length-map}
 use Rattle.spec_edit.specs.Apply.{At, Refused, apply_group}
 use Rattle.spec_edit.specs.Edit as edits
+use Rattle.spec_edit.specs.Apply.{is_filter}
 use Rattle.spec_history.specs.Calls.{most_edits}
 use Rattle.spec_tables.specs.Acceptance.{filter_count}
 use Rattle.spec_tables.proofs.Asked.{Plain, view}
@@ -34,7 +35,10 @@ pub no_filters : (place : ℕ) (es : List edits.Edit) → unplain_from place es 
 no_filters place [] none = refl
 no_filters place (e ∷ es) none =
     let both = first_plain place e es none in
-    ap (λ b. cond b 1 0 + filter_count es) (plain_view e both.0).no_filter ∙ no_filters (suc place) es both.1
+    let head : cond {A = ℕ} (is_filter e) 1 0 ≡ 0 = ap (λ (b : Bool). cond {A = ℕ} b 1 0) (plain_view e both.0).no_filter in
+    let rest : filter_count es ≡ 0 = no_filters (suc place) es both.1 in
+    let all : cond {A = ℕ} (is_filter e) 1 0 + filter_count es ≡ 0 = omega (arith, head, rest) in
+    all
 
 -- so no table is taken
 pub no_tables : (es : List edits.Edit) (tables : List (List ℕ)) → IsPlainGroup es → tables ≡ []
