@@ -15,4 +15,4 @@ returns-clause-file g c =
     (c.document.ensures
     ∙ flat_answered _ c.args.core.now c.submit.new.self c.args.group.guard (edits_of c.args.group.edits) c.version-seen.result
     (reply_of c.in_ok-submit.field-0) c.requires.fresh c.requires.group.guard c.requires.group.edits c.requires.group.becomes
-    (λ filters agrees. c.in_ok-submit.ensures.answered filters agrees) c.in_ok-submit.ensures.legal) c.file_of.ensures
+    (λ filters agrees. c.in_ok-submit.ensures.answered filters agrees) c.in_ok-submit.ensures.legal) c.file_of.ensures.written
