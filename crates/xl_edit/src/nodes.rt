@@ -19,7 +19,7 @@ ghost use Rattle.xl_tree.specs.Refusals.{put_refusal};
 use crate::blank::{blank_group, blank_layer};
 use crate::refused::EditRefusedOrMemory;
 use std::alloc::{AllocError, Global};
-use xl_checks::{check_new_group, check_new_layer, check_node};
+use xl_checks::{LayerShape, check_new_group, check_new_layer, check_node};
 use xl_doc::{Bytes, Document, Node, NodeId, Tree};
 use xl_tree::Branch;
 
@@ -80,22 +80,19 @@ pub(crate) fn new_layer(
     next_id: &mut u32,
     parent: NodeId,
     place: u32,
-    x: i32,
-    y: i32,
-    w: u32,
-    h: u32,
-    kind: u32,
+    shape: LayerShape,
     name: &Bytes,
 ) -> Result<(), EditRefusedOrMemory>
-    requires width { IsSide w }
-    requires height { IsSide h }
+    requires width { IsSide shape.w }
+    requires height { IsSide shape.h }
     requires bytes { AreBytes name.now }
-    requires next { HasNext doc.old next_id.old (edits.new_layer parent.0 place x y w h kind name.now) }
+    requires next { HasNext doc.old next_id.old
+        (edits.new_layer parent.0 place shape.x shape.y shape.w shape.h shape.kind name.now) }
     ensures { (table : List ℕ) → Applies (at doc.old next_id.old) (at doc.new next_id.new)
-        (edits.new_layer parent.0 place x y w h kind name.now) table result }
+        (edits.new_layer parent.0 place shape.x shape.y shape.w shape.h shape.kind name.now) table result }
 {
-    check_new_layer(doc, parent, place, x, y, w, h, kind, name)?;
-    let node = blank_layer(alloc, x, y, w, h, kind as u8, name)?;
+    check_new_layer(doc, parent, place, shape, name)?;
+    let node = blank_layer(alloc, shape, name)?;
     put_node(doc, parent, place, NodeId(*next_id), node);
     *next_id += 1;
     Ok(())

@@ -19,11 +19,11 @@ returns-in-Err-clause-refused c =
     let spot : List (Option EditRefused) =
     no_parent d a.parent.0 ∷ not_group d a.parent.0 ∷ bad_place d.nodes a.parent.0 a.place ∷ [] in
     let shape : List (Option EditRefused) =
-    offset_range a.x a.y ∷ unless (base_of_kind a.kind == base_code d.base) OtherType ∷ [] in
+    offset_range a.shape.x a.shape.y ∷ unless (base_of_kind a.shape.kind == base_code d.base) OtherType ∷ [] in
     let room : List (Option EditRefused) =
-    bad_name a.name.now ∷ too_deep d.nodes a.parent.0 1 ∷ too_many (size d.nodes + 1) MAX_NODES ∷ too_large (area d + a.w * a.h)
+    bad_name a.name.now ∷ too_deep d.nodes a.parent.0 1 ∷ too_many (size d.nodes + 1) MAX_NODES ∷ too_large (area d + a.shape.w * a.shape.h)
     ∷ [] in
-    let fails : first (offset_range a.x a.y ∷ unless (base_of_kind a.kind == base_code d.base) OtherType ∷ [])
+    let fails : first (offset_range a.shape.x a.shape.y ∷ unless (base_of_kind a.shape.kind == base_code d.base) OtherType ∷ [])
     ≡ Some c.in-Err.cause = search rules in
     then_first spot (shape ++ room) c.in_ok-check_spot.ensures.allowed ∙ stops shape room c.in-Err.cause fails
 
@@ -34,14 +34,14 @@ returns-clause-refused c =
     let spot : List (Option EditRefused) =
     no_parent d a.parent.0 ∷ not_group d a.parent.0 ∷ bad_place d.nodes a.parent.0 a.place ∷ [] in
     let shape : List (Option EditRefused) =
-    offset_range a.x a.y ∷ unless (base_of_kind a.kind == base_code d.base) OtherType ∷ [] in
+    offset_range a.shape.x a.shape.y ∷ unless (base_of_kind a.shape.kind == base_code d.base) OtherType ∷ [] in
     let room : List (Option EditRefused) =
-    bad_name a.name.now ∷ too_deep d.nodes a.parent.0 1 ∷ too_many (size d.nodes + 1) MAX_NODES ∷ too_large (area d + a.w * a.h)
+    bad_name a.name.now ∷ too_deep d.nodes a.parent.0 1 ∷ too_many (size d.nodes + 1) MAX_NODES ∷ too_large (area d + a.shape.w * a.shape.h)
     ∷ [] in
-    let holds : first (offset_range a.x a.y ∷ unless (base_of_kind a.kind == base_code d.base) OtherType ∷ []) ≡ None =
+    let holds : first (offset_range a.shape.x a.shape.y ∷ unless (base_of_kind a.shape.kind == base_code d.base) OtherType ∷ []) ≡ None =
     search rules in
-    let w_is : c.from.result ≡ a.w = search rules in
-    let h_is : c.from-2.result ≡ a.h = search rules in
+    let w_is : c.from.result ≡ a.shape.w = search rules in
+    let h_is : c.from-2.result ≡ a.shape.h = search rules in
     let same : first room ≡ first (bad_name a.name.now ∷ too_deep d.nodes a.parent.0 1 ∷ too_many (size d.nodes + 1) MAX_NODES
     ∷ too_large (area d + c.from.result * c.from-2.result) ∷ []) =
     λ i. first (bad_name a.name.now ∷ too_deep d.nodes a.parent.0 1 ∷ too_many (size d.nodes + 1) MAX_NODES
