@@ -1,6 +1,6 @@
 -- The levels of a stack of a document are those of the tree's.
 use Rattle.std.proofs.Common.{◌≡◌, ℕ, ◌+◌, max, ◌∙◌, ap, refl}
-use Rattle.std.specs.Prelude.{Option, Some, None, option_map}
+use Rattle.std.specs.Prelude.{Some, option_map}
 use Rattle.spec_forest.specs.Forest.{Forest, none, leaf, group, levels, stack_at}
 use Rattle.spec_document.specs.Document.{Document}
 use Rattle.xl_doc.specs.declared.node.Node.{Node}

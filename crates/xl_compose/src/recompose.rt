@@ -29,13 +29,12 @@ fn natural(at: i32) -> u32
     at as u32
 }
 
-// The picture of a stack over a band, as bytes.
+// The picture of a stack over a band, as bytes. There is room for the pictures of the stack and of each of its levels.
 fn compose_band<L: Ledger>(
     colours: &[[u8; 3]],
     nodes: Stack<'_, Node>,
     band: Band,
-    picture: &mut [Pixel],
-    scratch: &mut [Pixel],
+    pictures: &mut [Pixel],
     bytes: &mut [u8],
     out: &mut [u8],
     steps: &mut Steps<L>,
@@ -45,15 +44,14 @@ fn compose_band<L: Ledger>(
     requires below { band.y + band.h ≤ MAX_SIDE }
     requires high { band.h ≤ 64 }
     requires some { 1 ≤ band.h }
-    requires picture { 64 * band.w ≤ length picture.old }
-    requires scratch { 64 * (levels nodes * band.w) ≤ length scratch.old }
+    requires pictures { 64 * band.w + 64 * (levels nodes * band.w) ≤ length pictures.old }
     requires bytes { SCRATCH + 320 * band.w ≤ length bytes.old }
     requires out { length out.old ≡ 4 * (band.h * band.w) }
     ensures length { length out.new ≡ 4 * (band.h * band.w) }
     ensures shows { ShowsBand colours.now (nodes_of nodes.entry) band out.new }
     ensures cost { steps.new ≤ steps.old + visible_in (nodes_of nodes.entry) * (band.h * band.w) }
 {
-    let picture = &mut picture[..band.h as usize * band.w as usize];
+    let (picture, scratch) = pictures.split_at_mut(band.h as usize * band.w as usize);
     lay_stack(colours, nodes, band, picture, scratch, bytes, steps);
     write_row(picture, out);
 }
@@ -63,16 +61,14 @@ fn compose_bands<L: Ledger>(
     doc: &Document,
     stack: NodeId,
     rect: Rect,
-    picture: &mut [Pixel],
-    scratch: &mut [Pixel],
+    pictures: &mut [Pixel],
     bytes: &mut [u8],
     out: &mut [u8],
     steps: &mut Steps<L>,
 )
     requires stack { IsSome (stack_at stack.0 doc.now.nodes) }
     requires inside { IsInside doc.now.width doc.now.height rect }
-    requires picture { 64 * rect.w ≤ length picture.old }
-    requires scratch { 64 * (levels_below doc.now stack.0 * rect.w) ≤ length scratch.old }
+    requires pictures { 64 * rect.w + 64 * (levels_below doc.now stack.0 * rect.w) ≤ length pictures.old }
     requires bytes { SCRATCH + 320 * rect.w ≤ length bytes.old }
     requires out { length out.old ≡ 4 * (rect.w * rect.h) }
     ensures picture { out.new ≡ picture_bytes doc.now stack.0 (part_above_0 rect.x)
@@ -95,16 +91,7 @@ fn compose_bands<L: Ledger>(
         };
         let start = top as usize * size;
         let part = &mut out[start..start + band.h as usize * size];
-        compose_band(
-            colours,
-            nodes.again(),
-            band,
-            picture,
-            scratch,
-            bytes,
-            part,
-            steps,
-        );
+        compose_band(colours, nodes.again(), band, pictures, bytes, part, steps);
     }
 }
 
@@ -123,8 +110,7 @@ fn levels_of(doc: &Document, stack: NodeId) -> u32
 pub struct Composer {
     width: u32,
     levels: u32,
-    picture: Vec<Pixel>,
-    scratch: Vec<Pixel>,
+    pictures: Vec<Pixel>,
     bytes: Vec<u8>,
 }
 
@@ -137,7 +123,7 @@ impl Model for Composer {
 
     ghost view = { λ c. record { width = c.width; levels = c.levels } };
 
-    ghost invariant = { λ c. (vec_len c.picture ≡ 64 * c.width) × (vec_len c.scratch ≡ 64 * (c.levels * c.width)) × (vec_len c.bytes ≡ SCRATCH + 320 * c.width) };
+    ghost invariant = { λ c. (vec_len c.pictures ≡ 64 * c.width + 64 * (c.levels * c.width)) × (vec_len c.bytes ≡ SCRATCH + 320 * c.width) };
 }
 
 impl Composer {
@@ -156,8 +142,8 @@ impl Composer {
         Ok(Composer {
             width,
             levels,
-            picture: vec![in alloc; CLEAR; 64 * width as usize]?,
-            scratch: vec![in alloc; CLEAR; 64 * (levels as usize * width as usize)]?,
+            pictures: vec![in alloc; CLEAR; 64 * width as usize
+                + 64 * (levels as usize * width as usize)]?,
             bytes: vec![in alloc; 0; SCRATCH + 320 * width as usize]?,
         })
     }
@@ -182,10 +168,9 @@ impl Composer {
             (part_above_0 rect.y) rect.w rect.h }
         ensures cost { steps.new ≤ steps.old + visible_below doc.now stack.0 * (rect.w * rect.h) }
     {
-        let picture = self.picture.as_mut_slice();
-        let scratch = self.scratch.as_mut_slice();
+        let pictures = self.pictures.as_mut_slice();
         let bytes = self.bytes.as_mut_slice();
-        compose_bands(doc, stack, rect, picture, scratch, bytes, out, steps);
+        compose_bands(doc, stack, rect, pictures, bytes, out, steps);
     }
 }
 

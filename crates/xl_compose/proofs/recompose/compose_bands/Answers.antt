@@ -18,15 +18,15 @@ pub unwrap-nodes-requires : goal.unwrap-nodes-requires
 unwrap-nodes-requires g c =
     rw c.stack.ensures.value (some_stack c.args.stack.0 c.doc.inside.tree (rw (← c.doc.view_is) at c.requires.stack))
 
-pub compose_band-requires-clause-scratch : goal.compose_band-requires-clause-scratch
-compose_band-requires-clause-scratch g c =
+pub compose_band-requires-clause-pictures : goal.compose_band-requires-clause-pictures
+compose_band-requires-clause-pictures g c =
     let d = c.args.doc.now in
     let is = sym c.stack.ensures.value ∙ c.unwrap-nodes.ensures in
     let deep : levels_below d c.args.stack.0 ≡ levels c.again.result =
     levels_are d c.args.stack.0 c.doc.inside.tree c.unwrap-nodes.result (ap (λ d. d.nodes) (sym c.doc.view_is)) is
     ∙ ap levels (sym c.again.ensures) in
     let same = ap (λ n. n * c.args.rect.w) deep in
-    omega (arith, same, c.requires.scratch)
+    omega (arith, same, c.requires.pictures)
 
 pub compose_band-requires-clause-agree : goal.compose_band-requires-clause-agree
 compose_band-requires-clause-agree g c =

@@ -1,4 +1,4 @@
-use Rattle.std.proofs.Common.{◌≡◌, ◌∙◌, ap, sym}
+use Rattle.std.proofs.Common.{◌∙◌, ap, sym}
 use Rattle.xl_compose.proofs.Depths.{levels_are}
 use Rattle.xl_compose.proofs.Recomposed.{some_stack}
 use Rattle.xl_compose.proofs.recompose.levels_of.Goals as goal

@@ -1,4 +1,4 @@
-use Rattle.std.proofs.Common.{◌≡◌, ◌+◌, ◌*◌, ◌∙◌, arith}
+use Rattle.std.proofs.Common.{◌+◌, ◌*◌, ◌∙◌}
 use Rattle.spec_blend.specs.Over.{over}
 use Rattle.xl_compose.specs.Laid.{pixel}
 use Rattle.xl_compose.specs.Span.{place_by}
