@@ -156,20 +156,23 @@ pub record KeepsFiles (old new : MemoryState) : Type 0 where
   pub files : new.files ≡ old.files
   pub log : NotesOrNot old.log new.log
 
--- a call that saves failed just where it was to fail, or for want of memory inside, which it counted
-pub record EndsSaving {A E : Type 0} (result : Result A E) (old new : MemoryState) : Type 0 where
+-- A call that saves failed just where it was to fail, or where it found no memory inside, which it counted. Where the calls before
+-- it are spared, it counted none.
+pub record EndsSaving {A E : Type 0} (Spares : ShelfCalls → Type 0) (result : Result A E) (old new : MemoryState) : Type 0 where
   pub fails : NextCallFails old.calls → IsErr result
   pub starved : OnErr result (NextCallFails old.calls ⊎ Rose old.starved new.starved)
   pub not_starved : OnOk result (new.starved ≡ old.starved)
+  pub spared : Spares old.calls → new.starved ≡ old.starved
   pub counted : CountsStarved old.starved new.starved
   pub calls : new.calls ≡ with_saving (is_err result) old.calls
   pub cause : HasCause old.calls.saving new.calls.saving result
 
--- the same of a call that reads, which may fail for a further reason
+-- the same of a call that reads, which may fail for a further reason, and is spared where it was to fail
 pub record EndsReading {A E : Type 0} (reason : Type 0) (result : Result A E) (old new : MemoryState) : Type 0 where
   pub fails : NextCallFails old.calls → IsErr result
   pub starved : OnErr result (NextCallFails old.calls ⊎ reason ⊎ Rose old.starved new.starved)
   pub not_starved : OnOk result (new.starved ≡ old.starved)
+  pub spared : NextCallFails old.calls → new.starved ≡ old.starved
   pub counted : CountsStarved old.starved new.starved
   pub calls : new.calls ≡ with_reading (is_err result) old.calls
   pub cause : HasCause old.calls.reading new.calls.reading result

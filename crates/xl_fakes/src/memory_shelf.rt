@@ -191,7 +191,7 @@ impl MemoryShelf {
         ensures keeps { KeepsFiles self.old self.new }
         ensures noted { OnOk result (Notes self.old.log self.new.log) }
         ensures loads { self.new.loads ≡ self.old.loads }
-        ensures ends { EndsSaving result self.old self.new }
+        ensures ends { EndsSaving NextCallFails result self.old self.new }
     {
         self.draft = None;
         let failed = self.calls.next_fails();
@@ -212,7 +212,7 @@ impl MemoryShelf {
         ensures keeps { KeepsFiles self.old self.new }
         ensures noted { OnOk result (Notes self.old.log self.new.log) }
         ensures loads { self.new.loads ≡ self.old.loads }
-        ensures ends { EndsSaving result self.old self.new }
+        ensures ends { EndsSaving NextCallFails result self.old self.new }
     {
         let mut draft = self.draft.take().unwrap();
         let failed = self.calls.next_fails();
@@ -235,7 +235,7 @@ impl MemoryShelf {
         ensures keeps { KeepsFiles self.old self.new }
         ensures noted { OnOk result (Notes self.old.log self.new.log) }
         ensures loads { self.new.loads ≡ self.old.loads }
-        ensures ends { EndsSaving result self.old self.new }
+        ensures ends { EndsSaving NextCallFails result self.old self.new }
     {
         let mut draft = self.draft.take().unwrap();
         let failed = self.calls.next_fails();
@@ -265,7 +265,7 @@ impl MemoryShelf {
         ensures log { NotesOrNot self.old.log self.new.log }
         ensures noted { OnOk result (Notes self.old.log self.new.log) }
         ensures loads { self.new.loads ≡ self.old.loads }
-        ensures ends { EndsSaving result self.old self.new }
+        ensures ends { EndsSaving IsStopped result self.old self.new }
     {
         let bytes = self.draft.take().unwrap().into_bytes();
         let stopped = self.calls.is_stopped();
@@ -278,7 +278,8 @@ impl MemoryShelf {
         if listed {
             let starved = here.add(bytes).is_err();
             self.here = Some(here);
-            return conclude_saving(&mut self.calls, &mut self.starved, true, starved);
+            // Where there is no memory for the draft, that is why it fails, and not its number.
+            return conclude_saving(&mut self.calls, &mut self.starved, !starved, starved);
         }
         let starved = here.swap(bytes).is_err();
         self.here = Some(here);
@@ -292,7 +293,7 @@ impl MemoryShelf {
         ensures here { IfSome self.old.here (λ h. IsSettled result h self.old.log self.new.here
             self.new.log) }
         ensures loads { self.new.loads ≡ self.old.loads }
-        ensures ends { EndsSaving result self.old self.new }
+        ensures ends { EndsSaving NextCallFails result self.old self.new }
     {
         let failed = self.calls.next_fails();
         if failed {
@@ -392,7 +393,7 @@ impl Shelf for MemoryShelf {
         ensures reading { self.new.calls.reading ≡ self.old.calls.reading }
         ensures loads { self.new.loads ≡ self.old.loads }
         ensures cause { HasCause self.old.calls.saving self.new.calls.saving result }
-        ensures ends { EndsSaving result self.old self.new }
+        ensures ends { EndsSaving NextCallFails result self.old self.new }
         ensures known { KnowsSame self.old self.new }
     {
         self.open_draft()
@@ -412,7 +413,7 @@ impl Shelf for MemoryShelf {
         ensures reading { self.new.calls.reading ≡ self.old.calls.reading }
         ensures loads { self.new.loads ≡ self.old.loads }
         ensures cause { HasCause self.old.calls.saving self.new.calls.saving result }
-        ensures ends { EndsSaving result self.old self.new }
+        ensures ends { EndsSaving NextCallFails result self.old self.new }
         ensures known { KnowsSame self.old self.new }
     {
         self.add_to_draft(bytes)
@@ -433,7 +434,7 @@ impl Shelf for MemoryShelf {
         ensures reading { self.new.calls.reading ≡ self.old.calls.reading }
         ensures loads { self.new.loads ≡ self.old.loads }
         ensures cause { HasCause self.old.calls.saving self.new.calls.saving result }
-        ensures ends { EndsSaving result self.old self.new }
+        ensures ends { EndsSaving NextCallFails result self.old self.new }
         ensures known { KnowsSame self.old self.new }
     {
         self.sync_draft()
@@ -451,7 +452,7 @@ impl Shelf for MemoryShelf {
         ensures reading { self.new.calls.reading ≡ self.old.calls.reading }
         ensures loads { self.new.loads ≡ self.old.loads }
         ensures cause { HasCause self.old.calls.saving self.new.calls.saving result }
-        ensures ends { EndsSaving result self.old self.new }
+        ensures ends { EndsSaving IsStopped result self.old self.new }
         ensures stopped { IsStopped self.old.calls → self.new.here ≡ self.old.here }
         ensures listed { IsListed self.old.calls → (IsStopped self.old.calls → ⊥)
             → LeavesBoth self.old self.new }
@@ -474,7 +475,7 @@ impl Shelf for MemoryShelf {
         ensures reading { self.new.calls.reading ≡ self.old.calls.reading }
         ensures loads { self.new.loads ≡ self.old.loads }
         ensures cause { HasCause self.old.calls.saving self.new.calls.saving result }
-        ensures ends { EndsSaving result self.old self.new }
+        ensures ends { EndsSaving NextCallFails result self.old self.new }
         ensures known { KnowsSame self.old self.new }
     {
         self.settle_name()

@@ -40,7 +40,7 @@ pub fn settle_kept(
     Ok(())
 }
 
-/// Counts a call that reads, and answers for it.
+/// Counts a call that reads, and answers for it. Where it was to fail, memory that was not there is not counted.
 pub fn conclude_reading(
     calls: &mut ShelfCalls,
     starved: &mut u64,
@@ -50,15 +50,18 @@ pub fn conclude_reading(
     ensures ok { OnOk result ((failed ≡ false) × (is_starved ≡ false)) }
     ensures err { OnErr result ((failed ≡ true) ⊎ (is_starved ≡ true)) }
     ensures calls { calls.new ≡ with_reading (is_err result) calls.old }
-    ensures rose { is_starved ≡ true → Rose starved.old starved.new }
+    ensures rose { failed ≡ false → is_starved ≡ true → Rose starved.old starved.new }
+    ensures spared { failed ≡ true → starved.new ≡ starved.old }
     ensures not_starved { is_starved ≡ false → starved.new ≡ starved.old }
     ensures counted { CountsStarved starved.old starved.new }
     ensures cause { HasCause calls.old.reading calls.new.reading result }
 {
+    if failed {
+        calls.count_reading(true);
+        return Err(Failed);
+    }
     if is_starved {
         *starved = starved.saturating_add(1);
-    }
-    if failed || is_starved {
         calls.count_reading(true);
         return Err(Failed);
     }
@@ -66,7 +69,7 @@ pub fn conclude_reading(
     Ok(())
 }
 
-/// Counts a call that saves, and answers for it.
+/// Counts a call that saves, and answers for it. Where it was to fail, memory that was not there is not counted.
 pub fn conclude_saving(
     calls: &mut ShelfCalls,
     starved: &mut u64,
@@ -76,15 +79,18 @@ pub fn conclude_saving(
     ensures ok { OnOk result ((failed ≡ false) × (is_starved ≡ false)) }
     ensures err { OnErr result ((failed ≡ true) ⊎ (is_starved ≡ true)) }
     ensures calls { calls.new ≡ with_saving (is_err result) calls.old }
-    ensures rose { is_starved ≡ true → Rose starved.old starved.new }
+    ensures rose { failed ≡ false → is_starved ≡ true → Rose starved.old starved.new }
+    ensures spared { failed ≡ true → starved.new ≡ starved.old }
     ensures not_starved { is_starved ≡ false → starved.new ≡ starved.old }
     ensures counted { CountsStarved starved.old starved.new }
     ensures cause { HasCause calls.old.saving calls.new.saving result }
 {
+    if failed {
+        calls.count_saving(true);
+        return Err(Failed);
+    }
     if is_starved {
         *starved = starved.saturating_add(1);
-    }
-    if failed || is_starved {
         calls.count_saving(true);
         return Err(Failed);
     }
