@@ -1,6 +1,6 @@
 -- Lines as they are taken by the scope of their script.
 use Rattle.std.proofs.Common.{◌≡◌, ℕ, true, false, cond, List, [], ◌∷◌, map, refl, ◌∙◌, ap, subst}
-use Rattle.std.specs.Prelude.{Option, Some, None, IfOk, Ok, nat_le, length, ◌^◌, Err}
+use Rattle.std.specs.Prelude.{Option, Some, None, Result, IfOk, Ok, nat_le, length, ◌^◌, Err}
 use Rattle.spec_script.specs.Words.{◌>>=◌, lines_of, words_of}
 use Rattle.spec_script.specs.Commands.{Asked, command_of}
 use Rattle.spec_script.specs.Script.{Parsed, take_line, take_asked, take_by, is_skipped, Line, script}
@@ -8,6 +8,10 @@ use Rattle.spec_script.specs.Script.{closed, take_lines, start, line_of_byte}
 use Rattle.spec_view.specs.Script.{no_line, view_lists}
 use Rattle.spec_view.proofs.Lines.{skipped_line, asking_line, AreViewed, lists_viewed}
 use Rattle.xl_script.specs.Scopes.{may_ask, line_in, script_in}
+use Rattle.xl_script.specs.Gives.{ScriptOf}
+use Rattle.xl_script.specs.Lines.{lists_of}
+use Rattle.xl_script.specs.declared.bad_line.BadLineOrMemory.{BadLineOrMemory}
+use Rattle.xl_script.specs.declared.script.Line as code
 use Rattle.xl_script.specs.declared.scope.Scope.{Scope}
 use Rattle.xl_script.specs.declared.scope.Scope.TheVariants.{Whole, Viewed}
 
@@ -63,3 +67,9 @@ whole_script text chests =
 pub viewed_script : (text : List ℕ) (filters : ℕ) (lists : List (List Line)) → view_lists text filters ≡ Ok lists
     → AreViewed filters lists
 viewed_script text filters lists read = subst (λ r. IfOk r (AreViewed filters)) read (lists_viewed text filters)
+
+-- a result that is what the text of such a script gives
+pub viewed_result : (text : List ℕ) (filters : ℕ) (r : Result (List (List code.Line)) BadLineOrMemory)
+    → ScriptOf r (view_lists text filters) → IfOk r (λ lists. AreViewed filters (lists_of lists))
+viewed_result text filters (Ok lists) read = viewed_script text filters (lists_of lists) read
+viewed_result text filters (Err e) read = tt

@@ -71,7 +71,7 @@ fn at(before: u8, text: &[u8]) -> Operand<'_>
 
 impl<'a> Operands<'a> {
     // There are more or fewer words than these.
-    fn miscounted(self, least: u8, most: u8) -> Cause
+    fn word_count_fault(self, least: u8, most: u8) -> Cause
         ensures { Blames result }
     {
         Cause::WordCount {
@@ -89,7 +89,7 @@ impl<'a> Operands<'a> {
         if no_words(self.words) {
             Ok(())
         } else {
-            Err(self.miscounted(0, 0))
+            Err(self.word_count_fault(0, 0))
         }
     }
 
@@ -101,7 +101,7 @@ impl<'a> Operands<'a> {
     {
         match one_word(self.words) {
             Some(a) => Ok(at(0, a)),
-            None => Err(self.miscounted(1, 1)),
+            None => Err(self.word_count_fault(1, 1)),
         }
     }
 
@@ -114,7 +114,7 @@ impl<'a> Operands<'a> {
     {
         match two_words(self.words) {
             Some((a, b)) => Ok((at(0, a), at(1, b))),
-            None => Err(self.miscounted(2, 2)),
+            None => Err(self.word_count_fault(2, 2)),
         }
     }
 
@@ -127,7 +127,7 @@ impl<'a> Operands<'a> {
     {
         match three_words(self.words) {
             Some((a, b, c)) => Ok((at(0, a), at(1, b), at(2, c))),
-            None => Err(self.miscounted(3, 3)),
+            None => Err(self.word_count_fault(3, 3)),
         }
     }
 
@@ -140,7 +140,7 @@ impl<'a> Operands<'a> {
     {
         match five_words(self.words) {
             Some((a, b, c, d, e)) => Ok((at(0, a), at(1, b), at(2, c), at(3, d), at(4, e))),
-            None => Err(self.miscounted(5, 5)),
+            None => Err(self.word_count_fault(5, 5)),
         }
     }
 
@@ -167,7 +167,7 @@ impl<'a> Operands<'a> {
                 at(4, e),
                 at(5, f),
             )),
-            None => Err(self.miscounted(6, 6)),
+            None => Err(self.word_count_fault(6, 6)),
         }
     }
 
@@ -198,7 +198,7 @@ impl<'a> Operands<'a> {
                 at(6, g),
                 at(7, h),
             )),
-            None => Err(self.miscounted(8, 8)),
+            None => Err(self.word_count_fault(8, 8)),
         }
     }
 
@@ -212,7 +212,7 @@ impl<'a> Operands<'a> {
         }
         match one_word(self.words) {
             Some(word) => Ok(Some(at(0, word).number()?)),
-            None => Err(self.miscounted(0, 1)),
+            None => Err(self.word_count_fault(0, 1)),
         }
     }
 }

@@ -19,7 +19,8 @@ use crate::sessions::Sessions;
 use crate::splitting::first_line;
 use std::alloc::Global;
 
-const MAX_LEN: usize = 1 << 24;
+/// Bytes of a script, at most.
+pub const MAX_SCRIPT_BYTES: usize = 1 << 24;
 
 fn newlines(text: &[u8]) -> usize
     ensures value { result ≡ count_by (λ b. b == 10) text.now }
@@ -33,10 +34,10 @@ fn line_of_last(text: &[u8]) -> u32
     requires { 2 ^ 24 < length text.now }
     ensures { result ≡ grammar.line_of_byte text.now (2 ^ 24) }
 {
-    1 + newlines(&text[..MAX_LEN]) as u32
+    1 + newlines(&text[..MAX_SCRIPT_BYTES]) as u32
 }
 
-fn refused(line: u32, cause: Cause) -> BadLineOrMemory
+fn refusal(line: u32, cause: Cause) -> BadLineOrMemory
     ensures { result ≡ Refused (record { line = line; cause = cause }) }
 {
     BadLineOrMemory::Refused(BadLine { line, cause })
@@ -84,7 +85,7 @@ fn take_line(
     }
     match take_asking(alloc, scope, sessions, number, line) {
         Ok(()) => Ok(()),
-        Err(CauseOrMemory::Refused(cause)) => Err(refused(number, cause)),
+        Err(CauseOrMemory::Refused(cause)) => Err(refusal(number, cause)),
         Err(CauseOrMemory::Memory) => Err(BadLineOrMemory::Memory),
     }
 }
@@ -117,12 +118,12 @@ fn read(alloc: Global, scope: Scope, text: &[u8], chests: &[u32]) -> Result<Scri
     ensures read { ScriptOf result (script_in scope text.now chests.now) }
     ensures blamed { IfErr result BlamesLine }
 {
-    if text.len() > MAX_LEN {
-        return Err(refused(line_of_last(text), Cause::TooLong));
+    if text.len() > MAX_SCRIPT_BYTES {
+        return Err(refusal(line_of_last(text), Cause::TooLong));
     }
     let sessions = all_lines(alloc, scope, text, chests)?;
     match sessions.never_ended() {
-        Some(line) => Err(refused(line, Cause::NotEnded)),
+        Some(line) => Err(refusal(line, Cause::NotEnded)),
         None => Ok(sessions.into_script(alloc)?),
     }
 }
@@ -135,10 +136,7 @@ pub fn parse(alloc: Global, text: &[u8], chests: &[u32]) -> Result<Script, BadLi
     ensures fits { IfOk result (λ script. FitsFilters chests.now (lists_of script)) }
     ensures blamed { IfErr result BlamesLine }
 {
-    match read(alloc, Scope::Whole, text, chests) {
-        Ok(script) => Ok(script),
-        Err(refused) => Err(refused),
-    }
+    read(alloc, Scope::Whole, text, chests)
 }
 
 /// The lines of session 0, where the script may be viewed, or the line that is refused: by the rules of `parse`, or since it is of
@@ -150,8 +148,5 @@ pub fn parse_viewed(alloc: Global, text: &[u8], filters: u32) -> Result<Script, 
     ensures viewed { IfOk result (λ script. AllByRecursion IsViewedLine
         (grammar.list_at (lists_of script) 0)) }
 {
-    match read(alloc, Scope::Viewed, text, &[filters]) {
-        Ok(script) => Ok(script),
-        Err(refused) => Err(refused),
-    }
+    read(alloc, Scope::Viewed, text, &[filters])
 }

@@ -1,4 +1,4 @@
-ghost use Rattle.std.specs.Prelude.{◌≡◌, ◌==◌, ◌<◌, position, [], ◌∷◌, length, MatchOption, IfSome};
+ghost use Rattle.std.specs.Prelude.{◌≡◌, ◌==◌, ◌<◌, ◌+◌, ℕ, position, [], ◌∷◌, length, take, drop, Some, None, MatchOption, IfSome};
 ghost use Rattle.spec_script.specs.Words as grammar;
 
 const NEWLINE: u8 = b'\n';
@@ -15,6 +15,10 @@ pub fn split_once(separator: u8, bytes: &[u8]) -> Option<(&[u8], &[u8])>
     ensures pieces { MatchOption result
         (grammar.split_at separator bytes.now ≡ bytes.now ∷ [])
         (λ p. grammar.split_at separator bytes.now ≡ p.0.now ∷ grammar.split_at separator p.1.now) }
+    ensures place { MatchOption result
+        (position (λ b. b == separator) bytes.now ≡ None)
+        (λ p. (place : ℕ) × (position (λ b. b == separator) bytes.now ≡ Some place)
+        × (p.0.now ≡ take place bytes.now) × (p.1.now ≡ drop (place + 1) bytes.now)) }
     ensures shorter { IfSome result (λ p. length p.1.now < length bytes.now) }
 {
     match first_place(separator, bytes) {

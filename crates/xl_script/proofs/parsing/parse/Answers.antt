@@ -1,16 +1,14 @@
-use Rattle.std.proofs.Common.{sym, subst, ◌∙◌}
-use Rattle.xl_script.specs.Gives.{IsRefusal}
-use Rattle.xl_script.proofs.Fits.{lists_fit}
+use Rattle.std.proofs.Common.{subst}
+use Rattle.xl_script.specs.Gives.{ScriptOf}
+use Rattle.xl_script.proofs.Fits.{script_fits}
 use Rattle.xl_script.proofs.Scoped.{whole_script}
 use Rattle.xl_script.proofs.parsing.parse.Goals as goal
 
-pub returns-in-Ok-clause-fits : goal.returns-in-Ok-clause-fits
-returns-in-Ok-clause-fits c =
-    lists_fit c.args.text.now c.args.chests.now _ (sym (whole_script c.args.text.now c.args.chests.now) ∙ c.in-Ok.ensures.read)
+pub returns-clause-read : goal.returns-clause-read
+returns-clause-read c =
+    subst (λ r. ScriptOf c.read.result r) (whole_script c.args.text.now c.args.chests.now) c.read.ensures.read
 
-pub returns-in-Ok-clause-read : goal.returns-in-Ok-clause-read
-returns-in-Ok-clause-read c = sym (whole_script c.args.text.now c.args.chests.now) ∙ c.in-Ok.ensures.read
-
-pub returns-in-Err-clause-read : goal.returns-in-Err-clause-read
-returns-in-Err-clause-read c =
-    subst (λ r. IsRefusal c.in-Err.refused r) (whole_script c.args.text.now c.args.chests.now) c.in-Err.ensures.read
+pub returns-clause-fits : goal.returns-clause-fits
+returns-clause-fits c =
+    let read = subst (λ r. ScriptOf c.read.result r) (whole_script c.args.text.now c.args.chests.now) c.read.ensures.read in
+    script_fits c.args.text.now c.args.chests.now c.read.result read

@@ -1,8 +1,13 @@
-use Rattle.xl_script.proofs.Scoped.{viewed_script}
+use Rattle.std.proofs.lemmas.Result.{IfOk-weaker}
+use Rattle.xl_script.proofs.Scoped.{viewed_result}
 use Rattle.xl_script.proofs.parsing.parse_viewed.Goals as goal
 
-pub returns-in-Ok-clause-fits : goal.returns-in-Ok-clause-fits
-returns-in-Ok-clause-fits c = (viewed_script c.args.text.now c.args.filters _ c.in-Ok.ensures.read).fits
+pub returns-clause-fits : goal.returns-clause-fits
+returns-clause-fits c =
+    IfOk-weaker c.read.result _ _ (λ lists viewed. viewed.fits)
+    (viewed_result c.args.text.now c.args.filters c.read.result c.read.ensures.read)
 
-pub returns-in-Ok-clause-viewed : goal.returns-in-Ok-clause-viewed
-returns-in-Ok-clause-viewed c = (viewed_script c.args.text.now c.args.filters _ c.in-Ok.ensures.read).viewed
+pub returns-clause-viewed : goal.returns-clause-viewed
+returns-clause-viewed c =
+    IfOk-weaker c.read.result _ _ (λ lists viewed. viewed.viewed)
+    (viewed_result c.args.text.now c.args.filters c.read.result c.read.ensures.read)
