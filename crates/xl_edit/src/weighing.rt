@@ -1,5 +1,5 @@
 //! Rectangles of planes whose new bytes go through the selection.
-ghost use Rattle.std.specs.Prelude.{◌≡◌, ℕ, ◌+◌, ◌*◌, ◌<◌, ◌≤◌, ◌+ℤ◌, pos, length, slice_index, IfOk, is_none};
+ghost use Rattle.std.specs.Prelude.{◌≡◌, ℕ, ◌+◌, ◌*◌, ◌<◌, ◌≤◌, ◌+ℤ◌, pos, length, vec_len, slice_index, IfOk, is_none};
 ghost use Rattle.spec_grid.specs.Rect.{part_above_0};
 ghost use Rattle.xl_doc.specs.Selecting.{IsNear};
 ghost use Rattle.xl_edit.specs.Filling.{weight_at, byte_in, in_rows, AreRows, HasRows, IsNearby};
@@ -45,28 +45,45 @@ fn weigh_pixels(doc: &Document, site: Site, x: u32, y: u32, weights: &mut [u8], 
     }
 }
 
-// The weights of the bytes of a row of a plane. There is room for a weight for each pixel.
-fn weigh_row(
-    doc: &Document,
-    site: Site,
-    x: u32,
-    y: u32,
-    bpp: usize,
-    weights: &mut [u8],
-    wide: &mut [u8],
-    scratch: &mut [u8],
-)
+// The weights of a row of a plane, of its pixels and of its bytes, and scratch for reading the selection.
+#[derive(Drop)]
+struct RowWeights {
+    pixels: Vec<u8>,
+    bytes: Vec<u8>,
+    scratch: Vec<u8>,
+}
+
+// Room for the weights of a row.
+fn row_weights(alloc: Global, columns: usize, bpp: usize) -> Result<RowWeights, AllocError>
+    requires columns { columns ≤ MAX_SIDE }
+    requires bpp { bpp ≤ 4 }
+    ensures pixels { IfOk result (λ weights. vec_len weights.pixels ≡ columns) }
+    ensures bytes { IfOk result (λ weights. vec_len weights.bytes ≡ columns * bpp) }
+    ensures scratch { IfOk result (λ weights. vec_len weights.scratch ≡ ROW_SCRATCH) }
+{
+    Ok(RowWeights {
+        bytes: vec![in alloc; 0; columns * bpp]?,
+        pixels: vec![in alloc; 0; columns]?,
+        scratch: vec![in alloc; 0; ROW_SCRATCH]?,
+    })
+}
+
+// The weights of the bytes of a row of a plane.
+fn weigh_row(doc: &Document, site: Site, x: u32, y: u32, bpp: usize, weights: &mut RowWeights)
     requires site { IsNearby site }
-    requires scratch { length scratch.old ≡ ROW_SCRATCH }
     requires column { x ≤ MAX_SIDE }
     requires row { y ≤ MAX_SIDE }
-    requires short { length weights.old ≤ MAX_SIDE }
-    requires wide { length wide.old ≡ length weights.old * bpp }
-    ensures each { (k c : ℕ) → k < length weights.old → c < bpp
-        → slice_index wide.new (k * bpp + c) ≡ weight_at doc.now site (x + k) y }
+    requires short { vec_len weights.old.pixels ≤ MAX_SIDE }
+    requires bytes { vec_len weights.old.bytes ≡ vec_len weights.old.pixels * bpp }
+    requires scratch { vec_len weights.old.scratch ≡ ROW_SCRATCH }
+    ensures pixels { vec_len weights.new.pixels ≡ vec_len weights.old.pixels }
+    ensures bytes { vec_len weights.new.bytes ≡ vec_len weights.old.bytes }
+    ensures scratch { vec_len weights.new.scratch ≡ ROW_SCRATCH }
+    ensures each { (k c : ℕ) → k < vec_len weights.old.pixels → c < bpp
+        → slice_index weights.new.bytes.items (k * bpp + c) ≡ weight_at doc.now site (x + k) y }
 {
-    weigh_pixels(doc, site, x, y, weights, scratch);
-    spread(weights, bpp, wide);
+    weigh_pixels(doc, site, x, y, &mut weights.pixels, &mut weights.scratch);
+    spread(&weights.pixels, bpp, &mut weights.bytes);
 }
 
 // So many bytes, from a place on.
@@ -78,37 +95,40 @@ fn part(bytes: &[u8], from: usize, n: usize) -> &[u8]
     &bytes[from..from + n]
 }
 
-// New bytes go into the bytes of a rectangle of a plane, through the selection. There is room for the weights of the
-// pixels and of the bytes of a row.
+/// Rows of new bytes. Each begins `step` bytes behind the one above it: with 0 all rows are the first one.
+#[derive(Clone, Copy)]
+pub(crate) struct NewRows<'a> {
+    pub bytes: &'a [u8],
+    pub step: usize,
+}
+
+// New bytes go into the bytes of a rectangle of a plane, through the selection.
 fn mix_rows(
     doc: &Document,
     plane: &Plane,
     site: Site,
     rect: Rect,
-    new: &[u8],
-    step: usize,
-    weights: &mut [u8],
-    wide: &mut [u8],
-    scratch: &mut [u8],
+    new: NewRows<'_>,
+    weights: &mut RowWeights,
     bytes: &mut [u8],
 )
     requires within { IsWithin plane.now.width plane.now.height rect }
     requires site { IsNearby site }
-    requires new { HasRows rect.w rect.h plane.now.bpp step new.now }
-    requires weights { length weights.old ≡ rect.w }
-    requires wide { length wide.old ≡ rect.w * plane.now.bpp }
-    requires scratch { length scratch.old ≡ ROW_SCRATCH }
+    requires new { HasRows rect.w rect.h plane.now.bpp new.step new.bytes.now }
+    requires pixels { vec_len weights.old.pixels ≡ rect.w }
+    requires wide { vec_len weights.old.bytes ≡ rect.w * plane.now.bpp }
+    requires scratch { vec_len weights.old.scratch ≡ ROW_SCRATCH }
     requires bytes { bytes.old ≡ bytes_in plane.now rect }
     ensures { AreRows rect.w rect.h plane.now.bpp
-        (byte_in doc.now site plane.now rect (in_rows step plane.now.bpp new.now)) bytes.new }
+        (byte_in doc.now site plane.now rect (in_rows new.entry.step plane.now.bpp new.entry.bytes.now)) bytes.new }
 {
     let (x, y) = corner(plane, rect);
     let bpp = plane.bpp() as usize;
-    let len = wide.len();
+    let len = rect.w as usize * bpp;
     for row in 0..rect.h {
-        weigh_row(doc, site, x, y + row, bpp, weights, wide, scratch);
-        let line = part(new, row as usize * step, len);
-        mix_at(bytes, row as usize * len, wide, line);
+        weigh_row(doc, site, x, y + row, bpp, weights);
+        let line = part(new.bytes, row as usize * new.step, len);
+        mix_at(bytes, row as usize * len, &weights.bytes, line);
     }
 }
 
@@ -125,41 +145,25 @@ pub(crate) fn old_bytes(alloc: Global, plane: &Plane, rect: Rect) -> Result<Vec<
     Ok(bytes)
 }
 
-/// The bytes of a rectangle of a plane, row by row, after new ones went into them through the selection. Each row of
-/// the new bytes begins `step` bytes behind the one above it: with 0 all rows are the first one.
+/// The bytes of a rectangle of a plane, row by row, after new ones went into them through the selection.
 pub(crate) fn weigh_bytes(
     alloc: Global,
     doc: &Document,
     plane: &Plane,
     site: Site,
     rect: Rect,
-    new: &[u8],
-    step: usize,
+    new: NewRows<'_>,
 ) -> Result<Vec<u8>, AllocError>
     requires within { IsWithin plane.now.width plane.now.height rect }
     requires site { IsNearby site }
-    requires new { HasRows rect.w rect.h plane.now.bpp step new.now }
+    requires new { HasRows rect.w rect.h plane.now.bpp new.step new.bytes.now }
     ensures { IfOk result (λ bytes. AreRows rect.w rect.h plane.now.bpp
-        (byte_in doc.now site plane.now rect (in_rows step plane.now.bpp new.now)) bytes.items) }
+        (byte_in doc.now site plane.now rect (in_rows new.entry.step plane.now.bpp new.entry.bytes.now)) bytes.items) }
 {
     corner(plane, rect);
-    let wide = rect.w as usize;
-    let mut line = vec![in alloc; 0; wide * plane.bpp() as usize]?;
-    let mut weights = vec![in alloc; 0; wide]?;
-    let mut scratch = vec![in alloc; 0; ROW_SCRATCH]?;
+    let mut weights = row_weights(alloc, rect.w as usize, plane.bpp() as usize)?;
     let mut bytes = old_bytes(alloc, plane, rect)?;
-    mix_rows(
-        doc,
-        plane,
-        site,
-        rect,
-        new,
-        step,
-        &mut weights,
-        &mut line,
-        &mut scratch,
-        &mut bytes,
-    );
+    mix_rows(doc, plane, site, rect, new, &mut weights, &mut bytes);
     Ok(bytes)
 }
 
