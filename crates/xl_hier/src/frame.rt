@@ -2,6 +2,8 @@ ghost use Rattle.std.specs.Prelude.{◌≡◌};
 ghost use Rattle.spec_grid.specs.Grid as grid;
 ghost use Rattle.xl_hier.specs.Frame.{IsFrame};
 
+use xl_grid::tiles_along;
+
 /// The sides of a plane, its bytes per pixel, and how its tiles are stored.
 #[derive(Clone, Copy)]
 pub struct Frame {
@@ -17,13 +19,13 @@ impl Frame {
     pub fn columns(&self) -> usize
         ensures { result ≡ grid.tiles_along self.now.width }
     {
-        (self.width + 63) / 64
+        tiles_along(self.width)
     }
 
     /// How many rows of tiles there are.
     pub fn rows(&self) -> usize
         ensures { result ≡ grid.tiles_along self.now.height }
     {
-        (self.height + 63) / 64
+        tiles_along(self.height)
     }
 }

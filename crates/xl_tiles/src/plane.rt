@@ -24,7 +24,7 @@ use crate::tile::{SCRATCH, TileRef};
 use crate::writing::write_area;
 use std::alloc::{AllocError, AllocFailed, Global};
 use std::marker::Model;
-use xl_grid::{Rect, TileAt};
+use xl_grid::{Rect, TileAt, grid, tiles_along};
 
 /// The pixels of a plane, row by row, each of 1 to 4 bytes. They are kept in tiles of 64 by 64, which several planes may hold.
 #[derive(Drop)]
@@ -58,8 +58,8 @@ impl Plane {
         requires { AreTiled w h bpp tiles.items }
         ensures { IfOk result (λ p. p ≡ sheet.plane_of_tiles w h bpp tiles.items) }
     {
-        let columns = (w as usize + 63) / 64;
-        let rows = (h as usize + 63) / 64;
+        let columns = tiles_along(w as usize);
+        let rows = tiles_along(h as usize);
         let tiles = Table::of_tiles(alloc, columns, rows, &tiles)?;
         Ok(Plane {
             width: w,
@@ -276,7 +276,8 @@ impl Plane {
     pub fn tile_count(&self) -> u32
         ensures { result ≡ grid.tiles_along self.now.height * grid.tiles_along self.now.width }
     {
-        (self.width + 63) / 64 * ((self.height + 63) / 64)
+        let (columns, rows) = grid(self.width, self.height);
+        rows * columns
     }
 
     /// A share of a tile.
@@ -285,7 +286,7 @@ impl Plane {
         requires row { at.row < grid.tiles_along self.now.height }
         ensures { IfOk result (λ t. t ≡ sheet.tile_bytes self.now at) }
     {
-        let columns = (self.width as usize + 63) / 64;
+        let columns = tiles_along(self.width as usize);
         self.tiles
             .at(at.row as usize * columns + at.col as usize)
             .share()
@@ -308,7 +309,7 @@ impl Plane {
         ensures back { IfErr result (λ failed. failed.value ≡ tile) }
         ensures err { OnErr result (self.new ≡ self.old) }
     {
-        let columns = (self.width as usize + 63) / 64;
+        let columns = tiles_along(self.width as usize);
         let place = at.row as usize * columns + at.col as usize;
         self.tiles.replace(alloc, place, tile)
     }

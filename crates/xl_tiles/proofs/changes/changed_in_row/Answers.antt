@@ -14,10 +14,10 @@ loop-col-preserved c =
     let q = plane_by c.args.sheet.width c.args.sheet.height c.args.sheet.bpp c.args.others.now in
     let there : c.loop-col.col < tiles_along c.args.sheet.width = omega arith in
     let own : c.at.result.now ≡ tile_bytes p (tile c.loop-col.col c.args.row) =
-    c.at.ensures ∙ tile_is c.args.sheet.width c.args.sheet.height c.args.sheet.bpp c.args.tiles.now c.requires.tiled c.loop-col.col
+    (rw c.tiles_along-columns.ensures at c.at.ensures) ∙ tile_is c.args.sheet.width c.args.sheet.height c.args.sheet.bpp c.args.tiles.now c.requires.tiled c.loop-col.col
     c.args.row there c.requires.row in
     let other : c.at-in-loop-col.result.now ≡ tile_bytes q (tile c.loop-col.col c.args.row) =
-    c.at-in-loop-col.ensures ∙ tile_is c.args.sheet.width c.args.sheet.height c.args.sheet.bpp c.args.others.now c.requires.others
+    (rw c.tiles_along-columns.ensures at c.at-in-loop-col.ensures) ∙ tile_is c.args.sheet.width c.args.sheet.height c.args.sheet.bpp c.args.others.now c.requires.others
     c.loop-col.col c.args.row there c.requires.row in
     let next : c.difference-count.result
     ≤ cond (not (bytes_eq (tile_bytes p (tile c.loop-col.col c.args.row)) (tile_bytes q (tile c.loop-col.col c.args.row)))) 1

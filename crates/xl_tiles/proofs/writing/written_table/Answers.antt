@@ -15,13 +15,13 @@ replace-requires c =
     omega (arith, spot.col_in, c.requires.right, c.requires.within.across) in
     let row_in : c.spot_of-spot.result.row < tiles_along c.args.sheet.height =
     omega (arith, spot.row_in, c.requires.bottom, c.requires.within.down) in
-    omega (
+    rw c.tiles_along-columns.ensures (omega (
       arith,
       place_below c.spot_of-spot.result.row c.spot_of-spot.result.col (tiles_along c.args.sheet.height)
           (tiles_along c.args.sheet.width) row_in col_in,
       c.requires.tiled.count,
       c.loop-k.invariant.swapped.count,
-    )
+    ))
 
 pub loop-k-preserved : goal.loop-k-preserved
 loop-k-preserved c =
@@ -43,7 +43,7 @@ loop-k-preserved c =
       swapped =
           swapped_more c.loop-k.invariant.swapped c.spot_of-spot.result.col c.spot_of-spot.result.row spot.col spot.row col_in there
           c.replace.new.self c.in_ok-tile.tile
-          c.in_ok-replace.ensures.after c.in_ok-tile.ensures.value c.in_ok-tile.ensures.bytes;
+          (rw c.tiles_along-columns.ensures at c.in_ok-replace.ensures.after) c.in_ok-tile.ensures.value c.in_ok-tile.ensures.bytes;
     }
 
 pub returns : goal.returns
