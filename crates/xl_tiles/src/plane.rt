@@ -24,14 +24,12 @@ use crate::tile::{SCRATCH, TileRef};
 use crate::writing::write_area;
 use std::alloc::{AllocError, AllocFailed, Global};
 use std::marker::Model;
-use xl_grid::{Rect, TileAt, grid, tiles_along};
+use xl_grid::{Rect, TileAt, tiles_along};
 
 /// The pixels of a plane, row by row, each of 1 to 4 bytes. They are kept in tiles of 64 by 64, which several planes may hold.
 #[derive(Drop)]
 pub struct Plane {
-    width: u32,
-    height: u32,
-    bpp: u32,
+    sheet: Sheet,
     tiles: Table,
 }
 
@@ -41,9 +39,9 @@ impl Model for Plane {
 
     ghost Value = { doc.Plane };
 
-    ghost view = { λ p. record { width = p.width; height = p.height; bpp = p.bpp; bytes = bytes_of p.width p.height p.bpp p.tiles } };
+    ghost view = { λ p. record { width = p.sheet.width; height = p.sheet.height; bpp = p.sheet.bpp; bytes = bytes_of p.sheet.width p.sheet.height p.sheet.bpp p.tiles } };
 
-    ghost invariant = { λ p. AreTiled p.width p.height p.bpp p.tiles };
+    ghost invariant = { λ p. AreTiled p.sheet.width p.sheet.height p.sheet.bpp p.tiles };
 }
 
 impl Plane {
@@ -58,15 +56,11 @@ impl Plane {
         requires { AreTiled w h bpp tiles.items }
         ensures { IfOk result (λ p. p ≡ sheet.plane_of_tiles w h bpp tiles.items) }
     {
-        let columns = tiles_along(w as usize);
-        let rows = tiles_along(h as usize);
+        let sheet = Sheet::new(w, h, bpp);
+        let columns = tiles_along(sheet.width);
+        let rows = tiles_along(sheet.height);
         let tiles = Table::of_tiles(alloc, columns, rows, &tiles)?;
-        Ok(Plane {
-            width: w,
-            height: h,
-            bpp,
-            tiles,
-        })
+        Ok(Plane { sheet, tiles })
     }
 
     /// A plane whose pixels are all alike. Its tiles share their bytes.
@@ -78,12 +72,7 @@ impl Plane {
         requires pixel { length pixel.now ≡ bpp }
         ensures { IfOk result (λ p. p ≡ plane_of w h bpp (λ x y c. slice_index pixel.now c)) }
     {
-        let sheet = Sheet {
-            width: w as usize,
-            height: h as usize,
-            bpp: bpp as usize,
-        };
-        let tiles = alike_tiles(alloc, sheet, pixel)?;
+        let tiles = alike_tiles(alloc, Sheet::new(w, h, bpp), pixel)?;
         Plane::of_tiles(alloc, w, h, bpp, tiles)
     }
 
@@ -114,14 +103,14 @@ impl Plane {
         ensures value { result ≡ self.now.width }
         ensures sized { IsSized self.now }
     {
-        self.width
+        self.sheet.width as u32
     }
 
     pub fn height(&self) -> u32
         ensures value { result ≡ self.now.height }
         ensures sized { IsSized self.now }
     {
-        self.height
+        self.sheet.height as u32
     }
 
     /// Bytes per pixel.
@@ -129,7 +118,7 @@ impl Plane {
         ensures value { result ≡ self.now.bpp }
         ensures sized { IsSized self.now }
     {
-        self.bpp
+        self.sheet.bpp as u32
     }
 
     /// The same pixels: one count for each row of tiles.
@@ -137,9 +126,7 @@ impl Plane {
         ensures { IfOk result (λ p. p ≡ self.now) }
     {
         Ok(Plane {
-            width: self.width,
-            height: self.height,
-            bpp: self.bpp,
+            sheet: self.sheet,
             tiles: self.tiles.share(alloc)?,
         })
     }
@@ -152,13 +139,8 @@ impl Plane {
         ensures { result ≡ byte_at self.now x y c }
     {
         let mut scratch = [0; SCRATCH];
-        let sheet = Sheet {
-            width: self.width as usize,
-            height: self.height as usize,
-            bpp: self.bpp as usize,
-        };
         point_byte(
-            sheet,
+            self.sheet,
             &self.tiles,
             x as usize,
             y as usize,
@@ -175,12 +157,7 @@ impl Plane {
         ensures { out.new ≡ bytes_in self.now rect }
     {
         let area = area_of(rect);
-        let sheet = Sheet {
-            width: self.width as usize,
-            height: self.height as usize,
-            bpp: self.bpp as usize,
-        };
-        read_area(sheet, &self.tiles, area, out, scratch);
+        read_area(self.sheet, &self.tiles, area, out, scratch);
     }
 
     /// The bytes of n pixels of row y, from column x on. The scratch is for a tile: each call unpacks the tiles that it meets.
@@ -198,12 +175,7 @@ impl Plane {
             w: n as usize,
             h: 1,
         };
-        let sheet = Sheet {
-            width: self.width as usize,
-            height: self.height as usize,
-            bpp: self.bpp as usize,
-        };
-        read_area(sheet, &self.tiles, area, out, scratch);
+        read_area(self.sheet, &self.tiles, area, out, scratch);
     }
 
     /// The bytes of a row of a rectangle whose bytes were read.
@@ -217,7 +189,7 @@ impl Plane {
             ≡ byte_at self.now (part_above_0 rect.x + k) (part_above_0 rect.y + y) c }
     {
         let area = area_of(rect);
-        row_of(area, self.bpp as usize, bytes, y as usize)
+        row_of(area, self.sheet.bpp, bytes, y as usize)
     }
 
     /// Writes the pixels of a rectangle, row by row. All memory is taken first, and all other pixels stay.
@@ -228,12 +200,7 @@ impl Plane {
         ensures err { OnErr result (self.new ≡ self.old) }
     {
         let area = area_of(rect);
-        let sheet = Sheet {
-            width: self.width as usize,
-            height: self.height as usize,
-            bpp: self.bpp as usize,
-        };
-        write_area(alloc, sheet, &mut self.tiles, area, bytes)
+        write_area(alloc, self.sheet, &mut self.tiles, area, bytes)
     }
 
     /// The bytes of a tile, in the scratch where a file has them in runs.
@@ -243,13 +210,8 @@ impl Plane {
         requires scratch { length scratch.old ≡ SCRATCH }
         ensures { result.now ≡ sheet.tile_bytes self.now at }
     {
-        let sheet = Sheet {
-            width: self.width as usize,
-            height: self.height as usize,
-            bpp: self.bpp as usize,
-        };
         tile_bytes(
-            sheet,
+            self.sheet,
             &self.tiles,
             at.col as usize,
             at.row as usize,
@@ -264,20 +226,14 @@ impl Plane {
         ensures { IfSome result (λ codes. AreSpelled AnySpelling codes.now
             (tile_planes 1 self.now at)) }
     {
-        let sheet = Sheet {
-            width: self.width as usize,
-            height: self.height as usize,
-            bpp: self.bpp as usize,
-        };
-        tile_codes(sheet, &self.tiles, at.col as usize, at.row as usize)
+        tile_codes(self.sheet, &self.tiles, at.col as usize, at.row as usize)
     }
 
     /// How many tiles it has.
     pub fn tile_count(&self) -> u32
         ensures { result ≡ grid.tiles_along self.now.height * grid.tiles_along self.now.width }
     {
-        let (columns, rows) = grid(self.width, self.height);
-        rows * columns
+        (tiles_along(self.sheet.height) * tiles_along(self.sheet.width)) as u32
     }
 
     /// A share of a tile.
@@ -286,7 +242,7 @@ impl Plane {
         requires row { at.row < grid.tiles_along self.now.height }
         ensures { IfOk result (λ t. t ≡ sheet.tile_bytes self.now at) }
     {
-        let columns = tiles_along(self.width as usize);
+        let columns = tiles_along(self.sheet.width);
         self.tiles
             .at(at.row as usize * columns + at.col as usize)
             .share()
@@ -309,7 +265,7 @@ impl Plane {
         ensures back { IfErr result (λ failed. failed.value ≡ tile) }
         ensures err { OnErr result (self.new ≡ self.old) }
     {
-        let columns = tiles_along(self.width as usize);
+        let columns = tiles_along(self.sheet.width);
         let place = at.row as usize * columns + at.col as usize;
         self.tiles.replace(alloc, place, tile)
     }
@@ -325,11 +281,12 @@ impl Plane {
         requires other_scratch { length other_scratch.old ≡ SCRATCH }
         ensures { result ≤ changed_tiles self.now other.now }
     {
-        let sheet = Sheet {
-            width: self.width as usize,
-            height: self.height as usize,
-            bpp: self.bpp as usize,
-        };
-        count_changed(sheet, &self.tiles, &other.tiles, scratch, other_scratch) as u32
+        count_changed(
+            self.sheet,
+            &self.tiles,
+            &other.tiles,
+            scratch,
+            other_scratch,
+        ) as u32
     }
 }
