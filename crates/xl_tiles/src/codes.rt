@@ -7,11 +7,11 @@ ghost use Rattle.xl_tiles.specs.Table.{AreTiled, plane_by, tile};
 
 use crate::area::Sheet;
 use crate::reading::tile_in;
-use crate::table::Table;
+use crate::table::TileTable;
 use crate::writing::tile_pixels;
 
 /// The codes of the tile of a column and a row, if they stand in a file and a writer may copy them.
-pub fn tile_codes(sheet: Sheet, tiles: &Table, col: usize, row: usize) -> Option<&[u8]>
+pub fn tile_codes(sheet: Sheet, tiles: &TileTable, col: usize, row: usize) -> Option<&[u8]>
     requires tiled { AreTiled sheet.width sheet.height sheet.bpp tiles.now }
     requires column { col < grid.tiles_along sheet.width }
     requires row { row < grid.tiles_along sheet.height }

@@ -19,7 +19,7 @@ use crate::area::{Area, Sheet, area_of};
 use crate::changes::count_changed;
 use crate::codes::tile_codes;
 use crate::reading::{point_byte, read_area, row_of, tile_bytes};
-use crate::table::Table;
+use crate::table::TileTable;
 use crate::tile::{SCRATCH, TileRef};
 use crate::writing::write_area;
 use std::alloc::{AllocError, AllocFailed, Global};
@@ -30,7 +30,7 @@ use xl_grid::{Rect, TileAt, tiles_along};
 #[derive(Drop)]
 pub struct Plane {
     sheet: Sheet,
-    tiles: Table,
+    tiles: TileTable,
 }
 
 impl Model for Plane {
@@ -59,7 +59,7 @@ impl Plane {
         let sheet = Sheet::new(w, h, bpp);
         let columns = tiles_along(sheet.width);
         let rows = tiles_along(sheet.height);
-        let tiles = Table::of_tiles(alloc, columns, rows, &tiles)?;
+        let tiles = TileTable::of_tiles(alloc, columns, rows, &tiles)?;
         Ok(Plane { sheet, tiles })
     }
 

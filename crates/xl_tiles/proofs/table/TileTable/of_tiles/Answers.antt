@@ -1,7 +1,7 @@
 use Rattle.std.proofs.Common.{◌≤◌, ◌+◌, ◌*◌, ◌∙◌, length, rules, arith}
 use Rattle.std.proofs.lemmas.Nat.{mul-le}
 use Rattle.xl_tiles.proofs.RowLists.{one_row_more}
-use Rattle.xl_tiles.proofs.table.Table.of_tiles.Goals as goal
+use Rattle.xl_tiles.proofs.table.TileTable.of_tiles.Goals as goal
 
 pub tiles_from-part-requires : goal.tiles_from-part-requires
 tiles_from-part-requires c = omega (

@@ -1,5 +1,5 @@
 use Rattle.std.proofs.Common.{◌≡◌, take}
-use Rattle.xl_tiles.proofs.table.Table.share.Given as goal
+use Rattle.xl_tiles.proofs.table.TileTable.share.Given as goal
 
 -- the rows so far
 abbrev pub invariant-loop-row : goal.invariant-loop-row

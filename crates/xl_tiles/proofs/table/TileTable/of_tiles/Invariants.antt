@@ -1,5 +1,5 @@
 use Rattle.xl_tiles.proofs.RowLists.{FirstRows}
-use Rattle.xl_tiles.proofs.table.Table.of_tiles.Given as goal
+use Rattle.xl_tiles.proofs.table.TileTable.of_tiles.Given as goal
 
 -- the rows so far
 abbrev pub invariant-loop-row : goal.invariant-loop-row
