@@ -1,0 +1,16 @@
+ghost use Rattle.std.specs.Prelude.{◌≡◌, ◌≤◌};
+ghost use Rattle.spec_document.specs.Document.{base_code};
+
+use spec_document::Base;
+
+/// The number that a file has for a base.
+pub fn base_code(base: Base) -> u32
+    ensures value { result ≡ base_code base }
+    ensures few { result ≤ 2 }
+{
+    match base {
+        Base::Rgb => 0,
+        Base::Grey => 1,
+        Base::Indexed => 2,
+    }
+}
