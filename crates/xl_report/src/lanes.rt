@@ -105,7 +105,7 @@ impl Lane {
     }
 
     /// The bytes of the band.
-    pub fn shown(&self) -> &[u8]
+    pub fn band(&self) -> &[u8]
         requires { self.now.used ≤ length self.now.bytes.items }
         ensures { result.now ≡ take self.now.used self.now.bytes.items }
     {

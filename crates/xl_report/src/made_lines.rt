@@ -9,15 +9,13 @@ ghost use Rattle.xl_script.specs.Lines.{line_of, lines_of, lists_of};
 use crate::drawing::Draws;
 use std::alloc::{AllocError, Global};
 use xl_doc::{Bytes, NodeId, Rect, TileAt};
-use xl_script::{Call, Edit, Edits, Group, Line, Lines, Script};
+use xl_script::{Call, Edit, Edits, Group, Line, Lines, SESSIONS, Script};
 
 // How many fills come before each tile.
 const FILLS: u32 = 32;
 
 // How many tiles a session asks for.
 const TILES: u32 = 3;
-
-const SESSIONS: u32 = 8;
 
 // A rectangle of a layer, with sides of 1 to 64.
 fn fill(alloc: Global, draws: &mut Draws, layer: u32) -> Result<Line, AllocError>
@@ -115,7 +113,7 @@ pub fn script(alloc: Global, draws: &mut Draws) -> Result<Script, AllocError>
         (lists_of script) draws.new) }
 {
     let mut lists = Vec::with_capacity(alloc, SESSIONS as usize)?;
-    for session in 0..SESSIONS {
+    for session in 0..SESSIONS as u32 {
         let list = session_lines(alloc, draws, session)?;
         lists.push(list)?;
     }

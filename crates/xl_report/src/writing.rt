@@ -55,7 +55,7 @@ fn write_lanes<K: Sink>(
         (row_of doc.now.height first (length lanes.now) - first)) result }
 {
     for place in 0..lanes.len() {
-        write_all(sink, lanes[place].shown())?;
+        write_all(sink, lanes[place].band())?;
     }
     Ok(())
 }
