@@ -10,15 +10,12 @@ ghost use Rattle.xl_hier.specs.Filled.{TilesFilled};
 ghost use Rattle.xl_rle.specs.Follows.{FollowsEach};
 ghost use Rattle.spec_hierarchy.specs.Layout.{words};
 
-use crate::written_tile::write_tile;
+use crate::written_tile::{MAX_PLANE, write_tile};
 use std::alloc::{AllocError, Global};
 use xl_fields::put_u32;
 use xl_grid::TileAt;
 use xl_rle::PlaneCoder;
 use xl_tiles::{Plane, SCRATCH};
-
-// A plane of a tile has at most 64 by 64 bytes.
-const MAX_PLANE: usize = 4096;
 
 // Out of memory, some of the words may stand behind what was there.
 fn append_words(alloc: Global, out: &mut Vec<u8>, values: &[u32]) -> Result<(), AllocError>
@@ -66,7 +63,6 @@ fn write_tiles<C: PlaneCoder>(
     table: usize,
     out: &mut Vec<u8>,
     scratch: &mut [u8],
-    unpacked: &mut [u8],
     coder: &mut C,
 ) -> Result<(), AllocError>
     requires compression { compression ≤ 1 }
@@ -75,8 +71,7 @@ fn write_tiles<C: PlaneCoder>(
         * grid.tiles_along plane.now.width) + 4 }
     requires zeros { drop table out.old.items ≡ replicate
         (4 * (grid.tiles_along plane.now.height * grid.tiles_along plane.now.width) + 4) 0 }
-    requires scratch { length scratch.old ≡ 4096 }
-    requires unpacked { length unpacked.old ≡ SCRATCH }
+    requires scratch { length scratch.old ≡ MAX_PLANE + SCRATCH }
     ensures ok { OnOk result (TilesFilled C.fits compression plane.now table out.old.items
         out.new.items) }
     ensures followed { OnOk result (FollowsEach C.follows coder.old
@@ -91,16 +86,7 @@ fn write_tiles<C: PlaneCoder>(
         };
         let pointer = out.len() as u32;
         set_word(out, table + 4 * k as usize, pointer);
-        write_tile(
-            alloc,
-            plane,
-            spot,
-            compression,
-            out,
-            scratch,
-            unpacked,
-            coder,
-        )?;
+        write_tile(alloc, plane, spot, compression, out, scratch, coder)?;
     }
     Ok(())
 }
@@ -127,18 +113,8 @@ fn append_plane<C: PlaneCoder>(
     let table = out.len();
     let (columns, rows) = xl_grid::grid(plane.width(), plane.height());
     out.resize(table + 4 * (rows * columns) as usize + 4, 0)?;
-    let mut scratch = vec![in alloc; 0; MAX_PLANE]?;
-    let mut unpacked = vec![in alloc; 0; SCRATCH]?;
-    write_tiles(
-        alloc,
-        plane,
-        compression,
-        table,
-        out,
-        &mut scratch,
-        &mut unpacked,
-        coder,
-    )
+    let mut scratch = vec![in alloc; 0; MAX_PLANE + SCRATCH]?;
+    write_tiles(alloc, plane, compression, table, out, &mut scratch, coder)
 }
 
 /// Appends a plane: its hierarchy, its one level and its tiles, whose pointers count from the start of `out`.

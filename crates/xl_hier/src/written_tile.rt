@@ -1,4 +1,4 @@
-ghost use Rattle.std.specs.Prelude.{◌≡◌, ◌<◌, ◌≤◌, ◌++◌, length, IfSome, OnOk};
+ghost use Rattle.std.specs.Prelude.{◌≡◌, ◌<◌, ◌≤◌, ◌++◌, ◌+◌, length, IfSome, OnOk};
 ghost use Rattle.spec_grid.specs.Grid as grid;
 ghost use Rattle.spec_hierarchy.specs.BytePlanes.{tile_planes};
 ghost use Rattle.spec_hierarchy.specs.Layout.{AreSpelled};
@@ -11,7 +11,10 @@ use crate::gather::{append_tile, gather, tile_pixels};
 use std::alloc::{AllocError, Global};
 use xl_grid::TileAt;
 use xl_rle::PlaneCoder;
-use xl_tiles::Plane;
+use xl_tiles::{Plane, SCRATCH};
+
+/// A plane of a tile has at most 64 by 64 bytes.
+pub const MAX_PLANE: usize = 4096;
 
 // Codes each of the bytes of a pixel, and appends the spellings.
 fn append_spellings<C: PlaneCoder>(
@@ -20,23 +23,22 @@ fn append_spellings<C: PlaneCoder>(
     spot: TileAt,
     out: &mut Vec<u8>,
     scratch: &mut [u8],
-    unpacked: &mut [u8],
     coder: &mut C,
 ) -> Result<(), AllocError>
     requires column { spot.col < grid.tiles_along plane.now.width }
     requires row { spot.row < grid.tiles_along plane.now.height }
-    requires scratch { length scratch.old ≡ 4096 }
-    requires unpacked { length unpacked.old ≡ SCRATCH }
+    requires scratch { length scratch.old ≡ MAX_PLANE + SCRATCH }
     ensures ok { OnOk result (TileAppended C.fits 1 plane.now spot out.old.items out.new.items) }
     ensures followed { OnOk result (FollowsEach C.follows coder.old (tile_planes 1 plane.now spot)
         coder.new) }
     ensures front { BeginsWith out.new.items out.old.items }
 {
     let n = tile_pixels(plane, spot);
+    let (own, unpacked) = scratch.split_at_mut(MAX_PLANE);
     let tile = plane.tile_bytes(spot, unpacked);
     for c in 0..plane.bpp() {
-        gather(plane, spot, tile, c, &mut scratch[..n]);
-        coder.encode_plane(alloc, &scratch[..n], out)?;
+        gather(plane, spot, tile, c, &mut own[..n]);
+        coder.encode_plane(alloc, &own[..n], out)?;
     }
     Ok(())
 }
@@ -71,13 +73,11 @@ fn append_run_length<C: PlaneCoder>(
     spot: TileAt,
     out: &mut Vec<u8>,
     scratch: &mut [u8],
-    unpacked: &mut [u8],
     coder: &mut C,
 ) -> Result<(), AllocError>
     requires column { spot.col < grid.tiles_along plane.now.width }
     requires row { spot.row < grid.tiles_along plane.now.height }
-    requires scratch { length scratch.old ≡ 4096 }
-    requires unpacked { length unpacked.old ≡ SCRATCH }
+    requires scratch { length scratch.old ≡ MAX_PLANE + SCRATCH }
     ensures ok { OnOk result (TileAppended C.fits 1 plane.now spot out.old.items out.new.items) }
     ensures followed { OnOk result (FollowsEach C.follows coder.old (tile_planes 1 plane.now spot)
         coder.new) }
@@ -86,7 +86,7 @@ fn append_run_length<C: PlaneCoder>(
     if let Some(codes) = kept_codes(plane, spot, coder) {
         return append_codes(codes, out);
     }
-    append_spellings(alloc, plane, spot, out, scratch, unpacked, coder)
+    append_spellings(alloc, plane, spot, out, scratch, coder)
 }
 
 /// Appends a tile: its pixels as they are, or spelled, and the coder followed the planes that are spelled. The scratch is for
@@ -100,14 +100,12 @@ pub fn write_tile<C: PlaneCoder>(
     compression: u8,
     out: &mut Vec<u8>,
     scratch: &mut [u8],
-    unpacked: &mut [u8],
     coder: &mut C,
 ) -> Result<(), AllocError>
     requires column { spot.col < grid.tiles_along plane.now.width }
     requires row { spot.row < grid.tiles_along plane.now.height }
     requires compression { compression ≤ 1 }
-    requires scratch { length scratch.old ≡ 4096 }
-    requires unpacked { length unpacked.old ≡ SCRATCH }
+    requires scratch { length scratch.old ≡ MAX_PLANE + SCRATCH }
     ensures ok { OnOk result (TileAppended C.fits compression plane.now spot out.old.items
         out.new.items) }
     ensures followed { OnOk result (FollowsEach C.follows coder.old
@@ -115,8 +113,8 @@ pub fn write_tile<C: PlaneCoder>(
     ensures front { BeginsWith out.new.items out.old.items }
 {
     if compression == 0 {
-        append_tile(plane, spot, out, unpacked)
+        append_tile(plane, spot, out, &mut scratch[MAX_PLANE..])
     } else {
-        append_run_length(alloc, plane, spot, out, scratch, unpacked, coder)
+        append_run_length(alloc, plane, spot, out, scratch, coder)
     }
 }

@@ -79,24 +79,6 @@ returns-in_err-scratch-clause-front g c =
     begins_then _ _ _ c.append_heads.ensures.front
     (front_begins table c.append_heads.new.out.items c.resize.new.self.items c.resize.new.self.items size front refl)
 
-pub returns-in_err-unpacked-clause-front : goal.returns-in_err-unpacked-clause-front
-returns-in_err-unpacked-clause-front g c =
-    let p = c.args.plane.now in
-    let table = c.len-table.result in
-    let n = 4 * (tiles_along p.height * tiles_along p.width) + 4 in
-    let all = count_is _ _ _ _ p.width p.height c.grid-columns.ensures.columns c.grid-columns.ensures.rows c.width.ensures.value
-    c.height.ensures.value in
-    let len : vec_len c.append_heads.new.out ≡ table = sym c.len-table.ensures in
-    let size : length c.append_heads.new.out.items ≡ table = omega (arith, c.append_heads.new.out.ok.0, len) in
-    let front = (room_behind table n
-    (table + 4 * (c.grid-columns.result.1 * c.grid-columns.result.0) + 4) c.append_heads.new.out.items c.resize.new.self.items
-    size (omega (arith, all))
-    (c.in_ok-resize.ensures.items ∙ ap
-    (λ k. take (table + 4 * (c.grid-columns.result.1 * c.grid-columns.result.0) + 4) c.append_heads.new.out.items
-    ++ replicate (table + 4 * (c.grid-columns.result.1 * c.grid-columns.result.0) + 4 - k) 0) len)).0 in
-    begins_then _ _ _ c.append_heads.ensures.front
-    (front_begins table c.append_heads.new.out.items c.resize.new.self.items c.resize.new.self.items size front refl)
-
 pub returns-clause-front : goal.returns-clause-front
 returns-clause-front g c =
     let p = c.args.plane.now in

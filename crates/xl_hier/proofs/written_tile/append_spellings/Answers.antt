@@ -7,10 +7,9 @@ use Rattle.xl_hier.proofs.written_tile.append_spellings.Goals as goal
 pub loop-c-preserved : goal.loop-c-preserved
 loop-c-preserved g c =
     let n = c.tile_pixels-n.result in
-    let within : n ≤ length c.loop-c.scratch =
-    omega (arith, c.tile_pixels-n.ensures.few, c.loop-c.auto.scratch, c.requires.scratch) in
+    let within : n ≤ length c.loop-c.own = omega (arith, c.tile_pixels-n.ensures.few, c.loop-c.auto.own, c.split_at_mut-own.ensures.front_len) in
     let front =
-    take_at c.gather.new.out (drop n c.loop-c.scratch) n (c.gather.auto.out ∙ length-take-le n c.loop-c.scratch within) in
+    take_at c.gather.new.out (drop n c.loop-c.own) n (c.gather.auto.out ∙ length-take-le n c.loop-c.own within) in
     record {
       spelled = more g.C.PlaneCoder.fits c.args.plane.now c.args.spot c.loop-c.c c.args.out.now.items c.loop-c.out.items _
           c.encode_plane.new.out.items c.loop-c.invariant.spelled
