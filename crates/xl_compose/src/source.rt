@@ -14,7 +14,7 @@ ghost use Rattle.spec_grid.specs.declared.TheConstants.{MAX_SIDE};
 
 use crate::lay::lay_part;
 use crate::own::own_row;
-use crate::span::{Band, Meeting, Span, overlap};
+use crate::span::{Band, Meeting, SharedPart, overlap};
 use spec_grid::MAX_SIDE;
 use std::sync::ledger::Ledger;
 use xl_blend::{Mode, Pixel, Steps, fade_row, fade_row_by};
@@ -272,7 +272,7 @@ fn lay_columns<L: Ledger>(
     let Meeting { across, down } = meeting;
     let mut done = 0;
     while done < across.count {
-        let span = Span {
+        let span = SharedPart {
             skip: across.skip + done,
             from: across.from + done,
             count: columns_at(across.from + done, across.count - done),
