@@ -16,4 +16,4 @@ pub use output::{Output, read_output};
 pub use printed::{Printed, Replies};
 pub use replies::read_reply;
 pub use shape::read_shaped;
-pub use source::split_source;
+pub use source::{MAX_SOURCE_BYTES, split_source};

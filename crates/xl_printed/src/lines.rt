@@ -6,9 +6,9 @@ use crate::pieces::cut_at;
 use crate::printed::{Printed, Replies};
 use crate::replies::read_reply;
 use std::alloc::{AllocError, Global};
-use xl_script::{number, number_below};
+use xl_script::{SESSIONS, number, number_below};
 
-const SESSION_LIMIT: u64 = 8;
+const SESSION_LIMIT: u64 = SESSIONS as u64;
 
 /// A session and an index.
 pub fn read_place(word: &[u8]) -> Option<(u8, u32)>

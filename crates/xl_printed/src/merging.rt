@@ -5,9 +5,7 @@ ghost use Rattle.xl_printed.specs.Merging as merging;
 
 use std::alloc::{AllocError, Global};
 use std::marker::Model;
-use xl_script::OrderWord;
-
-const SESSIONS: u8 = 8;
+use xl_script::{OrderWord, SESSIONS};
 
 /// Which calls of a session are saves.
 #[derive(Drop)]

@@ -9,7 +9,7 @@ use std::alloc::{AllocError, Global};
 use xl_script::{OrderWord, split_once};
 
 // A word without the mark of an end, and whether it has one.
-fn unmarked(word: &[u8]) -> (&[u8], bool)
+fn cut_mark(word: &[u8]) -> (&[u8], bool)
     ensures { reading.unmarked word.now ≡ (result.0.now, result.1) }
 {
     let len = word.len();
@@ -23,7 +23,7 @@ fn unmarked(word: &[u8]) -> (&[u8], bool)
 fn read_word(word: &[u8]) -> Option<OrderWord>
     ensures { result ≡ reading.read_word word.now }
 {
-    let (place, end) = unmarked(word);
+    let (place, end) = cut_mark(word);
     let (session, index) = read_place(place)?;
     Some(OrderWord {
         session,

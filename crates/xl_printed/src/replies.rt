@@ -50,7 +50,7 @@ const PHRASES: [(&'static [u8], Phrase); 13] = [
 
 const DIGEST_LEN: usize = 64;
 
-fn changed(rest: &[u8]) -> Option<Printed<'static>>
+fn read_changed(rest: &[u8]) -> Option<Printed<'static>>
     ensures { result ≡ reading.changed_rest rest.now }
 {
     let (version, group, next) = three_words(Some(rest))?;
@@ -75,7 +75,7 @@ fn number_or_word(word: &[u8]) -> Option<Option<u32>>
     }
 }
 
-fn stale(rest: &[u8]) -> Option<Printed<'static>>
+fn read_stale(rest: &[u8]) -> Option<Printed<'static>>
     ensures { result ≡ reading.optional_rest machine.stale rest.now }
 {
     let (have, seen) = two_words(Some(rest))?;
@@ -84,7 +84,7 @@ fn stale(rest: &[u8]) -> Option<Printed<'static>>
     Some(plain(Reply::Stale { have, seen }))
 }
 
-fn top(rest: &[u8]) -> Option<Printed<'static>>
+fn read_top(rest: &[u8]) -> Option<Printed<'static>>
     ensures { result ≡ reading.optional_rest machine.top_is rest.now }
 {
     let (group, version) = two_words(Some(rest))?;
@@ -111,7 +111,7 @@ fn is_digest(word: &[u8]) -> bool
     word.len() == DIGEST_LEN && are_digits(word)
 }
 
-fn tile(rest: &[u8]) -> Option<Printed<'_>>
+fn read_tile(rest: &[u8]) -> Option<Printed<'_>>
     ensures { result ≡ reading.tile_rest rest.now }
 {
     let (version, digest) = two_words(Some(rest))?;
@@ -135,7 +135,7 @@ fn nothing_more(reply: Reply, rest: &[u8]) -> Option<Printed<'static>>
     }
 }
 
-fn refused(rest: &[u8]) -> Option<Printed<'static>>
+fn read_refused(rest: &[u8]) -> Option<Printed<'static>>
     ensures { result ≡ reading.refused_rest rest.now }
 {
     let (index, words) = first_word(rest);
@@ -146,35 +146,35 @@ fn refused(rest: &[u8]) -> Option<Printed<'static>>
     Some(plain(Reply::Refused { index, cause }))
 }
 
-fn moved(rest: &[u8]) -> Option<Printed<'static>>
+fn read_moved(rest: &[u8]) -> Option<Printed<'static>>
     ensures { result ≡ reading.one_number machine.moved rest.now }
 {
     let now = number(rest)?;
     Some(plain(Reply::Moved { now }))
 }
 
-fn not_top(rest: &[u8]) -> Option<Printed<'static>>
+fn read_not_top(rest: &[u8]) -> Option<Printed<'static>>
     ensures { result ≡ reading.one_number machine.not_top rest.now }
 {
     let top = number(rest)?;
     Some(plain(Reply::NotTop { top }))
 }
 
-fn no_stack(rest: &[u8]) -> Option<Printed<'static>>
+fn read_no_stack(rest: &[u8]) -> Option<Printed<'static>>
     ensures { result ≡ reading.one_number machine.no_stack rest.now }
 {
     let node = number(rest)?;
     Some(plain(Reply::NoStack { node }))
 }
 
-fn saved(rest: &[u8]) -> Option<Printed<'static>>
+fn read_saved(rest: &[u8]) -> Option<Printed<'static>>
     ensures { result ≡ reading.one_number machine.saved rest.now }
 {
     let version = number(rest)?;
     Some(plain(Reply::Saved { version }))
 }
 
-fn save_fault(rest: &[u8]) -> Option<Printed<'static>>
+fn read_save_fault(rest: &[u8]) -> Option<Printed<'static>>
     ensures { result ≡ reading.one_number machine.save_fault rest.now }
 {
     let version = number(rest)?;
@@ -186,19 +186,19 @@ fn read_rest(phrase: Phrase, rest: &[u8]) -> Option<Printed<'_>>
     ensures { result ≡ rest_of phrase rest.now }
 {
     match phrase {
-        Phrase::Changed => changed(rest),
-        Phrase::Refused => refused(rest),
-        Phrase::Moved => moved(rest),
+        Phrase::Changed => read_changed(rest),
+        Phrase::Refused => read_refused(rest),
+        Phrase::Moved => read_moved(rest),
         Phrase::NothingToUndo => nothing_more(Reply::NothingToUndo, rest),
         Phrase::NothingToRedo => nothing_more(Reply::NothingToRedo, rest),
-        Phrase::NotTop => not_top(rest),
-        Phrase::Tile => tile(rest),
-        Phrase::Stale => stale(rest),
-        Phrase::NoStack => no_stack(rest),
+        Phrase::NotTop => read_not_top(rest),
+        Phrase::Tile => read_tile(rest),
+        Phrase::Stale => read_stale(rest),
+        Phrase::NoStack => read_no_stack(rest),
         Phrase::OutsideTile => nothing_more(Reply::OutsideTile, rest),
-        Phrase::Top => top(rest),
-        Phrase::Saved => saved(rest),
-        Phrase::SaveFault => save_fault(rest),
+        Phrase::Top => read_top(rest),
+        Phrase::Saved => read_saved(rest),
+        Phrase::SaveFault => read_save_fault(rest),
     }
 }
 

@@ -1,7 +1,7 @@
 use Rattle.std.proofs.Common.{arith}
 use Rattle.xl_printed.proofs.Lining.{marked_is, unmarked_is}
-use Rattle.xl_printed.proofs.order.unmarked.Goals as goal
-use Rattle.xl_printed.proofs.order.unmarked.Goals.{else-len-gt0-via-then-len-gt0+else-word-len-eq101, else-len-gt0-via-else-len-gt0}
+use Rattle.xl_printed.proofs.order.cut_mark.Goals as goal
+use Rattle.xl_printed.proofs.order.cut_mark.Goals.{else-len-gt0-via-then-len-gt0+else-word-len-eq101, else-len-gt0-via-else-len-gt0}
 
 pub returns-then-word-len-eq101 : goal.returns-then-word-len-eq101
 returns-then-word-len-eq101 c = marked_is c.args.word.now (omega arith) c.if-word-len-eq101.true
