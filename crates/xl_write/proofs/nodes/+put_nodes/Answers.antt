@@ -21,12 +21,12 @@ put_nodes-requires g t c κs within =
     let l = layer_of c.in-Leaf.node.now in
     let start : vec_len c.args.pieces.now.bytes ≡ length old = omega (arith, c.args.pieces.now.bytes.ok.0) in
     let end : length new ≡ vec_len c.put_layer_at.new.pieces.bytes = omega (arith, c.put_layer_at.new.pieces.bytes.ok.0) in
-    let can : CanWalk d path c.args.place (leaf c.in-Leaf.id.0 l under) (length old) =
-    moved d path path c.args.place (nodes_of c.args.nodes) (leaf c.in-Leaf.id.0 l under) _ _ refl
+    let can : CanWalk d path c.args.siblings.place (leaf c.in-Leaf.id.0 l under) (length old) =
+    moved d path path c.args.siblings.place (nodes_of c.args.siblings.nodes) (leaf c.in-Leaf.id.0 l under) _ _ refl
     (ap nodes_of (sym c.in-Leaf.ensures.parts)) start c.requires.can in
-    let next : CanWalk d c.put_layer_at.new.path.items (c.args.place + 1) under (vec_len c.put_layer_at.new.pieces.bytes) =
-    moved d path _ (c.args.place + 1) under under _ _ (sym c.in_ok-put_layer_at-in-Leaf.ensures.path) refl end
-    (under_leaf g.C.PlaneCoder.fits d path c.args.place c.in-Leaf.id.0 l under old new _ _ can
+    let next : CanWalk d c.put_layer_at.new.path.items (c.args.siblings.place + 1) under (vec_len c.put_layer_at.new.pieces.bytes) =
+    moved d path _ (c.args.siblings.place + 1) under under _ _ (sym c.in_ok-put_layer_at-in-Leaf.ensures.path) refl end
+    (under_leaf g.C.PlaneCoder.fits d path c.args.siblings.place c.in-Leaf.id.0 l under old new _ _ can
     (compressed g.C.PlaneCoder.fits c.doc.inside.compression d.compression _ old new _ _
     (ap (λ d. d.compression) c.doc.view_is) c.in_ok-put_layer_at-in-Leaf.ensures.piece)) in
     let agree = subst MarksAgree (sym c.in-Leaf.ensures.parts) c.requires.agree in
@@ -37,7 +37,7 @@ pub put_nodes-requires-in-Group : goal.put_nodes-requires-in-Group
 put_nodes-requires-in-Group g t c κs within =
     let d = c.args.doc.now in
     let path = c.args.path.now.items in
-    let deep = path ++ c.args.place ∷ [] in
+    let deep = path ++ c.args.siblings.place ∷ [] in
     let old = c.args.pieces.now.bytes.items in
     let new = c.put_group.new.pieces.bytes.items in
     let children = nodes_of c.in-Group.children in
@@ -45,14 +45,14 @@ put_nodes-requires-in-Group g t c κs within =
     let gr = group_of c.in-Group.node.now in
     let start : vec_len c.args.pieces.now.bytes ≡ length old = omega (arith, c.args.pieces.now.bytes.ok.0) in
     let end : length new ≡ vec_len c.put_group.new.pieces.bytes = omega (arith, c.put_group.new.pieces.bytes.ok.0) in
-    let can : CanWalk d path c.args.place (group c.in-Group.id.0 gr children under) (length old) =
-    moved d path path c.args.place (nodes_of c.args.nodes) (group c.in-Group.id.0 gr children under) _ _ refl
+    let can : CanWalk d path c.args.siblings.place (group c.in-Group.id.0 gr children under) (length old) =
+    moved d path path c.args.siblings.place (nodes_of c.args.siblings.nodes) (group c.in-Group.id.0 gr children under) _ _ refl
     (ap nodes_of (sym c.in-Group.ensures.parts)) start c.requires.can in
     let put = piece_moved g.C.PlaneCoder.fits d c.deref.result.now deep c.in-Group.id.0 gr old new _ _ (c.deref.ensures.value
     ∙ c.in_ok-push-in-Group.ensures.items) c.in_ok-put_group-in-Group.ensures.piece in
     let next : CanWalk d c.push.new.self.items 0 children (vec_len c.put_group.new.pieces.bytes) =
     moved d deep _ 0 children children _ _ (sym c.in_ok-push-in-Group.ensures.items) refl end
-    (in_group g.C.PlaneCoder.fits d path c.args.place c.in-Group.id.0 gr children under old new _ _ can put) in
+    (in_group g.C.PlaneCoder.fits d path c.args.siblings.place c.in-Group.id.0 gr children under old new _ _ can put) in
     let agree = subst MarksAgree (sym c.in-Group.ensures.parts) c.requires.agree in
     let less : size c.in-Group.children < t = omega (arith, c.decreases, c.in-Group.ensures.falls) in
     (less, (search, (search, (agree.1.0, next))))
@@ -61,7 +61,7 @@ pub put_nodes-requires-in-Group-2 : goal.put_nodes-requires-in-Group-2
 put_nodes-requires-in-Group-2 g t c κs within =
     let d = c.args.doc.now in
     let path = c.args.path.now.items in
-    let deep = path ++ c.args.place ∷ [] in
+    let deep = path ++ c.args.siblings.place ∷ [] in
     let old = c.args.pieces.now.bytes.items in
     let mid = c.put_group.new.pieces.bytes.items in
     let new = c.put_nodes-in-Group.new.pieces.bytes.items in
@@ -72,19 +72,19 @@ put_nodes-requires-in-Group-2 g t c κs within =
     let end : length new ≡ vec_len c.put_nodes-in-Group.new.pieces.bytes =
     omega (arith, c.put_nodes-in-Group.new.pieces.bytes.ok.0) in
     let back : c.pop.new.self.items ≡ path =
-    popped path c.put_nodes-in-Group.new.path.items c.pop.new.self.items c.args.place c.put_nodes-in-Group.new.path.len
+    popped path c.put_nodes-in-Group.new.path.items c.pop.new.self.items c.args.siblings.place c.put_nodes-in-Group.new.path.len
     (c.in_ok-put_nodes-in-Group.ensures.path ∙ c.in_ok-push-in-Group.ensures.items)
     (omega (arith, c.put_nodes-in-Group.new.path.ok.0)) c.pop.ensures.rest in
-    let can : CanWalk d path c.args.place (group c.in-Group.id.0 gr children under) (length old) =
-    moved d path path c.args.place (nodes_of c.args.nodes) (group c.in-Group.id.0 gr children under) _ _ refl
+    let can : CanWalk d path c.args.siblings.place (group c.in-Group.id.0 gr children under) (length old) =
+    moved d path path c.args.siblings.place (nodes_of c.args.siblings.nodes) (group c.in-Group.id.0 gr children under) _ _ refl
     (ap nodes_of (sym c.in-Group.ensures.parts)) start c.requires.can in
     let put = piece_moved g.C.PlaneCoder.fits d c.deref.result.now deep c.in-Group.id.0 gr old mid _ _ (c.deref.ensures.value
     ∙ c.in_ok-push-in-Group.ensures.items) c.in_ok-put_group-in-Group.ensures.piece in
     let inside = put_moved g.C.PlaneCoder.fits d c.push.new.self.items deep 0 children children mid new _ _
     c.in_ok-push-in-Group.ensures.items refl c.in_ok-put_nodes-in-Group.ensures.pieces in
-    let next : CanWalk d c.pop.new.self.items (c.args.place + 1) under (vec_len c.put_nodes-in-Group.new.pieces.bytes) =
-    moved d path _ (c.args.place + 1) under under _ _ (sym back) refl end
-    (under_group g.C.PlaneCoder.fits d path c.args.place c.in-Group.id.0 gr children under old mid new _ _ _ can put inside) in
+    let next : CanWalk d c.pop.new.self.items (c.args.siblings.place + 1) under (vec_len c.put_nodes-in-Group.new.pieces.bytes) =
+    moved d path _ (c.args.siblings.place + 1) under under _ _ (sym back) refl end
+    (under_group g.C.PlaneCoder.fits d path c.args.siblings.place c.in-Group.id.0 gr children under old mid new _ _ _ can put inside) in
     let agree = subst MarksAgree (sym c.in-Group.ensures.parts) c.requires.agree in
     let less : size c.in-Group.under < t = omega (arith, c.decreases, c.in-Group.ensures.falls) in
     (less, (search, (search, (agree.1.1, next))))
@@ -100,13 +100,13 @@ returns-in_ok-put_layer_at-in-Leaf-clause-pieces g t c =
     let under = nodes_of c.in-Leaf.under in
     let l = layer_of c.in-Leaf.node.now in
     on_ok_weaker c.put_nodes.result
-    (λ rest. put_moved fits d path path c.args.place (leaf c.in-Leaf.id.0 l under) (nodes_of c.args.nodes) old new _ _ refl
+    (λ rest. put_moved fits d path path c.args.siblings.place (leaf c.in-Leaf.id.0 l under) (nodes_of c.args.siblings.nodes) old new _ _ refl
     (ap nodes_of c.in-Leaf.ensures.parts)
-    (leaf_walked fits d path c.args.place c.in-Leaf.id.0 l under old mid new _ _ _
+    (leaf_walked fits d path c.args.siblings.place c.in-Leaf.id.0 l under old mid new _ _ _
     (compressed fits c.doc.inside.compression d.compression _ old mid _ _
     (ap (λ d. d.compression) c.doc.view_is) c.in_ok-put_layer_at-in-Leaf.ensures.piece)
     (put_moved fits d c.put_layer_at.new.path.items path
-    (c.args.place + 1) under under mid new _ _ c.in_ok-put_layer_at-in-Leaf.ensures.path refl rest)))
+    (c.args.siblings.place + 1) under under mid new _ _ c.in_ok-put_layer_at-in-Leaf.ensures.path refl rest)))
     c.put_nodes.ensures.pieces
 
 pub returns-in_ok-put_nodes-in-Group-clause-pieces : goal.returns-in_ok-put_nodes-in-Group-clause-pieces
@@ -114,7 +114,7 @@ returns-in_ok-put_nodes-in-Group-clause-pieces g t c =
     let d = c.args.doc.now in
     let fits = g.C.PlaneCoder.fits in
     let path = c.args.path.now.items in
-    let deep = path ++ c.args.place ∷ [] in
+    let deep = path ++ c.args.siblings.place ∷ [] in
     let old = c.args.pieces.now.bytes.items in
     let mid = c.put_group.new.pieces.bytes.items in
     let far = c.put_nodes-in-Group.new.pieces.bytes.items in
@@ -123,7 +123,7 @@ returns-in_ok-put_nodes-in-Group-clause-pieces g t c =
     let under = nodes_of c.in-Group.under in
     let gr = group_of c.in-Group.node.now in
     let back : c.pop.new.self.items ≡ path =
-    popped path c.put_nodes-in-Group.new.path.items c.pop.new.self.items c.args.place c.put_nodes-in-Group.new.path.len
+    popped path c.put_nodes-in-Group.new.path.items c.pop.new.self.items c.args.siblings.place c.put_nodes-in-Group.new.path.len
     (c.in_ok-put_nodes-in-Group.ensures.path ∙ c.in_ok-push-in-Group.ensures.items)
     (omega (arith, c.put_nodes-in-Group.new.path.ok.0)) c.pop.ensures.rest in
     let put = piece_moved fits d c.deref.result.now deep c.in-Group.id.0 gr old mid _ _ (c.deref.ensures.value
@@ -131,10 +131,10 @@ returns-in_ok-put_nodes-in-Group-clause-pieces g t c =
     let inside = put_moved fits d c.push.new.self.items deep 0 children children mid far _ _ c.in_ok-push-in-Group.ensures.items
     refl c.in_ok-put_nodes-in-Group.ensures.pieces in
     on_ok_weaker c.put_nodes-in-Group-2.result
-    (λ rest. put_moved fits d path path c.args.place (group c.in-Group.id.0 gr children under)
-    (nodes_of c.args.nodes) old new _ _ refl (ap nodes_of c.in-Group.ensures.parts)
-    (group_walked fits d path c.args.place c.in-Group.id.0 gr children under old mid far new _ _ _ _ put inside
-    (put_moved fits d c.pop.new.self.items path (c.args.place + 1) under under far new _ _ back refl rest)))
+    (λ rest. put_moved fits d path path c.args.siblings.place (group c.in-Group.id.0 gr children under)
+    (nodes_of c.args.siblings.nodes) old new _ _ refl (ap nodes_of c.in-Group.ensures.parts)
+    (group_walked fits d path c.args.siblings.place c.in-Group.id.0 gr children under old mid far new _ _ _ _ put inside
+    (put_moved fits d c.pop.new.self.items path (c.args.siblings.place + 1) under under far new _ _ back refl rest)))
     c.put_nodes-in-Group-2.ensures.pieces
 
 pub returns-in_ok-put_layer_at-in-Leaf-clause-followed : goal.returns-in_ok-put_layer_at-in-Leaf-clause-followed
@@ -148,13 +148,13 @@ returns-in_ok-put_layer_at-in-Leaf-clause-followed g t c =
     let under = nodes_of c.in-Leaf.under in
     let l = layer_of c.in-Leaf.node.now in
     on_ok_weaker c.put_nodes.result
-    (λ rest. nodes_followed follows d path path c.args.place (leaf c.in-Leaf.id.0 l under) (nodes_of c.args.nodes) before after refl
+    (λ rest. nodes_followed follows d path path c.args.siblings.place (leaf c.in-Leaf.id.0 l under) (nodes_of c.args.siblings.nodes) before after refl
     (ap nodes_of c.in-Leaf.ensures.parts)
-    (leaf_followed follows d path c.args.place c.in-Leaf.id.0 l under before between after
-    (item_followed follows c.doc.inside.compression d.compression (layer_item (path ++ c.args.place ∷ []) l) before between
+    (leaf_followed follows d path c.args.siblings.place c.in-Leaf.id.0 l under before between after
+    (item_followed follows c.doc.inside.compression d.compression (layer_item (path ++ c.args.siblings.place ∷ []) l) before between
     (ap (λ d. d.compression) c.doc.view_is) c.in_ok-put_layer_at-in-Leaf.ensures.followed)
     (nodes_followed follows d c.put_layer_at.new.path.items path
-    (c.args.place + 1) under under between after c.in_ok-put_layer_at-in-Leaf.ensures.path refl rest)))
+    (c.args.siblings.place + 1) under under between after c.in_ok-put_layer_at-in-Leaf.ensures.path refl rest)))
     c.put_nodes.ensures.followed
 
 pub returns-in_ok-put_nodes-in-Group-clause-followed : goal.returns-in_ok-put_nodes-in-Group-clause-followed
@@ -162,7 +162,7 @@ returns-in_ok-put_nodes-in-Group-clause-followed g t c =
     let d = c.args.doc.now in
     let follows = g.C.PlaneCoder.follows in
     let path = c.args.path.now.items in
-    let deep = path ++ c.args.place ∷ [] in
+    let deep = path ++ c.args.siblings.place ∷ [] in
     let before = c.args.coder.now in
     let between = c.put_group.new.coder in
     let far = c.put_nodes-in-Group.new.coder in
@@ -171,7 +171,7 @@ returns-in_ok-put_nodes-in-Group-clause-followed g t c =
     let under = nodes_of c.in-Group.under in
     let gr = group_of c.in-Group.node.now in
     let back : c.pop.new.self.items ≡ path =
-    popped path c.put_nodes-in-Group.new.path.items c.pop.new.self.items c.args.place c.put_nodes-in-Group.new.path.len
+    popped path c.put_nodes-in-Group.new.path.items c.pop.new.self.items c.args.siblings.place c.put_nodes-in-Group.new.path.len
     (c.in_ok-put_nodes-in-Group.ensures.path ∙ c.in_ok-push-in-Group.ensures.items)
     (omega (arith, c.put_nodes-in-Group.new.path.ok.0)) c.pop.ensures.rest in
     let first = group_moved follows d c.deref.result.now deep c.in-Group.id.0 gr before between (c.deref.ensures.value
@@ -179,16 +179,16 @@ returns-in_ok-put_nodes-in-Group-clause-followed g t c =
     let inside = nodes_followed follows d c.push.new.self.items deep 0 children children between far
     c.in_ok-push-in-Group.ensures.items refl c.in_ok-put_nodes-in-Group.ensures.followed in
     on_ok_weaker c.put_nodes-in-Group-2.result
-    (λ rest. nodes_followed follows d path path c.args.place (group c.in-Group.id.0 gr children under)
-    (nodes_of c.args.nodes) before after refl (ap nodes_of c.in-Group.ensures.parts)
-    (group_followed follows d path c.args.place c.in-Group.id.0 gr children under before between far after first inside
-    (nodes_followed follows d c.pop.new.self.items path (c.args.place + 1) under under far after back refl rest)))
+    (λ rest. nodes_followed follows d path path c.args.siblings.place (group c.in-Group.id.0 gr children under)
+    (nodes_of c.args.siblings.nodes) before after refl (ap nodes_of c.in-Group.ensures.parts)
+    (group_followed follows d path c.args.siblings.place c.in-Group.id.0 gr children under before between far after first inside
+    (nodes_followed follows d c.pop.new.self.items path (c.args.siblings.place + 1) under under far after back refl rest)))
     c.put_nodes-in-Group-2.ensures.followed
 
 pub returns-in-Empty-clause-followed : goal.returns-in-Empty-clause-followed
 returns-in-Empty-clause-followed g t c =
     let path = c.args.path.now.items in
-    nodes_followed g.C.PlaneCoder.follows c.args.doc.now path path c.args.place none (nodes_of c.args.nodes) c.args.coder.now
+    nodes_followed g.C.PlaneCoder.follows c.args.doc.now path path c.args.siblings.place none (nodes_of c.args.siblings.nodes) c.args.coder.now
     c.args.coder.now refl (ap nodes_of c.in-Empty.ensures.parts) refl
 
 pub returns-in-Empty-clause-pieces : goal.returns-in-Empty-clause-pieces
@@ -196,5 +196,5 @@ returns-in-Empty-clause-pieces g t c =
     let path = c.args.path.now.items in
     let old = c.args.pieces.now.bytes.items in
     let begins = c.args.pieces.now.begins.items in
-    put_moved g.C.PlaneCoder.fits c.args.doc.now path path c.args.place none (nodes_of c.args.nodes) old old begins begins refl
+    put_moved g.C.PlaneCoder.fits c.args.doc.now path path c.args.siblings.place none (nodes_of c.args.siblings.nodes) old old begins begins refl
     (ap nodes_of c.in-Empty.ensures.parts) (none_appended (IsItem g.C.PlaneCoder.fits c.args.doc.now.compression) old begins)
