@@ -7,6 +7,9 @@ use std::marker::Model;
 use xl_doc::MAX_SIDE;
 use xl_fields::{Kind, ReadRefused, refuse, u32_at};
 
+/// A file has fewer bytes than this.
+pub const FILE_LIMIT: usize = 1 << 31;
+
 /// How many bytes the magic and the version take.
 const VERSION_END: usize = 14;
 
@@ -97,8 +100,8 @@ pub fn header_at(bytes: &[u8]) -> Result<Header, ReadRefused>
     ensures height { IfOk result (λ h. IsSide h.height) }
     ensures short { IfOk result (λ h. length bytes.now < 2 ^ 31) }
 {
-    if bytes.len() >= 1 << 31 {
-        return Err(refuse(Kind::TooLarge, (1 << 31) - 1));
+    if bytes.len() >= FILE_LIMIT {
+        return Err(refuse(Kind::TooLarge, FILE_LIMIT - 1));
     }
     if !begins(bytes, 0, b"gimp xcf ") {
         return Err(refuse(Kind::NotXcf, 0));

@@ -18,4 +18,5 @@ mod sums;
 mod words;
 
 pub use file::decode;
+pub use header::{FILE_LIMIT, is_side};
 pub use xl_fields::{Kind, ReadRefused, ReadRefusedOrMemory};
