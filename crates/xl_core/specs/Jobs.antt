@@ -1,5 +1,6 @@
 -- Jobs as a desk gives them out, one to a seat.
 use Rattle.std.specs.Prelude.{◌≡◌, ℕ, Bool, true, false, nat_lt, if◌then◌else◌, List, Option, Some, None, Result, Ok, Err}
+use Rattle.spec_grid.specs.Grid.{is_on_grid}
 use Rattle.spec_grid.specs.declared.TileAt.{TileAt}
 use Rattle.spec_document.specs.Document.{Document}
 use Rattle.spec_picture.specs.Picture.{project}
@@ -7,7 +8,7 @@ use Rattle.spec_cache.specs.declared.Finished.{Finished}
 use Rattle.spec_cache.specs.declared.Finished.TheVariants.{Installed, Late, Gone}
 use Rattle.spec_cache.specs.Cache.{Place}
 use Rattle.spec_history.specs.Machine.{latest, document_at, has_stack}
-use Rattle.spec_history.specs.History.{Entry, replay}
+use Rattle.spec_history.specs.History.{Entry, replay, latest_of, document_of}
 use Rattle.spec_history.specs.Marks.{marked_at}
 use Rattle.xl_compose.specs.Job.{StandsFor}
 use Rattle.xl_compose.specs.declared.clean.Done.{Done}
@@ -26,6 +27,13 @@ abbrev pub IsTaken : Taken → Option Out → Type 0
 IsTaken (takes.Job job) out = (o : Out) × (out ≡ Some o) × StandsFor o.document o.stack o.at o.version job
 IsTaken takes.Nothing out = out ≡ None
 IsTaken takes.Closing out = out ≡ None
+
+-- the job is of the last version after these entries, and of a stack and a tile that are there
+pub record IsOfLatest (base : Document) (entries : List Entry) (out : Out) : Type 0 where
+  pub version_is : out.version ≡ latest_of entries
+  pub document_is : out.document ≡ document_of base entries (latest_of entries)
+  pub has : has_stack out.document out.stack ≡ true
+  pub on_grid : is_on_grid base.width base.height out.at ≡ true
 
 abbrev pub is_closing : Taken → Bool
 is_closing (takes.Job job) = false

@@ -1,6 +1,6 @@
-ghost use Rattle.std.specs.Prelude.{◌≡◌, ℕ, List, Bool, Option, None, IfOk, OnErr};
+ghost use Rattle.std.specs.Prelude.{◌≡◌, ℕ, List, Bool, Option, None, IfOk, IfSome, OnErr};
 ghost use Rattle.xl_standing.specs.Places.{place_done};
-ghost use Rattle.xl_core.specs.Jobs.{IsTaken, says_closing, IsOutcomeOf, finished_by};
+ghost use Rattle.xl_core.specs.Jobs.{IsTaken, IsOfLatest, says_closing, IsOutcomeOf, finished_by};
 
 use crate::tally::Tally;
 use std::alloc::{AllocError, Global};
@@ -55,7 +55,8 @@ pub trait JobDesk {
     /// What became of the pictures that were handed in with the seat.
     ghost tally: { Self.Seat → Tally };
 
-    /// Takes a job, which is then out. After out of memory none is.
+    /// Takes a job, which is then out. It is of the last version of the history that the seat knows then. After out of memory none
+    /// is out.
     fn take_job<W: Wait>(
         &self,
         rt: &W,
@@ -66,6 +67,7 @@ pub trait JobDesk {
         requires none { out seat.old ≡ None }
         ensures seat { is_of self.now seat.new }
         ensures taken { IfOk result (λ taken. IsTaken taken (out seat.new)) }
+        ensures latest { IfSome (out seat.new) (IsOfLatest (base self.now) (entries seat.new)) }
         ensures memory { OnErr result (out seat.new ≡ None) }
         ensures closed { closed seat.new ≡ says_closing result }
         ensures weight { weight seat.new ≡ weight seat.old }

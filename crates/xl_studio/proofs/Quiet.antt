@@ -1,5 +1,5 @@
 -- A hold of the turn that makes no entry, and the job that a seat has out.
-use Rattle.std.proofs.Common.{◌≡◌, ℕ, ◌≤◌, true, List, ◌++◌, Option, refl, sym, ap, ◌∙◌, subst, arith, inl}
+use Rattle.std.proofs.Common.{◌≡◌, ℕ, ◌≤◌, true, List, ◌++◌, Option, Some, None, refl, sym, ap, ◌∙◌, subst, arith, inl}
 use Rattle.std.specs.Prelude.{Result, Ok, Err, IfOk, IfSome}
 use mathlib.Core.List.{IsPrefix}
 use Rattle.spec_grid.specs.Grid.{is_on_grid}
@@ -17,7 +17,7 @@ use Rattle.xl_core.specs.declared.jobs.Taken.{Taken}
 use Rattle.xl_core.specs.declared.jobs.Taken.TheVariants as takes
 use Rattle.xl_standing.specs.History.{History, version, document}
 use Rattle.xl_core.specs.Editing.{Editing, IsPictureOf}
-use Rattle.xl_core.specs.Jobs.{Out, IsTaken, IsOutcome, IsOutcomeOf}
+use Rattle.xl_core.specs.Jobs.{Out, IsTaken, IsOfLatest, IsOutcome, IsOutcomeOf}
 use Rattle.xl_turn.specs.Seats.{MayLeave}
 use Rattle.xl_studio.specs.declared.moment.Moment.{Moment}
 use Rattle.xl_studio.specs.Moments.{entries_in, closed_by}
@@ -75,33 +75,45 @@ module _ {K : Type 0} where
   is_taken (Ok takes.Closing) s d is gives = refl
   is_taken (Err e) s d is gives = tt
 
-  is_job_of : (base : Document) (front : List (Moment K)) (c : Editing K) (d : Document) (job : Job) → base ≡ c.history.base
+  is_of_latest : (base : Document) (front : List (Moment K)) (c : Editing K) (d : Document) (job : Job) → base ≡ c.history.base
       → entries_in front ≡ c.history.entries → d ≡ document c.history → IsJobNow c job
-      → IsJobOf base front (record { stack = job.stack; at = job.at; version = job.version; document = d })
-  is_job_of base front c d job same es is now =
+      → IsOfLatest base (entries_in front) (record { stack = job.stack; at = job.at; version = job.version; document = d })
+  is_of_latest base front c d job same es is now =
       let h = c.history in
       let number : job.version ≡ latest_of h.entries = now.stands.version_is in
       let last : latest_of (entries_in front) ≡ latest_of h.entries = ap latest_of es in
       let canvas = canvas-document h.base h.entries (version h) in
       record {
-        version = omega (arith, number, last);
-        document_is = is ∙ (λ i. document_of (sym same i) (sym es i) (sym number i));
+        version_is = number ∙ sym last;
+        document_is = is ∙ (λ i. document_of (sym same i) (sym es i) (sym last i));
         has = ap (λ x. has_stack x job.stack) is ∙ now.there.has;
         on_grid = (λ i. is_on_grid ((ap (λ (b : Document). b.width) same ∙ sym canvas.width) i)
             ((ap (λ (b : Document). b.height) same ∙ sym canvas.height) i) job.at) ∙ now.there.on_grid;
       }
 
-  pub job_after : {E : Type 0} (r : Result Taken E) (base : Document) (front : List (Moment K)) (s new : State K) (d : Document)
+  -- it is of the last version of the front
+  pub latest_after : {E : Type 0} (r : Result Taken E) (base : Document) (front : List (Moment K)) (s new : State K) (d : Document)
       → base ≡ new.core.history.base → front ≡ moments_of new.core → HasStayed s new
-      → d ≡ document s.core.history → IfOk r (GivesOut s) → IfSome (out_after r d) (IsJobOf base front)
-  job_after (Ok (takes.Job job)) base front s new d same is stays doc gives =
+      → d ≡ document s.core.history → IfOk r (GivesOut s) → IfSome (out_after r d) (IsOfLatest base (entries_in front))
+  latest_after (Ok (takes.Job job)) base front s new d same is stays doc gives =
       let h : s.core.history ≡ new.core.history = sym stays.history in
-      is_job_of base front s.core d job (same ∙ ap (λ x. x.base) stays.history)
+      is_of_latest base front s.core d job (same ∙ ap (λ x. x.base) stays.history)
       (ap entries_in is ∙ (entries-moments new.core.history.base new.core.opening new.core.handed new.core.history.entries
       ∙ ap (λ x. x.entries) stays.history)) doc gives.1
-  job_after (Ok takes.Nothing) base front s new d same is stays doc gives = tt
-  job_after (Ok takes.Closing) base front s new d same is stays doc gives = tt
-  job_after (Err e) base front s new d same is stays doc gives = tt
+  latest_after (Ok takes.Nothing) base front s new d same is stays doc gives = tt
+  latest_after (Ok takes.Closing) base front s new d same is stays doc gives = tt
+  latest_after (Err e) base front s new d same is stays doc gives = tt
+
+  -- and so it is one of the front
+  pub of_front : (base : Document) (front : List (Moment K)) (o : Option Out) → IfSome o (IsOfLatest base (entries_in front))
+      → IfSome o (IsJobOf base front)
+  of_front base front None is = tt
+  of_front base front (Some out) is = record {
+    version = omega (arith, is.version_is);
+    document_is = is.document_is ∙ ap (document_of base (entries_in front)) (sym is.version_is);
+    has = is.has;
+    on_grid = is.on_grid;
+  }
 
   -- ---- a picture that is handed in
 

@@ -46,7 +46,7 @@ impl<D: Shelf> JobDesk for Studio<D> {
     ghost use Rattle.std.specs.Prelude.{◌≡◌, None, IfOk, IfSome, OnErr};
     ghost use mathlib.Core.List.{IsPrefix};
     ghost use Rattle.xl_standing.specs.Places.{place_done};
-    ghost use Rattle.xl_core.specs.Jobs.{IsTaken, says_closing, IsOutcomeOf, finished_by};
+    ghost use Rattle.xl_core.specs.Jobs.{IsTaken, IsOfLatest, says_closing, IsOutcomeOf, finished_by};
     ghost use Rattle.xl_core.specs.Tally.{counted};
     ghost use Rattle.xl_studio.specs.Calling.{HasHeard};
     ghost use Rattle.xl_studio.specs.Jobs.{job_out, tally_of, IsWorker};
@@ -81,6 +81,8 @@ impl<D: Shelf> JobDesk for Studio<D> {
         requires none { job_out seat.old ≡ None }
         ensures seat { IsWorker self.now seat.new }
         ensures taken { IfOk result (λ taken. IsTaken taken (job_out seat.new)) }
+        ensures latest { IfSome (job_out seat.new) (IsOfLatest (base_of self.now)
+            (entries_in (front_of seat.new))) }
         ensures memory { OnErr result (job_out seat.new ≡ None) }
         ensures closed { seat.new.closed ≡ says_closing result }
         ensures weight { weight_of seat.new ≡ weight_of seat.old }
