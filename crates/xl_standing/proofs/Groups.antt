@@ -33,6 +33,7 @@ pub record IsUnderWay (old now : At) (edits : List Edit) (tables : List (List �
   pub enough : taken + filter_count (edits_of (drop index edits)) ≡ length tables
   pub along : damage ++ damage_along now (edits_of (drop index edits)) (drop taken tables)
       ≡ damage_along old (edits_of edits) tables
+  pub first : index ≡ 0 → now.document ≡ old.document
 
 pub begins : (old : At) (edits : List Edit) (tables : List (List ℕ)) (damage : List Pair) → damage ≡ []
     → AllByRecursion IsEdit (edits_of edits) → HasIds old (length edits)
@@ -46,6 +47,7 @@ begins old edits tables damage none each ids enough =
       enough = omega (arith, enough);
       along =
           ap (λ d. d ++ damage_along old (edits_of edits) tables) none;
+      first = λ e. refl;
     }
 
 pub front : (edits : List Edit) (index : ℕ) (e : Edit) → index < length edits → e ≡ get_or edits index e
@@ -157,6 +159,10 @@ makes now new e table came =
     came).1 in
     (table, ap (λ a. a.document) (sym made))
 
+-- behind an edit nothing is before the first one
+not_first : {A : Type 0} (index : ℕ) (a b : A) → index + 1 ≡ 0 → a ≡ b
+not_first index a b e = let wrong : suc index ≡ 0 = sym (add-one index) ∙ e in cc
+
 -- an edit that was accepted
 pub goes_on : (old now new : At) (edits : List Edit) (tables : List (List ℕ)) (index taken : ℕ) (damage : List Pair) (e : Edit)
     (table : List ℕ) → IsUnderWay old now edits tables index taken damage
@@ -191,6 +197,7 @@ goes_on old now new edits tables index taken damage e table way inside is table_
           (along_edit now new (edit_of e) left (drop taken tables) (drop (taken + more) tables) table table_is applied behind))
           ∙ (ap (λ rest. damage ++ damage_along now (edits_of rest) (drop taken tables)) (sym (front edits index e inside is))
           ∙ way.along));
+      first = not_first index new.document old.document;
     }
 
 -- an edit that is refused
@@ -222,3 +229,8 @@ is_damaged old now edits tables index taken damage way past =
 pub is_within : (old now : At) (edits : List Edit) (tables : List (List ℕ)) (index taken : ℕ) (damage : List Pair)
     → IsUnderWay old now edits tables index taken damage → IsAt now
 is_within old now edits tables index taken damage way = way.ids.is
+
+-- before the first edit the document is the one from the start
+pub is_first : (old now : At) (edits : List Edit) (tables : List (List ℕ)) (index taken : ℕ) (damage : List Pair)
+    → IsUnderWay old now edits tables index taken damage → index ≡ 0 → now.document ≡ old.document
+is_first old now edits tables index taken damage way = way.first

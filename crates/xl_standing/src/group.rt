@@ -1,6 +1,6 @@
 //! Edits that are made together.
 ghost use Rattle.std.specs.Prelude.{◌≡◌, ℕ, ◌+◌, ◌-◌, ◌≤◌, ◌++◌, true, cond, List, [], None, Ok, drop, length, IfOk};
-ghost use Rattle.std.specs.Prelude.{IfErr, OnOk, OnErr};
+ghost use Rattle.std.specs.Prelude.{IfErr, OnOk, OnErr, IfSome};
 ghost use Rattle.std.specs.List.{AllByRecursion};
 ghost use Rattle.spec_damage.specs.Damage as pairs;
 ghost use Rattle.spec_document.specs.Limits.{AreBytes};
@@ -130,11 +130,13 @@ pub fn try_group(
     ensures refused { IfErr result (IsRefusal (at document.now next_id) (edits_of edits.now)
         tables) }
 {
-    let mut document = document.share(alloc)?;
+    let before = document;
+    let mut document = before.share(alloc)?;
     let mut next_id = next_id;
     let mut damage = Damage::new(alloc);
     apply_group(
         alloc,
+        before,
         &mut document,
         &mut next_id,
         edits,
@@ -149,13 +151,14 @@ pub fn try_group(
     })
 }
 
-// Applies the edits in turn, each filter with the next table. `next_id` is the id that the next new node gets, and
-// `damage` what the edits so far may have changed.
+// Applies the edits in turn to a share of a document, each filter with the next table. `next_id` is the id that the next new node
+// gets, and `damage` what the edits so far may have changed.
 //
 // A refusal and out of memory leave what the edits before have made, which the caller drops.
-#[tactic(auto, using(crate::proofs::Groups::begins, crate::proofs::Groups::next_is_edit, crate::proofs::Groups::next_has_id, crate::proofs::Groups::next_has_table, crate::proofs::Groups::stops, crate::proofs::Groups::is_done, crate::proofs::Groups::is_damaged, crate::proofs::Groups::is_within))]
+#[tactic(auto, using(crate::proofs::Groups::begins, crate::proofs::Groups::next_is_edit, crate::proofs::Groups::next_has_id, crate::proofs::Groups::next_has_table, crate::proofs::Groups::stops, crate::proofs::Groups::is_done, crate::proofs::Groups::is_damaged, crate::proofs::Groups::is_within, crate::proofs::Groups::is_first))]
 fn apply_group(
     alloc: Global,
+    first: &Document,
     document: &mut Document,
     next_id: &mut u32,
     edits: &[Edit],
@@ -167,6 +170,7 @@ fn apply_group(
     requires ids { HasIds (at document.old next_id.old) (length edits.now) }
     requires tables { length tables.now ≡ filter_count (edits_of edits.now) }
     requires none { damage.old ≡ [] }
+    requires share { document.old ≡ first.now }
     ensures applied { AppliesGroup (at document.old next_id.old) (at document.new next_id.new)
         (edits_of edits.now) tables.now result }
     ensures damage { OnOk result (damage.new ≡ damage_along (at document.old next_id.old)
@@ -179,7 +183,8 @@ fn apply_group(
         let table = table_for(edit, tables, taken, &blank);
         know_table(table);
         taken += filter_count(edit);
-        match apply_one(alloc, document, next_id, edit, table, damage) {
+        let before = at_first(index, first);
+        match apply_next(alloc, before, document, next_id, edit, table, damage) {
             Ok(()) => {}
             Err(EditRefusedOrMemory::Refused(cause)) => {
                 return Err(GroupRefusedOrMemory::Refused {
@@ -197,12 +202,14 @@ fn apply_group(
 #[tactic(auto, using(crate::proofs::Groups::accepts, crate::proofs::Groups::makes))]
 fn apply_one(
     alloc: Global,
+    before: &Document,
     document: &mut Document,
     next_id: &mut u32,
     edit: &Edit,
     table: &Table,
     damage: &mut Damage,
 ) -> Result<(), EditRefusedOrMemory>
+    requires before { document.old ≡ before.now }
     requires edit { IsEdit (edit_of edit.now) }
     requires next { HasNext document.old next_id.old (edit_of edit.now) }
     ensures applied { IsAppliedOne (at document.old next_id.old) (at document.new next_id.new)
@@ -210,11 +217,45 @@ fn apply_one(
     ensures damage { OnOk result (damage.new ≡ damage.old ++ pairs.damage document.old
         (edit_of edit.now)) }
 {
-    let before = document.share(alloc)?;
     let id = *next_id;
     apply(alloc, document, next_id, edit, table)?;
-    damage.add(alloc, &before, document, id, edit)?;
+    damage.add(alloc, before, document, id, edit)?;
     Ok(())
+}
+
+// The document before the first edit of a group, at the first one.
+fn at_first(index: usize, first: &Document) -> Option<&Document>
+    ensures { IfSome result (λ before. (index ≡ 0) × (before.now ≡ first.now)) }
+{
+    if index == 0 { Some(first) } else { None }
+}
+
+// Applies an edit of a group. The damage is told by the documents before and after it: where the one before is not there, a share of
+// it is taken.
+fn apply_next(
+    alloc: Global,
+    before: Option<&Document>,
+    document: &mut Document,
+    next_id: &mut u32,
+    edit: &Edit,
+    table: &Table,
+    damage: &mut Damage,
+) -> Result<(), EditRefusedOrMemory>
+    requires before { IfSome before (λ before. document.old ≡ before.now) }
+    requires edit { IsEdit (edit_of edit.now) }
+    requires next { HasNext document.old next_id.old (edit_of edit.now) }
+    ensures applied { IsAppliedOne (at document.old next_id.old) (at document.new next_id.new)
+        (edit_of edit.now) table.now result }
+    ensures damage { OnOk result (damage.new ≡ damage.old ++ pairs.damage document.old
+        (edit_of edit.now)) }
+{
+    match before {
+        Some(before) => apply_one(alloc, before, document, next_id, edit, table, damage),
+        None => {
+            let before = document.share(alloc)?;
+            apply_one(alloc, &before, document, next_id, edit, table, damage)
+        }
+    }
 }
 
 // The next table where the edit is a filter, and else any.

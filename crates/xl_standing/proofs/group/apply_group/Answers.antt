@@ -9,11 +9,11 @@ pub loop-index-preserved : goal.loop-index-preserved
 loop-index-preserved c =
     let inside : c.loop-index.index < length c.args.edits.now = search rules in
     let old = at c.args.document.now c.args.next_id.now in
-    let new = at c.apply_one.new.document c.apply_one.new.next_id in
+    let new = at c.apply_next.new.document c.apply_next.new.next_id in
     let P : ℕ → List Pair → Type 0 =
     λ more damage. IsUnderWay old new c.args.edits.now c.args.tables.now (c.loop-index.index + 1)
     (c.loop-index.taken + more) damage in
-    subst (λ more. P more c.apply_one.new.damage) (sym c.filter_count-taken.ensures)
+    subst (λ more. P more c.apply_next.new.damage) (sym c.filter_count-taken.ensures)
     (subst (P _) (sym c.in-Ok.ensures.damage)
     (goes_on old (at c.loop-index.document c.loop-index.next_id) new c.args.edits.now c.args.tables.now c.loop-index.index
     c.loop-index.taken c.loop-index.damage
