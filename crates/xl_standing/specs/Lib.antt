@@ -4,3 +4,4 @@ pub mod Group
 pub mod Steps
 pub mod Needs
 pub mod Places
+pub mod Jobs

@@ -1,5 +1,5 @@
 //! What stands now: the last document, what an undo or a redo gives, and the pictures that are kept.
-ghost use Rattle.std.specs.Prelude.{◌≡◌, ◌+◌, ◌<◌, ◌≤◌, ◌^◌, true, [], length, option_map, IfOk, IfSome, IsOk, OnOk};
+ghost use Rattle.std.specs.Prelude.{◌≡◌, ◌+◌, ◌<◌, ◌≤◌, ◌^◌, true, false, [], length, option_map, IfOk, IfSome, IsOk, OnOk};
 ghost use Rattle.std.specs.Prelude.{OnErr, Some, None};
 ghost use Rattle.std.specs.List.{AllByRecursion};
 ghost use Rattle.spec_cache.specs.Cache.{no_slots, is_clean, kept, next_place, after_take, finish, install};
@@ -12,6 +12,7 @@ ghost use Rattle.spec_tables.specs.Agrees.{AreThere, AreAsked, IsPartAfter};
 ghost use Rattle.spec_tables.specs.Tables.{edits_made};
 ghost use Rattle.spec_world.specs.World.{add_stacks, stack_ids};
 ghost use Rattle.xl_compose.specs.Job.{StandsFor};
+ghost use Rattle.xl_standing.specs.Jobs.{is_marked, GivesJob};
 ghost use Rattle.xl_standing.specs.Needs.{TakesNoStep, IsUndoOrRedo, call_cost, tile_cost};
 ghost use Rattle.xl_standing.specs.Places.{place_of_job, place_done};
 ghost use Rattle.xl_standing.specs.Group.{HasIds};
@@ -31,7 +32,7 @@ use crate::desk::Desk;
 use crate::group::{GroupRefusedOrMemory, Made, make_group};
 use crate::next_id::next_id_of;
 use crate::step::Step;
-use crate::tile::{has_stack, has_tile, look, show};
+use crate::tile::{has_stack, has_tile, is_tile_marked, look, show};
 use std::alloc::{AllocError, Global};
 use std::marker::Model;
 use std::mem;
@@ -400,6 +401,27 @@ impl Standing {
         let Some((node, at)) = self.cache.take() else {
             return Ok(None);
         };
+        let job = job(alloc, &self.document, node, at, self.version, &self.cache)?;
+        Ok(Some(job))
+    }
+
+    /// A job for the tile that is named, where its slot is marked. The kept picture of a clean group is taken as it is, and the slot
+    /// does not count as taken. None exactly where the stack or the tile is not there or the slot is clean, which takes no memory.
+    pub fn job_for(
+        &self,
+        alloc: Global,
+        node: NodeId,
+        at: TileAt,
+    ) -> Result<Option<Job>, AllocError>
+        requires kept { IsKeptNow self.now }
+        ensures job { IfOk result (GivesJob self.now.document self.now.cache self.now.version node.0
+            at) }
+        ensures none { is_marked self.now.document self.now.cache node.0 at ≡ false
+            → IsOk result }
+    {
+        if !is_tile_marked(&self.document, &self.cache, node, at) {
+            return Ok(None);
+        }
         let job = job(alloc, &self.document, node, at, self.version, &self.cache)?;
         Ok(Some(job))
     }

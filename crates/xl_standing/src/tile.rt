@@ -7,6 +7,7 @@ ghost use Rattle.spec_grid.specs.Grid.{is_on_grid};
 ghost use Rattle.spec_history.specs.Machine.{has_stack as document_has_stack};
 ghost use Rattle.spec_picture.specs.Picture.{project};
 ghost use Rattle.spec_world.specs.Events.{peek_reply, show_slot};
+ghost use Rattle.xl_standing.specs.Jobs.{is_marked};
 ghost use Rattle.xl_standing.specs.Needs.{tile_cost};
 ghost use Rattle.xl_standing.specs.Now.{IsKept, KeepsDesk, ShowsKept};
 ghost use Rattle.xl_edit.specs.Replies.{reply_of};
@@ -33,6 +34,13 @@ pub fn has_tile(document: &Document, at: TileAt) -> bool
 {
     let (columns, rows) = grid(document.width, document.height);
     at.col < columns && at.row < rows
+}
+
+/// Whether the document has the stack, the canvas the tile, and the slot of that is marked.
+pub(crate) fn is_tile_marked(document: &Document, cache: &Cache, node: NodeId, at: TileAt) -> bool
+    ensures { result ≡ is_marked document.now cache.now node.0 at }
+{
+    has_stack(document, node) && has_tile(document, at) && !cache.clean(node, at)
 }
 
 // Copies the picture of a clean slot. Whether there is one.
