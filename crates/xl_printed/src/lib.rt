@@ -13,7 +13,7 @@ mod shape;
 mod source;
 
 pub use output::{Output, read_output};
-pub use printed::{Printed, Replies};
+pub use printed::{Printed, SessionReplies};
 pub use replies::read_reply;
 pub use shape::read_shaped;
 pub use source::{MAX_SOURCE_BYTES, split_source};

@@ -3,7 +3,7 @@ ghost use Rattle.spec_audit.specs.Reading as reading;
 ghost use Rattle.xl_printed.specs.Lines.{first_line};
 
 use crate::pieces::cut_at;
-use crate::printed::{Printed, Replies};
+use crate::printed::{Printed, SessionReplies};
 use crate::replies::read_reply;
 use std::alloc::{AllocError, Global};
 use xl_script::{SESSIONS, number, number_below};
@@ -49,12 +49,12 @@ pub fn read_lines(
     session: u8,
     count: u32,
     text: &[u8],
-) -> Result<Option<(Replies<'_>, &[u8])>, AllocError>
+) -> Result<Option<(SessionReplies<'_>, &[u8])>, AllocError>
     ensures { IfOk result (λ o. MatchOption o
         (reading.read_lines session 0 count text.now ≡ None)
         (λ t. reading.read_lines session 0 count text.now ≡ Some (t.0, t.1.now))) }
 {
-    let mut replies = Replies::new(alloc);
+    let mut replies = SessionReplies::new(alloc);
     let mut rest = text;
     for index in 0..count {
         let Some((reply, after)) = first_reply(session, index, rest) else {
