@@ -1,3 +1,4 @@
+ghost use Rattle.std.specs.Prelude.{◌≡◌, ℕ, List, length, nat_lt, take};
 ghost use Rattle.xl_script.specs.Causes.{Shows};
 
 // How many bytes of a word are kept.
@@ -23,13 +24,17 @@ impl WordFront {
         WordFront { bytes, len }
     }
 
-    /// The bytes that are kept.
-    pub fn as_bytes(&self) -> &[u8] {
+    /// The bytes that are kept: those that the word begins with, at most 40.
+    pub fn as_bytes(&self) -> &[u8]
+        ensures { (word : List ℕ) → Shows self.now word → result.now ≡ take 40 word }
+    {
         &self.bytes[..self.len.min(MOST)]
     }
 
     /// Whether there is more of the word.
-    pub fn is_cut(&self) -> bool {
+    pub fn is_cut(&self) -> bool
+        ensures { (word : List ℕ) → Shows self.now word → result ≡ nat_lt 40 (length word) }
+    {
         self.len > MOST
     }
 }
