@@ -33,7 +33,8 @@ has Colours word = are_colour_digits word
 abbrev pub Shows : WordFront → (word : List ℕ) → Type 0
 Shows front word = (take (length word) front.bytes ≡ take 40 word) × (front.len ≡ length word)
 
--- The grammar refuses a word that is named as the cause: it is no session, no keyword, or not of the kind that is wanted of it.
+-- Of a word that is named as no session, as no keyword or as not of a kind: what is shown is the front of one that the grammar
+-- refuses as that. Other causes that name a word or a keyword say nothing of how it is spelled.
 abbrev pub Blames : Cause → Type 0
 Blames (NoSession front) = (word : List ℕ) × Shows front word × (number_below 8 word ≡ None)
 Blames (UnknownWord front) = (word : List ℕ) × Shows front word × (rule_of word ≡ no_rule)
@@ -56,7 +57,7 @@ Blames TooManyCalls = Unit {0}
 Blames OtherSession = Unit {0}
 Blames (NotViewed keyword) = Unit {0}
 
--- the cause blames no other word, unless memory ran out
+-- the same of a cause, unless memory ran out
 abbrev pub BlamesIf : CauseOrMemory → Type 0
 BlamesIf Memory = Unit {0}
 BlamesIf (Refused cause) = Blames cause

@@ -16,7 +16,7 @@ abbrev pub ScriptOf : Result (List (List Line)) BadLineOrMemory → Result (List
 ScriptOf (Ok lists) read = read ≡ Ok (lists_of lists)
 ScriptOf (Err e) read = IsRefusal e read
 
--- A word that is named as why the line is refused is one that the grammar refuses.
+-- the cause of the refused line blames no word that the grammar takes
 abbrev pub BlamesLine : BadLineOrMemory → Type 0
 BlamesLine Memory = Unit {0}
 BlamesLine (Refused bad) = Blames bad.cause
