@@ -47,6 +47,7 @@ pub fn audit<S: Source, K: Sink, D: Shelf>(
     ensures selected { ((D.shelf_state shelf.new).selected ≡ (D.shelf_state shelf.old).selected) ⊎
         ((D.shelf_state shelf.new).selected ≡ Some name.now) }
 {
+    // No `?`: clauses tell of the cause, and behind a conversion it is another one.
     let given = match read_source(alloc, source, &chest) {
         Ok(given) => given,
         Err(stopped) => return Err(stopped),

@@ -6,11 +6,13 @@ use xl_verdict::Rejection;
 /// Why a command did not end well.
 #[derive(Clone, Copy, Debug, PartialEq, Eq)]
 pub enum Stopped {
+    /// The source could not be read.
     SourceFault,
     /// What is audited has no head that says how long its script is, or too few or too many bytes behind it.
     BadHead,
     /// The script is refused at a line.
     BadLine(BadLine),
+    /// The file could not be read, or the save of `pack` and `flatten`, or the first one of `make`, failed.
     ShelfFault,
     /// The file holds no document.
     Refused(ReadRefused),
@@ -20,6 +22,8 @@ pub enum Stopped {
     SaveFault,
     /// The verdict is written, and it is that the printed run is none of the script.
     Rejected(Rejection),
+    /// The command's output could not be written: the sink has a front of it.
     SinkFault,
+    /// Memory ran out.
     Memory,
 }
