@@ -46,6 +46,7 @@ pub fn audit<S: Source, K: Sink, D: Shelf>(
     ensures few_loads { LoadsFew (D.shelf_state shelf.old) (D.shelf_state shelf.new) }
     ensures selected { ((D.shelf_state shelf.new).selected ≡ (D.shelf_state shelf.old).selected) ⊎
         ((D.shelf_state shelf.new).selected ≡ Some name.now) }
+    ensures named { OnOk result ((D.shelf_state shelf.new).selected ≡ Some name.now) }
 {
     // No `?`: clauses tell of the cause, and behind a conversion it is another one.
     let given = match read_source(alloc, source, &chest) {

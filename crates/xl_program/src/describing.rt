@@ -1,4 +1,4 @@
-ghost use Rattle.std.specs.Prelude.{◌≡◌, ◌⊎◌, Some};
+ghost use Rattle.std.specs.Prelude.{◌≡◌, ◌⊎◌, Some, OnOk};
 ghost use Rattle.spec_command.specs.Arguments.{info as info_of};
 ghost use Rattle.xl_program.specs.Outcome.{Given, ComesTo, LoadsFew, ShelfCause};
 ghost use Rattle.xl_program.specs.Parts.{StopsReport};
@@ -27,6 +27,7 @@ pub fn describe<K: Sink, D: Shelf>(
     ensures few_loads { LoadsFew (D.shelf_state shelf.old) (D.shelf_state shelf.new) }
     ensures selected { ((D.shelf_state shelf.new).selected ≡ (D.shelf_state shelf.old).selected) ⊎
         ((D.shelf_state shelf.new).selected ≡ Some name.now) }
+    ensures named { OnOk result ((D.shelf_state shelf.new).selected ≡ Some name.now) }
 {
     let document = read_document(alloc, name, shelf)?;
     let Ok(line) = info(alloc, &document) else {

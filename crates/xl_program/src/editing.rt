@@ -51,6 +51,7 @@ pub fn edit<R: Threads + Wait + Sync, S: Source, K: Sink, D: Shelf, G: Gate>(
     ensures few_loads { LoadsFew (D.shelf_state shelf) (D.shelf_state result.shelf) }
     ensures selected { ((D.shelf_state result.shelf).selected ≡ (D.shelf_state shelf).selected) ⊎
         ((D.shelf_state result.shelf).selected ≡ Some name.now) }
+    ensures named { OnOk result.result ((D.shelf_state result.shelf).selected ≡ Some name.now) }
 {
     let alloc = host.alloc;
     let script = match read_script(alloc, source, &chest) {

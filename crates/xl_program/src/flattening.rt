@@ -1,4 +1,4 @@
-ghost use Rattle.std.specs.Prelude.{◌≡◌, ◌<◌, ◌⊎◌, [], IfOk, IsSome, Some};
+ghost use Rattle.std.specs.Prelude.{◌≡◌, ◌<◌, ◌⊎◌, [], IfOk, OnOk, IsSome, Some};
 ghost use Rattle.spec_command.specs.Arguments.{flatten as flatten_of};
 ghost use Rattle.spec_document.specs.Document.{Document as Plain};
 ghost use Rattle.spec_layout.specs.Layout.{Written};
@@ -44,6 +44,7 @@ pub fn flatten<K: Sink, D: Shelf>(alloc: Global, name: &str, sink: &mut K, mut s
     ensures few_loads { LoadsFew (D.shelf_state shelf) (D.shelf_state result.shelf) }
     ensures selected { ((D.shelf_state result.shelf).selected ≡ (D.shelf_state shelf).selected) ⊎
         ((D.shelf_state result.shelf).selected ≡ Some name.now) }
+    ensures named { OnOk result.result ((D.shelf_state result.shelf).selected ≡ Some name.now) }
 {
     let document = match read_document(alloc, name, &mut shelf) {
         Ok(document) => document,

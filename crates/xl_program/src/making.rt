@@ -59,6 +59,7 @@ pub fn make<R: Threads + Wait + Sync, K: Sink, D: Shelf, G: Gate>(
     ensures few_loads { LoadsFew (D.shelf_state shelf) (D.shelf_state result.shelf) }
     ensures selected { ((D.shelf_state result.shelf).selected ≡ (D.shelf_state shelf).selected) ⊎
         ((D.shelf_state result.shelf).selected ≡ Some name.now) }
+    ensures named { OnOk result.result ((D.shelf_state result.shelf).selected ≡ Some name.now) }
 {
     let Ok((made, file)) = made_with_file(alloc, seed) else {
         return Done {

@@ -1,4 +1,4 @@
-ghost use Rattle.std.specs.Prelude.{◌≡◌, ◌⊎◌, Some};
+ghost use Rattle.std.specs.Prelude.{◌≡◌, ◌⊎◌, Some, OnOk};
 ghost use Rattle.spec_command.specs.Arguments.{pack as pack_of};
 ghost use Rattle.xl_program.specs.Outcome.{Given, ComesTo, LoadsFew, ShelfCauseOf};
 ghost use Rattle.xl_program.specs.Parts.{StopsReport};
@@ -31,6 +31,7 @@ pub fn pack<K: Sink, D: Shelf>(
     ensures few_loads { LoadsFew (D.shelf_state shelf.old) (D.shelf_state shelf.new) }
     ensures selected { ((D.shelf_state shelf.new).selected ≡ (D.shelf_state shelf.old).selected) ⊎
         ((D.shelf_state shelf.new).selected ≡ Some name.now) }
+    ensures named { OnOk result ((D.shelf_state shelf.new).selected ≡ Some name.now) }
 {
     let loaded = load_document(alloc, name, shelf)?;
     let Ok(packed) = xl_pack::pack(alloc, loaded.document, loaded.length, with_plans) else {

@@ -137,6 +137,8 @@ pub fn run<R: Threads + Wait + Sync, S: Source, K: Sink, D: Shelf, G: Gate>(
     ensures selected { ((D.shelf_state result.shelf).selected ≡ (D.shelf_state shelf).selected) ⊎
         ((D.shelf_state result.shelf).selected ≡ option_map name_of
         (asked_in (arguments_of words.now))) }
+    ensures named { result.status ≡ 0 → (D.shelf_state result.shelf).selected ≡ option_map name_of
+        (asked_in (arguments_of words.now)) }
 {
     let Ok(asked) = command_of(alloc, words) else {
         return Ended {

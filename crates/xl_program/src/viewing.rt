@@ -54,6 +54,7 @@ pub fn view<S: Source, K: Sink, D: Shelf>(
     ensures few_loads { LoadsFew (D.shelf_state shelf) (D.shelf_state result.shelf) }
     ensures selected { ((D.shelf_state result.shelf).selected ≡ (D.shelf_state shelf).selected) ⊎
         ((D.shelf_state result.shelf).selected ≡ Some name.now) }
+    ensures named { OnOk result.result ((D.shelf_state result.shelf).selected ≡ Some name.now) }
 {
     let alloc = view.alloc;
     let script = match read_script(alloc, source, &chest) {

@@ -5,6 +5,7 @@ use Rattle.xl_ports.specs.State.{ShelfState}
 use Rattle.xl_program.specs.Outcome.{Given, given_of}
 use Rattle.xl_program.proofs.Audited.{IsAuditOpened, audit_comes, audit_stopped, source_stops, audit_file_stops, verdict_stops}
 use Rattle.xl_program.proofs.Audited.{unread_source}
+use Rattle.xl_program.proofs.FirstSaves.{ok_any}
 use Rattle.xl_program.proofs.ScriptEnded.{ended_anyhow}
 use Rattle.xl_program.proofs.auditing.audit.Goals as goal
 
@@ -71,6 +72,9 @@ returns-in-Err-read_document-clause-ended g c =
 pub returns-clause-ended : goal.returns-clause-ended
 returns-clause-ended g c =
     ended_anyhow (g.S.Source.left c.read_source.new.source) c.write_verdict.result c.in-Ok.ensures.ended
+
+pub returns-clause-named : goal.returns-clause-named
+returns-clause-named g c = ok_any c.write_verdict.result c.in-Ok-read_document.ensures.named
 
 pub returns-in-Err-clause-few_loads : goal.returns-in-Err-clause-few_loads
 returns-in-Err-clause-few_loads g c = omega arith

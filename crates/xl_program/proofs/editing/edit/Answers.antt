@@ -1,7 +1,8 @@
-use Rattle.std.proofs.Common.{arith}
+use Rattle.std.proofs.Common.{◌∙◌, arith}
 use Rattle.std.specs.Prelude.{Err}
 use Rattle.xl_script.specs.Lines.{lists_of}
 use Rattle.xl_program.proofs.Edited.{IsOpened, played_comes, read_stopped, load_stops, play_stops}
+use Rattle.xl_program.proofs.FirstSaves.{ok_any}
 use Rattle.xl_program.proofs.ScriptEnded.{ended_anyhow, unread}
 use Rattle.xl_program.proofs.editing.edit.Goals as goal
 use Rattle.xl_ports.specs.State.{ShelfState}
@@ -57,6 +58,10 @@ returns-in-Err-read_document-clause-ended g c =
 
 pub returns-clause-ended : goal.returns-clause-ended
 returns-clause-ended g c = ended_anyhow (g.S.Source.left c.read_script.new.source) c.write_replies.result c.in-Ok.ensures.ended
+
+pub returns-clause-named : goal.returns-clause-named
+returns-clause-named g c =
+    ok_any c.write_replies.result (c.run_script-played.ensures.shelf.selected ∙ c.in-Ok-read_document.ensures.named)
 
 pub returns-clause-few_loads : goal.returns-clause-few_loads
 returns-clause-few_loads g c =

@@ -1,5 +1,6 @@
-use Rattle.std.proofs.Common.{◌≡◌, ap, arith}
+use Rattle.std.proofs.Common.{◌≡◌, ap, ◌∙◌, arith}
 use Rattle.xl_program.specs.Flattening.{made_flat, SavesAndTells}
+use Rattle.xl_program.proofs.FirstSaves.{ok_any}
 use Rattle.xl_program.proofs.FlatSaves.{IsFlatRead, flat_comes, flat_cause, flat_read, flat_stops, handed_back, saved_there}
 use Rattle.xl_program.proofs.flattening.flatten.Given as given
 use Rattle.xl_program.proofs.flattening.flatten.Goals as goal
@@ -63,6 +64,12 @@ back g c =
     handed_back g.D.Shelf.shelf_state
     c.in-Ok-open_core.core.shelf c.flat_file-file.new.core.shelf c.read_document.new.shelf c.into_shelf-shelf.result opened.shelf
     c.flat_file-file.ensures.shelf c.into_shelf-shelf.ensures.shelf
+
+pub returns-clause-named : goal.returns-clause-named
+returns-clause-named g c =
+    let see = g.D.Shelf.shelf_state in
+    ok_any c.save_flat-result.result
+    (c.save_flat-result.ensures.selected ∙ (ap (λ (k : _). (see k).selected) (back g c) ∙ c.in-Ok.ensures.named))
 
 pub returns-clause-few_loads : goal.returns-clause-few_loads
 returns-clause-few_loads g c =

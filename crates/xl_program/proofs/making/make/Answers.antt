@@ -7,7 +7,7 @@ use Rattle.spec_script.specs.Fits.{FitsFilters}
 use Rattle.spec_script.specs.Script.{Line}
 use Rattle.xl_doc.specs.Numbered.{AreNumbered}
 use Rattle.xl_program.specs.Outcome.{opened}
-use Rattle.xl_program.proofs.FirstSaves.{ok_at, err_at}
+use Rattle.xl_program.proofs.FirstSaves.{ok_any, ok_at, err_at}
 use Rattle.xl_program.proofs.MadeRuns.{seed_is_made, made_comes, made_stops, made_cause, saved_as_now}
 use Rattle.xl_program.proofs.MadeScripts.{script_fits}
 use Rattle.xl_program.proofs.Taken.{untouched}
@@ -89,6 +89,12 @@ returns-clause-cause g c =
 pub returns-clause-selected : goal.returns-clause-selected
 returns-clause-selected g c =
     inr ((c.run_made-played.ensures c.args.seed c.in-Ok.ensures.document c.in-Ok.ensures.script).shelf.selected
+    ∙ ok_at c.save_first.result (sym c.is_err.ensures.value ∙ c.if-is_err.false) c.save_first.ensures.named)
+
+pub returns-clause-named : goal.returns-clause-named
+returns-clause-named g c =
+    ok_any c.write_replies.result
+    ((c.run_made-played.ensures c.args.seed c.in-Ok.ensures.document c.in-Ok.ensures.script).shelf.selected
     ∙ ok_at c.save_first.result (sym c.is_err.ensures.value ∙ c.if-is_err.false) c.save_first.ensures.named)
 
 pub returns-clause-few_loads : goal.returns-clause-few_loads

@@ -1,6 +1,7 @@
-use Rattle.std.proofs.Common.{ap, subst, sym, arith}
+use Rattle.std.proofs.Common.{ap, subst, sym, ◌∙◌, arith}
 use Rattle.std.specs.Prelude.{Err}
 use Rattle.xl_program.specs.Outcome.{Given, given_of, LoadsFew}
+use Rattle.xl_program.proofs.FirstSaves.{ok_any}
 use Rattle.xl_program.proofs.ScriptEnded.{ended_anyhow}
 use Rattle.xl_program.proofs.Viewed.{IsViewOpened, viewed_comes, view_stopped, script_stops, file_stops, text_stops, unread_view}
 use Rattle.xl_program.proofs.viewing.view.Goals as goal
@@ -73,6 +74,12 @@ returns-in-Err-read_document-clause-ended g c =
 
 pub returns-clause-ended : goal.returns-clause-ended
 returns-clause-ended g c = ended_anyhow (g.S.Source.left c.read_script.new.source) c.write_text.result c.in-Ok.ensures.ended
+
+pub returns-clause-named : goal.returns-clause-named
+returns-clause-named g c =
+    let see = g.D.Shelf.shelf_state in
+    ok_any c.write_text.result
+    (ap (λ (k : _). (see k).selected) c.view_document-viewed.ensures.shelf ∙ c.in-Ok-read_document.ensures.named)
 
 pub returns-clause-few_loads : goal.returns-clause-few_loads
 returns-clause-few_loads g c =
