@@ -1,7 +1,7 @@
 -- What becomes of a shelf when a document is saved on it.
-use Rattle.std.specs.Prelude.{◌≡◌, List, ℕ, false, Option}
+use Rattle.std.specs.Prelude.{◌≡◌, List, ℕ, false, Option, IfSome}
 use Rattle.spec_document.specs.Document.{Document}
-use Rattle.spec_layout.specs.Layout.{Written}
+use Rattle.spec_layout.specs.Layout.{Written, WrittenBy}
 use Rattle.spec_world.specs.declared.SaveEnd.{SaveEnd}
 use Rattle.spec_world.specs.declared.SaveEnd.TheVariants.{Done, Fault, Memory}
 use Rattle.spec_saves.specs.Shelf.{file_name}
@@ -26,3 +26,8 @@ pub record IsSavedOn (old : ShelfState) (d : Document) (how : SaveEnd) (new : Sh
   pub untouched : how ≡ Memory → new ≡ old
   pub closed : how ≡ Done → new.is_open ≡ false
   pub contents : Puts how d (file_name old) old.disk new.disk
+
+-- where a save is done, the shelf has a file of the document as this coder codes it, where it tells
+abbrev pub IsCodedOn : (fits : List ℕ → List ℕ → Type 0) → (old : ShelfState) → Document → (how : SaveEnd) → (new : ShelfState) → Type 0
+IsCodedOn fits old d how new = how ≡ Done
+    → IfSome old.selected (λ name. IfSome new.disk (λ disk. (bytes : List ℕ) × WrittenBy fits bytes d × HasSaved name bytes disk))

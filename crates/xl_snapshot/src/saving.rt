@@ -1,4 +1,4 @@
-ghost use Rattle.std.specs.Prelude.{◌≡◌, false, ℕ, List, IfOk, OnOk, OnErr, IfSome, IsSome};
+ghost use Rattle.std.specs.Prelude.{◌≡◌, false, IfOk, OnOk, OnErr, IfSome, IsSome};
 ghost use Rattle.spec_document.specs.Document.{Document as Plain};
 ghost use Rattle.spec_layout.specs.BytePlanes.{planes_of};
 ghost use Rattle.spec_layout.specs.Layout.{Written, WrittenBy};
@@ -7,7 +7,7 @@ ghost use Rattle.xl_ports.specs.Disk.{Between};
 ghost use Rattle.xl_ports.specs.Faults.{HasCause};
 ghost use Rattle.xl_rle.specs.Follows.{FollowsEach};
 ghost use Rattle.xl_save.specs.Save.{SavesOnly, HasSaved};
-ghost use Rattle.xl_snapshot.specs.Saving.{IsSavedOn};
+ghost use Rattle.xl_snapshot.specs.Saving.{IsCodedOn, IsSavedOn};
 
 use std::alloc::{AllocError, Global};
 use xl_compose::Recompose;
@@ -71,9 +71,8 @@ pub fn save_document<D: Shelf, C: PlaneCoder>(
     ensures saved { IsSavedOn (D.shelf_state shelf.old) document.now result
         (D.shelf_state shelf.new) }
     ensures untouched { result ≡ save_end.Memory → shelf.new ≡ shelf.old }
-    ensures coded { result ≡ save_end.Done → IfSome (D.shelf_state shelf.old).selected
-        (λ name. IfSome (D.shelf_state shelf.new).disk (λ disk. (bytes : List ℕ)
-        × WrittenBy C.fits bytes document.now × HasSaved name bytes disk)) }
+    ensures coded { IsCodedOn C.fits (D.shelf_state shelf.old) document.now result
+        (D.shelf_state shelf.new) }
 {
     let Ok(file) = file_of(alloc, document, coder) else {
         return SaveEnd::Memory;

@@ -19,7 +19,7 @@ use Rattle.xl_turn.specs.Sums.{times}
 use Rattle.xl_turn.specs.Turns.{Closes, IsClosed}
 use Rattle.xl_turn.specs.Seats.{MayLeave, made_after}
 use Rattle.xl_core.specs.Editing.{Editing, last_of, start_of, end_of, out_of, index_out, ComesBack}
-use Rattle.xl_snapshot.specs.Saving.{IsSavedOn}
+use Rattle.xl_snapshot.specs.Saving.{IsCodedOn, IsSavedOn}
 use Rattle.xl_snapshot.proofs.ComesBack.{comes_back}
 use Rattle.xl_snapshot.proofs.Later.{returns_later}
 use Rattle.xl_studio.specs.declared.moment.Moment.{Moment}
@@ -27,7 +27,7 @@ use Rattle.xl_studio.specs.declared.moment.Moment.TheVariants.{Opened, Made}
 use Rattle.xl_studio.specs.Moments.{IsAsked, AreAsked, entries_in, out_from, place_out, closed_next, closed_by}
 use Rattle.xl_studio.specs.State.{moments_of, IsKept}
 use Rattle.xl_studio.specs.Calling.{Known}
-use Rattle.xl_studio.specs.Saving.{IsWhole}
+use Rattle.xl_studio.specs.Saving.{IsWhole, IsWholeBy}
 use Rattle.xl_studio.specs.Seats.{history_of}
 use Rattle.xl_studio.specs.UnderWay.{AddsEnd, IsUnderWay, HasStarted, HasEnded, MayComeBack}
 use Rattle.xl_studio.proofs.Grown.{length-moments, entries-append}
@@ -257,6 +257,7 @@ module _ {K : Type 0} where
         calls = e.calls;
         right = s.right;
         returns = returns_saved see opening base session d handed shelf how old mid s saves;
+        closed = saves.closed;
         reply_is = e.reply_is ∙ (ap (λ (o : Option Saving). end_reply how (version_out o)) out ∙ ap (end_reply how) v);
         front = e.front
             ∙ (ap (λ (o : Option Saving). mid.front ++ e.between ++ m (index_out o) ∷ []) out
@@ -265,3 +266,14 @@ module _ {K : Type 0} where
             ∙ (ap (λ (n : ℕ). mid.made ++ (n + length (entries_in e.between)) ∷ []) count
             ∙ ap (λ (ps : List ℕ). ps ++ (length es + 1 + length (entries_in e.between)) ∷ []) s.made);
       }
+
+  pub is_whole_by : (fits : List ℕ → List ℕ → Type 0) (see : K → ShelfState) (opening : K) (base : Document) (session : ℕ)
+      (d : Document) (handed shelf : K) (how : SaveEnd) (reply : Reply) (old mid new : Known K)
+      → HasStarted see opening base session d handed old mid
+      → IsSavedOn (see handed) d how (see shelf) → IsCodedOn fits (see handed) d how (see shelf)
+      → HasEnded base session how reply mid new → IsWholeBy fits see opening base session reply old new
+  unfolding is_whole
+  is_whole_by fits see opening base session d handed shelf how reply old mid new s saves coded e = record {
+    whole = is_whole see opening base session d handed shelf how reply old mid new s saves e;
+    coded = subst (λ (x : Document). IsCodedOn fits (see handed) x how (see shelf)) s.snapshot coded;
+  }

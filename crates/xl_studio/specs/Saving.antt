@@ -1,5 +1,5 @@
 -- What a save makes, in two holds of the turn, and what its seat knows then.
-use Rattle.std.specs.Prelude.{◌≡◌, ◌⊎◌, ℕ, ◌+◌, ◌<◌, List, [], ◌∷◌, ◌++◌, length, Some, None}
+use Rattle.std.specs.Prelude.{◌≡◌, ◌⊎◌, ℕ, ◌+◌, ◌<◌, false, List, [], ◌∷◌, ◌++◌, length, Some, None}
 use mathlib.Core.List.{IsPrefix}
 use Rattle.spec_document.specs.Document.{Document}
 use Rattle.spec_history.specs.Calls.{most_entries}
@@ -7,11 +7,14 @@ use Rattle.spec_history.specs.Machine as machine
 use Rattle.spec_history.specs.Machine.{Reply}
 use Rattle.spec_history.specs.History.{Entry, ends, next_index, latest_of}
 use Rattle.spec_world.specs.declared.SaveEnd.{SaveEnd}
+use Rattle.spec_world.specs.declared.SaveEnd.TheVariants.{Done}
 use Rattle.spec_world.specs.Events.{end_reply}
 use Rattle.spec_saves.specs.Shelf.{ShelfIsRight}
 use Rattle.xl_ports.specs.State.{ShelfState}
 use Rattle.spec_saves.specs.Returns.{Returns}
+use Rattle.xl_standing.specs.History.{document}
 use Rattle.xl_core.specs.Editing.{start_of, out_of}
+use Rattle.xl_snapshot.specs.Saving.{IsCodedOn}
 use Rattle.xl_studio.specs.declared.moment.Moment.{Moment}
 use Rattle.xl_studio.specs.declared.moment.Moment.TheVariants.{Made}
 use Rattle.xl_studio.specs.Moments.{AreAsked, entries_in}
@@ -37,7 +40,7 @@ pub record FoundNoRoom {K : Type 0} (base : Document) (reply : Reply) (old new :
 -- The shelf came back as `Returns` says: at each moment since it was handed out a crash left one of the `files` of
 -- the history that ends with the start. Where the save is done, a crash leaves its version alone. It ended by a fault
 -- only where the count of saving faults rose since it was handed out. Where memory ran out for the file it is as it was
--- handed out.
+-- handed out. Where the save is done no draft is open.
 pub record IsWhole {K : Type 0} (see : K
     → ShelfState) (opening : K) (base : Document) (session : ℕ) (reply : Reply) (old new : Known K) : Type 0 where
   pub entered : List (Moment K)
@@ -50,6 +53,7 @@ pub record IsWhole {K : Type 0} (see : K
   pub right : ShelfIsRight (see opening) base (entries_in entered) (see shelf)
   pub returns : Returns (see opening) (see shelf) base (entries_in entered
       ++ start_of (history_of base entered) session ∷ []) how (see back)
+  pub closed : how ≡ Done → (see back).is_open ≡ false
   pub reply_is : reply ≡ end_reply how (latest_of (entries_in entered))
   pub front : new.front ≡ entered ++ Made (start_of (history_of base entered) session) (Some shelf) ∷ [] ++ between
       ++ Made (end_behind (entries_in entered) session reply) None ∷ []
@@ -60,3 +64,14 @@ pub record IsWhole {K : Type 0} (see : K
 pub record IsSaved {K : Type 0} (see : K
     → ShelfState) (opening : K) (base : Document) (session : ℕ) (reply : Reply) (old new : Known K) : Type 0 where
   pub is : FoundNoRoom base reply old new ⊎ IsWhole see opening base session reply old new
+
+-- Such a save, whose file is that of the version of its start as this coder codes it.
+pub record IsWholeBy {K : Type 0} (fits : List ℕ → List ℕ → Type 0) (see : K
+    → ShelfState) (opening : K) (base : Document) (session : ℕ) (reply : Reply) (old new : Known K) : Type 0 where
+  pub whole : IsWhole see opening base session reply old new
+  pub coded : IsCodedOn fits (see whole.shelf) (document (history_of base whole.entered)) whole.how (see whole.back)
+
+-- a save of a session with this coder
+pub record IsSavedBy {K : Type 0} (fits : List ℕ → List ℕ → Type 0) (see : K
+    → ShelfState) (opening : K) (base : Document) (session : ℕ) (reply : Reply) (old new : Known K) : Type 0 where
+  pub is : FoundNoRoom base reply old new ⊎ IsWholeBy fits see opening base session reply old new

@@ -1,7 +1,7 @@
 use Rattle.std.proofs.Common.{inr}
 use Rattle.xl_edit.specs.Replies.{reply_of}
 use Rattle.xl_studio.specs.Seats.{base_of, opening_shelf, known_by}
-use Rattle.xl_studio.proofs.SecondHold.{saved_comes_back, is_whole}
+use Rattle.xl_studio.proofs.SecondHold.{saved_comes_back, is_whole, is_whole_by}
 use Rattle.xl_studio.proofs.seat.Studio.save.Goals as goal
 
 pub end-requires-clause-back : goal.end-requires-clause-back
@@ -21,4 +21,16 @@ returns-in-Snapshot-clause-saved g c =
           c.save_document-how.new.shelf c.save_document-how.result (reply_of c.end.result) (known_by c.args.seat.now)
           (known_by c.begin_when_in.new.seat) (known_by c.end.new.seat)
           (rw s.is at c.in_ok-document.ensures.begun) c.save_document-how.ensures.saved c.end.ensures.ended);
+    }
+
+pub returns-in-Snapshot-clause-coded : goal.returns-in-Snapshot-clause-coded
+returns-in-Snapshot-clause-coded g c =
+    let s = c.in-Snapshot in
+    record {
+      is = inr (is_whole_by g.C.PlaneCoder.fits g.D.Shelf.shelf_state
+          (opening_shelf c.args.self.now) (base_of c.args.self.now) c.args.session s.document s.shelf
+          c.save_document-how.new.shelf c.save_document-how.result (reply_of c.end.result) (known_by c.args.seat.now)
+          (known_by c.begin_when_in.new.seat) (known_by c.end.new.seat)
+          (rw s.is at c.in_ok-document.ensures.begun) c.save_document-how.ensures.saved c.save_document-how.ensures.coded
+          c.end.ensures.ended);
     }
