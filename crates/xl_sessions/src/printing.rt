@@ -15,7 +15,7 @@ ghost use Rattle.xl_sessions.specs.Printing.{IsPrinted, line_here, first_digest,
 use std::alloc::{AllocError, Global};
 use xl_core::{Entry, EntryKind};
 use xl_edit::{Call, Reply};
-use xl_script::{OrderWord, print_order, print_reply};
+use xl_script::{OrderWord, SESSIONS, print_order, print_reply};
 
 // Whether a call asks for a tile.
 pub(crate) fn asks_tile(call: &Call) -> bool
@@ -174,7 +174,7 @@ fn print_all(
         ++ order_text entries.now) }
 {
     let mut text = String::new(alloc);
-    for session in 0..8u8 {
+    for session in 0..SESSIONS {
         print_session(
             alloc,
             &mut text,
