@@ -6,13 +6,16 @@ ghost use Rattle.spec_audit.specs.Output.{IsMerge};
 ghost use Rattle.spec_audit.specs.Verdicts.{IsVerdict};
 ghost use Rattle.spec_audit.specs.Walk.{AllPass, FailsAt};
 ghost use Rattle.xl_audit.specs.Auditing.{ArePrintable, IsFull, padded, start_of};
+ghost use Rattle.xl_audit.specs.Versions.{AreWanted};
+ghost use Rattle.xl_audit.specs.Walking.{HasCome};
 ghost use Rattle.xl_doc.specs.Numbered.{AreNumbered};
 ghost use Rattle.xl_filters.specs.Chests.{states, states_in};
 ghost use Rattle.xl_script.specs.Lines.{lists_of};
 
 use crate::beginning::first_walk;
-use crate::calls::script_calls;
+use crate::calls::{Calls, script_calls};
 use crate::versions::wanted;
+use crate::walk::Walk;
 use spec_audit::Verdict;
 use std::alloc::{AllocError, Global};
 use std::sync::ledger::Ledger;
@@ -71,6 +74,33 @@ fn add_desks(alloc: Global, desks: &mut Vec<Desk>) -> Result<(), AllocError>
     Ok(())
 }
 
+// Desks with these chests, and without filters for the sessions that are left.
+fn session_desks(alloc: Global, chests: Vec<Chest>) -> Result<Vec<Desk>, AllocError>
+    requires { length chests.items ≤ 8 }
+    ensures { IfOk result (λ desks. map (λ d. states_in state d.chest) desks.items
+        ≡ padded (map (λ c. states_in state c) chests.items)) }
+{
+    let mut desks = desks_of(alloc, chests)?;
+    add_desks(alloc, &mut desks)?;
+    Ok(desks)
+}
+
+// A walk that has not begun, which keeps each version that a printed peek names.
+fn walk_along(
+    alloc: Global,
+    base: Document,
+    calls: &[Calls],
+    output: &Output,
+) -> Result<Walk, AllocError>
+    requires { AreNumbered base.nodes }
+    ensures come { IfOk result (HasCome base []) }
+    ensures wanted { IfOk result (λ walk. AreWanted calls.now output.now.replies
+        walk.versions.wanted.items output.now.order) }
+{
+    let wanted = wanted(alloc, calls, output)?;
+    first_walk(alloc, base, wanted)
+}
+
 // The first word of the order that fails.
 fn judge<L: Ledger>(
     alloc: Global,
@@ -95,10 +125,8 @@ fn judge<L: Ledger>(
         w.index)) }
 {
     let calls = script_calls(alloc, script)?;
-    let wanted = wanted(alloc, calls.as_slice(), output)?;
-    let mut walk = first_walk(alloc, base, wanted)?;
-    let mut desks = desks_of(alloc, chests)?;
-    add_desks(alloc, &mut desks)?;
+    let mut walk = walk_along(alloc, base, calls.as_slice(), output)?;
+    let mut desks = session_desks(alloc, chests)?;
     for word in output.order.as_slice() {
         let desk = &mut desks[word.session as usize];
         if !walk.word(alloc, calls.as_slice(), output, *word, desk, steps)? {
