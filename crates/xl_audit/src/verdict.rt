@@ -14,7 +14,7 @@ ghost use Rattle.xl_script.specs.Lines.{lists_of};
 
 use crate::beginning::first_walk;
 use crate::calls::{Calls, script_calls};
-use crate::versions::wanted;
+use crate::versions::wanted_versions;
 use crate::walk::Walk;
 use spec_audit::Verdict;
 use std::alloc::{AllocError, Global};
@@ -97,7 +97,7 @@ fn walk_along(
     ensures wanted { IfOk result (λ walk. AreWanted calls.now output.now.replies
         walk.versions.wanted.items output.now.order) }
 {
-    let wanted = wanted(alloc, calls, output)?;
+    let wanted = wanted_versions(alloc, calls, output)?;
     first_walk(alloc, base, wanted)
 }
 

@@ -62,7 +62,7 @@ fn want_of_word(
 }
 
 /// Which versions are shown by the printed replies to peeks.
-pub(crate) fn wanted(
+pub(crate) fn wanted_versions(
     alloc: Global,
     calls: &[Calls],
     output: &Output,
