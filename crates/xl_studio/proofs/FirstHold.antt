@@ -43,7 +43,7 @@ module _ {K : Type 0} where
       → IfOk r (λ b. AddsStart base entered session b left) → OnErr r (left ≡ entered)
       → GrowsByStart entered left
   grows_by_start (Ok (Snapshot v d k)) base entered left session adds failed =
-      record { is = inr (start_of (history_of base entered) session, Some k, refl, adds) }
+      record { is = inr (start_of (history_of base entered) session, Some k, refl, adds.0) }
   grows_by_start (Ok Out) base entered left session adds failed = record { is = inl adds }
   grows_by_start (Ok Full) base entered left session adds failed = record { is = inl adds.0 }
   grows_by_start (Err e) base entered left session adds failed = record { is = inl failed }
@@ -105,25 +105,26 @@ module _ {K : Type 0} where
     started v d k adds hands =
         let m : Moment K = Made (start_of (history_of held.history.base (moments_of held)) session) (Some k) in
         let places : new.made ≡ old.made ++ length (entries_in (moments_of held)) ∷ [] =
-        one_place_more start old.made new.made (moments_of held) left m one sized grown adds in
+        one_place_more start old.made new.made (moments_of held) left m one sized grown adds.0 in
         let n : ℕ = length (entries_in (moments_of held)) in
         record {
           out = record {
             entered = moments_of held;
             sized = sized;
             legal = subst (IsLegal held.history.base) (sym (back held)) legal;
-            front = is ∙ adds;
+            front = is ∙ adds.0;
             own = let t : times n new.made ≡ times n old.made + same n n = ap (times n) places ∙ times_last n n old.made in
                 let s = same_self n in omega arith;
             within = λ i h.
                 let w : i + 1 < length (moments_of held ++ m ∷ []) =
                 places_within start old.made (moments_of held) m n one sized within i
                 (subst (λ (xs : List ℕ). 0 < times i xs) places h) in
-                let l : length new.front ≡ length (moments_of held ++ m ∷ []) = ap length (is ∙ adds) in
+                let l : length new.front ≡ length (moments_of held ++ m ∷ []) = ap length (is ∙ adds.0) in
                 omega arith;
           };
           begins = begins;
           made = places;
+          room = adds.1;
           snapshot =
               hands.0 ∙ ap (λ (es : List Entry). document (record { base = held.history.base; entries = es })) (sym (back held));
           right =
@@ -178,6 +179,7 @@ module _ {K : Type 0} where
     out = s.out;
     begins = prefix_trans old.front mid.front s.out.entered heard.begins s.begins;
     made = s.made ∙ ap (λ (xs : List ℕ). xs ++ length (entries_in s.out.entered) ∷ []) heard.made;
+    room = s.room;
     snapshot = s.snapshot;
     right = s.right;
     selected = s.selected;

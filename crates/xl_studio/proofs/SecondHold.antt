@@ -254,6 +254,7 @@ module _ {K : Type 0} where
         how = how;
         back = shelf;
         begins = s.begins;
+        room = s.room;
         calls = e.calls;
         right = s.right;
         returns = returns_saved see opening base session d handed shelf how old mid s saves;

@@ -81,11 +81,13 @@ module _ {K : Type 0} where
   adds_start : (old new : Editing K) (session : ℕ) (b : Begun K) → length old.handed ≡ saves_started old.history.entries
       → (IsSome old.shelf → out_of old.history ≡ None) → Begins old session b new
       → AddsStart old.history.base (moments_of old) session b (moments_of new)
-  adds_start old new session (Snapshot v d k) each none begins =
-      ap moments_of begins.4
-      ∙ (moments-start old.history.base old.opening old.handed k old.history.entries (start_of old.history session) refl each
-      ∙ ap (λ (es : List Entry). moments_of old
-      ++ Made (start_of (record { base = old.history.base; entries = es }) session) (Some k) ∷ []) (sym (back old)))
+  adds_start old new session (Snapshot v d k) each none begins = (
+    ap moments_of begins.4
+        ∙ (moments-start old.history.base old.opening old.handed k old.history.entries (start_of old.history session) refl each
+        ∙ ap (λ (es : List Entry). moments_of old
+        ++ Made (start_of (record { base = old.history.base; entries = es }) session) (Some k) ∷ []) (sym (back old))),
+    let l = ap length (back old) in let m = begins.3 in omega arith,
+  )
   adds_start old new session Out each none begins = same_after old new begins.1
   adds_start old new session Full each none begins = (
     same_after old new begins.2,

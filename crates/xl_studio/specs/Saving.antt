@@ -1,5 +1,5 @@
 -- What a save makes, in two holds of the turn, and what its seat knows then.
-use Rattle.std.specs.Prelude.{◌≡◌, ◌⊎◌, ℕ, ◌+◌, ◌<◌, false, List, [], ◌∷◌, ◌++◌, length, Some, None}
+use Rattle.std.specs.Prelude.{◌≡◌, ◌⊎◌, ℕ, ◌+◌, ◌<◌, ◌≤◌, false, List, [], ◌∷◌, ◌++◌, length, Some, None}
 use mathlib.Core.List.{IsPrefix}
 use Rattle.spec_document.specs.Document.{Document}
 use Rattle.spec_history.specs.Calls.{most_entries}
@@ -33,9 +33,9 @@ pub record FoundNoRoom {K : Type 0} (base : Document) (reply : Reply) (old new :
   pub few : most_entries < length (entries_in new.front) + 2
   pub none_out : out_of (history_of base new.front) ≡ None
 
--- The save started after some history that begins with what the seat knew, and the shelf was handed out, as it is
--- right after that history. Until its end there were calls alone. The end names the version of the start, and is the
--- last entry that the seat knows. The seat made just these two.
+-- The save started after some history that begins with what the seat knew and has room for two entries, and the shelf was
+-- handed out, as it is right after that history. Until its end there were calls alone. The end names the version of the
+-- start, and is the last entry that the seat knows. The seat made just these two.
 --
 -- The shelf came back as `Returns` says: at each moment since it was handed out a crash left one of the `files` of
 -- the history that ends with the start. Where the save is done, a crash leaves its version alone. It ended by a fault
@@ -49,6 +49,7 @@ pub record IsWhole {K : Type 0} (see : K
   pub how : SaveEnd
   pub back : K
   pub begins : IsPrefix old.front entered
+  pub room : length (entries_in entered) + 2 ≤ most_entries
   pub calls : AreAsked (entries_in between)
   pub right : ShelfIsRight (see opening) base (entries_in entered) (see shelf)
   pub returns : Returns (see opening) (see shelf) base (entries_in entered

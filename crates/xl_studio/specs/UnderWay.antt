@@ -1,5 +1,5 @@
 -- A save between its two holds of the turn.
-use Rattle.std.specs.Prelude.{◌≡◌, ℕ, ◌+◌, ◌<◌, List, [], ◌∷◌, ◌++◌, length, Some, None, IsSome}
+use Rattle.std.specs.Prelude.{◌≡◌, ℕ, ◌+◌, ◌<◌, ◌≤◌, List, [], ◌∷◌, ◌++◌, length, Some, None, IsSome}
 use mathlib.Core.List.{IsPrefix}
 use Rattle.spec_document.specs.Document.{Document}
 use Rattle.spec_history.specs.Calls.{most_entries}
@@ -26,11 +26,13 @@ use Rattle.xl_studio.specs.Saving.{FoundNoRoom}
 module _ {K : Type 0} where
   -- ---- what the holds make of the list under the lock
 
-  -- The start is put behind the list, with the shelf. Where the shelf is out, or it is in and there is no room, the list stays.
+  -- The start is put behind the list, with the shelf, where there is room for two entries. Where the shelf is out, or it is in and
+  -- there is no room, the list stays.
   abbrev pub AddsStart : (base : Document) → (entered : List (Moment K)) → (session : ℕ) → Begun K → (left : List (Moment K))
       → Type 0
   AddsStart base entered session (Snapshot v d k) left =
-      left ≡ entered ++ Made (start_of (history_of base entered) session) (Some k) ∷ []
+      (left ≡ entered ++ Made (start_of (history_of base entered) session) (Some k) ∷ [])
+      × (length (entries_in entered) + 2 ≤ most_entries)
   AddsStart base entered session Out left = left ≡ entered
   AddsStart base entered session Full left =
       (left ≡ entered) × (most_entries < length (entries_in entered) + 2) × (out_of (history_of base entered) ≡ None)
@@ -64,6 +66,7 @@ module _ {K : Type 0} where
     pub out : IsUnderWay base session shelf new
     pub begins : IsPrefix old.front out.entered
     pub made : new.made ≡ old.made ++ length (entries_in out.entered) ∷ []
+    pub room : length (entries_in out.entered) + 2 ≤ most_entries
     pub snapshot : d ≡ document (history_of base out.entered)
     pub right : ShelfIsRight (see opening) base (entries_in out.entered) (see shelf)
     pub selected : IsSome (see shelf).selected
