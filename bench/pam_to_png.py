@@ -12,10 +12,12 @@ import zlib
 def picture_of(pam):
     """The width, the height and the RGBA bytes of a PAM."""
     head, _, pixels = pam.partition(b"ENDHDR\n")
+    if not head.startswith(b"P7\n"):
+        sys.exit("pam_to_png: standard input is no PAM")
     fields = dict(line.split(b" ", 1) for line in head.splitlines() if b" " in line)
     width, height = int(fields[b"WIDTH"]), int(fields[b"HEIGHT"])
     if fields[b"TUPLTYPE"] != b"RGB_ALPHA" or len(pixels) != 4 * width * height:
-        sys.exit("no picture of xcfedit")
+        sys.exit("pam_to_png: standard input is no whole picture of xcfedit")
     return width, height, pixels
 
 
