@@ -18,7 +18,7 @@ use xl_ports::{Actor, Gate, Place, Shelf};
 use xl_studio::{Seat, Studio};
 
 /// The one tile of the canvas.
-const TILE: TileAt = TileAt { col: 0, row: 0 };
+pub(crate) const TILE: TileAt = TileAt { col: 0, row: 0 };
 
 /// What a session asks.
 #[derive(Clone, Copy)]

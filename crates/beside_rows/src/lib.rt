@@ -21,6 +21,8 @@ mod opened;
 #[cfg(test)]
 mod played;
 #[cfg(test)]
+mod refreshed;
+#[cfg(test)]
 mod tests;
 #[cfg(test)]
 mod worker;

@@ -6,6 +6,7 @@ use crate::gates::{
 };
 use crate::late::{delete_and_undo, edit_while_out};
 use crate::played::play;
+use crate::refreshed::refresh_after_edit;
 use std::test::Fail;
 use xl_core::Finished;
 use xl_edit::Reply;
@@ -114,6 +115,19 @@ fn a_delete_while_jobs_are_out(rt: HostRuntime) -> Result<(), Fail> {
                 next: 3
             },
             Finished::Late { marked_at: 3 }
+        )
+    );
+    Ok(())
+}
+
+// The picture is kept without a call that asks for it, so that a peek shows it. After that there is nothing to compose.
+#[test]
+fn a_tile_is_refreshed(rt: HostRuntime) -> Result<(), Fail> {
+    assert_eq!(rt;
+        refresh_after_edit(&rt, rt.alloc())?,
+        (
+            (Some(Finished::Installed), Reply::Tile { version: 1 }),
+            true
         )
     );
     Ok(())

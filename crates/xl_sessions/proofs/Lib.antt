@@ -9,6 +9,8 @@ pub mod Lined
 pub mod Made
 -- the filters that are still there
 pub mod Chests
+-- a call after what others made was heard
+pub mod Refreshed
 -- one call more
 pub mod CallMore
 -- one save more

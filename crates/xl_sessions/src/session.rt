@@ -13,9 +13,11 @@ ghost use Rattle.xl_edit.specs.Calls.{call_of};
 ghost use Rattle.xl_edit.specs.Replies.{reply_of};
 ghost use Rattle.xl_filters.specs.Chests.{states_in};
 ghost use Rattle.xl_script.specs.Lines.{line_of};
-ghost use Rattle.xl_studio.specs.Calling.{IsCalled};
+ghost use Rattle.xl_studio.specs.Calling.{IsCalled, HasHeard, IsNoTile};
+ghost use Rattle.xl_studio.specs.Jobs.{job_out};
 ghost use Rattle.xl_studio.specs.Moments.{entries_in};
-ghost use Rattle.xl_studio.specs.Seats.{base_of, opening_shelf, history_of, front_of, made_of, known_by, IsSeatOf};
+ghost use Rattle.xl_studio.specs.Seats.{base_of, opening_shelf, history_of, front_of, made_of, weight_of, known_by};
+ghost use Rattle.xl_studio.specs.Seats.{IsSeatOf};
 ghost use Rattle.spec_seats.specs.Made.{IsOf};
 ghost use Rattle.xl_studio.specs.Saving.{IsSaved};
 ghost use Rattle.xl_sessions.specs.Full.{most_made, MakesAtMost, FindsFull};
@@ -75,7 +77,24 @@ fn say(
 }
 
 impl<'a, W: Wait, D: Shelf, G: Gate> Stage<'a, W, D, G> {
-    // Makes a call of a session, and passes the gate before it and after it.
+    // Composes a marked tile outside the turn, before the call that asks for it. It does nothing before any other call.
+    fn refresh_asked<L: Ledger>(&self, call: &Call, seat: &mut Seat<D>, steps: &mut Steps<L>)
+        requires seat { IsSeatOf self.now.studio.now seat.old }
+
+        ensures seat { IsSeatOf self.now.studio.now seat.new }
+        ensures weight { weight_of seat.new ≡ weight_of seat.old }
+        ensures job { job_out seat.new ≡ job_out seat.old }
+        ensures heard { HasHeard (known_by seat.old) (known_by seat.new) }
+        ensures no_tile { IsNoTile (call_of call.now) → known_by seat.new ≡ known_by seat.old }
+    {
+        if let Call::Tile(node, at) = call {
+            let _finished = self
+                .studio
+                .refresh(self.rt, self.alloc, seat, *node, *at, steps);
+        }
+    }
+
+    // Makes a call of a session, and passes the gate before it and after it. A marked tile that it asks for is composed first.
     fn make_call<L: Ledger>(
         &self,
         call: Call,
@@ -106,6 +125,7 @@ impl<'a, W: Wait, D: Shelf, G: Gate> Stage<'a, W, D, G> {
     {
         self.gate
             .pass(Actor::Session(self.session), Place::BeforeCall);
+        self.refresh_asked(&call, seat, steps);
         let reply = self
             .studio
             .call(self.rt, self.alloc, seat, self.session, call, desk, steps);

@@ -10,3 +10,4 @@ pub mod FirstHold
 pub mod SecondHold
 pub mod Quiet
 pub mod Sent
+pub mod Refreshed

@@ -24,25 +24,24 @@ use Rattle.xl_studio.specs.Moments.{entries_in, closed_by}
 use Rattle.xl_studio.specs.State.{State, moments_of}
 use Rattle.xl_studio.specs.Taking.{IsJobNow, GivesOut, HasStayed}
 use Rattle.xl_studio.specs.Jobs.{out_after, IsJobOf}
+use Rattle.xl_studio.specs.Seats.{history_of}
 use Rattle.xl_studio.proofs.Grown.{entries-append, entries-moments}
 use Rattle.xl_studio.proofs.Seated.{latest_prefix, call_may_leave, start_within}
 
-picture_at : (base : Document) (es more : List Entry) (o : Out) (done : Done) → IsLegal base es → o.version ≤ latest_of es
-    → o.document ≡ document_of base es o.version → has_stack o.document o.stack ≡ true
-    → is_on_grid base.width base.height o.at ≡ true → IsOutcome o done → latest_of es ≤ latest_of (es ++ more)
+-- a picture of a version stays one as the history goes on
+picture_goes_on : (base : Document) (es more : List Entry) (done : Done) → IsLegal base es
+    → IsPictureOf (record { base = base; entries = es }) done → latest_of es ≤ latest_of (es ++ more)
     → IsPictureOf (record { base = base; entries = es ++ more }) done
-picture_at base es more o done legal there is has on out later =
+picture_goes_on base es more done legal is later =
     let last = latest_of-legal base es legal in
-    let number : done.version ≡ o.version = out.version_is in
-    let same : document_of base (es ++ more) o.version ≡ document_of base es o.version =
-    document_of-append base es more o.version (omega (arith, last, there)) in
-    let all : document_of base (es ++ more) done.version ≡ o.document = ap (λ v. document_of base (es ++ more) v) number
-    ∙ (same ∙ sym is) in
+    let there : done.version ≤ latest_of es = is.version in
+    let same : document_of base (es ++ more) done.version ≡ document_of base es done.version =
+    document_of-append base es more done.version (omega (arith, last, there)) in
     record {
-      version = omega (arith, number, there, later);
-      has = (λ i. has_stack (all i) (out.node_is i)) ∙ has;
-      on_grid = (λ i. is_on_grid base.width base.height (out.at_is i)) ∙ on;
-      picture = out.picture_is ∙ (λ i. project (sym all i) (sym out.node_is i) (sym out.at_is i));
+      version = omega (arith, there, later);
+      has = ap (λ (d : Document). has_stack d done.node.0) same ∙ is.has;
+      on_grid = is.on_grid;
+      picture = is.picture ∙ ap (λ (d : Document). project d done.node.0 done.at) (sym same);
     }
 
 module _ {K : Type 0} where
@@ -117,10 +116,26 @@ module _ {K : Type 0} where
 
   -- ---- a picture that is handed in
 
-  picture_along : (base : Document) (front : List (Moment K)) (c : Editing K) (o : Out) (done : Done) → base ≡ c.history.base
-      → IsLegal base (entries_in front) → IsPrefix front (moments_of c)
-      → IsJobOf base front o → IsOutcome o done → IsPictureOf c.history done
-  picture_along base front c o done same legal begins job out =
+  -- what the job that is out comes to is a picture of the history that the seat knows
+  picture_known : (base : Document) (front : List (Moment K)) (o : Out) (done : Done) → IsJobOf base front o → IsOutcome o done
+      → IsPictureOf (history_of base front) done
+  picture_known base front o done job out =
+      let there : o.version ≤ latest_of (entries_in front) = job.version in
+      let number : done.version ≡ o.version = out.version_is in
+      let all : document_of base (entries_in front) done.version ≡ o.document =
+      ap (λ v. document_of base (entries_in front) v) number ∙ sym job.document_is in
+      record {
+        version = omega (arith, number, there);
+        has = (λ i. has_stack (all i) (out.node_is i)) ∙ job.has;
+        on_grid = (λ i. is_on_grid base.width base.height (out.at_is i)) ∙ job.on_grid;
+        picture = out.picture_is ∙ (λ i. project (sym all i) (sym out.node_is i) (sym out.at_is i));
+      }
+
+  -- and that is one of the history that it enters
+  pub picture_entered : (base : Document) (front : List (Moment K)) (c : Editing K) (done : Done) → base ≡ c.history.base
+      → IsLegal base (entries_in front) → IsPrefix front (moments_of c) → IsPictureOf (history_of base front) done
+      → IsPictureOf c.history done
+  picture_entered base front c done same legal begins is =
       let es = entries_in front in
       let more = entries_in begins.0 in
       let all : es ++ more ≡ c.history.entries =
@@ -128,11 +143,11 @@ module _ {K : Type 0} where
       ∙ (ap entries_in begins.1 ∙ entries-moments c.history.base c.opening c.handed c.history.entries) in
       let later : latest_of es ≤ latest_of (es ++ more) = latest_prefix es (es ++ more) (more, refl) in
       subst (λ (h : History). IsPictureOf h done) (λ i. record { base = same i; entries = all i })
-      (picture_at base es more o done legal job.version job.document_is job.has job.on_grid out later)
+      (picture_goes_on base es more done legal is later)
 
   pub picture_of : (base : Document) (front : List (Moment K)) (c : Editing K) (job : Option Out) (done : Done)
       → base ≡ c.history.base → IsLegal base (entries_in front) → IsPrefix front (moments_of c)
       → IfSome job (IsJobOf base front) → IsOutcomeOf job done → IsPictureOf c.history done
   picture_of base front c job done same legal begins is out =
-      picture_along base front c out.0 done same legal begins
-      (subst (λ (o : Option Out). IfSome o (IsJobOf base front)) out.1 is) out.2
+      picture_entered base front c done same legal begins
+      (picture_known base front out.0 done (subst (λ (o : Option Out). IfSome o (IsJobOf base front)) out.1 is) out.2)

@@ -12,3 +12,5 @@ pub mod UnderWay
 -- which jobs are given out, and which seat has one
 pub mod Taking
 pub mod Jobs
+-- a tile that is composed outside the turn, before the call that asks for it
+pub mod Refreshing

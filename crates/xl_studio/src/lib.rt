@@ -8,6 +8,7 @@ mod calls;
 mod jobs;
 mod moment;
 mod opening;
+mod refreshing;
 mod saving;
 mod seat;
 mod shared;

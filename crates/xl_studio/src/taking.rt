@@ -1,10 +1,12 @@
-ghost use Rattle.std.specs.Prelude.{◌≡◌, true};
+ghost use Rattle.std.specs.Prelude.{◌≡◌, true, IfOk};
+ghost use Rattle.xl_standing.specs.History.{version, document};
+ghost use Rattle.xl_standing.specs.Jobs.{GivesJob};
 ghost use Rattle.xl_studio.specs.Taking.{AnswersJob, HasStayed};
 
 use crate::shared::Shared;
 use std::alloc::{AllocError, Global};
 use xl_core::{Done, Finished, Job, JobSource, Taken};
-use xl_doc::Document;
+use xl_doc::{Document, NodeId, TileAt};
 use xl_ports::Shelf;
 
 /// What workers do with what lies under the lock.
@@ -90,6 +92,20 @@ impl<D: Shelf> Taking for Shared<D> {
 }
 
 impl<D: Shelf> Shared<D> {
+    /// A job for the tile that is named, as the core makes it.
+    pub(crate) fn job_for(
+        &self,
+        alloc: Global,
+        node: NodeId,
+        at: TileAt,
+    ) -> Result<Option<Job>, AllocError>
+        ensures job { IfOk result (GivesJob (document self.now.core.history) self.now.core.cache
+            (version self.now.core.history) node.0 at) }
+        ensures stays { HasStayed self.now self.now }
+    {
+        self.core.job_for(alloc, node, at)
+    }
+
     /// From now on no job is given out.
     pub fn shut(&mut self)
         ensures shut { self.new.closing ≡ true }

@@ -1,0 +1,17 @@
+-- The picture is that of the first hold's job, and the second hold says what became of it.
+use Rattle.xl_studio.specs.Seats.{base_of, history_of, front_of}
+use Rattle.xl_studio.proofs.Refreshed.{picture_of_job, is_refreshed}
+use Rattle.xl_studio.proofs.seat.Studio.refresh.Goals as goal
+
+pub hand_in-requires-clause-done : goal.hand_in-requires-clause-done
+hand_in-requires-clause-done g c κs within =
+    picture_of_job (history_of (base_of c.args.self.now) (front_of c.job_for.new.seat)) c.args.node.0 c.args.at c.in-Ok-Some.job
+    c.compose-done.result (rw c.in-Ok-Some.field-0-is at c.in-Ok-Some.ensures.made) c.compose-done.ensures.done
+
+pub returns-in-Ok-Some-clause-refreshed : goal.returns-in-Ok-Some-clause-refreshed
+returns-in-Ok-Some-clause-refreshed g c =
+    is_refreshed (base_of c.args.self.now) (front_of c.job_for.new.seat) (front_of c.hand_in.new.seat) c.args.node.0 c.args.at
+    c.in-Ok-Some.job c.compose-done.result c.args.steps.now c.compose-done.new.steps c.hand_in.result
+    c.job_for.ensures.seat.front.legal c.hand_in.ensures.heard.begins
+    (rw c.in-Ok-Some.field-0-is at c.in-Ok-Some.ensures.made) c.compose-done.ensures.done c.compose-done.ensures.cost
+    c.hand_in.ensures.finished

@@ -1,0 +1,23 @@
+-- A tile that is composed outside the turn, before the call that asks for it.
+use Rattle.std.specs.Prelude.{◌≡◌, ℕ, ◌+◌, ◌≤◌}
+use Rattle.spec_grid.specs.declared.TileAt.{TileAt}
+use Rattle.spec_cache.specs.declared.Finished.{Finished}
+use Rattle.spec_history.specs.Machine as machine
+use Rattle.spec_history.specs.History.{document_of}
+use Rattle.xl_compose.specs.Job.{Job, StandsFor}
+use Rattle.xl_core.specs.Jobs.{finished_by}
+use Rattle.xl_standing.specs.History.{History, version, document}
+use Rattle.xl_standing.specs.Needs.{most_cost}
+use Rattle.xl_standing.specs.Now.{IsTileOf}
+
+-- the job is of a stack and a tile that are there after this history, and stands for its last version
+pub record IsJobAt (h : History) (stack : ℕ) (at : TileAt) (job : Job) : Type 0 where
+  pub stands : StandsFor (document h) stack at (version h) job
+  pub there : IsTileOf (document h) (record { stack = stack; at = at })
+
+-- A picture of the tile was composed once, at a version of this history, and the history says what became of it.
+pub record IsRefreshed (h : History) (stack : ℕ) (at : TileAt) (before after : ℕ) (finished : Finished) : Type 0 where
+  pub number : ℕ
+  pub known : number ≤ version h
+  pub cost : after ≤ before + most_cost (document_of h.base h.entries number) (machine.tile stack at)
+  pub finished_is : finished ≡ finished_by h.base h.entries (record { stack = stack; at = at }) number

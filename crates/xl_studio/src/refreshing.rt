@@ -1,0 +1,111 @@
+ghost use Rattle.std.specs.Prelude.{◌≡◌, None, IfOk, IfSome};
+ghost use Rattle.xl_core.specs.Editing.{IsPictureOf};
+ghost use Rattle.xl_core.specs.Jobs.{finished_by};
+ghost use Rattle.xl_standing.specs.Places.{place_done};
+ghost use Rattle.xl_studio.specs.Calling.{HasHeard};
+ghost use Rattle.xl_studio.specs.Jobs.{job_out, tally_of};
+ghost use Rattle.xl_studio.specs.Moments.{entries_in};
+ghost use Rattle.xl_studio.specs.Refreshing.{IsJobAt, IsRefreshed};
+ghost use Rattle.xl_studio.specs.Seats.{base_of, history_of, front_of, weight_of, known_by, IsSeatOf};
+
+use crate::seat::{Seat, Studio};
+use crate::taking::Taking;
+use std::alloc::{AllocError, Global};
+use std::sync::Wait;
+use std::sync::ledger::Ledger;
+use xl_blend::Steps;
+use xl_compose::compose;
+use xl_core::{Done, Finished, Job};
+use xl_doc::{NodeId, TileAt};
+use xl_ports::Shelf;
+
+impl<D: Shelf> Studio<D> {
+    // The first hold: a job for the tile, where its slot is marked.
+    fn job_for<W: Wait>(
+        &self,
+        rt: &W,
+        alloc: Global,
+        seat: &mut Seat<D>,
+        node: NodeId,
+        at: TileAt,
+    ) -> Result<Option<Job>, AllocError>
+        requires seat { IsSeatOf self.now seat.old }
+        ensures seat { IsSeatOf self.now seat.new }
+        ensures weight { weight_of seat.new ≡ weight_of seat.old }
+        ensures job { job_out seat.new ≡ job_out seat.old }
+        ensures closed { seat.new.closed ≡ seat.old.closed }
+        ensures tally { tally_of seat.new ≡ tally_of seat.old }
+        ensures heard { HasHeard (known_by seat.old) (known_by seat.new) }
+        ensures made { IfOk result (λ job. IfSome job
+            (IsJobAt (history_of (base_of self.now) (front_of seat.new)) node.0 at)) }
+    {
+        let held = self.lock.enter(rt, &mut seat.seat);
+        let job = held.value.job_for(alloc, node, at);
+        let seen = held.value.last_version();
+        self.lock.leave(held, &mut seat.seat);
+        seat.seen = seen;
+        job
+    }
+
+    // The second hold: the picture is kept, unless its tile was marked at a later version or its stack is gone.
+    fn hand_in<W: Wait>(&self, rt: &W, seat: &mut Seat<D>, done: Done) -> Finished
+        requires seat { IsSeatOf self.now seat.old }
+        requires done { IsPictureOf (history_of (base_of self.now) (front_of seat.old)) done }
+        ensures seat { IsSeatOf self.now seat.new }
+        ensures weight { weight_of seat.new ≡ weight_of seat.old }
+        ensures job { job_out seat.new ≡ job_out seat.old }
+        ensures closed { seat.new.closed ≡ seat.old.closed }
+        ensures tally { tally_of seat.new ≡ tally_of seat.old }
+        ensures heard { HasHeard (known_by seat.old) (known_by seat.new) }
+        ensures finished { result ≡ finished_by (base_of self.now) (entries_in (front_of seat.new))
+            (place_done done) done.version }
+    {
+        let mut held = self.lock.enter(rt, &mut seat.seat);
+        let finished = held.value.finish(done);
+        let seen = held.value.last_version();
+        self.lock.leave(held, &mut seat.seat);
+        seat.seen = seen;
+        finished
+    }
+
+    /// Composes the picture of a tile outside the turn where its slot is marked, so that the call that asks for the tile next takes
+    /// no step where no other marks it in between.
+    ///
+    /// The first hold of the turn makes a job of the last version, and the second hands its picture in: it is kept, unless the tile was
+    /// marked at a later version or its stack is gone. Where the slot is clean, or the stack or the tile is not there, there is no job
+    /// and no second hold. It makes no entry, and takes no job of the desk: the slot does not count as taken, and the seat's tally does
+    /// not count the picture.
+    ///
+    /// Where memory runs out nothing is composed, which is no failure: the call that asks for the tile decides.
+    pub fn refresh<W: Wait, L: Ledger>(
+        &self,
+        rt: &W,
+        alloc: Global,
+        seat: &mut Seat<D>,
+        node: NodeId,
+        at: TileAt,
+        steps: &mut Steps<L>,
+    ) -> Option<Finished>
+        requires seat { IsSeatOf self.now seat.old }
+
+        ensures seat { IsSeatOf self.now seat.new }
+        ensures weight { weight_of seat.new ≡ weight_of seat.old }
+        ensures job { job_out seat.new ≡ job_out seat.old }
+        ensures closed { seat.new.closed ≡ seat.old.closed }
+        ensures tally { tally_of seat.new ≡ tally_of seat.old }
+        ensures heard { HasHeard (known_by seat.old) (known_by seat.new) }
+        ensures refreshed { IfSome result
+            (IsRefreshed (history_of (base_of self.now) (front_of seat.new)) node.0 at steps.old
+            steps.new) }
+        ensures no_step { result ≡ None → steps.new ≡ steps.old }
+    {
+        match self.job_for(rt, alloc, seat, node, at) {
+            Ok(Some(job)) => {
+                let done = compose(job, steps);
+                Some(self.hand_in(rt, seat, done))
+            }
+            Ok(None) => None,
+            Err(_) => None,
+        }
+    }
+}
