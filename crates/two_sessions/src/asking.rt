@@ -19,7 +19,7 @@ use xl_core::Desk;
 use xl_edit::{Call, Group};
 use xl_fakes::MemoryShelf;
 use xl_filters::Chest;
-use xl_rle::Kept;
+use xl_rle::Keeping;
 use xl_studio::{Seat, Studio};
 
 // A call at a desk of its own, which has no filters and whose steps are counted by this ledger.
@@ -128,6 +128,6 @@ pub(crate) fn save<W: Wait + Print>(
     ensures weight { weight_of seat.new ≡ weight_of seat.old }
     ensures job { job_out seat.new ≡ job_out seat.old }
 {
-    let reply = studio.save(rt, alloc, seat, session, &mut Kept)?;
+    let reply = studio.save(rt, alloc, seat, session, &mut Keeping)?;
     show(rt, session, reply)
 }

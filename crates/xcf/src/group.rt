@@ -12,9 +12,8 @@ ghost use Rattle.xl_edit.specs.Edits.{edit_of, edits_of};
 
 use crate::errors::NotGroup;
 use spec_history::MAX_EDITS;
-use xl_doc::{Bytes, MAX_SIDE};
+use xl_doc::{Bytes, MAX_SIDE, know_bytes};
 use xl_edit::Edit;
-use xl_standing::know_bytes;
 
 fn is_side(pixels: u32) -> bool
     ensures { result ≡ is_side pixels }

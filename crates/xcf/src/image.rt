@@ -16,7 +16,7 @@ use std::marker::Model;
 use xl_doc::{Document, NodeId, Rect};
 use xl_edit::{Edit, EditRefusedOrMemory, apply};
 use xl_filters::{FilterKind, FilterState, Table, Tables};
-use xl_standing::{GroupRefusedOrMemory, Made, know_table, next_id_of, try_group};
+use xl_standing::{GroupRefusedOrMemory, MadeGroup, know_table, next_id_of, try_group};
 
 /// A document, and the id that its next new node gets, which is above all ids that it has or had.
 #[derive(Drop)]
@@ -98,7 +98,7 @@ impl Image {
         let tables = Tables::new(alloc);
         match try_group(alloc, &self.document, self.next_id, edits, tables) {
             Ok(made) => {
-                let Made {
+                let MadeGroup {
                     document,
                     next_id,
                     ..

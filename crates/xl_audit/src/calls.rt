@@ -13,11 +13,11 @@ use xl_script::{Line, OrderWord, SESSIONS, Script};
 
 /// The calls of a session: its lines but those by which it drops a filter.
 #[derive(Drop)]
-pub(crate) struct Calls<'a> {
+pub(crate) struct SessionCalls<'a> {
     items: Vec<&'a Line>,
 }
 
-impl<'a> Model for Calls<'a> {
+impl<'a> Model for SessionCalls<'a> {
     ghost use Rattle.std.specs.Prelude.{List, map};
     ghost use Rattle.spec_script.specs.Script as script;
     ghost use Rattle.xl_script.specs.Lines.{line_of};
@@ -27,11 +27,11 @@ impl<'a> Model for Calls<'a> {
     ghost view = { λ c. map (λ l. line_of l.now) c.items.items };
 }
 
-impl<'a> Calls<'a> {
+impl<'a> SessionCalls<'a> {
     fn new(alloc: Global) -> Self
         ensures { result ≡ [] }
     {
-        Calls {
+        SessionCalls {
             items: Vec::new(alloc),
         }
     }
@@ -56,10 +56,10 @@ impl<'a> Calls<'a> {
     }
 }
 
-fn session_calls<'a>(alloc: Global, lines: &'a [Line]) -> Result<Calls<'a>, AllocError>
+fn session_calls<'a>(alloc: Global, lines: &'a [Line]) -> Result<SessionCalls<'a>, AllocError>
     ensures { IfOk result (λ calls. calls ≡ calls_of (lines_of lines.now)) }
 {
-    let mut calls = Calls::new(alloc);
+    let mut calls = SessionCalls::new(alloc);
     for line in lines {
         match line {
             Line::Call(_) | Line::Save => calls.push(line)?,
@@ -73,7 +73,7 @@ fn session_calls<'a>(alloc: Global, lines: &'a [Line]) -> Result<Calls<'a>, Allo
 pub(crate) fn script_calls<'a>(
     alloc: Global,
     script: &'a Script,
-) -> Result<Vec<Calls<'a>>, AllocError>
+) -> Result<Vec<SessionCalls<'a>>, AllocError>
     ensures { IfOk result (λ calls. calls.items ≡ calls_in (lists_of script.now)) }
 {
     let mut calls = Vec::new(alloc);
@@ -84,7 +84,7 @@ pub(crate) fn script_calls<'a>(
 }
 
 /// The call of a word. None where it is a save.
-pub(crate) fn call_at<'a>(calls: &[Calls<'a>], word: OrderWord) -> Option<&'a Call>
+pub(crate) fn call_at<'a>(calls: &[SessionCalls<'a>], word: OrderWord) -> Option<&'a Call>
     ensures { MatchOption result
         (IsNoCall (line_in calls.now word))
         (λ c. line_in calls.now word ≡ script.call (call_of c.now)) }

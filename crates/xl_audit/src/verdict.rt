@@ -13,7 +13,7 @@ ghost use Rattle.xl_filters.specs.Chests.{states, states_in};
 ghost use Rattle.xl_script.specs.Lines.{lists_of};
 
 use crate::beginning::first_walk;
-use crate::calls::{Calls, script_calls};
+use crate::calls::{SessionCalls, script_calls};
 use crate::versions::wanted_versions;
 use crate::walk::Walk;
 use spec_audit::Verdict;
@@ -89,7 +89,7 @@ fn session_desks(alloc: Global, chests: Vec<Chest>) -> Result<Vec<Desk>, AllocEr
 fn walk_along(
     alloc: Global,
     base: Document,
-    calls: &[Calls],
+    calls: &[SessionCalls],
     output: &Output,
 ) -> Result<Walk, AllocError>
     requires { AreNumbered base.nodes }

@@ -5,7 +5,7 @@ ghost use Rattle.xl_audit.specs.Calls.{line_in};
 ghost use Rattle.xl_audit.specs.Versions.{version_named, is_wanted, WantsMore, WantsOfWord, AreWanted, share_at, with_share};
 ghost use Rattle.spec_audit.specs.Walk.{printed_at};
 
-use crate::calls::{Calls, call_at};
+use crate::calls::{SessionCalls, call_at};
 use std::alloc::{AllocError, Global};
 use xl_doc::Document;
 use xl_edit::{Call, Reply};
@@ -16,7 +16,7 @@ use xl_script::OrderWord;
 const MOST_ENTRIES: u32 = 1 << 20;
 
 // The version that the printed reply to a peek shows, where the word is that of a peek.
-fn version_named(calls: &[Calls], output: &Output, word: OrderWord) -> Option<u32>
+fn version_named(calls: &[SessionCalls], output: &Output, word: OrderWord) -> Option<u32>
     ensures { result ≡ version_named (line_in calls.now word)
         (printed_at output.now.replies word).reply }
 {
@@ -47,7 +47,7 @@ fn want(wanted: &mut Vec<bool>, version: u32) -> Result<(), AllocError>
 
 // What a word wants.
 fn want_of_word(
-    calls: &[Calls],
+    calls: &[SessionCalls],
     output: &Output,
     word: OrderWord,
     wanted: &mut Vec<bool>,
@@ -64,7 +64,7 @@ fn want_of_word(
 /// Which versions are shown by the printed replies to peeks.
 pub(crate) fn wanted_versions(
     alloc: Global,
-    calls: &[Calls],
+    calls: &[SessionCalls],
     output: &Output,
 ) -> Result<Vec<bool>, AllocError>
     ensures { IfOk result (λ wanted. AreWanted calls.now output.now.replies wanted.items

@@ -17,7 +17,7 @@ ghost use Rattle.xl_edit.specs.Calls.{call_of};
 ghost use Rattle.xl_edit.specs.Replies.{reply_of};
 ghost use Rattle.xl_filters.specs.Chests.{states_in};
 
-use crate::calls::{Calls, call_at};
+use crate::calls::{SessionCalls, call_at};
 use crate::judging::{end_fits, is_plain, is_printed, peek_fits, shows_version};
 use crate::walk::Walk;
 use std::alloc::{AllocError, Global};
@@ -226,7 +226,7 @@ impl Walk {
     pub(crate) fn word<L: Ledger>(
         &mut self,
         alloc: Global,
-        calls: &[Calls],
+        calls: &[SessionCalls],
         output: &Output,
         word: OrderWord,
         desk: &mut Desk,

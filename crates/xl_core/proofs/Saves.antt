@@ -19,8 +19,8 @@ use Rattle.spec_saves.proofs.Ending.{comes_back_right}
 use Rattle.xl_core.specs.Editing.{last_of, index_out}
 use Rattle.xl_core.specs.Holding.{all_seen, IsPlace, at_hand, Holds}
 use Rattle.xl_core.specs.Room.{owed_in}
-use Rattle.xl_core.specs.declared.saving.Place.{Place}
-use Rattle.xl_core.specs.declared.saving.Place.TheVariants.{In, Out}
+use Rattle.xl_core.specs.declared.saving.ShelfPlace.{ShelfPlace}
+use Rattle.xl_core.specs.declared.saving.ShelfPlace.TheVariants.{In, Out}
 use Rattle.xl_standing.specs.Now.{Now, Stands}
 use Rattle.xl_standing.proofs.GoesOn.{out-call}
 use Rattle.xl_standing.proofs.SaveEntries.{stands_ended as ended}
@@ -53,7 +53,7 @@ stands_ended base entries now made session how stands out =
 
 -- ---- where the shelf is
 
-pub none_out : {K : Type 0} (place : Place K) (out : Option Saving) (k : K) → place ≡ In k → IsPlace place out → out ≡ None
+pub none_out : {K : Type 0} (place : ShelfPlace K) (out : Option Saving) (k : K) → place ≡ In k → IsPlace place out → out ≡ None
 none_out place out k is there = go out (subst (λ p. IsPlace p out) is there)
   where
     go : (out : Option Saving) → IsPlace (In k) out → out ≡ None
@@ -66,7 +66,7 @@ which_out K index version None there = absurd there
 which_out K index version (Some out) there = there
 
 -- the entry that is owed is that of the save that is out
-pub owed_is : (K : Type 0) (place : Place K) (out : Option Saving) → IsPlace place out → owed_in place ≡ entries_owed out
+pub owed_is : (K : Type 0) (place : ShelfPlace K) (out : Option Saving) → IsPlace place out → owed_in place ≡ entries_owed out
 owed_is K (In k) None there = refl
 owed_is K (In k) (Some out) there = absurd there
 owed_is K (Out index version) None there = absurd there
@@ -84,7 +84,7 @@ last-snoc first (x ∷ ks) k = last-snoc x ks k
 module _ {K : Type 0} (see : K → ShelfState) (base : Document) (entries : List Entry) (now : Now) (made : List ℕ)
     (stands : Stands base entries now made) (opening : K) (handed : List K) where
   -- a call leaves the shelf where it is
-  pub holds_called : (place : Place K) (room more : ℕ) (session index : ℕ) (call : Call) (tables : List (List ℕ)) (reply : Reply)
+  pub holds_called : (place : ShelfPlace K) (room more : ℕ) (session index : ℕ) (call : Call) (tables : List (List ℕ)) (reply : Reply)
       → Holds see base entries opening handed place room
       → length entries + 1 + entries_owed (replay base entries).out ≤ more
       → Holds see base (entries ++ record { session = session; index = index; kind = asked call tables; reply = reply }
@@ -127,14 +127,14 @@ module _ {K : Type 0} (see : K → ShelfState) (base : Document) (entries : List
   some_out None session is = absurd is
   some_out (Some out) session is = refl
 
-  out_handed : (place : Place K) (out : Option Saving) (session : ℕ) → IsPlace place out → IsOutOf out session
+  out_handed : (place : ShelfPlace K) (out : Option Saving) (session : ℕ) → IsPlace place out → IsOutOf out session
       → at_hand opening handed place ≡ last_of opening handed
   out_handed (In k) None session is of = absurd of
   out_handed (In k) (Some out) session is of = absurd is
   out_handed (Out index version) out session is of = refl
 
   -- an end takes it back
-  pub holds_ended : (place : Place K) (k : K) (room : ℕ) (session : ℕ) (how : SaveEnd)
+  pub holds_ended : (place : ShelfPlace K) (k : K) (room : ℕ) (session : ℕ) (how : SaveEnd)
       → Holds see base entries opening handed place room
       → IsOutOf (replay base entries).out session → Returns (see opening) (see (last_of opening handed)) base entries how (see k)
       → Holds see base (entries ++ end_entry base entries session (index_out (replay base entries).out) how ∷ []) opening handed

@@ -23,19 +23,19 @@ pub enum Begun<D> {
 
 /// Where the shelf is: in, or out for the save with this index that names this version.
 #[derive(Drop)]
-pub(crate) enum Place<D> {
+pub(crate) enum ShelfPlace<D> {
     In(D),
     Out { index: u32, version: u32 },
 }
 
 // How many entries the save that is out owes.
-pub(crate) fn owed_in<D>(place: &Place<D>) -> usize
+pub(crate) fn owed_in<D>(place: &ShelfPlace<D>) -> usize
     ensures value { result ≡ owed_in place.now }
     ensures few { result ≤ 1 }
 {
     match place {
-        Place::In(_) => 0,
-        Place::Out { .. } => 1,
+        ShelfPlace::In(_) => 0,
+        ShelfPlace::Out { .. } => 1,
     }
 }
 

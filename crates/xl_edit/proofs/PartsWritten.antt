@@ -13,8 +13,8 @@ use Rattle.spec_edit.specs.Effect.{with_plane}
 use Rattle.spec_edit.proofs.Painted.{with_rect_plane, channel_painted}
 use Rattle.spec_edit.proofs.FieldsLimited.{KeepsLayer, layer_area, leaf_changed}
 use Rattle.xl_tiles.specs.Written.{from_edge, written}
-use Rattle.xl_edit.specs.declared.places.Part.{Part}
-use Rattle.xl_edit.specs.declared.places.Part.TheVariants.{Pixels, Mask}
+use Rattle.xl_edit.specs.declared.places.LayerPart.{LayerPart}
+use Rattle.xl_edit.specs.declared.places.LayerPart.TheVariants.{Pixels, Mask}
 use Rattle.xl_edit.specs.Paint.{with_piece}
 
 plane_written : (rect : Rect) (bytes : List ℕ) (w h n : ℕ) (p : Plane) → AreBytes bytes → IsPlaneOf w h n p
@@ -40,7 +40,7 @@ mask_pixels : (rect : Rect) (bytes : List ℕ) (o : Option Channel) → mask_are
 mask_pixels rect bytes None = refl
 mask_pixels rect bytes (Some c) = refl
 
-keeps_piece : (base : Base) (part : Part) (rect : Rect) (bytes : List ℕ) → AreBytes bytes
+keeps_piece : (base : Base) (part : LayerPart) (rect : Rect) (bytes : List ℕ) → AreBytes bytes
     → KeepsLayer base (with_piece part rect bytes)
 keeps_piece base Pixels rect bytes are = record {
   limits = λ l h. record {
@@ -75,18 +75,18 @@ keeps_piece base Mask rect bytes are = record {
   kept = λ l. omega (arith, mask_kept rect bytes l.mask);
 }
 
-same_area : (part : Part) (rect : Rect) (bytes : List ℕ) (l : Layer) → layer_area (with_piece part rect bytes l) ≤ layer_area l
+same_area : (part : LayerPart) (rect : Rect) (bytes : List ℕ) (l : Layer) → layer_area (with_piece part rect bytes l) ≤ layer_area l
 same_area Pixels rect bytes l = omega arith
 same_area Mask rect bytes l = omega (arith, mask_pixels rect bytes l.mask)
 
-pub put_within : (d : Document) (id : ℕ) (part : Part) (rect : Rect) (bytes : List ℕ) → IsDocument d → AreBytes bytes
+pub put_within : (d : Document) (id : ℕ) (part : LayerPart) (rect : Rect) (bytes : List ℕ) → IsDocument d → AreBytes bytes
     → IsDocument (record d { nodes = with_leaf id (with_piece part rect bytes) d.nodes })
 put_within d id part rect bytes is are =
     (leaf_changed d (2 ^ 32) id (with_piece part rect bytes) (record { document = is; positive = omega arith; below = is.ids.word })
     (keeps_piece d.base part rect bytes are) (same_area part rect bytes)).document
 
 -- The document is seen as its fields, and as what they stand for.
-module _ (before d : Document) (id : ℕ) (part : Part) (rect : Rect) (bytes : List ℕ) (nodes : Nodes) where
+module _ (before d : Document) (id : ℕ) (part : LayerPart) (rect : Rect) (bytes : List ℕ) (nodes : Nodes) where
   pub put_is : before ≡ d → nodes ≡ with_leaf id (with_piece part rect bytes) before.nodes
       → record before { nodes = nodes } ≡ record d { nodes = with_leaf id (with_piece part rect bytes) d.nodes }
   put_is same is =

@@ -8,8 +8,8 @@ use Rattle.spec_edit.specs.Effect.{paint, through, listed, from_edge, plane_foun
 use Rattle.xl_doc.specs.Sheet.{Sheet}
 use Rattle.xl_tiles.specs.Written.{IsWithin, written}
 use Rattle.xl_edit.specs.declared.places.Site.{Site}
-use Rattle.xl_edit.specs.declared.places.Part.{Part}
-use Rattle.xl_edit.specs.declared.places.Part.TheVariants.{Pixels, Mask}
+use Rattle.xl_edit.specs.declared.places.LayerPart.{LayerPart}
+use Rattle.xl_edit.specs.declared.places.LayerPart.TheVariants.{Pixels, Mask}
 use Rattle.xl_checks.specs.Found.{sheet_of_layer}
 
 -- the rectangle lies on the plane, and the bytes are as many as it has there
@@ -22,15 +22,15 @@ abbrev pub IsMaskPiece : Rect → List ℕ → Option Channel → Type 0
 IsMaskPiece rect bytes None = ⊥
 IsMaskPiece rect bytes (Some mask) = IsPieceOf rect bytes mask.plane
 
-abbrev pub IsSheetPiece : Part → Rect → List ℕ → Sheet → Type 0
+abbrev pub IsSheetPiece : LayerPart → Rect → List ℕ → Sheet → Type 0
 IsSheetPiece Pixels rect bytes s = IsPieceOf rect bytes s.plane
 IsSheetPiece Mask rect bytes s = IsMaskPiece rect bytes s.mask
 
-abbrev pub IsPiece : Part → Rect → List ℕ → Layer → Type 0
+abbrev pub IsPiece : LayerPart → Rect → List ℕ → Layer → Type 0
 IsPiece part rect bytes l = IsSheetPiece part rect bytes (sheet_of_layer l)
 
 -- the pixels or the mask with the bytes of a rectangle
-abbrev pub sheet_with : Part → Rect → List ℕ → Sheet → Sheet
+abbrev pub sheet_with : LayerPart → Rect → List ℕ → Sheet → Sheet
 sheet_with Pixels rect bytes s = record s { plane = written s.plane rect bytes }
 sheet_with Mask rect bytes s = record s { mask = option_map (with_plane (λ p. written p rect bytes)) s.mask }
 
@@ -38,11 +38,11 @@ sheet_with Mask rect bytes s = record s { mask = option_map (with_plane (λ p. w
 abbrev pub with_sheet : Sheet → Layer → Layer
 with_sheet s l = record l { kind = s.kind; x = s.x; y = s.y; plane = s.plane; mask = s.mask; apply_mask = s.apply_mask }
 
-abbrev pub with_piece : Part → Rect → List ℕ → Layer → Layer
+abbrev pub with_piece : LayerPart → Rect → List ℕ → Layer → Layer
 with_piece part rect bytes l = with_sheet (sheet_with part rect bytes (sheet_of_layer l)) l
 
 -- these bytes, in the rectangle of the layer, are what a change makes of it
-pub record Paints (part : Part) (rect : Rect) (bytes : List ℕ) (change : Layer → Layer) (l : Layer) : Type 0 where
+pub record Paints (part : LayerPart) (rect : Rect) (bytes : List ℕ) (change : Layer → Layer) (l : Layer) : Type 0 where
   pub piece : IsPiece part rect bytes l
   pub painted : with_piece part rect bytes l ≡ change l
 

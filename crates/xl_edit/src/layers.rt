@@ -14,8 +14,8 @@ ghost use Rattle.xl_edit.specs.Layers.{Takes, sheet_changed, layer_changed};
 use crate::blank::full_mask;
 use crate::refused::EditRefusedOrMemory;
 use std::alloc::Global;
-use xl_checks::{check_offset, know_limits, layer_at, masked_at, unmasked_at};
-use xl_doc::{Body, Document, Layer, Mask, Node, NodeId, Tree};
+use xl_checks::{check_offset, layer_at, masked_at, unmasked_at};
+use xl_doc::{Body, Document, Layer, Mask, Node, NodeId, Tree, know_limits};
 
 /// A change of a layer for which all is ready.
 #[derive(Drop)]

@@ -10,7 +10,7 @@ ghost use Rattle.xl_doc.specs.Nodes.{nodes_of, layer_of, IsLeaf, MarksAgree};
 ghost use Rattle.xl_checks.specs.Found.{IsLayer, sheet_of_layer};
 ghost use Rattle.xl_edit.specs.Paint.{IsPiece, IsMaskPiece, IsSheetPiece, with_piece, sheet_with};
 
-use crate::places::Part;
+use crate::places::LayerPart;
 use std::alloc::{AllocError, Global};
 use xl_doc::{Body, Document, Layer, Mask, Node, NodeId, Rect, Tree};
 
@@ -19,7 +19,7 @@ pub(crate) fn put(
     alloc: Global,
     doc: &mut Document,
     id: NodeId,
-    part: Part,
+    part: LayerPart,
     rect: Rect,
     bytes: &[u8],
 ) -> Result<(), AllocError>
@@ -36,7 +36,7 @@ fn put_at(
     alloc: Global,
     tree: &mut Tree<Node>,
     id: NodeId,
-    part: Part,
+    part: LayerPart,
     rect: Rect,
     bytes: &[u8],
 ) -> Result<(), AllocError>
@@ -56,7 +56,7 @@ fn put_at(
 fn put_in(
     alloc: Global,
     node: &mut Node,
-    part: Part,
+    part: LayerPart,
     rect: Rect,
     bytes: &[u8],
 ) -> Result<(), AllocError>
@@ -75,7 +75,7 @@ fn put_in(
 fn put_part(
     alloc: Global,
     layer: &mut Layer,
-    part: Part,
+    part: LayerPart,
     rect: Rect,
     bytes: &[u8],
 ) -> Result<(), AllocError>
@@ -84,8 +84,8 @@ fn put_part(
     ensures err { OnErr result (layer.new ≡ layer.old) }
 {
     match part {
-        Part::Pixels => layer.plane.write_rect(alloc, rect, bytes),
-        Part::Mask => put_mask(alloc, &mut layer.mask, rect, bytes),
+        LayerPart::Pixels => layer.plane.write_rect(alloc, rect, bytes),
+        LayerPart::Mask => put_mask(alloc, &mut layer.mask, rect, bytes),
     }
 }
 

@@ -8,7 +8,7 @@ pub(crate) struct Site {
 
 /// Which bytes of a layer are written.
 #[derive(Clone, Copy)]
-pub(crate) enum Part {
+pub(crate) enum LayerPart {
     Pixels,
     Mask,
 }

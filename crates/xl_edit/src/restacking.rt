@@ -13,8 +13,8 @@ ghost use Rattle.xl_tree.specs.Refusals.{restack_refusal};
 
 use crate::refused::EditRefusedOrMemory;
 use spec_edit::EditRefused;
-use xl_checks::{check_depth, check_node, check_parent, child_count, know_limits};
-use xl_doc::{Document, Node, NodeId, Tree};
+use xl_checks::{check_depth, check_node, check_parent, child_count};
+use xl_doc::{Document, Node, NodeId, Tree, know_limits};
 use xl_tree::{Split, Stack};
 
 /// The place counts after the node is taken out. Errors: `NoNode`, `NotGroup`, `Inside`, `BadPlace`, `TooDeep`.

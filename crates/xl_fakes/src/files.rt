@@ -4,11 +4,11 @@ ghost use Rattle.std.specs.Prelude.{drop, remove, ◌∷◌};
 ghost use Rattle.xl_ports.specs.Shelf.{absent};
 ghost use Rattle.xl_fakes.specs.Kept.{KnowsToo, is_known, Standing, found, standing, content_of, contents};
 
-use crate::kept::Kept;
+use crate::kept::NamedFile;
 use std::alloc::{AllocError, AllocFailed, Global};
 
 /// The place of what is kept under a name, if anything is.
-pub fn place_of(files: &[Kept], name: &str) -> Option<usize>
+pub fn place_of(files: &[NamedFile], name: &str) -> Option<usize>
     ensures within { IfSome result (λ i. i < length files.now) }
     ensures named { IfSome result (λ i. (d : Standing) → (slice_index_or files.now i d).name
         ≡ name.now) }
@@ -27,7 +27,11 @@ pub fn place_of(files: &[Kept], name: &str) -> Option<usize>
 }
 
 /// Takes out what is kept under a name, or makes it anew where nothing is. There is room for it to come back.
-pub fn take_out(alloc: Global, files: &mut Vec<Kept>, name: &str) -> Result<Kept, AllocError>
+pub fn take_out(
+    alloc: Global,
+    files: &mut Vec<NamedFile>,
+    name: &str,
+) -> Result<NamedFile, AllocError>
     ensures named { IfOk result (λ k. k.name ≡ name.now) }
     ensures found { IfOk result (λ k. k ≡ found files.old.items name.now) }
     ensures others { OnOk result ((other : List ℕ) → (other ≡ name.now → ⊥)
@@ -40,15 +44,15 @@ pub fn take_out(alloc: Global, files: &mut Vec<Kept>, name: &str) -> Result<Kept
     files.reserve(1)?;
     match place_of(files, name) {
         Some(i) => Ok(files.remove(i)),
-        None => Kept::new(alloc, String::from_str(alloc, name)?, None),
+        None => NamedFile::new(alloc, String::from_str(alloc, name)?, None),
     }
 }
 
 /// Brings what is kept under a name to the front, in the place of what was there, which goes back.
 pub fn bring(
     alloc: Global,
-    here: &mut Option<Kept>,
-    files: &mut Vec<Kept>,
+    here: &mut Option<NamedFile>,
+    files: &mut Vec<NamedFile>,
     name: &str,
 ) -> Result<(), AllocError>
     ensures selected { OnOk result (option_map (λ k. k.name) here.new ≡ Some name.now) }
@@ -64,7 +68,7 @@ pub fn bring(
     }
     let next = take_out(alloc, files, name)?;
     if let Some(last) = here.replace(next) {
-        let placed: Result<(), AllocFailed<Kept>> = files.insert(0, last);
+        let placed: Result<(), AllocFailed<NamedFile>> = files.insert(0, last);
         placed.unwrap();
     }
     Ok(())

@@ -14,7 +14,7 @@ ghost use Rattle.xl_fakes.specs.Kept.{IsSettled, KnowsToo, LeavesBoth, draft_in,
 
 use crate::draft::Draft;
 use crate::files::{bring, place_of};
-use crate::kept::Kept;
+use crate::kept::NamedFile;
 use crate::settled::Settled;
 use crate::shelf_calls::ShelfCalls;
 use crate::steps::{conclude_reading, conclude_saving, note, settle_kept};
@@ -27,8 +27,8 @@ use xl_ports::{Failed, Shelf};
 pub struct MemoryShelf {
     alloc: Global,
     // What is kept under the selected name, and under the others.
-    here: Option<Kept>,
-    files: Vec<Kept>,
+    here: Option<NamedFile>,
+    files: Vec<NamedFile>,
     draft: Option<Draft>,
     // An entry for each call that found memory for one.
     log: Vec<Option<Settled>>,
@@ -127,7 +127,11 @@ impl MemoryShelf {
 }
 
 // What is kept under a name, if anything is.
-fn kept_of<'a>(here: &'a Option<Kept>, files: &'a [Kept], name: &str) -> Option<&'a Kept>
+fn kept_of<'a>(
+    here: &'a Option<NamedFile>,
+    files: &'a [NamedFile],
+    name: &str,
+) -> Option<&'a NamedFile>
     ensures some { IfSome (option_copied result) (λ k. k ≡ standing here.now files.now name.now) }
     ensures known { is_some (option_copied result) ≡ is_known_at here.now files.now name.now }
     ensures none { option_copied result ≡ None → standing here.now files.now name.now
@@ -145,12 +149,12 @@ fn kept_of<'a>(here: &'a Option<Kept>, files: &'a [Kept], name: &str) -> Option<
 }
 
 // What is kept of files that are handed in.
-fn keep_all(alloc: Global, files: Vec<(String, Vec<u8>)>) -> Result<Vec<Kept>, AllocError>
+fn keep_all(alloc: Global, files: Vec<(String, Vec<u8>)>) -> Result<Vec<NamedFile>, AllocError>
     ensures { IfOk result (λ kept. kept.items ≡ map handed_in files.items) }
 {
     let mut kept = Vec::new(alloc);
     for (name, bytes) in files {
-        kept.push(Kept::new(alloc, name, Some(bytes))?)?;
+        kept.push(NamedFile::new(alloc, name, Some(bytes))?)?;
     }
     Ok(kept)
 }
@@ -483,7 +487,7 @@ impl Shelf for MemoryShelf {
 }
 
 // The bytes that a read gives from an offset on, as many as there is room for.
-fn give(kept: &Kept, at: u64, buf: &mut [u8]) -> Result<usize, Failed>
+fn give(kept: &NamedFile, at: u64, buf: &mut [u8]) -> Result<usize, Failed>
     ensures within { IfOk result (λ k. k ≤ length buf.old) }
     ensures given { IfOk result (λ k. GivesPart kept.now.read at (length buf.old)
         (take k buf.new)) }

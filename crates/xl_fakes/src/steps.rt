@@ -5,7 +5,7 @@ ghost use Rattle.xl_fakes.specs.Fakes.{CountsStarved};
 ghost use Rattle.xl_fakes.specs.Calls.{with_reading, with_saving};
 ghost use Rattle.xl_fakes.specs.Kept.{Notes};
 
-use crate::kept::Kept;
+use crate::kept::NamedFile;
 use crate::settled::Settled;
 use crate::shelf_calls::ShelfCalls;
 use std::alloc::{AllocError, Global};
@@ -23,7 +23,7 @@ pub fn note(log: &mut Vec<Option<Settled>>) -> Result<(), AllocError>
 /// Lets all go but what a read gives, and records that.
 pub fn settle_kept(
     alloc: Global,
-    kept: &mut Kept,
+    kept: &mut NamedFile,
     log: &mut Vec<Option<Settled>>,
 ) -> Result<(), AllocError>
     ensures kept { OnOk result

@@ -15,5 +15,5 @@ pub use laws::written_planes_are_read;
 pub use reading::read_hierarchy;
 pub use writing::write_hierarchy;
 pub use xl_fields::ReadRefusedOrMemory;
-pub use xl_rle::{Greedy, Kept, PlaneCoder};
+pub use xl_rle::{Greedy, Keeping, PlaneCoder};
 pub use xl_tiles::Plane;

@@ -1,7 +1,7 @@
 //! A script that is played on an opened document, and the text of it.
 //!
 //! `run_script` makes the calls and saves of its sessions: beside each other and beside workers, or, where session 0 is alone and no
-//! worker is asked for, straight on a core, without threads. `View::view_script` makes those of session 0 that save nothing, each tile
+//! worker is asked for, straight on a core, without threads. `Viewing::view_script` makes those of session 0 that save nothing, each tile
 //! with those to its right and below.
 #![tactic(auto)]
 
@@ -11,11 +11,11 @@ mod playing;
 mod saving;
 mod script_runs;
 mod transcript;
-mod view;
+mod viewing;
 mod windows;
 
 pub use host::Host;
 pub use opening::open_core;
 pub use playing::{Replies, has_save_fault};
 pub use script_runs::{Played, run_script};
-pub use view::View;
+pub use viewing::Viewing;

@@ -9,7 +9,7 @@ use std::alloc::{AllocError, Global};
 use xl_core::{Begun, Core, SaveEnd};
 use xl_edit::Reply;
 use xl_ports::Shelf;
-use xl_rle::Kept;
+use xl_rle::Keeping;
 use xl_snapshot::save_document;
 
 /// Makes a save of a session, from its start to its end.
@@ -40,7 +40,7 @@ pub fn save_latest<D: Shelf>(
         } => (document, shelf),
         Begun::Out | Begun::Full => unreachable!(),
     };
-    let how = save_document(alloc, &document, &mut Kept, &mut shelf);
+    let how = save_document(alloc, &document, &mut Keeping, &mut shelf);
     let reply = core.end_save(session, shelf, how);
     match how {
         SaveEnd::Done | SaveEnd::Fault => Ok(reply),

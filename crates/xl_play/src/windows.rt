@@ -26,7 +26,7 @@ ghost use Rattle.xl_window.specs.Viewing.{GoesOn};
 
 use crate::playing::{ALONE, first_lines};
 use crate::transcript::Transcript;
-use crate::view::View;
+use crate::viewing::Viewing;
 use std::alloc::AllocError;
 use std::marker::Brand;
 use std::sync::ledger::{Blank, Ledger};
@@ -51,7 +51,7 @@ fn asked_tile(call: &Call) -> Option<(NodeId, TileAt)>
     }
 }
 
-impl View {
+impl Viewing {
     // The digest of a window of the last version, where nothing keeps it from being shown.
     fn window_digest<D: Shelf, L: Ledger>(
         &self,

@@ -9,7 +9,7 @@ ghost use Rattle.xl_program.specs.Parts.{ReadsScript, WritesReplies, StopsEdit};
 ghost use Rattle.xl_script.specs.Lines.{lists_of};
 ghost use Rattle.xl_filters.specs.Chests.{states_of};
 
-use crate::ended::Done;
+use crate::ended::CommandEnd;
 use crate::loading::read_document;
 use crate::stopped::Stopped;
 use std::alloc::{AllocError, Global};
@@ -35,7 +35,7 @@ pub fn edit<R: Threads + Wait + Sync, S: Source, K: Sink, D: Shelf, G: Gate>(
     sink: &mut K,
     mut shelf: D,
     chest: Vec<Vec<Box<dyn PointFilter + Send>>>,
-) -> Done<D>
+) -> CommandEnd<D>
     requires boxes { AllByRecursion (λ boxes. length boxes.items < 2 ^ 32) chest.items }
     requires workers { workers ≤ 8 }
     ensures comes { ComesTo K.held K.faults (given_of (S.left source.old) (λ b. state b)
@@ -56,20 +56,20 @@ pub fn edit<R: Threads + Wait + Sync, S: Source, K: Sink, D: Shelf, G: Gate>(
     let alloc = host.alloc;
     let script = match read_script(alloc, source, &chest) {
         Ok(script) => script,
-        Err(stopped) => return Done {
+        Err(stopped) => return CommandEnd {
             result: Err(stopped),
             shelf,
         },
     };
     let document = match read_document(alloc, name, &mut shelf) {
         Ok(document) => document,
-        Err(stopped) => return Done {
+        Err(stopped) => return CommandEnd {
             result: Err(stopped),
             shelf,
         },
     };
     let played = run_script(host, document, script, chest, workers, shelf);
-    Done {
+    CommandEnd {
         result: write_replies(sink, played.replies),
         shelf: played.shelf,
     }

@@ -8,7 +8,7 @@ ghost use Rattle.xl_program.specs.Outcome.{Given, ComesTo, LoadsFew, ShelfCauseO
 ghost use Rattle.xl_program.specs.Parts.{StopsFlatten};
 ghost use Rattle.xl_ports.specs.Disk.{read_at};
 
-use crate::ended::Done;
+use crate::ended::CommandEnd;
 use crate::loading::read_document;
 use crate::stopped::Stopped;
 use std::alloc::{AllocError, Global};
@@ -21,7 +21,7 @@ use xl_edit::{Call, Group};
 use xl_flat::{FlatRefusedOrMemory, flatten as flat_group};
 use xl_play::open_core;
 use xl_ports::{Shelf, Sink, write_all};
-use xl_rle::Kept;
+use xl_rle::Keeping;
 use xl_sessions::desk_of;
 use xl_snapshot::{file_of, save_file};
 use xl_standing::next_id_of;
@@ -33,7 +33,12 @@ const SESSION: u8 = 0;
 /// is.
 ///
 /// The file is made before the save begins. The shelf comes back always.
-pub fn flatten<K: Sink, D: Shelf>(alloc: Global, name: &str, sink: &mut K, mut shelf: D) -> Done<D>
+pub fn flatten<K: Sink, D: Shelf>(
+    alloc: Global,
+    name: &str,
+    sink: &mut K,
+    mut shelf: D,
+) -> CommandEnd<D>
     ensures comes { (given : Given) → ComesTo K.held K.faults given
         (D.shelf_state shelf)
         (D.shelf_state result.shelf)
@@ -48,21 +53,21 @@ pub fn flatten<K: Sink, D: Shelf>(alloc: Global, name: &str, sink: &mut K, mut s
 {
     let document = match read_document(alloc, name, &mut shelf) {
         Ok(document) => document,
-        Err(stopped) => return Done {
+        Err(stopped) => return CommandEnd {
             result: Err(stopped),
             shelf,
         },
     };
     let group = match group_of::<Brand>(alloc, &document, Blank::new(1)) {
         Ok(group) => group,
-        Err(stopped) => return Done {
+        Err(stopped) => return CommandEnd {
             result: Err(stopped),
             shelf,
         },
     };
     let mut core = match open_core(alloc, document, shelf) {
         Ok(core) => core,
-        Err(shelf) => return Done {
+        Err(shelf) => return CommandEnd {
             result: Err(Stopped::Memory),
             shelf,
         },
@@ -70,13 +75,13 @@ pub fn flatten<K: Sink, D: Shelf>(alloc: Global, name: &str, sink: &mut K, mut s
     let file = flat_file::<Brand, D>(alloc, &mut core, group, Blank::new(1));
     let mut shelf = core.into_shelf();
     let Ok(file) = file else {
-        return Done {
+        return CommandEnd {
             result: Err(Stopped::Memory),
             shelf,
         };
     };
     let result = save_flat(&file, sink, &mut shelf);
-    Done { result, shelf }
+    CommandEnd { result, shelf }
 }
 
 // The group that makes a document flat.
@@ -121,7 +126,7 @@ fn flat_file<L: Ledger, D: Shelf>(
         &mut desk,
         &mut steps,
     )?;
-    file_of(alloc, core.document(), &mut Kept)
+    file_of(alloc, core.document(), &mut Keeping)
 }
 
 // Saves a file, and writes the line that tells of it.

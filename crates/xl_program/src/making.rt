@@ -18,15 +18,14 @@ ghost use Rattle.xl_snapshot.specs.Saving.{IsSavedOn};
 ghost use Rattle.xl_script.specs.Lines.{lists_of};
 
 use crate::editing::write_replies;
-use crate::ended::Done;
+use crate::ended::CommandEnd;
 use crate::stopped::Stopped;
 use std::alloc::{AllocError, Global};
 use std::sync::Wait;
 use std::thread::Threads;
-use xl_checks::know_limits;
 use xl_compose::Recompose;
 use xl_core::Core;
-use xl_doc::{Document, NodeId, Pictures, Rect};
+use xl_doc::{Document, NodeId, Pictures, Rect, know_limits};
 use xl_play::{Played, Replies, has_save_fault, open_core};
 use xl_ports::{Failed, Gate, Shelf, Sink};
 use xl_report::{Made, digest, summary};
@@ -48,7 +47,7 @@ pub fn make<R: Threads + Wait + Sync, K: Sink, D: Shelf, G: Gate>(
     sink: &mut K,
     mut shelf: D,
     gate: &G,
-) -> Done<D>
+) -> CommandEnd<D>
     ensures comes { (given : Given) → ComesTo K.held K.faults given
         (D.shelf_state shelf)
         (D.shelf_state result.shelf)
@@ -62,19 +61,19 @@ pub fn make<R: Threads + Wait + Sync, K: Sink, D: Shelf, G: Gate>(
     ensures named { OnOk result.result ((D.shelf_state result.shelf).selected ≡ Some name.now) }
 {
     let Ok((made, file)) = made_with_file(alloc, seed) else {
-        return Done {
+        return CommandEnd {
             result: Err(Stopped::Memory),
             shelf,
         };
     };
     if save_first(name, &file, &mut shelf).is_err() {
-        return Done {
+        return CommandEnd {
             result: Err(Stopped::ShelfFault),
             shelf,
         };
     }
     let played = run_made(rt, alloc, made, shelf, gate);
-    Done {
+    CommandEnd {
         result: write_replies(sink, played.replies),
         shelf: played.shelf,
     }

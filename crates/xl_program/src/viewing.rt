@@ -16,13 +16,13 @@ ghost use Rattle.xl_script.specs.Lines.{lists_of};
 ghost use Rattle.xl_filters.specs.Chests.{states_of};
 
 use crate::editing::MOST_BYTES;
-use crate::ended::Done;
+use crate::ended::CommandEnd;
 use crate::loading::read_document;
 use crate::stopped::Stopped;
 use std::alloc::{AllocError, Global};
 use xl_doc::Document;
 use xl_filters::PointFilter;
-use xl_play::{View, open_core};
+use xl_play::{Viewing, open_core};
 use xl_ports::{FailedOrMemory, Shelf, Sink, Source, read_all, write_all};
 use xl_script::{BadLineOrMemory, Script, parse_viewed};
 
@@ -32,13 +32,13 @@ use xl_script::{BadLineOrMemory, Script, parse_viewed};
 /// The script is read before the file, and all the text is made before its first byte is written. Nothing is saved. The shelf comes
 /// back always.
 pub fn view<S: Source, K: Sink, D: Shelf>(
-    view: &View,
+    view: &Viewing,
     name: &str,
     source: &mut S,
     sink: &mut K,
     mut shelf: D,
     chest: Vec<Vec<Box<dyn PointFilter + Send>>>,
-) -> Done<D>
+) -> CommandEnd<D>
     requires boxes { AllByRecursion (λ boxes. length boxes.items < 2 ^ 32) chest.items }
     requires size { IsWindowSize view.now.cols view.now.rows }
     ensures comes { ComesTo K.held K.faults (given_of (S.left source.old) (λ b. state b)
@@ -59,20 +59,20 @@ pub fn view<S: Source, K: Sink, D: Shelf>(
     let alloc = view.alloc;
     let script = match read_script(alloc, source, &chest) {
         Ok(script) => script,
-        Err(stopped) => return Done {
+        Err(stopped) => return CommandEnd {
             result: Err(stopped),
             shelf,
         },
     };
     let document = match read_document(alloc, name, &mut shelf) {
         Ok(document) => document,
-        Err(stopped) => return Done {
+        Err(stopped) => return CommandEnd {
             result: Err(stopped),
             shelf,
         },
     };
     let viewed = view_document(view, document, script, chest, shelf);
-    Done {
+    CommandEnd {
         result: write_text(sink, viewed.text),
         shelf: viewed.shelf,
     }
@@ -128,7 +128,7 @@ struct Viewed<D> {
 
 // Makes the calls of a script on a document.
 fn view_document<D: Shelf>(
-    view: &View,
+    view: &Viewing,
     document: Document,
     script: Script,
     chest: Vec<Vec<Box<dyn PointFilter + Send>>>,

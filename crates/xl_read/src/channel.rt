@@ -5,7 +5,7 @@ ghost use Rattle.spec_file.specs.Channels.{with_channel, channel_at};
 ghost use Rattle.xl_read.specs.Yields.{Yields};
 ghost use Rattle.spec_document.specs.declared.TheConstants.{MAX_KEPT_BYTES};
 
-use crate::draft::Draft;
+use crate::draft::DocumentDraft;
 use crate::listing::Listing;
 use crate::owners::OfChannel;
 use crate::words::{Shape, plane_at, pointer_at, same_word_at};
@@ -16,21 +16,21 @@ use xl_doc::{Bytes, Channel, MAX_CHANNELS};
 use xl_fields::{Kind, ReadRefusedOrMemory, refuse, string_at};
 
 /// Whether it is no second selection.
-fn is_first(draft: &Draft, selection: bool) -> bool
+fn is_first(draft: &DocumentDraft, selection: bool) -> bool
     ensures { result ≡ (not selection || is_none draft.now.selection) }
 {
     !selection || !draft.has_selection()
 }
 
 /// Whether it is the selection, or there is room for one channel more.
-fn has_place(draft: &Draft, selection: bool) -> bool
+fn has_place(draft: &DocumentDraft, selection: bool) -> bool
     ensures { result ≡ (selection || nat_lt (length draft.now.channels) 64) }
 {
     selection || draft.channel_count() < MAX_CHANNELS as usize
 }
 
 /// Makes a channel the selection, or puts it last.
-fn put(draft: &mut Draft, selection: bool, channel: Channel)
+fn put(draft: &mut DocumentDraft, selection: bool, channel: Channel)
     requires first { IsTrue (not selection || is_none draft.old.selection) }
     requires few { IsTrue (selection || nat_lt (length draft.old.channels) 64) }
     requires area { area draft.old + draft.old.width * draft.old.height ≤ MAX_AREA }
@@ -52,7 +52,7 @@ pub fn channel_at(
     shared: &Arc<Vec<u8>>,
     at: usize,
     place: usize,
-    draft: &mut Draft,
+    draft: &mut DocumentDraft,
 ) -> Result<(), ReadRefusedOrMemory>
     requires file { length file.now ≤ 2 ^ 31 }
     requires shared { file.now ≡ (arc_value shared.now).items }

@@ -12,21 +12,25 @@ ghost use Rattle.xl_fields.specs.Gives.{Gives};
 ghost use Rattle.xl_read.specs.Yields.{OnRefused};
 ghost use Rattle.spec_document.specs.declared.TheConstants.{MAX_KEPT_BYTES};
 
-use crate::draft::Draft;
+use crate::draft::DocumentDraft;
 use crate::header::{Header, header_at, is_indexed};
 use crate::listing::Listing;
 use crate::lists::{channels_at, nodes_at};
 use crate::owners::OfImage;
 use std::alloc::{AllocError, Global};
 use std::sync::Arc;
-use xl_doc::{ColourMap, Document};
+use xl_doc::{ColourMap, Document, know_bytes};
 use xl_fields::{Kind, ReadRefusedOrMemory, refuse};
 
 /// The offset of the properties of the image.
 const PROPERTIES: usize = 26;
 
 /// The document before any layer or channel.
-fn blank(alloc: Global, header: Header, props: Listing<OfImage>) -> Result<Draft, AllocError>
+fn blank(
+    alloc: Global,
+    header: Header,
+    props: Listing<OfImage>,
+) -> Result<DocumentDraft, AllocError>
     requires width { IsSide header.width }
     requires height { IsSide header.height }
     requires kept { kept_bytes (kept_of owners.Image props.list) ≤ MAX_KEPT_BYTES }
@@ -39,12 +43,16 @@ fn blank(alloc: Global, header: Header, props: Listing<OfImage>) -> Result<Draft
     } else {
         ColourMap::new(alloc)
     };
-    Draft::new(alloc, header, compression, colours, kept)
+    DocumentDraft::new(alloc, header, compression, colours, kept)
 }
 
 /// What reading a file in order gives, or its first fault.
 #[tactic(auto, unfolding(spec_file::specs::Reading::reading))]
-fn read(alloc: Global, bytes: &[u8], shared: &Arc<Vec<u8>>) -> Result<Draft, ReadRefusedOrMemory>
+fn read(
+    alloc: Global,
+    bytes: &[u8],
+    shared: &Arc<Vec<u8>>,
+) -> Result<DocumentDraft, ReadRefusedOrMemory>
     requires length { length bytes.now ≤ 2 ^ 31 }
     requires shared { bytes.now ≡ (arc_value shared.now).items }
     ensures { Gives result (reading bytes.now) }
@@ -76,25 +84,6 @@ fn whole(
     Ok(draft.finish())
 }
 
-// The document that these bytes hold, or their first fault in the order of reading.
-fn decode_shared(
-    alloc: Global,
-    bytes: &[u8],
-    shared: &Arc<Vec<u8>>,
-) -> Result<Document, ReadRefusedOrMemory>
-    requires length { length bytes.now ≤ 2 ^ 31 }
-    requires shared { bytes.now ≡ (arc_value shared.now).items }
-    ensures exact { Gives result (reading bytes.now) }
-    ensures held { IfOk result (λ document. Holds bytes.now document) }
-    ensures only { IfOk result (λ document. (other : Plain) → Holds bytes.now other
-        → other ≡ document) }
-    ensures refused { OnRefused result ((document : Plain) → ¬ (Holds bytes.now document)) }
-    ensures limits { IfOk result (λ document. IsDocument document) }
-    ensures numbered { IfOk result (λ document. AreNumbered document.nodes) }
-{
-    whole(alloc, bytes, shared)
-}
-
 /// The document that a file holds, or its first fault in the order of reading. Its tiles share the file's bytes.
 pub fn decode(alloc: Global, file: &Arc<Vec<u8>>) -> Result<Document, ReadRefusedOrMemory>
     requires { length (arc_value file.now).items ≤ 2 ^ 31 }
@@ -107,5 +96,7 @@ pub fn decode(alloc: Global, file: &Arc<Vec<u8>>) -> Result<Document, ReadRefuse
     ensures limits { IfOk result (λ document. IsDocument document) }
     ensures numbered { IfOk result (λ document. AreNumbered document.nodes) }
 {
-    decode_shared(alloc, file.as_slice(), file)
+    let bytes = file.as_slice();
+    know_bytes(bytes);
+    whole(alloc, bytes, file)
 }

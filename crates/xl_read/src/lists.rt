@@ -6,7 +6,7 @@ ghost use Rattle.spec_file.specs.Channels.{channels_at};
 ghost use Rattle.xl_read.specs.Yields.{Yields};
 
 use crate::channel::channel_at;
-use crate::draft::Draft;
+use crate::draft::DocumentDraft;
 use crate::layer::node_at;
 use std::alloc::Global;
 use std::sync::Arc;
@@ -23,7 +23,7 @@ pub fn nodes_at(
     file: &[u8],
     shared: &Arc<Vec<u8>>,
     at: usize,
-    draft: &mut Draft,
+    draft: &mut DocumentDraft,
 ) -> Result<usize, ReadRefusedOrMemory>
     requires file { length file.now ≤ 2 ^ 31 }
     requires shared { file.now ≡ (arc_value shared.now).items }
@@ -55,7 +55,7 @@ pub fn channels_at(
     file: &[u8],
     shared: &Arc<Vec<u8>>,
     at: usize,
-    draft: &mut Draft,
+    draft: &mut DocumentDraft,
 ) -> Result<(), ReadRefusedOrMemory>
     requires file { length file.now ≤ 2 ^ 31 }
     requires shared { file.now ≡ (arc_value shared.now).items }

@@ -6,7 +6,7 @@ use xl_doc::{Base, Channel, Channels, ColourMap, Document, Node, PropList, Tree}
 
 /// The fields of a document that is not whole yet, so that its limits are not known.
 #[derive(Drop)]
-pub struct Parts {
+pub struct DocumentFields {
     pub width: u32,
     pub height: u32,
     pub base: Base,
@@ -18,7 +18,7 @@ pub struct Parts {
     pub selection: Option<Channel>,
 }
 
-impl Model for Parts {
+impl Model for DocumentFields {
     ghost use Rattle.spec_document.specs.Document as doc;
     ghost use Rattle.spec_document.specs.Code.{coded_document};
 
@@ -44,7 +44,7 @@ impl Model for Parts {
     ghost invariant = { λ p. AreParts p.tree };
 }
 
-impl Parts {
+impl DocumentFields {
     /// The document with these fields, once it is within its limits.
     pub fn into_document(self) -> Document
         requires { IsDocument self }

@@ -12,7 +12,7 @@ use Rattle.spec_fields.specs.Field.{bytes_at}
 use Rattle.spec_fields.proofs.Steps.{pass, onward}
 use Rattle.spec_rle.specs.Reading.{Head, head_of, body_length, body_pixels, Part, code_at, codes_at, plane_at}
 use Rattle.xl_rle.specs.HeadAt.{HeadAt, as_read}
-use Rattle.xl_rle.specs.declared.head.Head as code
+use Rattle.xl_rle.specs.declared.head.CodeHead as code
 
 -- a rule that fails ends the reading
 fails : {A : Type 0} (test : Bool) (refused : ReadRefused) (rest : Unit {0} → Read A) → test ≡ false

@@ -3,14 +3,14 @@ use Rattle.std.specs.Prelude.{◌≡◌, ℕ, ◌<◌, ◌≤◌, ◌+◌, ◌-�
 use Rattle.std.specs.Prelude.{nat_lt, nat_le, if◌then◌else◌}
 use Rattle.spec_rle.specs.Reading as plane
 use Rattle.spec_rle.specs.Reading.{head_of}
-use Rattle.xl_rle.specs.declared.head.Head.{Head}
+use Rattle.xl_rle.specs.declared.head.CodeHead.{CodeHead}
 use Rattle.xl_rle.specs.declared.head.TheConstants.{BLOCK}
 
-abbrev pub as_read : Head → plane.Head
+abbrev pub as_read : CodeHead → plane.Head
 as_read h = record { is_run = h.is_run; count = h.count; body = h.body }
 
 -- the head at the offset, where it fits
-abbrev pub HeadAt : (file : List ℕ) (at : ℕ) → Option Head → Type 0
+abbrev pub HeadAt : (file : List ℕ) (at : ℕ) → Option CodeHead → Type 0
 HeadAt file at None = length file < (head_of file at (slice_index file at)).body
 HeadAt file at (Some h) = (as_read h ≡ head_of file at (slice_index file at)) × (at < h.body) × (h.body ≤ length file)
 

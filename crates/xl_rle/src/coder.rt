@@ -73,9 +73,9 @@ impl PlaneCoder for Greedy {
 
 /// The coder that keeps what stands in a file, and codes all other planes as `Greedy` does.
 #[derive(Clone, Copy, Debug)]
-pub struct Kept;
+pub struct Keeping;
 
-impl PlaneCoder for Kept {
+impl PlaneCoder for Keeping {
     ghost fits = { λ plane bytes. length bytes ≤ length plane + 64 };
 
     ghost follows = { λ before plane after. after ≡ before };

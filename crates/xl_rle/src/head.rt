@@ -4,7 +4,7 @@ ghost use Rattle.xl_rle.specs.HeadAt.{HeadAt, as_read, short_literal_length, sho
 
 /// The head of a code: how many bytes of the plane it gives, and where its value or its bytes begin.
 #[derive(Clone, Copy)]
-pub struct Head {
+pub struct CodeHead {
     pub is_run: bool,
     pub count: usize,
     pub body: usize,
@@ -26,7 +26,7 @@ fn long_count(bytes: &[u8], at: usize) -> usize
 }
 
 /// The head of the code at an offset, or None where it does not fit.
-pub fn head_at(bytes: &[u8], at: usize) -> Option<Head>
+pub fn head_at(bytes: &[u8], at: usize) -> Option<CodeHead>
     ensures { HeadAt bytes.now at result }
 {
     if bytes.len() <= at {
@@ -34,14 +34,14 @@ pub fn head_at(bytes: &[u8], at: usize) -> Option<Head>
     }
     let first = bytes[at];
     if first < LONG_RUN {
-        return Some(Head {
+        return Some(CodeHead {
             is_run: true,
             count: first as usize + 1,
             body: at + 1,
         });
     }
     if first > LONG_LITERAL {
-        return Some(Head {
+        return Some(CodeHead {
             is_run: false,
             count: 256 - first as usize,
             body: at + 1,
@@ -50,7 +50,7 @@ pub fn head_at(bytes: &[u8], at: usize) -> Option<Head>
     if bytes.len() - at < 3 {
         return None;
     }
-    Some(Head {
+    Some(CodeHead {
         is_run: first == LONG_RUN,
         count: long_count(bytes, at),
         body: at + 3,
@@ -58,7 +58,7 @@ pub fn head_at(bytes: &[u8], at: usize) -> Option<Head>
 }
 
 /// How many bytes a code has after its head.
-pub fn body_length(head: Head) -> usize
+pub fn body_length(head: CodeHead) -> usize
     ensures { result ≡ plane.body_length (as_read head) }
 {
     if head.is_run { 1 } else { head.count }

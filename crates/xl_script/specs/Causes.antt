@@ -2,8 +2,8 @@
 use Rattle.std.specs.Prelude.{◌≡◌, ℕ, Bool, false, List, take, length, None, is_some}
 use Rattle.spec_script.specs.Commands.{are_colours, rule_of, no_rule}
 use Rattle.spec_script.specs.Words.{◌>>=◌, if_holds, number_below, number, hex, flag, coordinate, side, signed_number}
-use Rattle.xl_script.specs.declared.kind.Kind.{Kind}
-use Rattle.xl_script.specs.declared.kind.Kind.TheVariants.{Number, Coordinate, Side, Byte, LayerType, Flag, Offset, Hex, Colours}
+use Rattle.xl_script.specs.declared.kind.WordKind.{WordKind}
+use Rattle.xl_script.specs.declared.kind.WordKind.TheVariants.{Number, Coordinate, Side, Byte, LayerType, Flag, Offset, Hex, Colours}
 use Rattle.xl_script.specs.declared.word_front.WordFront.{WordFront}
 use Rattle.xl_script.specs.declared.cause.Cause.{Cause}
 use Rattle.xl_script.specs.declared.cause.Cause.TheVariants.{TooLong, Tab, CarriageReturn, Blank, NoSession, NoKeyword}
@@ -18,7 +18,7 @@ abbrev pub are_colour_digits : List ℕ → Bool
 are_colour_digits word = is_some (hex word >>= λ bytes. if_holds (are_colours bytes) bytes)
 
 -- whether the grammar reads the word as one of this kind
-abbrev pub has : Kind → List ℕ → Bool
+abbrev pub has : WordKind → List ℕ → Bool
 has Number word = is_some (number word)
 has Coordinate word = is_some (coordinate word)
 has Side word = is_some (side word)

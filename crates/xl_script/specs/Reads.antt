@@ -4,7 +4,7 @@ use Rattle.spec_script.specs.Commands as grammar
 use Rattle.xl_script.specs.declared.cause.Cause.{Cause}
 use Rattle.xl_script.specs.declared.cause.CauseOrMemory.{CauseOrMemory}
 use Rattle.xl_script.specs.declared.cause.CauseOrMemory.TheVariants.{Memory, Refused}
-use Rattle.xl_script.specs.declared.command.Command.{Command}
+use Rattle.xl_script.specs.declared.command.Request.{Request}
 use Rattle.xl_script.specs.declared.commands.Asked.{Asked}
 use Rattle.xl_script.specs.declared.keywords.Keyword.{Keyword}
 use Rattle.xl_script.specs.Causes.{Blames}
@@ -32,7 +32,7 @@ ReadsIf (Ok x) read = read ≡ Some x
 ReadsIf (Err e) read = HasNone e read
 
 -- the same of commands
-abbrev pub AsksIf : Result Command CauseOrMemory → Option grammar.Command → Type 0
+abbrev pub AsksIf : Result Request CauseOrMemory → Option grammar.Command → Type 0
 AsksIf (Ok command) read = read ≡ Some (command_is command)
 AsksIf (Err e) read = HasNone e read
 

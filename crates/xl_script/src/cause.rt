@@ -1,7 +1,7 @@
 ghost use Rattle.std.specs.Prelude.{◌≡◌};
 ghost use Rattle.xl_script.specs.declared.cause.CauseOrMemory.TheVariants.{Memory, Refused};
 
-use crate::kind::Kind;
+use crate::kind::WordKind;
 use crate::word_front::WordFront;
 use std::alloc::{AllocError, AllocFailed};
 
@@ -35,7 +35,7 @@ pub enum Cause {
     BadWord {
         place: u8,
         word: WordFront,
-        kind: Kind,
+        kind: WordKind,
     },
     EndOutside,
     /// A keyword other than of an edit, inside a group.

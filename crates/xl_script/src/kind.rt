@@ -1,6 +1,6 @@
 /// What a word behind a keyword has to be.
 #[derive(Clone, Copy, Debug, PartialEq, Eq)]
-pub enum Kind {
+pub enum WordKind {
     /// A number of 32 bits.
     Number,
     /// A place or a side of a rectangle.
@@ -19,17 +19,17 @@ pub enum Kind {
     Colours,
 }
 
-impl Kind {
+impl WordKind {
     fn is_number(self) -> bool {
         match self {
-            Kind::Number
-            | Kind::Coordinate
-            | Kind::Side
-            | Kind::Byte
-            | Kind::LayerType
-            | Kind::Flag
-            | Kind::Offset => true,
-            Kind::Hex | Kind::Colours => false,
+            WordKind::Number
+            | WordKind::Coordinate
+            | WordKind::Side
+            | WordKind::Byte
+            | WordKind::LayerType
+            | WordKind::Flag
+            | WordKind::Offset => true,
+            WordKind::Hex | WordKind::Colours => false,
         }
     }
 

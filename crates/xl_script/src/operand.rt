@@ -5,7 +5,7 @@ ghost use Rattle.xl_script.specs.Reads.{Reads, ReadsIf};
 
 use crate::cause::{Cause, CauseOrMemory};
 use crate::digits::hex;
-use crate::kind::Kind;
+use crate::kind::WordKind;
 use crate::numbers::{byte, coordinate, flag, layer_type, number, side, signed_number};
 use crate::word_front::WordFront;
 use std::alloc::Global;
@@ -20,7 +20,7 @@ pub struct Operand<'a> {
 
 impl<'a> Operand<'a> {
     /// What is wrong with the word, which is not of its kind.
-    pub fn fault(self, kind: Kind) -> Cause
+    pub fn fault(self, kind: WordKind) -> Cause
         requires { has kind self.text.now ≡ false }
         ensures { Blames result }
     {
@@ -34,7 +34,7 @@ impl<'a> Operand<'a> {
     }
 
     // What the word was read as, which is none where it is not of its kind.
-    fn read<T>(self, value: Option<T>, kind: Kind) -> Result<T, Cause>
+    fn read<T>(self, value: Option<T>, kind: WordKind) -> Result<T, Cause>
         requires { is_some value ≡ has kind self.text.now }
         ensures { Reads result value }
     {
@@ -47,19 +47,19 @@ impl<'a> Operand<'a> {
     pub fn number(self) -> Result<u32, Cause>
         ensures { Reads result (grammar.number self.entry.text.now) }
     {
-        self.read(number(self.text), Kind::Number)
+        self.read(number(self.text), WordKind::Number)
     }
 
     pub fn byte(self) -> Result<u8, Cause>
         ensures { Reads result (grammar.number_below 256 self.entry.text.now) }
     {
-        self.read(byte(self.text), Kind::Byte)
+        self.read(byte(self.text), WordKind::Byte)
     }
 
     pub fn flag(self) -> Result<bool, Cause>
         ensures { Reads result (grammar.flag self.entry.text.now) }
     {
-        self.read(flag(self.text), Kind::Flag)
+        self.read(flag(self.text), WordKind::Flag)
     }
 
     /// A place or a side of a rectangle.
@@ -67,33 +67,33 @@ impl<'a> Operand<'a> {
         ensures value { Reads result (grammar.coordinate self.entry.text.now) }
         ensures below { IfOk result (λ n. n < 2 ^ 20) }
     {
-        self.read(coordinate(self.text), Kind::Coordinate)
+        self.read(coordinate(self.text), WordKind::Coordinate)
     }
 
     /// A side of a new layer.
     pub fn side(self) -> Result<u32, Cause>
         ensures { Reads result (grammar.side self.entry.text.now) }
     {
-        self.read(side(self.text), Kind::Side)
+        self.read(side(self.text), WordKind::Side)
     }
 
     pub fn layer_type(self) -> Result<u32, Cause>
         ensures { Reads result (grammar.number_below 6 self.entry.text.now) }
     {
-        self.read(layer_type(self.text), Kind::LayerType)
+        self.read(layer_type(self.text), WordKind::LayerType)
     }
 
     /// A number of 32 bits with its sign.
     pub fn signed_number(self) -> Result<i32, Cause>
         ensures { Reads result (grammar.signed_number self.entry.text.now) }
     {
-        self.read(signed_number(self.text), Kind::Offset)
+        self.read(signed_number(self.text), WordKind::Offset)
     }
 
     pub fn hex(self, alloc: Global) -> Result<Bytes, CauseOrMemory>
         ensures { ReadsIf result (grammar.hex self.entry.text.now) }
     {
         let bytes = hex(alloc, self.text)?;
-        Ok(self.read(bytes, Kind::Hex)?)
+        Ok(self.read(bytes, WordKind::Hex)?)
     }
 }

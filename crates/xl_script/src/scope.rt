@@ -7,7 +7,7 @@ ghost use Rattle.xl_script.specs.Reads.{Holds};
 ghost use Rattle.xl_script.specs.Scopes as scopes;
 
 use crate::cause::Cause;
-use crate::command::Command;
+use crate::command::Request;
 use crate::commands::Asked;
 use crate::word_front::WordFront;
 use xl_edit::Call;
@@ -30,13 +30,13 @@ fn is_viewed_call(call: &Call) -> bool
 }
 
 // Whether a command may be viewed.
-fn is_viewed(command: &Command) -> bool
+fn is_viewed(command: &Request) -> bool
     ensures { result ≡ views.is_viewed (command_is command.now) }
 {
     match command {
-        Command::Save => false,
-        Command::Call(call) => is_viewed_call(call),
-        Command::Edit(_) | Command::Begin(_) | Command::End | Command::Forget(_) => true,
+        Request::Save => false,
+        Request::Call(call) => is_viewed_call(call),
+        Request::Edit(_) | Request::Begin(_) | Request::End | Request::Forget(_) => true,
     }
 }
 

@@ -17,7 +17,7 @@ use Rattle.xl_filters.specs.Chests.{states_of}
 use Rattle.spec_script.specs.Script.{list_at}
 use Rattle.xl_sessions.specs.Players.{boxes_at, IsBrought, IsFitPart, AreBrought, AreFitParts}
 use Rattle.xl_sessions.specs.Playing.{HasAll}
-use Rattle.xl_sessions.specs.declared.players.Part.{Part}
+use Rattle.xl_sessions.specs.declared.players.SessionPart.{SessionPart}
 use Rattle.xl_sessions.proofs.Zips.{from_first_more}
 
 -- ---- a full chest
@@ -76,7 +76,7 @@ module _ {B : Type 0} (state : B → FilterState) where
 -- the parts of the sessions below a number are there, and the lists and boxes that are left fit
 pub record ArePartsUpTo {B X : Type 0} {H : X → Type 0} (state : B → FilterState) (in_slot : Slot X H → FilterState)
     (lists : List (List script.Line)) (boxes : List (Vec B Global))
-    (left : List (List Line)) (left_boxes : List (Vec B Global)) (session : ℕ) (parts : List (Part X H)) : Type 0 where
+    (left : List (List Line)) (left_boxes : List (Vec B Global)) (session : ℕ) (parts : List (SessionPart X H)) : Type 0 where
   pub places : session + length left ≡ 8
   pub count : length parts ≡ session
   pub left_are : lists_of left ≡ drop session lists
@@ -87,7 +87,7 @@ pub record ArePartsUpTo {B X : Type 0} {H : X → Type 0} (state : B → FilterS
   pub fit_parts : AreFitParts in_slot parts
 
 module _ {B X : Type 0} {H : X → Type 0} (state : B → FilterState) (in_slot : Slot X H → FilterState) where
-  pub parts_none : (all left : List (List Line)) (boxes : List (Vec B Global)) (parts : List (Part X H)) → left ≡ all
+  pub parts_none : (all left : List (List Line)) (boxes : List (Vec B Global)) (parts : List (SessionPart X H)) → left ≡ all
       → length left ≡ 8 → parts ≡ [] → AllByRecursion (λ (b : Vec B Global). length b.items < 2 ^ 32) boxes
       → FitsFilters (map length (states_of state boxes)) (lists_of all)
       → ArePartsUpTo state in_slot (lists_of all) boxes left boxes 0 parts
@@ -98,12 +98,12 @@ module _ {B X : Type 0} {H : X → Type 0} (state : B → FilterState) (in_slot 
     boxes_are = refl;
     short = short;
     fit = subst (λ (ls : List (List Line)). EachFit (map length (states_of state boxes)) 0 (lists_of ls)) (sym whole) fits.each;
-    brought = subst (λ (ps : List (Part X H)). AreBrought in_slot (states_of state boxes) (lists_of all) 0 ps) (sym none) tt;
-    fit_parts = subst (λ (ps : List (Part X H)). AreFitParts in_slot ps) (sym none) tt;
+    brought = subst (λ (ps : List (SessionPart X H)). AreBrought in_slot (states_of state boxes) (lists_of all) 0 ps) (sym none) tt;
+    fit_parts = subst (λ (ps : List (SessionPart X H)). AreFitParts in_slot ps) (sym none) tt;
   }
 
   module _ {lists : List (List script.Line)} {boxes : List (Vec B Global)} {left : List (List Line)}
-      {left_boxes : List (Vec B Global)} {session : ℕ} {parts : List (Part X H)}
+      {left_boxes : List (Vec B Global)} {session : ℕ} {parts : List (SessionPart X H)}
       (lines : List Line) (rest : List (List Line)) (up : ArePartsUpTo state in_slot lists boxes left left_boxes session parts)
       (turn : left ≡ lines ∷ rest) where
     pub parts_below : session < 8
@@ -117,7 +117,7 @@ module _ {B X : Type 0} {H : X → Type 0} (state : B → FilterState) (in_slot 
         subst (λ (n : ℕ). AreFit n [] (lines_of lines)) (count_at state boxes session ∙ ap length (sym (here items first)))
         (subst (λ (ls : List (List Line)). EachFit (map length (states_of state boxes)) session (lists_of ls)) turn up.fit).0
 
-    pub parts_more : (items : List B) (rest_boxes : List (Vec B Global)) (p : Part X H) (next : ℕ) → items ≡ boxes_at left_boxes 0
+    pub parts_more : (items : List B) (rest_boxes : List (Vec B Global)) (p : SessionPart X H) (next : ℕ) → items ≡ boxes_at left_boxes 0
         → rest_boxes ≡ drop 1 left_boxes
         → AllByRecursion (λ (b : Vec B Global). length b.items < 2 ^ 32) rest_boxes → next ≡ session + 1 → p.session ≡ session
         → p.lines.items ≡ lines
@@ -164,6 +164,6 @@ module _ {B X : Type 0} {H : X → Type 0} (state : B → FilterState) (in_slot 
         }
 
   pub parts_all : {lists : List (List script.Line)} {boxes : List (Vec B Global)} {left : List (List Line)}
-      {left_boxes : List (Vec B Global)} {session : ℕ} {parts : List (Part X H)}
+      {left_boxes : List (Vec B Global)} {session : ℕ} {parts : List (SessionPart X H)}
       → ArePartsUpTo state in_slot lists boxes left left_boxes session parts → length left ≡ 0 → length parts ≡ 8
   parts_all up none = let places = up.places in let count = up.count in omega (arith, places, count, none)

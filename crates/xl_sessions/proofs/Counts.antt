@@ -13,7 +13,7 @@ use Rattle.spec_text.proofs.CallsWithin.{calls_are}
 use Rattle.xl_filters.specs.declared.chest.Slot.{Slot}
 use Rattle.xl_sessions.specs.Full.{most_made, IsNotFull}
 use Rattle.xl_sessions.specs.Players.{AreBrought, count_of, HaveFewCalls, HavePlayed, LeaveRoom, most_of, places_of}
-use Rattle.xl_sessions.specs.declared.players.Part.{Part}
+use Rattle.xl_sessions.specs.declared.players.SessionPart.{SessionPart}
 use Rattle.xl_sessions.specs.declared.players.Player.{Player}
 use Rattle.xl_sessions.specs.declared.unplayed.Unplayed.TheVariants.{HistoryFull}
 use Rattle.xl_studio.specs.declared.moment.Moment.{Moment}
@@ -104,7 +104,7 @@ drop_count (lines ∷ lists) (suc n) = drop_count lists n
 
 module _ {X : Type 0} {H : X → Type 0} where
   parts_from : (state : Slot X H → FilterState) (chests : List (List FilterState)) (lists : List (List Line)) (first : ℕ)
-      (ps : List (Part X H)) → AreBrought state chests lists first ps → total most_of ps ≤ 2 * count_calls (drop first lists)
+      (ps : List (SessionPart X H)) → AreBrought state chests lists first ps → total most_of ps ≤ 2 * count_calls (drop first lists)
   parts_from state chests lists first [] brought = omega arith
   parts_from state chests lists first (p ∷ ps) brought =
       let here : most_of p ≡ 2 * length (calls_of (list_at lists first)) = ap most_made brought.0.lines_are in
@@ -113,14 +113,14 @@ module _ {X : Type 0} {H : X → Type 0} where
       omega (arith, here, rest, split)
 
   pub parts_few : (state : Slot X H → FilterState) (chests : List (List FilterState)) (lists : List (List Line))
-      (ps : List (Part X H)) → AreBrought state chests lists 0 ps → count_calls lists ≤ most_calls → HaveFewCalls ps
+      (ps : List (SessionPart X H)) → AreBrought state chests lists 0 ps → count_calls lists ≤ most_calls → HaveFewCalls ps
   parts_few state chests lists ps brought few =
       let most = parts_from state chests lists 0 ps brought in omega (arith, most, few)
 
 -- ---- all sessions together
 
 module _ {K : Type 0} {C : Ghosts (State K) (Moment K)} {X : Type 0} {H : X → Type 0} where
-  played_most : (state : Slot X H → FilterState) (studio : Studio K) (parts : List (Part X H))
+  played_most : (state : Slot X H → FilterState) (studio : Studio K) (parts : List (SessionPart X H))
       (players : List (Player (Seat K C) X H)) → HavePlayed state studio parts players → total count_of players ≤ total most_of parts
   played_most state studio [] [] played = omega arith
   played_most state studio [] (p ∷ players) played = absurd played
@@ -131,7 +131,7 @@ module _ {K : Type 0} {C : Ghosts (State K) (Moment K)} {X : Type 0} {H : X → 
       omega (arith, here, rest)
 
   -- behind sessions that have made a entries, of b at most
-  room_behind : (state : Slot X H → FilterState) (studio : Studio K) (a b whole most : ℕ) (parts : List (Part X H))
+  room_behind : (state : Slot X H → FilterState) (studio : Studio K) (a b whole most : ℕ) (parts : List (SessionPart X H))
       (players : List (Player (Seat K C) X H))
       → a ≤ b → whole ≡ a + total count_of players → most ≡ b + total most_of parts → most ≤ most_entries
       → HavePlayed state studio parts players
@@ -150,7 +150,7 @@ module _ {K : Type 0} {C : Ghosts (State K) (Moment K)} {X : Type 0} {H : X → 
             (omega (arith, made)) (omega (arith, is)) few played.1,
       )
 
-  pub leave_room : (state : Slot X H → FilterState) (studio : Studio K) (parts : List (Part X H))
+  pub leave_room : (state : Slot X H → FilterState) (studio : Studio K) (parts : List (SessionPart X H))
       (players : List (Player (Seat K C) X H)) → HaveFewCalls parts → HavePlayed state studio parts players → LeaveRoom players
   leave_room state studio parts players few played =
       room_behind state studio 0 0 (total count_of players) (total most_of parts) parts players (omega arith) (omega arith)

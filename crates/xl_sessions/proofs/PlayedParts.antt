@@ -17,7 +17,7 @@ use Rattle.spec_script.specs.Script.{list_at}
 use Rattle.xl_sessions.specs.Players.{IsBrought, IsFitPart, IsSeated, CanPlay, HasPlayed, Plays, HavePlayed}
 use Rattle.xl_sessions.specs.Players.{IsOfSession, AreOfSessions, HaveOutcomes, AreSeats, AreKnown, AreBrought}
 use Rattle.xl_sessions.specs.Players.{AreFitParts, AreSeated, places_of, shown_of, weight_in}
-use Rattle.xl_sessions.specs.declared.players.Part.{Part}
+use Rattle.xl_sessions.specs.declared.players.SessionPart.{SessionPart}
 use Rattle.xl_sessions.specs.declared.players.Player.{Player}
 use Rattle.xl_sessions.proofs.Brought.{full_agrees}
 use Rattle.xl_sessions.proofs.Outcomes.{HasOutcome, Own, outcome_grows}
@@ -41,7 +41,7 @@ lent_back n ys xs is = ap (λ (k : ℕ). take k (ys ++ drop (length ys) xs)) (sy
 module _ {K : Type 0} {C : Ghosts (State K) (Moment K)} {X : Type 0} {H : X → Type 0} where
   -- ---- before the lines
 
-  can_play : (state : Slot X H → FilterState) (studio : Studio K) (front : List (Moment K)) (session : ℕ) (part : Part X H)
+  can_play : (state : Slot X H → FilterState) (studio : Studio K) (front : List (Moment K)) (session : ℕ) (part : SessionPart X H)
       (p : Player (Seat K C) X H)
       → latest_of (entries_in front) ≡ 0 → session < 8 → IsFitPart state session part → IsSeated studio front part p
       → CanPlay state studio p
@@ -59,13 +59,13 @@ module _ {K : Type 0} {C : Ghosts (State K) (Moment K)} {X : Type 0} {H : X → 
         blank = ap (map string_bytes) seated.blank;
       }
 
-  pub all_can_play : (state : Slot X H → FilterState) (studio : Studio K) (front : List (Moment K)) (parts : List (Part X H))
+  pub all_can_play : (state : Slot X H → FilterState) (studio : Studio K) (front : List (Moment K)) (parts : List (SessionPart X H))
       (players : List (Player (Seat K C) X H))
       → latest_of (entries_in front) ≡ 0 → length parts ≡ 8 → AreFitParts state parts → AreSeated studio front parts players
       → AllByRecursion (CanPlay state studio) players
   all_can_play state studio front parts players unchanged eight fit seated =
       let Q : ℕ → Player (Seat K C) X H → Type 0 =
-      λ session p. (part : Part X H) × IsFitPart state session part × IsSeated studio front part p in
+      λ session p. (part : SessionPart X H) × IsFitPart state session part × IsSeated studio front part p in
       from_first_below Q (CanPlay state studio) 8 0 players
       (λ session p below found. can_play state studio front session found.0 p unchanged below found.1 found.2)
       (omega (arith, eight, zip_length (IsSeated studio front) parts players seated))
@@ -73,24 +73,24 @@ module _ {K : Type 0} {C : Ghosts (State K) (Moment K)} {X : Type 0} {H : X → 
 
   -- ---- after them
 
-  pub have_played : (state : Slot X H → FilterState) (studio : Studio K) (front : List (Moment K)) (parts : List (Part X H))
+  pub have_played : (state : Slot X H → FilterState) (studio : Studio K) (front : List (Moment K)) (parts : List (SessionPart X H))
       (old new : List (Player (Seat K C) X H))
       → AreSeated studio front parts old → AllZip (Plays state studio) old new → HavePlayed state studio parts new
   have_played state studio front parts old new seated played =
       zip_through (IsSeated studio front) (Plays state studio) (λ part p. HasPlayed state studio part 1 p) parts old new
       (λ part a b at plays. subst (λ (n : ℕ). HasPlayed state studio part n b) at.light
-      (subst (λ (q : Part X H). HasPlayed state studio q (weight_of a.seat) b) at.part_is plays))
+      (subst (λ (q : SessionPart X H). HasPlayed state studio q (weight_of a.seat) b) at.part_is plays))
       seated played
 
   -- the parts were taken out of the room
-  pub seated_same : (studio : Studio K) (front : List (Moment K)) (taken parts : Vec (Part X H) Global)
+  pub seated_same : (studio : Studio K) (front : List (Moment K)) (taken parts : Vec (SessionPart X H) Global)
       (players : List (Player (Seat K C) X H))
       → taken ≡ parts → AreSeated studio front taken.items players → AreSeated studio front parts.items players
   seated_same studio front taken parts players same seated =
-      subst (λ (v : Vec (Part X H) Global). AreSeated studio front v.items players) same seated
+      subst (λ (v : Vec (SessionPart X H) Global). AreSeated studio front v.items players) same seated
 
   -- the lists that were lent, and what came back
-  pub lent_can_play : (state : Slot X H → FilterState) (studio : Studio K) (front : List (Moment K)) (parts : List (Part X H))
+  pub lent_can_play : (state : Slot X H → FilterState) (studio : Studio K) (front : List (Moment K)) (parts : List (SessionPart X H))
       (players lent : List (Player (Seat K C) X H))
       → lent ≡ players → latest_of (entries_in front) ≡ 0 → length parts ≡ 8 → AreFitParts state parts
       → AreSeated studio front parts players → AllByRecursion (CanPlay state studio) lent
@@ -98,7 +98,7 @@ module _ {K : Type 0} {C : Ghosts (State K) (Moment K)} {X : Type 0} {H : X → 
       subst (AllByRecursion (CanPlay state studio)) (sym is)
       (all_can_play state studio front parts players unchanged eight fit seated)
 
-  pub lent_have_played : (state : Slot X H → FilterState) (studio : Studio K) (front : List (Moment K)) (parts : List (Part X H))
+  pub lent_have_played : (state : Slot X H → FilterState) (studio : Studio K) (front : List (Moment K)) (parts : List (SessionPart X H))
       (old lent new : List (Player (Seat K C) X H)) (n : ℕ)
       → lent ≡ old → length new ≡ length lent → length lent ≡ n → AreSeated studio front parts old
       → AllZip (Plays state studio) lent new
@@ -107,7 +107,7 @@ module _ {K : Type 0} {C : Ghosts (State K) (Moment K)} {X : Type 0} {H : X → 
       subst (HavePlayed state studio parts) (sym (lent_back n new old (same ∙ long)))
       (have_played state studio front parts lent new (subst (AreSeated studio front parts) (sym is) seated) played)
 
-  pub of_sessions : (state : Slot X H → FilterState) (studio : Studio K) (parts : List (Part X H))
+  pub of_sessions : (state : Slot X H → FilterState) (studio : Studio K) (parts : List (SessionPart X H))
       (players : List (Player (Seat K C) X H))
       → AreFitParts state parts → HavePlayed state studio parts players → AreOfSessions studio players
   of_sessions state studio parts players fit played =
@@ -120,7 +120,7 @@ module _ {K : Type 0} {C : Ghosts (State K) (Moment K)} {X : Type 0} {H : X → 
       }) fit played
 
   outcome : (state : Slot X H → FilterState) (studio : Studio K) (session : ℕ) (filters : List FilterState) (lines : List Line)
-      (part : Part X H) (p : Player (Seat K C) X H)
+      (part : SessionPart X H) (p : Player (Seat K C) X H)
       → IsBrought state session filters lines part → HasPlayed state studio part 1 p
       → IsOutcome (base_of studio) session filters lines (entries_in (front_of p.seat)) (made_of p.seat) (shown_of p) (is_none p.stopped)
   outcome state studio session filters lines part p brought has =
@@ -134,7 +134,7 @@ module _ {K : Type 0} {C : Ghosts (State K) (Moment K)} {X : Type 0} {H : X → 
       }))
 
   pub outcomes : (state : Slot X H → FilterState) (studio : Studio K) (chests : List (List FilterState))
-      (lists : List (List Line)) (parts : List (Part X H)) (players : List (Player (Seat K C) X H))
+      (lists : List (List Line)) (parts : List (SessionPart X H)) (players : List (Player (Seat K C) X H))
       → AreBrought state chests lists 0 parts → HavePlayed state studio parts players → HaveOutcomes studio chests lists players
   outcomes state studio chests lists parts players brought played =
       zip_from (λ session part. IsBrought state session (list_at chests session) (list_at lists session) part)
@@ -144,7 +144,7 @@ module _ {K : Type 0} {C : Ghosts (State K) (Moment K)} {X : Type 0} {H : X → 
       (λ session part p is has. outcome state studio session (list_at chests session) (list_at lists session) part p is has)
       brought played
 
-  pub players_count : (state : Slot X H → FilterState) (studio : Studio K) (parts : List (Part X H))
+  pub players_count : (state : Slot X H → FilterState) (studio : Studio K) (parts : List (SessionPart X H))
       (players : List (Player (Seat K C) X H)) → HavePlayed state studio parts players → length players ≡ length parts
   players_count state studio parts players played = zip_length (λ part p. HasPlayed state studio part 1 p) parts players played
 

@@ -14,7 +14,7 @@ use Rattle.xl_script.specs.Lines.{lines_of}
 use Rattle.xl_script.specs.declared.script.Line.{Line}
 use Rattle.xl_sessions.specs.Full.{most_made, IsStoppedAtFull}
 use Rattle.xl_sessions.specs.Players.{HasPlayed, shown_of}
-use Rattle.xl_sessions.specs.declared.players.Part.{Part}
+use Rattle.xl_sessions.specs.declared.players.SessionPart.{SessionPart}
 use Rattle.xl_sessions.specs.declared.players.Player.{Player}
 use Rattle.xl_sessions.specs.declared.unplayed.Unplayed.{Unplayed}
 use Rattle.xl_sessions.specs.declared.unplayed.Unplayed.TheVariants.{HistoryFull}
@@ -46,7 +46,7 @@ when_full (Err why) P known is = known (ap (λ (o : Option Unplayed). unwrap_or 
 
 module _ {K : Type 0} {C : Ghosts (State K) (Moment K)} {X : Type 0} {H : X → Type 0} where
   -- the lines that were played are those of the part
-  pub has_played : (state : Slot X H → FilterState) (studio : Studio K) (part : Part X H) (weight : ℕ) (p : Player (Seat K C) X H)
+  pub has_played : (state : Slot X H → FilterState) (studio : Studio K) (part : SessionPart X H) (weight : ℕ) (p : Player (Seat K C) X H)
       (lines : Vec Line Global) (result : Result (Unit {0}) Unplayed) → lines ≡ part.lines → p.stopped ≡ result_err result
       → IsSeatOf studio p.seat → weight_of p.seat ≡ weight → job_out p.seat ≡ None
       → IsOf part.session (made_of p.seat) (entries_in (front_of p.seat))

@@ -4,7 +4,7 @@ use Rattle.std.proofs.Common.{arith, append_assoc, append-nil, length-append}
 use Rattle.std.specs.List.{AllByRecursion}
 use Rattle.spec_seats.proofs.More.{all_more}
 use Rattle.xl_sessions.specs.Players.{IsSeated, AreSeated, IsFree, AreFree, AreNumbered}
-use Rattle.xl_sessions.specs.declared.players.Part.{Part}
+use Rattle.xl_sessions.specs.declared.players.SessionPart.{SessionPart}
 use Rattle.xl_sessions.specs.declared.players.Player.{Player}
 use Rattle.xl_sessions.specs.declared.players.Worker.{Worker}
 use Rattle.xl_sessions.proofs.Zips.{from_first_more}
@@ -19,7 +19,7 @@ use Rattle.xl_turn.specs.declared.view.Chronicle.{Ghosts}
 
 module _ {K : Type 0} {C : Ghosts (State K) (Moment K)} {X : Type 0} {H : X → Type 0} where
   -- some parts were seated, and these are left
-  pub record AreSeating (studio : Studio K) (before : Seat K C) (all left : List (Part X H))
+  pub record AreSeating (studio : Studio K) (before : Seat K C) (all left : List (SessionPart X H))
       (players : List (Player (Seat K C) X H)) (own : Seat K C) : Type 0 where
     pub seat : IsSeatOf studio own
     pub stays : known_by own ≡ known_by before
@@ -29,10 +29,10 @@ module _ {K : Type 0} {C : Ghosts (State K) (Moment K)} {X : Type 0} {H : X → 
     pub seated : (rest : List (Player (Seat K C) X H)) → AreSeated studio (front_of before) left rest
         → AreSeated studio (front_of before) all (players ++ rest)
 
-  pub seating_none : (studio : Studio K) (own : Seat K C) (all left : List (Part X H)) (players : List (Player (Seat K C) X H))
+  pub seating_none : (studio : Studio K) (own : Seat K C) (all left : List (SessionPart X H)) (players : List (Player (Seat K C) X H))
       → left ≡ all → players ≡ [] → IsSeatOf studio own → AreSeating studio own all left players own
   seating_none studio own all left players whole none seat =
-      subst (λ (ps : List (Part X H)). AreSeating studio own all ps players own) (sym whole)
+      subst (λ (ps : List (SessionPart X H)). AreSeating studio own all ps players own) (sym whole)
       (subst (λ (ps : List (Player (Seat K C) X H)). AreSeating studio own all all ps own) (sym none) (record {
         seat = seat;
         stays = refl;
@@ -42,8 +42,8 @@ module _ {K : Type 0} {C : Ghosts (State K) (Moment K)} {X : Type 0} {H : X → 
         seated = λ rest seated. seated;
       }))
 
-  module _ {studio : Studio K} {before own : Seat K C} {all left : List (Part X H)} {players : List (Player (Seat K C) X H)}
-      (part : Part X H) (rest : List (Part X H)) (up : AreSeating studio before all left players own)
+  module _ {studio : Studio K} {before own : Seat K C} {all left : List (SessionPart X H)} {players : List (Player (Seat K C) X H)}
+      (part : SessionPart X H) (rest : List (SessionPart X H)) (up : AreSeating studio before all left players own)
       (turn : left ≡ part ∷ rest) where
     pub seating_weight : length all + 1 ≤ weight_of before → 2 ≤ weight_of own
     seating_weight enough = let was = up.weight in let longer = ap length turn in omega (arith, was, longer, enough)
@@ -70,7 +70,7 @@ module _ {K : Type 0} {C : Ghosts (State K) (Moment K)} {X : Type 0} {H : X → 
         let whole : (others : List (Player (Seat K C) X H)) → AreSeated studio (front_of before) rest others
         → AreSeated studio (front_of before) all (players ++ p ∷ others) =
         λ others seated. up.seated (p ∷ others)
-        (subst (λ (ps : List (Part X H)). AreSeated studio (front_of before) ps (p ∷ others)) (sym turn) (is, seated)) in
+        (subst (λ (ps : List (SessionPart X H)). AreSeated studio (front_of before) ps (p ∷ others)) (sym turn) (is, seated)) in
         record {
           seat = seat;
           stays = stays ∙ up.stays;
@@ -82,12 +82,12 @@ module _ {K : Type 0} {C : Ghosts (State K) (Moment K)} {X : Type 0} {H : X → 
               (whole others seated);
         }
 
-  module _ {studio : Studio K} {before own : Seat K C} {all left : List (Part X H)} {players : List (Player (Seat K C) X H)}
+  module _ {studio : Studio K} {before own : Seat K C} {all left : List (SessionPart X H)} {players : List (Player (Seat K C) X H)}
       (up : AreSeating studio before all left players own) (none : left ≡ []) where
     pub all_seated : AreSeated studio (front_of before) all players
     all_seated =
         subst (λ (ps : List (Player (Seat K C) X H)). AreSeated studio (front_of before) all ps) (append-nil players)
-        (up.seated [] (subst (λ (ps : List (Part X H)). AreSeated {C = C} studio (front_of before) ps []) (sym none) tt))
+        (up.seated [] (subst (λ (ps : List (SessionPart X H)). AreSeated {C = C} studio (front_of before) ps []) (sym none) tt))
 
     pub all_lighter : weight_of own + length all ≡ weight_of before
     all_lighter = let was = up.weight in let nothing = ap length none in omega (arith, was, nothing)

@@ -21,7 +21,7 @@ use Rattle.xl_sessions.specs.Full.{most_made, IsStoppedAtFull}
 use Rattle.xl_sessions.specs.Outcomes.{FromFirst, IsOutcome}
 use Rattle.spec_script.specs.Script.{list_at}
 use Rattle.xl_sessions.specs.Playing.{HasAll}
-use Rattle.xl_sessions.specs.declared.players.Part.{Part}
+use Rattle.xl_sessions.specs.declared.players.SessionPart.{SessionPart}
 use Rattle.xl_sessions.specs.declared.players.Player.{Player}
 use Rattle.xl_sessions.specs.declared.players.Worker.{Worker}
 use Rattle.xl_sessions.specs.declared.players.Room.{Room}
@@ -50,36 +50,36 @@ in_slots state s = state (s.filter.vtable, s.filter.value)
 module _ {X : Type 0} {H : X → Type 0} where
   -- a session's number, its lines and its filters, all of them in their slots
   pub record IsBrought (state : Slot X H → FilterState) (session : ℕ) (filters : List FilterState) (lines : List Line)
-      (p : Part X H) : Type 0 where
+      (p : SessionPart X H) : Type 0 where
     pub session_is : p.session ≡ session
     pub lines_are : lines_of p.lines.items ≡ lines
     pub chest_is : states state p.desk.chest ≡ map (λ s. Some s) filters
 
   -- those of all sessions, the first of which has the number `first`
   abbrev pub AreBrought : (state : Slot X H → FilterState) → (chests : List (List FilterState)) → (lists : List (List Line))
-      → (first : ℕ) → List (Part X H) → Type 0
+      → (first : ℕ) → List (SessionPart X H) → Type 0
   AreBrought state chests lists first ps =
       FromFirst (λ session p. IsBrought state session (list_at chests session) (list_at lists session) p) first ps
 
   -- they are those of some script
-  abbrev pub AreOfAScript : (state : Slot X H → FilterState) → List (Part X H) → Type 0
+  abbrev pub AreOfAScript : (state : Slot X H → FilterState) → List (SessionPart X H) → Type 0
   AreOfAScript state ps = (chests : List (List FilterState)) × (lists : List (List Line)) × AreBrought state chests lists 0 ps
 
   -- the lines name no filter that is not there
-  pub record IsFitPart (state : Slot X H → FilterState) (session : ℕ) (p : Part X H) : Type 0 where
+  pub record IsFitPart (state : Slot X H → FilterState) (session : ℕ) (p : SessionPart X H) : Type 0 where
     pub session_is : p.session ≡ session
     pub all : HasAll (states state p.desk.chest)
     pub fit : AreFit (length (states state p.desk.chest)) [] (lines_of p.lines.items)
 
   -- how many entries the lines of a part make at most
-  abbrev pub most_of : Part X H → ℕ
+  abbrev pub most_of : SessionPart X H → ℕ
   most_of p = most_made (lines_of p.lines.items)
 
   -- they are no more than a history may have
-  abbrev pub HaveFewCalls : List (Part X H) → Type 0
+  abbrev pub HaveFewCalls : List (SessionPart X H) → Type 0
   HaveFewCalls ps = total most_of ps ≤ most_entries
 
-  abbrev pub AreFitParts : (state : Slot X H → FilterState) → List (Part X H) → Type 0
+  abbrev pub AreFitParts : (state : Slot X H → FilterState) → List (SessionPart X H) → Type 0
   AreFitParts state ps = FromFirst (IsFitPart state) 0 ps
 
 -- ---- the players
@@ -101,7 +101,7 @@ module _ {K : Type 0} {C : Ghosts (State K) (Moment K)} {X : Type 0} {H : X → 
   first_stopped (p ∷ ps) = option_or p.stopped (first_stopped ps)
 
   -- the part with a seat that knows this front, has made nothing and has no job out
-  pub record IsSeated (studio : Studio K) (front : List (Moment K)) (part : Part X H) (p : Player (Seat K C) X H) : Type 0 where
+  pub record IsSeated (studio : Studio K) (front : List (Moment K)) (part : SessionPart X H) (p : Player (Seat K C) X H) : Type 0 where
     pub part_is : p.part ≡ part
     pub seat : IsSeatOf studio p.seat
     pub front_is : front_of p.seat ≡ front
@@ -110,7 +110,7 @@ module _ {K : Type 0} {C : Ghosts (State K) (Moment K)} {X : Type 0} {H : X → 
     pub free : job_out p.seat ≡ None
     pub blank : p.digests.items ≡ []
 
-  abbrev pub AreSeated : Studio K → (front : List (Moment K)) → List (Part X H) → List (Player (Seat K C) X H) → Type 0
+  abbrev pub AreSeated : Studio K → (front : List (Moment K)) → List (SessionPart X H) → List (Player (Seat K C) X H) → Type 0
   AreSeated studio front parts players = AllZip (IsSeated studio front) parts players
 
   -- all that a session needs for its lines
@@ -126,7 +126,7 @@ module _ {K : Type 0} {C : Ghosts (State K) (Moment K)} {X : Type 0} {H : X → 
 
   -- What the session has made is its own, no more than its lines make, and its saves have ended. Where it did not stop, that is what
   -- its part says, and it has the digests of what it was shown. Where it found the history full, that is known.
-  pub record HasPlayed (state : Slot X H → FilterState) (studio : Studio K) (part : Part X H) (weight : ℕ)
+  pub record HasPlayed (state : Slot X H → FilterState) (studio : Studio K) (part : SessionPart X H) (weight : ℕ)
       (p : Player (Seat K C) X H) : Type 0 where
     pub seat : IsSeatOf studio p.seat
     pub weight_is : weight_of p.seat ≡ weight
@@ -144,7 +144,7 @@ module _ {K : Type 0} {C : Ghosts (State K) (Moment K)} {X : Type 0} {H : X → 
   Plays state studio old new = HasPlayed state studio old.part (weight_of old.seat) new
 
   -- what became of each part
-  abbrev pub HavePlayed : (state : Slot X H → FilterState) → Studio K → List (Part X H) → List (Player (Seat K C) X H) → Type 0
+  abbrev pub HavePlayed : (state : Slot X H → FilterState) → Studio K → List (SessionPart X H) → List (Player (Seat K C) X H) → Type 0
   HavePlayed state studio parts players = AllZip (λ part p. HasPlayed state studio part 1 p) parts players
 
   -- ---- by the sessions' numbers

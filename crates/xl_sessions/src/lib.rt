@@ -9,7 +9,7 @@ mod players;
 mod printing;
 mod seating;
 mod session;
-mod stage;
+mod setting;
 mod threads;
 mod unplayed;
 
@@ -17,5 +17,5 @@ pub use beside::{PlayedBeside, play_beside};
 pub use desk::desk_of;
 pub use printing::{each_entry_is_printed, order_words, print_history};
 pub use seating::first_boxes;
-pub use stage::Stage;
+pub use setting::Setting;
 pub use unplayed::Unplayed;

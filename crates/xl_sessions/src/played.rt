@@ -16,7 +16,7 @@ ghost use Rattle.xl_sessions.specs.Keeping.{KeepsSeat};
 ghost use Rattle.xl_sessions.specs.Playing.{HasAll};
 ghost use Rattle.xl_sessions.specs.declared.unplayed.Unplayed.TheVariants.{HistoryFull};
 
-use crate::stage::Stage;
+use crate::setting::Setting;
 use crate::unplayed::Unplayed;
 use std::marker::Brand;
 use std::sync::Wait;
@@ -28,7 +28,7 @@ use xl_ports::{Gate, Shelf};
 use xl_script::Line;
 use xl_studio::Seat;
 
-impl<'a, W: Wait, D: Shelf, G: Gate> Stage<'a, W, D, G> {
+impl<'a, W: Wait, D: Shelf, G: Gate> Setting<'a, W, D, G> {
     // Makes what the lines of a session say, with a counter of steps that it makes from `blank`.
     fn play_lines<L: Ledger>(
         &self,

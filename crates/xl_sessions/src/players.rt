@@ -5,7 +5,7 @@ use xl_script::Line;
 
 /// What a session brings to a run: its lines, and the desk with its filters.
 #[derive(Drop)]
-pub(crate) struct Part {
+pub(crate) struct SessionPart {
     pub(crate) session: u8,
     pub(crate) lines: Vec<Line>,
     pub(crate) desk: Desk,
@@ -14,7 +14,7 @@ pub(crate) struct Part {
 /// A session with its seat, of the type `S`.
 #[derive(Drop)]
 pub(crate) struct Player<S> {
-    pub(crate) part: Part,
+    pub(crate) part: SessionPart,
     pub(crate) seat: S,
     // The digests of the tiles that it was shown.
     pub(crate) digests: Vec<String>,
@@ -32,7 +32,7 @@ pub(crate) struct Worker<S> {
 /// All memory that the sessions and the workers of a run need before they start.
 #[derive(Drop)]
 pub(crate) struct Room<S> {
-    pub(crate) parts: Vec<Part>,
+    pub(crate) parts: Vec<SessionPart>,
     pub(crate) players: Vec<Player<S>>,
     pub(crate) workers: Vec<Worker<S>>,
     pub(crate) digests: Vec<Vec<String>>,

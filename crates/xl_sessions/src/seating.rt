@@ -9,7 +9,7 @@ ghost use Rattle.xl_studio.specs.Jobs.{job_out};
 ghost use Rattle.xl_studio.specs.Seats.{front_of, known_by, weight_of, IsSeatOf};
 
 use crate::desk::desk_of;
-use crate::players::{Part, Player, Room, Worker};
+use crate::players::{Player, Room, SessionPart, Worker};
 use std::alloc::{AllocError, Global};
 use xl_filters::PointFilter;
 use xl_ports::Shelf;
@@ -38,7 +38,7 @@ fn parts_of(
     alloc: Global,
     script: Script,
     mut chest: Vec<Vec<Box<dyn PointFilter + Send>>>,
-) -> Result<Vec<Part>, AllocError>
+) -> Result<Vec<SessionPart>, AllocError>
     requires boxes { AllByRecursion (λ boxes. length boxes.items < 2 ^ 32) chest.items }
     requires fits { FitsFilters (map length (states_of (λ b. state b) chest.items))
         (lists_of script) }
@@ -52,7 +52,7 @@ fn parts_of(
     for lines in script.into_lists() {
         let boxes = first_boxes(alloc, &mut chest);
         let desk = desk_of(alloc, boxes)?;
-        parts.push(Part {
+        parts.push(SessionPart {
             session,
             lines: lines.into_items(),
             desk,
@@ -94,7 +94,7 @@ pub(crate) fn seat_players<D: Shelf>(
     alloc: Global,
     studio: &Studio<D>,
     own: &mut Seat<D>,
-    parts: Vec<Part>,
+    parts: Vec<SessionPart>,
     players: &mut Vec<Player<Seat<D>>>,
 )
     requires own { IsSeatOf studio.now own.old }

@@ -27,7 +27,7 @@ ghost use Rattle.xl_sessions.specs.Printing.{IsPrinted};
 ghost use Rattle.xl_sessions.specs.declared.unplayed.Unplayed.TheVariants.{HistoryFull, Memory};
 
 use crate::printing::asks_tile;
-use crate::stage::Stage;
+use crate::setting::Setting;
 use crate::unplayed::Unplayed;
 use std::alloc::{AllocError, Global};
 use std::sync::Wait;
@@ -38,7 +38,7 @@ use xl_edit::{Call, Reply};
 use xl_filters::PointFilter;
 use xl_ports::{Actor, Gate, Place, Shelf};
 use xl_report::digest;
-use xl_rle::Kept;
+use xl_rle::Keeping;
 use xl_script::Line;
 use xl_studio::Seat;
 
@@ -76,7 +76,7 @@ fn say(
     Ok(())
 }
 
-impl<'a, W: Wait, D: Shelf, G: Gate> Stage<'a, W, D, G> {
+impl<'a, W: Wait, D: Shelf, G: Gate> Setting<'a, W, D, G> {
     // Composes a marked tile outside the turn, before the call that asks for it. It does nothing before any other call.
     fn refresh_asked<L: Ledger>(&self, call: &Call, seat: &mut Seat<D>, steps: &mut Steps<L>)
         requires seat { IsSeatOf self.now.studio.now seat.old }
@@ -182,7 +182,7 @@ impl<'a, W: Wait, D: Shelf, G: Gate> Stage<'a, W, D, G> {
     {
         self.gate
             .pass(Actor::Session(self.session), Place::BeforeCall);
-        let mut coder = Kept;
+        let mut coder = Keeping;
         let reply = self
             .studio
             .save(self.rt, self.alloc, seat, self.session, &mut coder);

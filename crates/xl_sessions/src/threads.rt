@@ -8,7 +8,7 @@ ghost use Rattle.xl_studio.specs.Jobs.{job_out};
 ghost use Rattle.xl_studio.specs.Seats.{known_by, weight_of, IsSeatOf};
 
 use crate::players::{Player, Worker};
-use crate::stage::Stage;
+use crate::setting::Setting;
 use std::alloc::Global;
 use std::marker::Brand;
 use std::sync::Wait;
@@ -32,7 +32,7 @@ fn play<W: Wait, D: Shelf, G: Gate>(
     ensures { Plays (in_slots state) studio.now player.old player.new }
 {
     let lines = std::mem::replace(&mut player.part.lines, Vec::new(alloc));
-    let stage = Stage {
+    let stage = Setting {
         rt,
         alloc,
         studio,

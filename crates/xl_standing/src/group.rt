@@ -43,7 +43,7 @@ impl From<AllocError> for GroupRefusedOrMemory {
 /// What a group of edits leaves: a document and its next id, the tables that the group's filters answered, and what
 /// of which pictures the group may have changed.
 #[derive(Drop)]
-pub struct Made {
+pub struct MadeGroup {
     pub document: Document,
     pub next_id: u32,
     pub tables: Tables,
@@ -58,7 +58,7 @@ pub(crate) fn make_group(
     next_id: u32,
     edits: &[Edit],
     chest: &mut Chest,
-) -> Result<Made, GroupRefusedOrMemory>
+) -> Result<MadeGroup, GroupRefusedOrMemory>
     requires few { length edits.now ≤ most_edits }
     requires each { AllByRecursion IsEdit (edits_of edits.now) }
     requires ids { HasIds (at document.now next_id) (length edits.now) }
@@ -116,7 +116,7 @@ pub fn try_group(
     next_id: u32,
     edits: &[Edit],
     tables: Tables,
-) -> Result<Made, GroupRefusedOrMemory>
+) -> Result<MadeGroup, GroupRefusedOrMemory>
     requires few { length edits.now ≤ most_edits }
     requires each { AllByRecursion IsEdit (edits_of edits.now) }
     requires ids { HasIds (at document.now next_id) (length edits.now) }
@@ -143,7 +143,7 @@ pub fn try_group(
         tables.as_slice(),
         &mut damage,
     )?;
-    Ok(Made {
+    Ok(MadeGroup {
         document,
         next_id,
         tables,

@@ -15,9 +15,9 @@ mod step;
 mod tile;
 
 pub use answered::Answered;
-pub use bytes::{know_bytes, know_table};
+pub use bytes::know_table;
 pub use desk::Desk;
-pub use group::{GroupRefusedOrMemory, Made, try_group};
+pub use group::{GroupRefusedOrMemory, MadeGroup, try_group};
 pub use next_id::next_id_of;
 pub use standing::{MOST_ENTRIES, Standing};
 pub use step::Step;

@@ -29,7 +29,7 @@ ghost use Rattle.xl_filters.specs.Chests.{states_in};
 
 use crate::answered::{Answered, is_named, without_filters};
 use crate::desk::Desk;
-use crate::group::{GroupRefusedOrMemory, Made, make_group};
+use crate::group::{GroupRefusedOrMemory, MadeGroup, make_group};
 use crate::next_id::next_id_of;
 use crate::step::Step;
 use crate::tile::{has_stack, has_tile, is_tile_marked, look, show};
@@ -39,9 +39,8 @@ use std::mem;
 use std::sync::ledger::Ledger;
 use xl_blend::Steps;
 use xl_cache::{Cache, Finished};
-use xl_checks::know_limits;
 use xl_compose::{Done, Job, Picture, job};
-use xl_doc::{Document, NodeId, TileAt};
+use xl_doc::{Document, NodeId, TileAt, know_limits};
 use xl_edit::{Call, Edit, Reply};
 use xl_filters::{Chest, PointFilter, Tables};
 use xl_marks::Change;
@@ -225,7 +224,7 @@ impl Standing {
             }
             Err(GroupRefusedOrMemory::Memory) => return Err(AllocError),
         };
-        let Made {
+        let MadeGroup {
             document,
             next_id,
             tables,

@@ -5,8 +5,7 @@ ghost use Rattle.xl_marks.specs.Change.{IsCacheOf, gone_along};
 
 use std::marker::Model;
 use xl_cache::Cache;
-use xl_checks::know_limits;
-use xl_doc::Document;
+use xl_doc::{Document, know_limits};
 use xl_marks::Change;
 use xl_undo::Record;
 

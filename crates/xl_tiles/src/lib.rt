@@ -23,4 +23,5 @@ mod writing;
 pub use fill::repeat;
 pub use plane::Plane;
 pub use tile::{SCRATCH, TileRef};
+pub use xl_codes::know_bytes;
 pub use xl_grid::{Rect, TileAt};

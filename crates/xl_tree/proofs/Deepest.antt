@@ -3,20 +3,20 @@ use Rattle.std.proofs.Common.{◌≡◌, ℕ, zero, suc, ◌+◌, ◌<◌, ◌�
 use Rattle.std.proofs.Common.{drop, refl, sym, ◌∙◌, ap, arith}
 use Rattle.std.proofs.lemmas.List.{drop_more, drop_all}
 use Rattle.spec_forest.specs.Forest.{Forest, none, leaf, group, levels}
-use Rattle.xl_tree.specs.declared.entries.Entry.{Entry}
+use Rattle.xl_tree.specs.declared.entries.NodeEntry.{NodeEntry}
 use Rattle.xl_tree.specs.Flat.{flat, deepest, forest_of}
 use Rattle.xl_tree.specs.Kept.{AreSiblings}
 
 module _ {N : Type 0} where
   -- one entry more, and none
-  pub deepest_more : (es : List (Entry N)) (i : ℕ) (e : Entry N) → i < length es → e ≡ get_or es i e
+  pub deepest_more : (es : List (NodeEntry N)) (i : ℕ) (e : NodeEntry N) → i < length es → e ≡ get_or es i e
       → deepest (drop i es) ≡ max e.level (deepest (drop (i + 1) es))
   deepest_more es i e h at = ap deepest (drop_more es i e h ∙ ap (λ x. x ∷ drop (i + 1) es) (sym at))
 
-  pub deepest_end : (es : List (Entry N)) (i : ℕ) → length es ≤ i → deepest (drop i es) ≡ 0
+  pub deepest_end : (es : List (NodeEntry N)) (i : ℕ) → length es ≤ i → deepest (drop i es) ≡ 0
   deepest_end es i h = ap deepest (drop_all i es h)
 
-  deepest-append : (xs ys : List (Entry N)) → deepest (xs ++ ys) ≡ max (deepest xs) (deepest ys)
+  deepest-append : (xs ys : List (NodeEntry N)) → deepest (xs ++ ys) ≡ max (deepest xs) (deepest ys)
   deepest-append [] ys = omega arith
   deepest-append (e ∷ xs) ys = omega (arith, deepest-append xs ys)
 
@@ -45,16 +45,16 @@ module _ {N : Type 0} where
   deepest_some level (group id w c u) h = omega (arith, deepest-flat level (group id w c u))
 
   -- the levels of siblings
-  pub levels_from_deepest : (level : ℕ) (es : List (Entry N)) → AreSiblings level es → 0 < length es
+  pub levels_from_deepest : (level : ℕ) (es : List (NodeEntry N)) → AreSiblings level es → 0 < length es
       → deepest es + 1 ≡ level + levels (forest_of es)
   levels_from_deepest level es s h =
       ap (λ x. deepest x + 1) s.flat_is ∙ deepest_some level (forest_of es) (omega (arith, h, ap length s.flat_is))
 
-  pub no_levels : (level : ℕ) (es : List (Entry N)) → length es ≡ 0 → levels (forest_of es) ≡ 0
+  pub no_levels : (level : ℕ) (es : List (NodeEntry N)) → length es ≡ 0 → levels (forest_of es) ≡ 0
   no_levels level [] h = refl
   no_levels level (e ∷ es) h = absurd (omega (arith, h))
 
-  pub deepest_step : (es : List (Entry N)) (i level new : ℕ) (e : Entry N) → max level (deepest (drop i es)) ≡ deepest es
+  pub deepest_step : (es : List (NodeEntry N)) (i level new : ℕ) (e : NodeEntry N) → max level (deepest (drop i es)) ≡ deepest es
       → i < length es → e ≡ get_or es i e → new ≡ max level e.level → max new (deepest (drop (i + 1) es)) ≡ deepest es
   deepest_step es i level new e so_far h at is = omega (arith, so_far, is, deepest_more es i e h at)
 

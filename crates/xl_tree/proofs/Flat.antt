@@ -5,7 +5,7 @@ use Rattle.std.proofs.Math.Seq.{take-append_seam}
 use Rattle.std.proofs.lemmas.Bool.{lt-ltb}
 use Rattle.std.proofs.lemmas.Bool.Decides.{nat_tests}
 use Rattle.spec_forest.specs.Forest.{Forest, none, leaf, group, size}
-use Rattle.xl_tree.specs.declared.entries.Entry.{Entry}
+use Rattle.xl_tree.specs.declared.entries.NodeEntry.{NodeEntry}
 use Rattle.xl_tree.specs.Flat.{flat, below, forest_from, forest_of}
 
 not_deeper : (level : ℕ) → nat_lt level level ≡ false
@@ -21,7 +21,7 @@ module _ {N : Type 0} where
   length-flat level (group id w c u) =
       omega (arith, length-append (flat (suc level) c) (flat level u), length-flat (suc level) c, length-flat level u)
 
-  drop_front : (a x : List (Entry N)) → drop (length a) (a ++ x) ≡ x
+  drop_front : (a x : List (NodeEntry N)) → drop (length a) (a ++ x) ≡ x
   drop_front [] x = refl
   drop_front (e ∷ a) x = drop_front a x
 
@@ -32,12 +32,12 @@ module _ {N : Type 0} where
   below-flat_same level (group id w c u) =
       ap (λ b. cond b (1 + below level (flat (suc level) c ++ flat level u)) 0) (not_deeper level)
 
-  regroup : (x y z : List (Entry N)) → (x ++ y) ++ z ≡ x ++ (y ++ z)
+  regroup : (x y z : List (NodeEntry N)) → (x ++ y) ++ z ≡ x ++ (y ++ z)
   regroup [] y z = refl
   regroup (e ∷ x) y z = ap (λ es. e ∷ es) (regroup x y z)
 
   -- what is deeper is passed
-  pub below-flat_deeper : (low level : ℕ) → low < level → (f : Forest N N) (rest : List (Entry N))
+  pub below-flat_deeper : (low level : ℕ) → low < level → (f : Forest N N) (rest : List (NodeEntry N))
       → below low (flat level f ++ rest) ≡ size f + below low rest
   below-flat_deeper low level h none rest = omega arith
   below-flat_deeper low level h (leaf id w u) rest =
@@ -79,11 +79,11 @@ module _ {N : Type 0} where
   forest_of-flat level f = forest_from-flat (length (flat level f)) level f (omega (arith, length-flat level f))
 
   -- a list of entries that is flat for some forest
-  pub forest_of_is : (level : ℕ) (es : List (Entry N)) (f : Forest N N) → es ≡ flat level f → forest_of es ≡ f
+  pub forest_of_is : (level : ℕ) (es : List (NodeEntry N)) (f : Forest N N) → es ≡ flat level f → forest_of es ≡ f
   forest_of_is level es f e = ap forest_of e ∙ forest_of-flat level f
 
-  pub flat_is : (level : ℕ) (es : List (Entry N)) (f : Forest N N) → es ≡ flat level f → es ≡ flat level (forest_of es)
+  pub flat_is : (level : ℕ) (es : List (NodeEntry N)) (f : Forest N N) → es ≡ flat level f → es ≡ flat level (forest_of es)
   flat_is level es f e = e ∙ ap (flat level) (sym (forest_of_is level es f e))
 
-  pub size-forest_of : (level : ℕ) (es : List (Entry N)) → es ≡ flat level (forest_of es) → size (forest_of es) ≡ length es
+  pub size-forest_of : (level : ℕ) (es : List (NodeEntry N)) → es ≡ flat level (forest_of es) → size (forest_of es) ≡ length es
   size-forest_of level es e = sym (ap length e ∙ length-flat level (forest_of es))

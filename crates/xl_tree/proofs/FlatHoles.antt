@@ -5,22 +5,22 @@ use Rattle.std.specs.List.{insert}
 use Rattle.std.proofs.lemmas.List.{take_at, drop_at, append_assoc, append-nil}
 use Rattle.spec_forest.specs.Forest.{Forest, none}
 use Rattle.spec_forest.specs.Holes.{Hole, here, under_leaf, under_group, in_group, plug, depth, passed}
-use Rattle.xl_tree.specs.declared.entries.Entry.{Entry}
+use Rattle.xl_tree.specs.declared.entries.NodeEntry.{NodeEntry}
 use Rattle.xl_tree.specs.Flat.{flat}
 use Rattle.xl_tree.proofs.Flat.{length-flat}
 
-abbrev pub entry_of : {N : Type 0} → (level id : ℕ) → Bool → N → Entry N
+abbrev pub entry_of : {N : Type 0} → (level id : ℕ) → Bool → N → NodeEntry N
 entry_of level id mark node = record { id = id; level = level; group = mark; node = node }
 
 -- the entries before the hole
-abbrev pub front : {N : Type 0} → (level : ℕ) → Hole N N → List (Entry N)
+abbrev pub front : {N : Type 0} → (level : ℕ) → Hole N N → List (NodeEntry N)
 front level here = []
 front level (under_leaf id w h) = entry_of level id false w ∷ front level h
 front level (under_group id w c h) = entry_of level id true w ∷ (flat (suc level) c ++ front level h)
 front level (in_group id w h u) = entry_of level id true w ∷ front (suc level) h
 
 -- the entries of what is under the groups round the hole
-abbrev pub back : {N : Type 0} → (level : ℕ) → Hole N N → List (Entry N)
+abbrev pub back : {N : Type 0} → (level : ℕ) → Hole N N → List (NodeEntry N)
 back level here = []
 back level (under_leaf id w h) = back level h
 back level (under_group id w c h) = back level h
@@ -64,7 +64,7 @@ module _ {N : Type 0} where
       ∙ drop_at (front level h) (flat (level + depth h) f ++ back level h) (passed h) (length-front level h)
 
   -- what is put into an empty hole
-  pub insert-plug : (level : ℕ) (h : Hole N N) (e : Entry N) (b : Forest N N) → flat (level + depth h) b ≡ e ∷ []
+  pub insert-plug : (level : ℕ) (h : Hole N N) (e : NodeEntry N) (b : Forest N N) → flat (level + depth h) b ≡ e ∷ []
       → insert (flat level (plug h none)) (passed h) e ≡ flat level (plug h b)
   insert-plug level h e b one =
       (λ i. take-plug level h none i ++ e ∷ drop-plug level h none i)

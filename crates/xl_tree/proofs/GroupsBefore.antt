@@ -10,7 +10,7 @@ use Rattle.spec_forest.specs.Holes.{Hole, here, under_leaf, under_group, in_grou
 use Rattle.spec_forest.proofs.Holes.{depth_below_levels}
 use Rattle.spec_forest.proofs.Standing.{Standing, nowhere, at_leaf, at_group, standing, groups, ancestors-nowhere}
 use Rattle.spec_forest.proofs.Standing.{ancestors-plug, ancestors-of_leaf, ancestors-of_group}
-use Rattle.xl_tree.specs.declared.entries.Entry.{Entry}
+use Rattle.xl_tree.specs.declared.entries.NodeEntry.{NodeEntry}
 use Rattle.xl_tree.specs.Flat.{flat, forest_of, from_id}
 use Rattle.xl_tree.specs.Kept.{AreSiblings}
 use Rattle.xl_tree.specs.Above.{lowest, groups_before}
@@ -22,7 +22,7 @@ not_lower m n h = grind (arith, nat_tests)
 
 module _ {N : Type 0} where
   -- deeper entries in front are no groups above
-  lowest-deep : (low level : ℕ) (f : Forest N N) (es : List (Entry N)) → lowest es low ≤ level
+  lowest-deep : (low level : ℕ) (f : Forest N N) (es : List (NodeEntry N)) → lowest es low ≤ level
       → lowest (flat level f ++ es) low ≡ lowest es low
   lowest-deep low level none es h = refl
   lowest-deep low level (leaf id w u) es h = omega (arith, h, lowest-deep low level u es h)
@@ -31,7 +31,7 @@ module _ {N : Type 0} where
       let inner = lowest-deep low (suc level) c (flat level u ++ es) (omega (arith, h, rest)) in
       omega (arith, h, rest, inner, ap (λ x. lowest x low) (append_assoc (flat (suc level) c) (flat level u) es))
 
-  groups-deep : (low level : ℕ) (f : Forest N N) (es : List (Entry N)) → lowest es low ≤ level
+  groups-deep : (low level : ℕ) (f : Forest N N) (es : List (NodeEntry N)) → lowest es low ≤ level
       → groups_before (flat level f ++ es) low ≡ groups_before es low
   groups-deep low level none es h = refl
   groups-deep low level (leaf id w u) es h =
@@ -41,7 +41,7 @@ module _ {N : Type 0} where
       ∙ (append-nil (groups_before (flat level u ++ es) low) ∙ groups-deep low level u es h)
   groups-deep low level (group id w c u) es h =
       let rest = lowest-deep low level u es h in
-      let below_es : List (Entry N) = (flat (suc level) c ++ flat level u) ++ es in
+      let below_es : List (NodeEntry N) = (flat (suc level) c ++ flat level u) ++ es in
       let split : below_es ≡ flat (suc level) c ++ (flat level u ++ es) = append_assoc (flat (suc level) c) (flat level u) es in
       let inner = lowest-deep low (suc level) c (flat level u ++ es) (omega (arith, h, rest)) in
       ap (λ b. groups_before below_es low
@@ -71,7 +71,7 @@ module _ {N : Type 0} where
       ++ cond b (id ∷ []) []) (not_lower level (lowest (front level h) (level + depth h)) (omega (arith, lowest-front level h)))
       ∙ (append-nil (groups_before (front level h) (level + depth h)) ∙ groups-front level h)
   groups-front level (under_group id w c h) =
-      let es : List (Entry N) = flat (suc level) c ++ front level h in
+      let es : List (NodeEntry N) = flat (suc level) c ++ front level h in
       let low = lowest-front level h in
       let deep = lowest-deep (level + depth h) (suc level) c (front level h) (omega (arith, low)) in
       ap (λ b. groups_before es (level + depth h)
@@ -80,7 +80,7 @@ module _ {N : Type 0} where
       ∙ (groups-deep (level + depth h) (suc level) c (front level h) (omega (arith, low)) ∙ groups-front level h))
   groups-front level (in_group id w h u) =
       let deeper : level + suc (depth h) ≡ suc level + depth h = omega arith in
-      let es : List (Entry N) = front (suc level) h in
+      let es : List (NodeEntry N) = front (suc level) h in
       let lower : nat_lt level (lowest es (suc level + depth h)) ≡ true =
       lt-ltb level (lowest es (suc level + depth h)) (omega (arith, lowest-front (suc level) h)) in
       ap (λ low. groups_before es low ++ cond (nat_lt level (lowest es low)) (id ∷ []) []) deeper
@@ -88,11 +88,11 @@ module _ {N : Type 0} where
       ∙ ap (λ x. x ++ id ∷ []) (groups-front (suc level) h))
 
   -- one entry at the end
-  lowest-push : (es : List (Entry N)) (e : Entry N) (level : ℕ) → lowest (es ++ e ∷ []) level ≡ lowest es (min e.level level)
+  lowest-push : (es : List (NodeEntry N)) (e : NodeEntry N) (level : ℕ) → lowest (es ++ e ∷ []) level ≡ lowest es (min e.level level)
   lowest-push [] e level = refl
   lowest-push (x ∷ es) e level = omega (arith, lowest-push es e level)
 
-  groups_push : (es : List (Entry N)) (e : Entry N) (level : ℕ)
+  groups_push : (es : List (NodeEntry N)) (e : NodeEntry N) (level : ℕ)
       → groups_before (es ++ e ∷ []) level ≡ cond (nat_lt e.level level) (e.id ∷ []) [] ++ groups_before es (min e.level level)
   groups_push [] e level = sym (append-nil (cond (nat_lt e.level level) (e.id ∷ []) []))
   groups_push (x ∷ es) e level =
@@ -100,12 +100,12 @@ module _ {N : Type 0} where
       ∙ append_assoc (cond (nat_lt e.level level) (e.id ∷ []) []) (groups_before es (min e.level level))
       (cond (nat_lt x.level (lowest es (min e.level level))) (x.id ∷ []) [])
 
-  last_off : (es : List (Entry N)) (at : ℕ) (e : Entry N) → at < length es → e ≡ get_or es at e
+  last_off : (es : List (NodeEntry N)) (at : ℕ) (e : NodeEntry N) → at < length es → e ≡ get_or es at e
       → take (at + 1) es ≡ take at es ++ e ∷ []
   last_off es at e h is = take_more es at e h ∙ ap (λ x. take at es ++ x ∷ []) (sym is)
 
   -- a group is next, and no group is next
-  pub groups_next : (es : List (Entry N)) (at level : ℕ) (e : Entry N) → at < length es → e ≡ get_or es at e → e.level < level
+  pub groups_next : (es : List (NodeEntry N)) (at level : ℕ) (e : NodeEntry N) → at < length es → e ≡ get_or es at e → e.level < level
       → groups_before (take (at + 1) es) level ≡ e.id ∷ groups_before (take at es) e.level
   groups_next es at level e h is lower =
       let least : min e.level level ≡ e.level = omega (arith, lower) in
@@ -113,7 +113,7 @@ module _ {N : Type 0} where
       ∙ (groups_push (take at es) e level
       ∙ (λ i. cond (lt-ltb e.level level lower i) (e.id ∷ []) [] ++ groups_before (take at es) (least i)))
 
-  pub groups_skip : (es : List (Entry N)) (at level : ℕ) (e : Entry N) → at < length es → e ≡ get_or es at e → level ≤ e.level
+  pub groups_skip : (es : List (NodeEntry N)) (at level : ℕ) (e : NodeEntry N) → at < length es → e ≡ get_or es at e → level ≤ e.level
       → groups_before (take (at + 1) es) level ≡ groups_before (take at es) level
   groups_skip es at level e h is deeper =
       let least : min e.level level ≡ level = omega (arith, deeper) in
@@ -122,7 +122,7 @@ module _ {N : Type 0} where
       ∙ (λ i. cond (not_lower e.level level deeper i) (e.id ∷ []) [] ++ groups_before (take at es) (least i)))
 
   -- the same, after the ids that were told so far
-  pub told_next : (ids all : List ℕ) (es : List (Entry N)) (at level : ℕ) (e : Entry N) → 0 < at → at ≤ length es
+  pub told_next : (ids all : List ℕ) (es : List (NodeEntry N)) (at level : ℕ) (e : NodeEntry N) → 0 < at → at ≤ length es
       → e ≡ get_or es (at - 1) e → e.level < level → ids ++ groups_before (take at es) level ≡ all
       → (ids ++ e.id ∷ []) ++ groups_before (take (at - 1) es) e.level ≡ all
   told_next ids all es at level e some h is lower so_far =
@@ -131,7 +131,7 @@ module _ {N : Type 0} where
       ∙ (ap (λ x. ids ++ x) (sym (groups_next es (at - 1) level e (omega (arith, some, h)) is lower)
       ∙ ap (λ k. groups_before (take k es) level) one) ∙ so_far)
 
-  pub told_skip : (ids all : List ℕ) (es : List (Entry N)) (at level : ℕ) (e : Entry N) → 0 < at → at ≤ length es
+  pub told_skip : (ids all : List ℕ) (es : List (NodeEntry N)) (at level : ℕ) (e : NodeEntry N) → 0 < at → at ≤ length es
       → e ≡ get_or es (at - 1) e → level ≤ e.level → ids ++ groups_before (take at es) level ≡ all
       → ids ++ groups_before (take (at - 1) es) level ≡ all
   told_skip ids all es at level e some h is deeper so_far =
@@ -140,25 +140,25 @@ module _ {N : Type 0} where
       ∙ ap (λ k. groups_before (take k es) level) one) ∙ so_far
 
   -- at the top there is no group above
-  pub groups_top : (es : List (Entry N)) → groups_before es 0 ≡ []
+  pub groups_top : (es : List (NodeEntry N)) → groups_before es 0 ≡ []
   groups_top [] = refl
   groups_top (e ∷ es) =
       (λ i. groups_top es i ++ cond (not_lower e.level (lowest es 0) (omega (arith, lowest_top es)) i) (e.id ∷ []) []) where
-        lowest_top : (xs : List (Entry N)) → lowest xs 0 ≡ 0
+        lowest_top : (xs : List (NodeEntry N)) → lowest xs 0 ≡ 0
         lowest_top [] = refl
         lowest_top (x ∷ xs) = omega (arith, lowest_top xs)
 
-  pub told_all : (ids all : List ℕ) (es : List (Entry N)) (level : ℕ) → level ≡ 0 → ids ++ groups_before es level ≡ all → ids ≡ all
+  pub told_all : (ids all : List ℕ) (es : List (NodeEntry N)) (level : ℕ) → level ≡ 0 → ids ++ groups_before es level ≡ all → ids ≡ all
   told_all ids all es level z so_far =
       sym (append-nil ids) ∙ (ap (λ x. ids ++ x) (sym (groups_top es)) ∙ (ap (λ l. ids ++ groups_before es l) (sym z) ∙ so_far))
 
   -- the groups above what is found
-  pub record Above (id : ℕ) (f : Forest N N) (es : List (Entry N)) (e : Entry N) (rest : List (Entry N)) : Type 0 where
+  pub record Above (id : ℕ) (f : Forest N N) (es : List (NodeEntry N)) (e : NodeEntry N) (rest : List (NodeEntry N)) : Type 0 where
     pub above : groups_before (take (length es - length (e ∷ rest)) es) e.level ≡ unwrap_or (ancestors id f) []
     pub low : e.level ≤ 8
     pub within : length (e ∷ rest) ≤ length es
 
-  pub above_found : (id : ℕ) (es : List (Entry N)) (f : Forest N N) (e : Entry N) (rest : List (Entry N)) → AreSiblings 0 es
+  pub above_found : (id : ℕ) (es : List (NodeEntry N)) (f : Forest N N) (e : NodeEntry N) (rest : List (NodeEntry N)) → AreSiblings 0 es
       → forest_of es ≡ f → from_id id es ≡ e ∷ rest → Above id f es e rest
   above_found id es f e rest s view_is some_is = from (standing id f) where
     flat_at : es ≡ flat 0 f
@@ -199,7 +199,7 @@ module _ {N : Type 0} where
         made h (group id w c u) is (omega arith) (ap (λ l. entry_of l id true w ∷ ((flat (suc l) c ++ flat l u) ++ back 0 h)) z
         ∙ k) (sym (ap (λ x. x.level) first)) (ancestors-plug id h (group id w c u) fresh (ancestors-of_group id w c u))
 
-  pub above_nothing : (id : ℕ) (es : List (Entry N)) (f : Forest N N) → AreSiblings 0 es → forest_of es ≡ f → from_id id es ≡ []
+  pub above_nothing : (id : ℕ) (es : List (NodeEntry N)) (f : Forest N N) → AreSiblings 0 es → forest_of es ≡ f → from_id id es ≡ []
       → [] ≡ unwrap_or (ancestors id f) []
   above_nothing id es f s view_is empty =
       ap (λ o. unwrap_or o []) (sym (ancestors-nowhere id f (found_none id es f (s.flat_is ∙ ap (flat 0) view_is) empty)))

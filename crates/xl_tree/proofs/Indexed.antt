@@ -6,7 +6,7 @@ use Rattle.std.proofs.lemmas.Bool.Decides.{nat_tests}
 use Rattle.std.proofs.lemmas.List.{take_more}
 use Rattle.std.specs.Prelude.{Option, Some, None, option_map, is_some, if◌then◌else◌}
 use Rattle.spec_forest.specs.Forest.{Forest, none, leaf, group}
-use Rattle.xl_tree.specs.declared.entries.Entry.{Entry}
+use Rattle.xl_tree.specs.declared.entries.NodeEntry.{NodeEntry}
 use Rattle.xl_tree.specs.Flat.{flat, from_id}
 use Rattle.xl_tree.specs.declared.index.Index.{Index}
 use Rattle.xl_tree.specs.Index.{IsIndex, place_in}
@@ -42,7 +42,7 @@ pub one_more : (len before : ℕ) (old : Option ℕ) → len ≡ before + (if is
 one_more len before old len_is absent = len_is ∙ ap (λ b. before + (if b then 0 else 1)) absent
 
 module _ {N : Type 0} where
-  place_in-append : (id : ℕ) (xs ys : List (Entry N))
+  place_in-append : (id : ℕ) (xs ys : List (NodeEntry N))
       → place_in id (xs ++ ys) ≡ first_some (place_in id xs) (option_map (λ k. length xs + k) (place_in id ys))
   place_in-append id [] ys = sym (mapped_none (place_in id ys))
   place_in-append id (e ∷ xs) ys =
@@ -76,11 +76,11 @@ module _ {N : Type 0} where
       ∙ (λ j. first_some (option_map (λ k. 1 + k) (place_of id c))
       (option_map (λ k. 1 + length-flat (suc level) c j + k) (place_in-flat id level u j))))))
 
-  pub place_is : (id : ℕ) (es : List (Entry N)) (f : Forest N N) → es ≡ flat 0 f → place_in id es ≡ place_of id f
+  pub place_is : (id : ℕ) (es : List (NodeEntry N)) (f : Forest N N) → es ≡ flat 0 f → place_in id es ≡ place_of id f
   place_is id es f flat_is = ap (place_in id) flat_is ∙ place_in-flat id 0 f
 
   -- the entries from a place on are those from the id on that stands there
-  pub from_place_is : (id at : ℕ) (es : List (Entry N)) → place_in id es ≡ Some at → from_id id es ≡ drop at es
+  pub from_place_is : (id at : ℕ) (es : List (NodeEntry N)) → place_in id es ≡ Some at → from_id id es ≡ drop at es
   from_place_is id at [] there = cc
   from_place_is id at (e ∷ es) there = by_case (λ k is. from_place_is id k es is) (eqb id e.id) there where
     behind : ((k : ℕ) → place_in id es ≡ Some k → from_id id es ≡ drop k es) → (n : Option ℕ) → place_in id es ≡ n
@@ -94,7 +94,7 @@ module _ {N : Type 0} where
     by_case rest true there = let at_is : 0 ≡ at = cc in ap (λ m. drop m (e ∷ es)) at_is
     by_case rest false there = behind rest (place_in id es) refl there
 
-  pub from_nowhere : (id : ℕ) (es : List (Entry N)) → place_in id es ≡ None → from_id id es ≡ []
+  pub from_nowhere : (id : ℕ) (es : List (NodeEntry N)) → place_in id es ≡ None → from_id id es ≡ []
   from_nowhere id [] there = refl
   from_nowhere id (e ∷ es) there = by_case (λ is. from_nowhere id es is) (eqb id e.id) there where
     behind : (place_in id es ≡ None → from_id id es ≡ []) → (n : Option ℕ) → place_in id es ≡ n → option_map (λ k. 1 + k) n ≡ None
@@ -107,7 +107,7 @@ module _ {N : Type 0} where
     by_case rest true there = cc
     by_case rest false there = behind rest (place_in id es) refl there
 
-  pub place_within : (id at : ℕ) (es : List (Entry N)) → place_in id es ≡ Some at → at < length es
+  pub place_within : (id at : ℕ) (es : List (NodeEntry N)) → place_in id es ≡ Some at → at < length es
   place_within id at [] there = cc
   place_within id at (e ∷ es) there = by_case (λ k is. place_within id k es is) (eqb id e.id) there where
     behind : ((k : ℕ) → place_in id es ≡ Some k → k < length es) → (n : Option ℕ) → place_in id es ≡ n
@@ -120,14 +120,14 @@ module _ {N : Type 0} where
     by_case rest true there = let at_is : 0 ≡ at = cc in omega (arith, at_is)
     by_case rest false there = behind rest (place_in id es) refl there
 
-  last_place : (id i : ℕ) (es : List (Entry N)) (e : Entry N) → i < length es → e ≡ get_or es i e
+  last_place : (id i : ℕ) (es : List (NodeEntry N)) (e : NodeEntry N) → i < length es → e ≡ get_or es i e
       → place_in id (take (i + 1) es) ≡ first_some (place_in id (take i es)) (cond (eqb id e.id) (Some i) None)
   last_place id i es e h is =
       ap (place_in id) (take_more es i e h)
       ∙ (place_in-append id (take i es) (get_or es i e ∷ [])
       ∙ ap (first_some (place_in id (take i es))) ((λ j. option_map (λ k. length_take i es h j + k) (place_in id (sym is j ∷ [])))
       ∙ last (eqb id e.id))) where
-        length_take : (n : ℕ) (xs : List (Entry N)) → n < length xs → length (take n xs) ≡ n
+        length_take : (n : ℕ) (xs : List (NodeEntry N)) → n < length xs → length (take n xs) ≡ n
         length_take n xs k = search (rules)
 
         last : (b : Bool) → option_map (λ k. i + k) (cond b (Some 0) (option_map (λ k. 1 + k) None)) ≡ cond b (Some i) None
@@ -135,7 +135,7 @@ module _ {N : Type 0} where
         last false = refl
 
   -- an entry whose id has no place yet gets the next one
-  pub placed_new : (i : ℕ) (es : List (Entry N)) (e : Entry N) (old new : ℕ → Option ℕ) → i < length es → e ≡ get_or es i e
+  pub placed_new : (i : ℕ) (es : List (NodeEntry N)) (e : NodeEntry N) (old new : ℕ → Option ℕ) → i < length es → e ≡ get_or es i e
       → ((id : ℕ) → old id ≡ place_in id (take i es)) → is_some (old e.id) ≡ false
       → ((id : ℕ) → new id ≡ cond (eqb e.id id) (Some i) (old id)) → (id : ℕ) → new id ≡ place_in id (take (i + 1) es)
   placed_new i es e old new h is told absent put id =
@@ -152,7 +152,7 @@ module _ {N : Type 0} where
             ∙ first_some_none (place_in id (take i es)))
 
   -- an entry whose id has a place changes none
-  pub placed_old : (i : ℕ) (es : List (Entry N)) (e : Entry N) (old : ℕ → Option ℕ) → i < length es → e ≡ get_or es i e
+  pub placed_old : (i : ℕ) (es : List (NodeEntry N)) (e : NodeEntry N) (old : ℕ → Option ℕ) → i < length es → e ≡ get_or es i e
       → ((id : ℕ) → old id ≡ place_in id (take i es)) → is_some (old e.id) ≡ true → (id : ℕ)
       → old id ≡ place_in id (take (i + 1) es)
   placed_old i es e old h is told there id =
@@ -165,11 +165,11 @@ module _ {N : Type 0} where
         by_case false other = sym (first_some_none (place_in id (take i es)))
 
   -- an index of entries is one of the same entries
-  pub same_index : (index : Index) (xs es : List (Entry N)) → IsIndex index xs → xs ≡ es → IsIndex index es
+  pub same_index : (index : Index) (xs es : List (NodeEntry N)) → IsIndex index xs → xs ≡ es → IsIndex index es
   same_index index xs es told same id = told id ∙ ap (place_in id) same
 
   -- what is written into an entry leaves its place
-  pub place_in-set : (id at : ℕ) (es : List (Entry N)) (e d : Entry N) → d ≡ get_or es at d → e.id ≡ d.id
+  pub place_in-set : (id at : ℕ) (es : List (NodeEntry N)) (e d : NodeEntry N) → d ≡ get_or es at d → e.id ≡ d.id
       → place_in id (set es at e) ≡ place_in id es
   place_in-set id at [] e d there same = refl
   place_in-set id zero (o ∷ es) e d there same =

@@ -11,7 +11,7 @@ use Rattle.spec_forest.proofs.Holes.{size-plug, levels-plug, depth_below_levels,
 use Rattle.spec_forest.proofs.Standing.{find-at_leaf, find-at_group}
 use Rattle.spec_forest.proofs.Distinct.{lone_leaf, lone_group, without-at_leaf, without-at_group, branch_of-at_leaf}
 use Rattle.spec_forest.proofs.Distinct.{branch_of-at_group}
-use Rattle.xl_tree.specs.declared.entries.Entry.{Entry}
+use Rattle.xl_tree.specs.declared.entries.NodeEntry.{NodeEntry}
 use Rattle.xl_tree.specs.Flat.{flat, forest_of}
 use Rattle.xl_tree.specs.Kept.{AreSiblings}
 use Rattle.xl_tree.specs.Moves.{shifted, AreShallow}
@@ -41,7 +41,7 @@ module _ {N : Type 0} where
   size-above (group id w c u) b = omega (arith, size-above u b)
 
   -- a run of entries in a slot
-  pub record PutIn (new : List (Entry N)) (forest : Forest N N) : Type 0 where
+  pub record PutIn (new : List (NodeEntry N)) (forest : Forest N N) : Type 0 where
     pub view : forest_of new ≡ forest
     pub siblings : AreSiblings 0 new
 
@@ -51,7 +51,7 @@ module _ {N : Type 0} where
   pub slot_low : (stack place : ℕ) (f : Forest N N) (at level : ℕ) → levels f ≤ 8 → IsSlot stack place f at level → level ≤ 8
   slot_low stack place f at level low s = omega (arith, low, s.level_is, depth_below_levels s.hole s.under, ap levels s.forest_is)
 
-  plugged : (h : Hole N N) (under b r : Forest N N) (at level : ℕ) (new : List (Entry N)) → r ≡ plug h under → passed h ≡ at
+  plugged : (h : Hole N N) (under b r : Forest N N) (at level : ℕ) (new : List (NodeEntry N)) → r ≡ plug h under → passed h ≡ at
       → depth h ≡ level → new ≡ take at (flat 0 r) ++ (flat level b ++ drop at (flat 0 r)) → new ≡ flat 0 (plug h (above b under))
   plugged h under b r at level new r_is at_is level_is new_is =
       let before : take at (flat 0 r) ≡ front 0 h = (λ j. take (sym at_is j) (flat 0 (r_is j))) ∙ take-plug 0 h under in
@@ -64,7 +64,7 @@ module _ {N : Type 0} where
       ∙ ap (λ x. x ++ back 0 h) (sym (flat-above (0 + depth h) b under)))
       ∙ sym (flat-plug 0 h (above b under))))
 
-  pub put_in : (stack place : ℕ) (es new : List (Entry N)) (f b : Forest N N) (at level : ℕ) → es ≡ flat 0 f
+  pub put_in : (stack place : ℕ) (es new : List (NodeEntry N)) (f b : Forest N N) (at level : ℕ) → es ≡ flat 0 f
       → IsSlot stack place f at level → size f + size b ≤ MAX_NODES → levels (put_into stack place b f) ≤ 8
       → new ≡ take at es ++ (flat level b ++ drop at es) → PutIn new (put_into stack place b f)
   put_in stack place es new f b at level es_is s few low new_is =
@@ -78,7 +78,7 @@ module _ {N : Type 0} where
             (omega (arith, low, ap levels (s.put_is b)));
       }
 
-  pub put_in_one : (stack place : ℕ) (es new : List (Entry N)) (f : Forest N N) (at level id : ℕ) (mark : Bool) (node : N)
+  pub put_in_one : (stack place : ℕ) (es new : List (NodeEntry N)) (f : Forest N N) (at level id : ℕ) (mark : Bool) (node : N)
       → es ≡ flat 0 f → IsSlot stack place f at level → size f < MAX_NODES
       → levels (put_into stack place (alone mark id node) f) ≤ 8 → new ≡ insert es at (entry_of level id mark node)
       → PutIn new (put_into stack place (alone mark id node) f)
@@ -97,8 +97,8 @@ module _ {N : Type 0} where
     pub branch_is : branch_of id f ≡ branch
     pub size_is : size_of (find id f) ≡ size branch
     pub some : 0 < size branch
-    pub entry : Entry N
-    pub rest : List (Entry N)
+    pub entry : NodeEntry N
+    pub rest : List (NodeEntry N)
     pub first_is : flat (0 + depth hole) branch ≡ entry ∷ rest
     pub level_is : entry.level ≡ depth hole
 
@@ -141,21 +141,21 @@ module _ {N : Type 0} where
         }
 
   -- the entries where a node is taken out
-  pub record TakenOut (id at count level : ℕ) (f : Forest N N) (es : List (Entry N)) : Type 0 where
+  pub record TakenOut (id at count level : ℕ) (f : Forest N N) (es : List (NodeEntry N)) : Type 0 where
     pub within : at + count ≤ length es
     pub there : at < length es
     pub shallow : AreShallow (take count (drop at es))
     pub parked : take at es ++ (drop count (drop at es) ++ map (shifted level 0) (take count (drop at es))) ≡ flat 0 (without id f)
         ++ flat 0 (branch_of id f)
 
-  pub taken_out : (id at count level : ℕ) (es : List (Entry N)) (f : Forest N N) → AreSiblings 0 es → forest_of es ≡ f
+  pub taken_out : (id at count level : ℕ) (es : List (NodeEntry N)) (f : Forest N N) → AreSiblings 0 es → forest_of es ≡ f
       → (r : Removal id at f) → count ≡ size r.branch → level ≡ depth r.hole → TakenOut id at count level f es
   taken_out id at count level es f s view_is r count_is level_is =
       let h : Hole N N = r.hole in
       let d : ℕ = 0 + depth h in
       let es_is : es ≡ flat 0 (plug h (above r.branch r.under)) = s.flat_is ∙ ap (flat 0) (view_is ∙ r.forest_is) in
       let before : take at es ≡ front 0 h = (λ j. take (sym r.at_is j) (es_is j)) ∙ take-plug 0 h (above r.branch r.under) in
-      let tail : List (Entry N) = flat d r.under ++ back 0 h in
+      let tail : List (NodeEntry N) = flat d r.under ++ back 0 h in
       let after : drop at es ≡ flat d r.branch ++ tail =
       (λ j. drop (sym r.at_is j) (es_is j)) ∙ (drop-plug 0 h (above r.branch r.under)
       ∙ (ap (λ x. x ++ back 0 h) (flat-above d r.branch r.under) ∙ append_assoc (flat d r.branch) (flat d r.under) (back 0 h))) in
@@ -171,7 +171,7 @@ module _ {N : Type 0} where
       record {
         within = omega (arith, size_all, inside, r.at_is, count_is, size-above r.branch r.under);
         there = omega (arith, size_all, inside, r.at_is, r.some, size-above r.branch r.under);
-        shallow = let P : List (Entry N) → Type 0 = AreShallow in
+        shallow = let P : List (NodeEntry N) → Type 0 = AreShallow in
             subst P (sym run) (shallow-flat d r.branch
             (omega (arith, s.low, ap levels view_is, ap levels r.forest_is, deep, low_branch)));
         parked = (λ j. before j ++ (left j ++ map (shifted (l j) 0) (run j)))
@@ -184,7 +184,7 @@ module _ {N : Type 0} where
         levels-above_left (leaf i v x) b = omega (arith, levels-above_left x b)
         levels-above_left (group i v c x) b = omega (arith, levels-above_left x b)
 
-  pub removal_level : (id at : ℕ) (es : List (Entry N)) (f : Forest N N) (e : Entry N) → AreSiblings 0 es → forest_of es ≡ f
+  pub removal_level : (id at : ℕ) (es : List (NodeEntry N)) (f : Forest N N) (e : NodeEntry N) → AreSiblings 0 es → forest_of es ≡ f
       → (r : Removal id at f) → e ≡ get_or es at e → e.level ≡ depth r.hole
   removal_level id at es f e s view_is r e_is =
       let h : Hole N N = r.hole in
@@ -198,7 +198,7 @@ module _ {N : Type 0} where
       ∙ r.level_is
 
   -- the entries where a branch that is parked at the end is put back
-  pub put_back_is : (r b : Forest N N) (es : List (Entry N)) (at count level n : ℕ) → es ≡ flat 0 r ++ flat 0 b → n ≡ length es
+  pub put_back_is : (r b : Forest N N) (es : List (NodeEntry N)) (at count level n : ℕ) → es ≡ flat 0 r ++ flat 0 b → n ≡ length es
       → count ≡ size b → at ≤ size r → take at es
       ++ (map (shifted 0 level) (drop (n - count) es) ++ take (n - count - at) (drop at es)) ≡ take at (flat 0 r)
       ++ (flat level b ++ drop at (flat 0 r))
@@ -219,7 +219,7 @@ module _ {N : Type 0} where
       ∙ ap (λ x. take at (flat 0 r) ++ (x ++ drop at (flat 0 r))) (map-up level b)
 
   -- put back where it was taken out, all is as before
-  pub as_before : (id at : ℕ) (f : Forest N N) (new : List (Entry N)) → (r : Removal id at f)
+  pub as_before : (id at : ℕ) (f : Forest N N) (new : List (NodeEntry N)) → (r : Removal id at f)
       → new ≡ take at (flat 0 (without id f)) ++ (flat (depth r.hole) (branch_of id f) ++ drop at (flat 0 (without id f)))
       → new ≡ flat 0 f
   as_before id at f new r new_is =
@@ -229,32 +229,32 @@ module _ {N : Type 0} where
       ∙ ap (flat 0) (sym r.forest_is)
 
   -- the same, with what a function of code knows
-  pub record SlotFits (es : List (Entry N)) (at level : ℕ) : Type 0 where
+  pub record SlotFits (es : List (NodeEntry N)) (at level : ℕ) : Type 0 where
     pub within : at ≤ length es
     pub low : level ≤ 8
 
-  pub slot_of : (stack place at level : ℕ) (xs es : List (Entry N)) (f : Forest N N) → xs ≡ es → forest_of es ≡ f
+  pub slot_of : (stack place at level : ℕ) (xs es : List (NodeEntry N)) (f : Forest N N) → xs ≡ es → forest_of es ≡ f
       → IsSlot stack place (forest_of xs) at level → IsSlot stack place f at level
   slot_of stack place at level xs es f same view_is s =
       let P : Forest N N → Type 0 = λ x. IsSlot stack place x at level in subst P (ap forest_of same ∙ view_is) s
 
-  pub slot_fits : (stack place at level : ℕ) (es : List (Entry N)) (f : Forest N N) → AreSiblings 0 es → forest_of es ≡ f
+  pub slot_fits : (stack place at level : ℕ) (es : List (NodeEntry N)) (f : Forest N N) → AreSiblings 0 es → forest_of es ≡ f
       → IsSlot stack place f at level → SlotFits es at level
   slot_fits stack place at level es f s view_is slot = record {
     within = omega (arith, slot_within stack place f at level slot, size-forest_of 0 es s.flat_is, ap size view_is);
     low = slot_low stack place f at level (omega (arith, s.low, ap levels view_is)) slot;
   }
 
-  pub shallow_tail : (es bs new : List (Entry N)) (n count : ℕ) → new ≡ es ++ bs → n ≡ length new → count ≡ length bs
+  pub shallow_tail : (es bs new : List (NodeEntry N)) (n count : ℕ) → new ≡ es ++ bs → n ≡ length new → count ≡ length bs
       → AreSiblings 0 bs → AreShallow (drop (n - count) new)
   shallow_tail es bs new n count new_is n_is count_is s =
       let k : length es ≡ n - count = omega (arith, n_is, count_is, ap length new_is, length-append es bs) in
       let tail : drop (n - count) new ≡ flat 0 (forest_of bs) = ap (drop (n - count)) new_is
       ∙ (drop_at es bs (n - count) k ∙ s.flat_is) in
-      let P : List (Entry N) → Type 0 = AreShallow in subst P (sym tail) (shallow-flat 0 (forest_of bs) s.low)
+      let P : List (NodeEntry N) → Type 0 = AreShallow in subst P (sym tail) (shallow-flat 0 (forest_of bs) s.low)
 
   -- a branch that was parked at the end is put into a slot
-  pub grafted : (stack place : ℕ) (r b : Forest N N) (es new : List (Entry N)) (at count level n : ℕ) → es ≡ flat 0 r ++ flat 0 b
+  pub grafted : (stack place : ℕ) (r b : Forest N N) (es new : List (NodeEntry N)) (at count level n : ℕ) → es ≡ flat 0 r ++ flat 0 b
       → n ≡ length es → count ≡ size b → IsSlot stack place r at level → size r + size b ≤ MAX_NODES
       → levels (put_into stack place b r) ≤ 8
       → new ≡ take at es ++ (map (shifted 0 level) (drop (n - count) es) ++ take (n - count - at) (drop at es))
@@ -264,7 +264,7 @@ module _ {N : Type 0} where
       (new_is ∙ put_back_is r b es at count level n es_is n_is count_is (slot_within stack place r at level slot))
 
   -- or where it was before
-  pub restored : (id at : ℕ) (f : Forest N N) (es new : List (Entry N)) (count level n : ℕ)
+  pub restored : (id at : ℕ) (f : Forest N N) (es new : List (NodeEntry N)) (count level n : ℕ)
       → es ≡ flat 0 (without id f) ++ flat 0 (branch_of id f) → n ≡ length es → (k : Removal id at f) → count ≡ size k.branch
       → level ≡ depth k.hole
       → new ≡ take at es ++ (map (shifted 0 level) (drop (n - count) es) ++ take (n - count - at) (drop at es)) → new ≡ flat 0 f
@@ -276,13 +276,13 @@ module _ {N : Type 0} where
       ∙ ap (λ l. take at (flat 0 (without id f)) ++ (flat l (branch_of id f) ++ drop at (flat 0 (without id f)))) level_is))
 
   -- what is left, and what was taken out
-  pub record Parts (id at : ℕ) (f : Forest N N) (es : List (Entry N)) (rest branch : List (Entry N)) : Type 0 where
+  pub record Parts (id at : ℕ) (f : Forest N N) (es : List (NodeEntry N)) (rest branch : List (NodeEntry N)) : Type 0 where
     pub rest_is : rest ≡ flat 0 (without id f)
     pub branch_is : branch ≡ flat 0 (branch_of id f)
     pub rest_siblings : AreSiblings 0 rest
     pub branch_siblings : AreSiblings 0 branch
 
-  pub parts : (id at count n : ℕ) (f : Forest N N) (es : List (Entry N)) → size f ≤ MAX_NODES → levels f ≤ 8 → (r : Removal id at f)
+  pub parts : (id at count n : ℕ) (f : Forest N N) (es : List (NodeEntry N)) → size f ≤ MAX_NODES → levels f ≤ 8 → (r : Removal id at f)
       → count ≡ size r.branch → n ≡ length es → es ≡ flat 0 (without id f) ++ flat 0 (branch_of id f)
       → Parts id at f es (take (n - count) es) (drop (n - count) es)
   parts id at count n f es few low r count_is n_is es_is =
@@ -337,13 +337,13 @@ module _ {N : Type 0} where
         levels_right (group i v c x) b = omega (arith, levels_right x b)
 
   -- what is there when a node is taken out of a tree
-  pub record Taken (id at count level : ℕ) (f : Forest N N) (es : List (Entry N)) : Type 0 where
+  pub record Taken (id at count level : ℕ) (f : Forest N N) (es : List (NodeEntry N)) : Type 0 where
     pub removal_is : Removal id at f
     pub count_is : count ≡ size removal_is.branch
     pub level_is : level ≡ depth removal_is.hole
     pub out : TakenOut id at count level f es
 
-  pub taken : (id at count : ℕ) (es : List (Entry N)) (f : Forest N N) (e : Entry N) → AreSiblings 0 es → forest_of es ≡ f
+  pub taken : (id at count : ℕ) (es : List (NodeEntry N)) (f : Forest N N) (e : NodeEntry N) → AreSiblings 0 es → forest_of es ≡ f
       → Some at ≡ place_of id f → IsDistinct nat_eq (ids f) → count ≡ size_of (find id f) → e ≡ get_or es at e
       → Taken id at count e.level f es
   taken id at count es f e s view_is at_place distinct size_is e_is =
@@ -353,13 +353,13 @@ module _ {N : Type 0} where
       record { removal_is = r; count_is = n; level_is = l; out = taken_out id at count e.level es f s view_is r n l }
 
   -- a tree and a branch after a node was taken out
-  pub record Removed (id : ℕ) (f : Forest N N) (from to : List (Entry N)) : Type 0 where
+  pub record Removed (id : ℕ) (f : Forest N N) (from to : List (NodeEntry N)) : Type 0 where
     pub from_view : forest_of from ≡ without id f
     pub to_view : forest_of to ≡ branch_of id f
     pub from_siblings : AreSiblings 0 from
     pub to_siblings : AreSiblings 0 to
 
-  pub removed : (id at count level n : ℕ) (es parked from to : List (Entry N)) (f : Forest N N) → AreSiblings 0 es
+  pub removed : (id at count level n : ℕ) (es parked from to : List (NodeEntry N)) (f : Forest N N) → AreSiblings 0 es
       → forest_of es ≡ f → Taken id at count level f es
       → parked ≡ take at es ++ (drop count (drop at es) ++ map (shifted level 0) (take count (drop at es))) → n ≡ length parked
       → from ≡ take (n - count) parked → to ≡ drop (n - count) parked → Removed id f from to
@@ -367,7 +367,7 @@ module _ {N : Type 0} where
       let all = size-forest_of 0 es s.flat_is in
       let p = parts id at count n f parked (omega (arith, s.few, all, ap size view_is))
       (omega (arith, s.low, ap levels view_is)) t.removal_is t.count_is n_is (parked_is ∙ t.out.parked) in
-      let P : List (Entry N) → Type 0 = λ x. AreSiblings 0 x in
+      let P : List (NodeEntry N) → Type 0 = λ x. AreSiblings 0 x in
       record {
         from_view = forest_of_is 0 from (without id f) (from_is ∙ p.rest_is);
         to_view = forest_of_is 0 to (branch_of id f) (to_is ∙ p.branch_is);
@@ -375,7 +375,7 @@ module _ {N : Type 0} where
         to_siblings = subst P (sym to_is) p.branch_siblings;
       }
 
-  pub parked_within : (id at count level n : ℕ) (es parked : List (Entry N)) (f : Forest N N) → Taken id at count level f es
+  pub parked_within : (id at count level n : ℕ) (es parked : List (NodeEntry N)) (f : Forest N N) → Taken id at count level f es
       → parked ≡ take at es ++ (drop count (drop at es) ++ map (shifted level 0) (take count (drop at es))) → n ≡ length parked
       → count ≤ n
   parked_within id at count level n es parked f t parked_is n_is =

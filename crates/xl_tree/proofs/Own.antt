@@ -13,7 +13,7 @@ use Rattle.spec_forest.proofs.Distinct.{IsNot, distinct-left, ids-above}
 use Rattle.spec_forest.proofs.Holes.{hole_last, plug-hole_last, put_last-hole}
 use Rattle.spec_forest.proofs.Changed.{run_in_hole, ids-taken, ids-with_leaf, ids-with_group}
 use Rattle.spec_forest.proofs.Standing.{lacks_leaf, lacks_group}
-use Rattle.xl_tree.specs.declared.entries.Entry.{Entry}
+use Rattle.xl_tree.specs.declared.entries.NodeEntry.{NodeEntry}
 use Rattle.xl_tree.specs.Flat.{forest_of}
 use Rattle.xl_tree.specs.Ids.{AreOwn, IsNew}
 use Rattle.xl_tree.specs.Kept.{AreSiblings}
@@ -70,14 +70,14 @@ module _ {L G : Type 0} where
 
 module _ {N : Type 0} where
   -- no entries
-  pub none_siblings : (es : List (Entry N)) → es ≡ [] → AreSiblings 0 es
-  none_siblings es e = let P : List (Entry N) → Type 0 = AreSiblings 0 in
+  pub none_siblings : (es : List (NodeEntry N)) → es ≡ [] → AreSiblings 0 es
+  none_siblings es e = let P : List (NodeEntry N) → Type 0 = AreSiblings 0 in
       subst P (sym e) (record { flat_is = refl; few = omega arith; low = omega arith })
 
-  pub none_own : (es : List (Entry N)) → es ≡ [] → AreOwn (ids (forest_of es))
+  pub none_own : (es : List (NodeEntry N)) → es ≡ [] → AreOwn (ids (forest_of es))
   unfolding IsDistinct
   none_own es e =
-      let P : List (Entry N) → Type 0 = λ x. AreOwn (ids (forest_of x)) in subst P (sym e) (record { distinct = tt; positive = tt })
+      let P : List (NodeEntry N) → Type 0 = λ x. AreOwn (ids (forest_of x)) in subst P (sym e) (record { distinct = tt; positive = tt })
 
   ids-alone : (mark : Bool) (id : ℕ) (node : N) → ids (alone mark id node) ≡ id ∷ []
   ids-alone true id node = refl

@@ -12,7 +12,7 @@ use Rattle.spec_forest.proofs.Standing.{Fresh, Standing, nowhere, at_leaf, at_gr
 use Rattle.spec_forest.proofs.Standing.{find-at_leaf, find-at_group}
 use Rattle.spec_forest.proofs.Distinct.{lone_leaf, lone_group, with_leaf-at_leaf, with_leaf-at_group}
 use Rattle.spec_forest.proofs.Distinct.{with_group-at_leaf, with_group-at_group}
-use Rattle.xl_tree.specs.declared.entries.Entry.{Entry}
+use Rattle.xl_tree.specs.declared.entries.NodeEntry.{NodeEntry}
 use Rattle.xl_tree.specs.Flat.{flat, forest_of}
 use Rattle.xl_tree.specs.Kept.{AreSiblings}
 use Rattle.xl_tree.specs.Places.{place_of, first_some}
@@ -97,19 +97,19 @@ module _ {L G : Type 0} where
 
 module _ {N : Type 0} where
   -- the entry at the place, with another node in it
-  abbrev pub rewritten : Entry N → N → Entry N
+  abbrev pub rewritten : NodeEntry N → N → NodeEntry N
   rewritten e w = record { id = e.id; level = e.level; group = e.group; node = w }
 
-  pub record Written (id : ℕ) (f : Forest N N) (e : Entry N) (w : N) (new : List (Entry N)) : Type 0 where
+  pub record Written (id : ℕ) (f : Forest N N) (e : NodeEntry N) (w : N) (new : List (NodeEntry N)) : Type 0 where
     pub value : node_of (find id f) ≡ Some e.node
     pub view : forest_of new ≡ with_node id w f
     pub siblings : AreSiblings 0 new
 
-  pub written : (id place : ℕ) (es : List (Entry N)) (f : Forest N N) (e : Entry N) (w : N) → AreSiblings 0 es → forest_of es ≡ f
+  pub written : (id place : ℕ) (es : List (NodeEntry N)) (f : Forest N N) (e : NodeEntry N) (w : N) → AreSiblings 0 es → forest_of es ≡ f
       → place_of id f ≡ Some place → IsDistinct nat_eq (ids f) → e ≡ get_or es place e
       → Written id f e w (set es place (rewritten e w))
   written id place es f e w s view_is at_place distinct e_is = from (spot id place f at_place) where
-    made : (h : Hole N N) (old new : Forest N N) (mark : Bool) (v : N) (tail : List (Entry N)) → f ≡ plug h old → passed h ≡ place →
+    made : (h : Hole N N) (old new : Forest N N) (mark : Bool) (v : N) (tail : List (NodeEntry N)) → f ≡ plug h old → passed h ≡ place →
         flat (0 + depth h) old ++ back 0 h ≡ entry_of (0 + depth h) id mark v ∷ tail
         → flat (0 + depth h) new ++ back 0 h ≡ entry_of (0 + depth h) id mark w ∷ tail →
         levels new ≡ levels old → size new ≡ size old → node_of (find id f) ≡ Some v → with_node id w f ≡ plug h new

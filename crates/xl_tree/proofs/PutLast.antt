@@ -7,7 +7,7 @@ use Rattle.spec_forest.specs.Changes.{put_last}
 use Rattle.spec_forest.specs.Holes.{Hole, plug, depth, passed}
 use Rattle.spec_forest.proofs.Holes.{hole_last, plug-hole_last, depth-hole_last, put_last-hole, size-plug, levels-plug}
 use Rattle.spec_forest.proofs.Holes.{passed_within}
-use Rattle.xl_tree.specs.declared.entries.Entry.{Entry}
+use Rattle.xl_tree.specs.declared.entries.NodeEntry.{NodeEntry}
 use Rattle.xl_tree.specs.Flat.{flat, forest_of}
 use Rattle.xl_tree.specs.Kept.{AreSiblings}
 use Rattle.xl_tree.specs.Places.{end_at, alone}
@@ -41,11 +41,11 @@ module _ {N : Type 0} where
       let m = hole_from_end path f at (hole_last path f) (sym (end_at-hole path f) ∙ e) in
       omega (arith, passed_within m.0 none, m.2, ap size (plug-hole_last path f m.0 m.1))
 
-  pub record PutLast (path : List ℕ) (branch f : Forest N N) (new : List (Entry N)) : Type 0 where
+  pub record PutLast (path : List ℕ) (branch f : Forest N N) (new : List (NodeEntry N)) : Type 0 where
     pub view : put_last path branch f ≡ Some (forest_of new)
     pub siblings : AreSiblings 0 new
 
-  pub put_last_entry : (path : List ℕ) (es new : List (Entry N)) (f : Forest N N) (at id : ℕ) (mark : Bool) (node : N)
+  pub put_last_entry : (path : List ℕ) (es new : List (NodeEntry N)) (f : Forest N N) (at id : ℕ) (mark : Bool) (node : N)
       → AreSiblings 0 es → forest_of es ≡ f → end_at path f ≡ Some at → length path < 8 → size f < MAX_NODES
       → new ≡ insert es at (entry_of (length path) id mark node) → PutLast path (alone mark id node) f new
   put_last_entry path es new f at id mark node s is e short few new_is =

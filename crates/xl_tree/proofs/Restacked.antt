@@ -12,7 +12,7 @@ use Rattle.spec_forest.specs.Changes.{above, without, branch_of}
 use Rattle.spec_forest.proofs.Holes.{passed_within, size-plug, depth_below_levels}
 use Rattle.spec_forest.proofs.Distinct.{lone_leaf, lone_group, without-at_leaf, without-at_group, distinct-plug, fewer_under}
 use Rattle.spec_forest.proofs.Outside.{kind, kind-plug, above_inside}
-use Rattle.xl_tree.specs.declared.entries.Entry.{Entry}
+use Rattle.xl_tree.specs.declared.entries.NodeEntry.{NodeEntry}
 use Rattle.xl_tree.specs.declared.refused.TreeRefused.{TreeRefused}
 use Rattle.xl_tree.specs.declared.refused.TreeRefused.TheVariants.{Inside}
 use Rattle.xl_tree.specs.Flat.{flat, forest_of}
@@ -139,7 +139,7 @@ answer_refused (Some x) r e = cc
 
 module _ {N : Type 0} where
   -- what is known while the branch is parked at the end
-  pub record Parked (id at count level n : ℕ) (f : Forest N N) (parked : List (Entry N)) : Type 0 where
+  pub record Parked (id at count level n : ℕ) (f : Forest N N) (parked : List (NodeEntry N)) : Type 0 where
     pub within : count ≤ n
     pub at_within : at + count ≤ n
     pub low : level ≤ 8
@@ -152,7 +152,7 @@ module _ {N : Type 0} where
     pub size_is : size (without id f) + size (branch_of id f) ≡ size f
     pub sizes : n ≡ size (without id f) + count
 
-  pub is_parked : (id at count level n : ℕ) (es parked : List (Entry N)) (f : Forest N N) → AreSiblings 0 es → forest_of es ≡ f
+  pub is_parked : (id at count level n : ℕ) (es parked : List (NodeEntry N)) (f : Forest N N) → AreSiblings 0 es → forest_of es ≡ f
       → IsDistinct nat_eq (ids f) → Taken id at count level f es
       → parked ≡ take at es ++ (drop count (drop at es) ++ map (shifted level 0) (take count (drop at es))) → n ≡ length parked
       → Parked id at count level n f parked
@@ -167,7 +167,7 @@ module _ {N : Type 0} where
       let b = length-flat 0 (branch_of id f) in
       let count_at : count ≡ size (branch_of id f) = t.count_is ∙ ap size (sym r.branch_is) in
       let P : Forest N N → Type 0 = λ x. IsDistinct nat_eq (ids x) in
-      let Q : List (Entry N) → Type 0 = AreShallow in
+      let Q : List (NodeEntry N) → Type 0 = AreShallow in
       record {
         within = omega (arith, n_is, length_is, b, count_at);
         at_within = omega (arith, n_is, length_is, a, b, count_at, r.at_is, passed_within r.hole r.under, ap size r.without_is);
@@ -230,7 +230,7 @@ stack_refuses o rest r e = ap (λ x. first_some x rest) e
 
 module _ {N : Type 0} where
   -- the same front of the same entries
-  pub rest_same : (count : ℕ) {m n : ℕ} {xs ys : List (Entry N)} → m ≡ n → xs ≡ ys → take (m - count) xs ≡ take (n - count) ys
+  pub rest_same : (count : ℕ) {m n : ℕ} {xs ys : List (NodeEntry N)} → m ≡ n → xs ≡ ys → take (m - count) xs ≡ take (n - count) ys
   rest_same count e f = λ j. take (e j - count) (f j)
 
   pub distinct_same : (x y : Forest N N) → x ≡ y → IsDistinct nat_eq (ids y) → IsDistinct nat_eq (ids x)

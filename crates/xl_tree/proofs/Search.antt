@@ -10,7 +10,7 @@ use Rattle.spec_forest.specs.Forest.{find, children_of, stack_at}
 use Rattle.spec_forest.specs.Holes.{Hole, here, under_leaf, under_group, in_group, plug, depth}
 use Rattle.spec_forest.proofs.Holes.{depth_below_levels, passed_within}
 use Rattle.spec_forest.proofs.Standing.{Fresh, Standing, nowhere, at_leaf, at_group, standing, find-at_leaf, find-at_group}
-use Rattle.xl_tree.specs.declared.entries.Entry.{Entry}
+use Rattle.xl_tree.specs.declared.entries.NodeEntry.{NodeEntry}
 use Rattle.xl_tree.specs.Flat.{flat, below, forest_of, from_id}
 use Rattle.xl_tree.specs.Kept.{AreSiblings}
 use Rattle.xl_tree.specs.Reads.{IsFound}
@@ -19,37 +19,37 @@ use Rattle.xl_tree.proofs.FlatHoles.{entry_of, front, back, flat-plug}
 use Rattle.xl_tree.proofs.Taken.{siblings}
 
 module _ {N : Type 0} where
-  below_not_here : (low : ℕ) (e : Entry N) (es : List (Entry N)) → e.level ≤ low → below low (e ∷ es) ≡ 0
+  below_not_here : (low : ℕ) (e : NodeEntry N) (es : List (NodeEntry N)) → e.level ≤ low → below low (e ∷ es) ≡ 0
   below_not_here low e es h =
       let not_lower : nat_lt low e.level ≡ false = grind (arith, nat_tests) in
       ap (λ b. cond b (1 + below low es) 0) not_lower
 
-  below_seam_at : (low : ℕ) (e : Entry N) (xs ys : List (Entry N)) (b : Bool) → nat_lt low e.level ≡ b
+  below_seam_at : (low : ℕ) (e : NodeEntry N) (xs ys : List (NodeEntry N)) (b : Bool) → nat_lt low e.level ≡ b
       → cond (nat_lt low e.level) (1 + below low xs) 0 ≡ 0 → cond (nat_lt low e.level) (1 + below low (xs ++ ys)) 0 ≡ 0
   below_seam_at low e xs ys true t h =
       let k : 1 + below low xs ≡ 0 = sym (ap (λ b. cond b (1 + below low xs) 0) t) ∙ h in absurd (omega (arith, k))
   below_seam_at low e xs ys false t h = ap (λ b. cond b (1 + below low (xs ++ ys)) 0) t
 
-  skip : (id : ℕ) (e : Entry N) (es : List (Entry N)) → eqb id e.id ≡ false → from_id id (e ∷ es) ≡ from_id id es
+  skip : (id : ℕ) (e : NodeEntry N) (es : List (NodeEntry N)) → eqb id e.id ≡ false → from_id id (e ∷ es) ≡ from_id id es
   skip id e es n = ap (λ b. cond b (e ∷ es) (from_id id es)) n
 
-  stop : (id : ℕ) (e : Entry N) (es : List (Entry N)) → eqb id e.id ≡ true → from_id id (e ∷ es) ≡ e ∷ es
+  stop : (id : ℕ) (e : NodeEntry N) (es : List (NodeEntry N)) → eqb id e.id ≡ true → from_id id (e ∷ es) ≡ e ∷ es
   stop id e es y = ap (λ b. cond b (e ∷ es) (from_id id es)) y
 
   -- the search goes on, and ends
-  pub from_id_more : (id : ℕ) (es : List (Entry N)) (i : ℕ) (e : Entry N) → i < length es → e ≡ get_or es i e → (id ≡ e.id → ⊥)
+  pub from_id_more : (id : ℕ) (es : List (NodeEntry N)) (i : ℕ) (e : NodeEntry N) → i < length es → e ≡ get_or es i e → (id ≡ e.id → ⊥)
       → from_id id (drop i es) ≡ from_id id (drop (i + 1) es)
   from_id_more id es i e h at ne =
       ap (from_id id) (drop_more es i e h ∙ ap (λ x. x ∷ drop (i + 1) es) (sym at))
       ∙ skip id e (drop (i + 1) es) (ne_eqb id e.id ne)
 
-  pub from_id_stop : (id : ℕ) (es : List (Entry N)) (i : ℕ) (e : Entry N) → i < length es → e ≡ get_or es i e → id ≡ e.id
+  pub from_id_stop : (id : ℕ) (es : List (NodeEntry N)) (i : ℕ) (e : NodeEntry N) → i < length es → e ≡ get_or es i e → id ≡ e.id
       → from_id id (drop i es) ≡ drop i es
   from_id_stop id es i e h at same =
       let here_is : drop i es ≡ e ∷ drop (i + 1) es = drop_more es i e h ∙ ap (λ x. x ∷ drop (i + 1) es) (sym at) in
       ap (from_id id) here_is ∙ (stop id e (drop (i + 1) es) (eq-eqb id e.id same) ∙ sym here_is)
 
-  pub from_id_end : (id : ℕ) (es : List (Entry N)) (i : ℕ) → length es ≤ i → from_id id (drop i es) ≡ []
+  pub from_id_end : (id : ℕ) (es : List (NodeEntry N)) (i : ℕ) → length es ≤ i → from_id id (drop i es) ≡ []
   from_id_end id es i h = ap (from_id id) (drop_all i es h)
 
   -- entries without the id are passed
@@ -65,7 +65,7 @@ module _ {N : Type 0} where
   lacks_group id i w c u (a_leaf v) y false n = cc
   lacks_group id i w c u (a_group v d) y false n = cc
 
-  pub from_id-lacking : (id level : ℕ) (f : Forest N N) (rest : List (Entry N)) → find id f ≡ nothing
+  pub from_id-lacking : (id level : ℕ) (f : Forest N N) (rest : List (NodeEntry N)) → find id f ≡ nothing
       → from_id id (flat level f ++ rest) ≡ from_id id rest
   from_id-lacking id level none rest n = refl
   from_id-lacking id level (leaf i w u) rest n =
@@ -77,7 +77,7 @@ module _ {N : Type 0} where
       ∙ (ap (from_id id) (append_assoc (flat (suc level) c) (flat level u) rest)
       ∙ (from_id-lacking id (suc level) c (flat level u ++ rest) l.1 ∙ from_id-lacking id level u rest l.2))
 
-  pub from_id-front : (id level : ℕ) (h : Hole N N) (rest : List (Entry N)) → Fresh id h
+  pub from_id-front : (id level : ℕ) (h : Hole N N) (rest : List (NodeEntry N)) → Fresh id h
       → from_id id (front level h ++ rest) ≡ from_id id rest
   from_id-front id level here rest fresh = refl
   from_id-front id level (under_leaf i w h) rest fresh =
@@ -90,7 +90,7 @@ module _ {N : Type 0} where
       skip id (entry_of level i true w) (front (suc level) h ++ rest) fresh.0 ∙ from_id-front id (suc level) h rest fresh.1
 
   -- the entries from a node on that stands in a hole
-  pub from_id-plug : (id level : ℕ) (h : Hole N N) (f : Forest N N) (e : Entry N) (es : List (Entry N)) → Fresh id h
+  pub from_id-plug : (id level : ℕ) (h : Hole N N) (f : Forest N N) (e : NodeEntry N) (es : List (NodeEntry N)) → Fresh id h
       → flat (level + depth h) f ++ back level h ≡ e ∷ es → eqb id e.id ≡ true → from_id id (flat level (plug h f)) ≡ e ∷ es
   from_id-plug id level h f e es fresh is same =
       ap (from_id id) (flat-plug level h f)
@@ -103,7 +103,7 @@ module _ {N : Type 0} where
   below-low low level (leaf i w u) h = below_not_here low (entry_of level i false w) (flat level u) h
   below-low low level (group i w c u) h = below_not_here low (entry_of level i true w) (flat (suc level) c ++ flat level u) h
 
-  below-seam : (low : ℕ) (xs ys : List (Entry N)) → below low xs ≡ 0 → below low ys ≡ 0 → below low (xs ++ ys) ≡ 0
+  below-seam : (low : ℕ) (xs ys : List (NodeEntry N)) → below low xs ≡ 0 → below low ys ≡ 0 → below low (xs ++ ys) ≡ 0
   below-seam low [] ys h k = k
   below-seam low (e ∷ xs) ys h k = below_seam_at low e xs ys (nat_lt low e.level) refl h
 
@@ -118,11 +118,11 @@ module _ {N : Type 0} where
       (below-low (level + suc (depth h)) level u (omega arith))
 
   -- the entries of a group's children, among those that follow it
-  inside_is : (level : ℕ) (c u : Forest N N) (rest : List (Entry N)) → below level rest ≡ 0
+  inside_is : (level : ℕ) (c u : Forest N N) (rest : List (NodeEntry N)) → below level rest ≡ 0
       → take (below level ((flat (suc level) c ++ flat level u) ++ rest)) ((flat (suc level) c ++ flat level u) ++ rest)
       ≡ flat (suc level) c
   inside_is level c u rest h =
-      let es : List (Entry N) = (flat (suc level) c ++ flat level u) ++ rest in
+      let es : List (NodeEntry N) = (flat (suc level) c ++ flat level u) ++ rest in
       let split : es ≡ flat (suc level) c ++ (flat level u ++ rest) = append_assoc (flat (suc level) c) (flat level u) rest in
       let deeper : level < suc level = omega arith in
       let k : below level es ≡ length (flat (suc level) c) =
@@ -157,7 +157,7 @@ module _ {N : Type 0} where
       ∙ from_id-plug id 0 h (group id w c u) (entry_of (depth h) id true w) _ fresh first (eq-eqb id id refl)
 
   -- nothing is found
-  pub found_none : (id : ℕ) (es : List (Entry N)) (f : Forest N N) → es ≡ flat 0 f → from_id id es ≡ [] → find id f ≡ nothing
+  pub found_none : (id : ℕ) (es : List (NodeEntry N)) (f : Forest N N) → es ≡ flat 0 f → from_id id es ≡ [] → find id f ≡ nothing
   found_none id es f flat_is none_is = none_from (standing id f) where
     all : from_id id (flat 0 f) ≡ []
     all = ap (from_id id) (sym flat_is) ∙ none_is
@@ -168,7 +168,7 @@ module _ {N : Type 0} where
     none_from (at_group h w c u is fresh) = let k = sym (from_id-group id f h w c u is fresh) ∙ all in cc
 
   -- a leaf is found
-  pub found_leaf : (id : ℕ) (es : List (Entry N)) (f : Forest N N) (e : Entry N) (rest : List (Entry N)) → es ≡ flat 0 f
+  pub found_leaf : (id : ℕ) (es : List (NodeEntry N)) (f : Forest N N) (e : NodeEntry N) (rest : List (NodeEntry N)) → es ≡ flat 0 f
       → from_id id es ≡ e ∷ rest → e.group ≡ false → find id f ≡ a_leaf e.node
   found_leaf id es f e rest flat_is some_is mark = leaf_from (standing id f) where
     all : from_id id (flat 0 f) ≡ e ∷ rest
@@ -187,12 +187,12 @@ module _ {N : Type 0} where
         cc
 
   -- a group is found, and its children
-  pub record FoundGroup (id : ℕ) (f : Forest N N) (e : Entry N) (inside : List (Entry N)) : Type 0 where
+  pub record FoundGroup (id : ℕ) (f : Forest N N) (e : NodeEntry N) (inside : List (NodeEntry N)) : Type 0 where
     pub found : find id f ≡ a_group e.node (forest_of inside)
     pub deep : e.level + 1 ≤ 8
     pub children : AreSiblings (e.level + 1) inside
 
-  pub found_group : (id : ℕ) (es : List (Entry N)) (f : Forest N N) (e : Entry N) (rest inside : List (Entry N)) → AreSiblings 0 es
+  pub found_group : (id : ℕ) (es : List (NodeEntry N)) (f : Forest N N) (e : NodeEntry N) (rest inside : List (NodeEntry N)) → AreSiblings 0 es
       → forest_of es ≡ f → from_id id es ≡ e ∷ rest → e.group ≡ true → inside ≡ take (below e.level rest) rest
       → FoundGroup id f e inside
   found_group id es f e rest inside s view_is some_is mark inside_at = group_from (standing id f) where
@@ -236,14 +236,14 @@ module _ {N : Type 0} where
       → stack_at id f ≡ children_of found
   stack_below id f found ne is = ap (λ b. cond b (Some f) (children_of (find id f))) (ne_eqb id 0 ne) ∙ ap children_of is
 
-  pub is_found_leaf : (found : Found N N) (e : Entry N) (children : Forest N N) → found ≡ a_leaf e.node → e.group ≡ false
+  pub is_found_leaf : (found : Found N N) (e : NodeEntry N) (children : Forest N N) → found ≡ a_leaf e.node → e.group ≡ false
       → children ≡ none → IsFound found e children
   is_found_leaf found e children is mark empty = record {
     found_is = is ∙ sym (ap (λ b. cond b (a_group e.node children) (a_leaf e.node)) mark);
     leaf_is = λ _. empty;
   }
 
-  pub is_found_group : (found : Found N N) (e : Entry N) (children : Forest N N) → found ≡ a_group e.node children → e.group ≡ true
+  pub is_found_group : (found : Found N N) (e : NodeEntry N) (children : Forest N N) → found ≡ a_group e.node children → e.group ≡ true
       → IsFound found e children
   is_found_group found e children is mark = record {
     found_is = is ∙ sym (ap (λ b. cond b (a_group e.node children) (a_leaf e.node)) mark);

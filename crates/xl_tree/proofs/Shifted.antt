@@ -4,21 +4,21 @@ use Rattle.std.proofs.Common.{get_or, set, map, take, drop, refl, sym, ◌∙◌
 use Rattle.std.proofs.lemmas.List.{map-append, get_or_at, set_at, drop_more, map_more, length-map, length-take-le}
 use Rattle.std.proofs.lemmas.List.{append_assoc, get_or-take}
 use Rattle.spec_forest.specs.Forest.{Forest, none, leaf, group, levels}
-use Rattle.xl_tree.specs.declared.entries.Entry.{Entry}
+use Rattle.xl_tree.specs.declared.entries.NodeEntry.{NodeEntry}
 use Rattle.xl_tree.specs.Flat.{flat}
 use Rattle.xl_tree.specs.Moves.{shifted, AreShallow}
 use Rattle.xl_tree.proofs.FlatHoles.{entry_of}
 
 module _ {N : Type 0} where
   -- one entry more is moved
-  pub shift_more : (from to i : ℕ) (old xs : List (Entry N)) (e new : Entry N) → i < length old
+  pub shift_more : (from to i : ℕ) (old xs : List (NodeEntry N)) (e new : NodeEntry N) → i < length old
       → xs ≡ map (shifted from to) (take i old) ++ drop i old → e ≡ get_or xs i e → new ≡ shifted from to e
       → set xs i new ≡ map (shifted from to) (take (i + 1) old) ++ drop (i + 1) old
   shift_more from to i old xs e new h so_far e_is new_is =
-      let f : Entry N → Entry N = shifted from to in
-      let p : List (Entry N) = map f (take i old) in
+      let f : NodeEntry N → NodeEntry N = shifted from to in
+      let p : List (NodeEntry N) = map f (take i old) in
       let n : length p ≡ i = length-map (take i old) f ∙ length-take-le i old (omega (arith, h)) in
-      let y : Entry N = get_or old i e in
+      let y : NodeEntry N = get_or old i e in
       let split : xs ≡ p ++ y ∷ drop (i + 1) old = so_far ∙ ap (λ x. p ++ x) (drop_more old i e h) in
       let y_is : e ≡ y = e_is ∙ (ap (λ x. get_or x i e) split ∙ get_or_at p y (drop (i + 1) old) e i n) in
       (λ j. set (split j) i (new_is j))
@@ -27,12 +27,12 @@ module _ {N : Type 0} where
       ∙ (sym (append_assoc p (f y ∷ []) (drop (i + 1) old))
       ∙ ap (λ x. x ++ drop (i + 1) old) (sym (map_more f old i e h)))))
 
-  pub shallow_at : (es : List (Entry N)) (i : ℕ) (d : Entry N) → AreShallow es → i < length es → (get_or es i d).level ≤ 8
+  pub shallow_at : (es : List (NodeEntry N)) (i : ℕ) (d : NodeEntry N) → AreShallow es → i < length es → (get_or es i d).level ≤ 8
   shallow_at [] i d s h = absurd (omega (arith, h))
   shallow_at (e ∷ es) zero d s h = s.0
   shallow_at (e ∷ es) (suc i) d s h = shallow_at es i d s.1 (omega (arith, h))
 
-  pub shallow-append : (xs ys : List (Entry N)) → AreShallow xs → AreShallow ys → AreShallow (xs ++ ys)
+  pub shallow-append : (xs ys : List (NodeEntry N)) → AreShallow xs → AreShallow ys → AreShallow (xs ++ ys)
   shallow-append [] ys a b = b
   shallow-append (x ∷ xs) ys a b = (a.0, shallow-append xs ys a.1 b)
 
@@ -74,10 +74,10 @@ module _ {N : Type 0} where
       map-shifted_flat 0 level 0 f ∙ ap (λ l. flat l f) z
 
   -- the entry that is next is not deep
-  pub shift_fits : (from to i count : ℕ) (old xs : List (Entry N)) (e : Entry N) → i < count → count ≤ length old
+  pub shift_fits : (from to i count : ℕ) (old xs : List (NodeEntry N)) (e : NodeEntry N) → i < count → count ≤ length old
       → AreShallow (take count old) → xs ≡ map (shifted from to) (take i old) ++ drop i old → e ≡ get_or xs i e → e.level ≤ 8
   shift_fits from to i count old xs e h within shallow so_far e_is =
-      let p : List (Entry N) = map (shifted from to) (take i old) in
+      let p : List (NodeEntry N) = map (shifted from to) (take i old) in
       let n : length p ≡ i = length-map (take i old) (shifted from to) ∙ length-take-le i old (omega (arith, h, within)) in
       let split : xs ≡ p ++ get_or old i e ∷ drop (i + 1) old = so_far
       ∙ ap (λ x. p ++ x) (drop_more old i e (omega (arith, h, within))) in

@@ -12,7 +12,7 @@ use Rattle.spec_forest.proofs.Holes.{into, plug-into, depth-into, passed-into, h
 use Rattle.spec_forest.proofs.Holes.{passed-hole_at, put_at-hole}
 use Rattle.spec_forest.proofs.Standing.{Standing, nowhere, at_leaf, at_group, standing, find-at_group}
 use Rattle.spec_forest.proofs.Distinct.{lone_group, with_children-at_group}
-use Rattle.xl_tree.specs.declared.entries.Entry.{Entry}
+use Rattle.xl_tree.specs.declared.entries.NodeEntry.{NodeEntry}
 use Rattle.xl_tree.specs.Flat.{flat, below, forest_of, from_id}
 use Rattle.xl_tree.specs.Kept.{AreSiblings}
 use Rattle.xl_tree.specs.Refusals.{no_stack, no_group, past, put_refusal, bad_place}
@@ -33,7 +33,7 @@ module _ {N : Type 0} where
   }
 
   -- the children of a group
-  pub group_stands : (id : ℕ) (es : List (Entry N)) (f nodes : Forest N N) (e : Entry N) (rest inside : List (Entry N))
+  pub group_stands : (id : ℕ) (es : List (NodeEntry N)) (f nodes : Forest N N) (e : NodeEntry N) (rest inside : List (NodeEntry N))
       → (id ≡ 0 → ⊥) → AreSiblings 0 es → forest_of es ≡ f → IsDistinct nat_eq (ids f) → from_id id es ≡ e ∷ rest → e.group ≡ true
       → inside ≡ take (below e.level rest) rest → nodes ≡ forest_of inside
       → IsStackAt id f nodes (length es - length rest) (e.level + 1)

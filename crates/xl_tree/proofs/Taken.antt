@@ -1,7 +1,7 @@
 -- A stack taken apart at its first entry.
 use Rattle.std.proofs.Common.{◌≡◌, ℕ, suc, ◌+◌, ◌≤◌, true, false, List, ◌∷◌, ◌++◌, length, take, drop, sym, subst, ◌∙◌, ap, arith}
 use Rattle.spec_forest.specs.Forest.{Forest, none, leaf, group, size, levels}
-use Rattle.xl_tree.specs.declared.entries.Entry.{Entry}
+use Rattle.xl_tree.specs.declared.entries.NodeEntry.{NodeEntry}
 use Rattle.xl_tree.specs.Flat.{flat, below, forest_of}
 use Rattle.xl_tree.specs.Kept.{AreSiblings}
 use Rattle.xl_tree.proofs.Flat.{length-flat, take-flat_group, drop-flat_group, forest_of_is, flat_is, size-forest_of}
@@ -9,7 +9,7 @@ use Rattle.spec_forest.specs.declared.TheConstants.{MAX_NODES}
 
 module _ {N : Type 0} where
   -- siblings, by their forest
-  pub siblings : (level : ℕ) (es : List (Entry N)) (f : Forest N N) → es ≡ flat level f → size f ≤ MAX_NODES → level + levels f ≤ 8
+  pub siblings : (level : ℕ) (es : List (NodeEntry N)) (f : Forest N N) → es ≡ flat level f → size f ≤ MAX_NODES → level + levels f ≤ 8
       → AreSiblings level es
   siblings level es f e few low = record {
     flat_is = flat_is level es f e;
@@ -19,19 +19,19 @@ module _ {N : Type 0} where
   }
 
   -- what follows a leaf
-  pub record AfterLeaf (level : ℕ) (f : Forest N N) (e : Entry N) (rest : List (Entry N)) : Type 0 where
+  pub record AfterLeaf (level : ℕ) (f : Forest N N) (e : NodeEntry N) (rest : List (NodeEntry N)) : Type 0 where
     pub forest : f ≡ leaf e.id e.node (forest_of rest)
     pub under : AreSiblings level rest
 
   -- what follows a group
-  pub record AfterGroup (level : ℕ) (f : Forest N N) (e : Entry N) (rest : List (Entry N)) : Type 0 where
+  pub record AfterGroup (level : ℕ) (f : Forest N N) (e : NodeEntry N) (rest : List (NodeEntry N)) : Type 0 where
     pub forest : f ≡ group e.id e.node (forest_of (take (below e.level rest) rest)) (forest_of (drop (below e.level rest) rest))
     pub level_is : e.level ≡ level
     pub deep : level + 1 ≤ 8
     pub children : AreSiblings (level + 1) (take (below e.level rest) rest)
     pub under : AreSiblings level (drop (below e.level rest) rest)
 
-  pub after_leaf : (level : ℕ) (f : Forest N N) (e : Entry N) (rest : List (Entry N)) → e ∷ rest ≡ flat level f → size f ≤ MAX_NODES
+  pub after_leaf : (level : ℕ) (f : Forest N N) (e : NodeEntry N) (rest : List (NodeEntry N)) → e ∷ rest ≡ flat level f → size f ≤ MAX_NODES
       → level + levels f ≤ 8 → e.group ≡ false → AfterLeaf level f e rest
   after_leaf level none e rest is few low g = cc
   after_leaf level (leaf id w u) e rest is few low g =
@@ -47,7 +47,7 @@ module _ {N : Type 0} where
       let yes : true ≡ false = sym (ap (λ x. x.group) first) ∙ g in
       cc
 
-  pub after_group : (level : ℕ) (f : Forest N N) (e : Entry N) (rest : List (Entry N)) → e ∷ rest ≡ flat level f
+  pub after_group : (level : ℕ) (f : Forest N N) (e : NodeEntry N) (rest : List (NodeEntry N)) → e ∷ rest ≡ flat level f
       → size f ≤ MAX_NODES → level + levels f ≤ 8 → e.group ≡ true → AfterGroup level f e rest
   after_group level none e rest is few low g = cc
   after_group level (leaf id w u) e rest is few low g =
@@ -75,13 +75,13 @@ module _ {N : Type 0} where
       }
 
   -- the parts of a stack whose first entry is a group
-  pub record Parted (level : ℕ) (f : Forest N N) (e : Entry N) (inside after : List (Entry N)) : Type 0 where
+  pub record Parted (level : ℕ) (f : Forest N N) (e : NodeEntry N) (inside after : List (NodeEntry N)) : Type 0 where
     pub forest : group e.id e.node (forest_of inside) (forest_of after) ≡ f
     pub children : AreSiblings (e.level + 1) inside
     pub under : AreSiblings level after
 
-  pub parted : (level : ℕ) (es : List (Entry N)) (f : Forest N N) (e : Entry N) (rest : List (Entry N)) (k : ℕ)
-      (inside after : List (Entry N)) → AreSiblings level es → forest_of es ≡ f → es ≡ e ∷ rest → e.group ≡ true
+  pub parted : (level : ℕ) (es : List (NodeEntry N)) (f : Forest N N) (e : NodeEntry N) (rest : List (NodeEntry N)) (k : ℕ)
+      (inside after : List (NodeEntry N)) → AreSiblings level es → forest_of es ≡ f → es ≡ e ∷ rest → e.group ≡ true
       → k ≡ below e.level rest → inside ≡ take k rest → after ≡ drop k rest → Parted level f e inside after
   parted level es f e rest k inside after s is split g k_is inside_is after_is =
       let a = after_group level (forest_of es) e rest (sym split
@@ -90,8 +90,8 @@ module _ {N : Type 0} where
       let second : after ≡ drop (below e.level rest) rest = after_is ∙ ap (λ n. drop n rest) k_is in
       let children_at : AreSiblings (e.level + 1) (take (below e.level rest) rest) = let P : ℕ
       → Type 0 = λ l. AreSiblings (l + 1) (take (below e.level rest) rest) in subst P (sym a.level_is) a.children in
-      let P : List (Entry N) → Type 0 = λ x. AreSiblings (e.level + 1) x in
-      let Q : List (Entry N) → Type 0 = λ x. AreSiblings level x in
+      let P : List (NodeEntry N) → Type 0 = λ x. AreSiblings (e.level + 1) x in
+      let Q : List (NodeEntry N) → Type 0 = λ x. AreSiblings level x in
       record {
         forest = (λ i. group e.id e.node (forest_of (first i)) (forest_of (second i))) ∙ (sym a.forest ∙ is);
         children = subst P (sym first) children_at;

@@ -2,10 +2,10 @@
 use Rattle.std.specs.Prelude.{◌≡◌, ℕ, ◌≤◌, nat_eq, List, map}
 use Rattle.std.specs.List.{AllByRecursion, IsDistinct}
 use Rattle.spec_forest.specs.Forest.{Forest, find, nothing}
-use Rattle.xl_tree.specs.declared.entries.Entry.{Entry}
+use Rattle.xl_tree.specs.declared.entries.NodeEntry.{NodeEntry}
 
 -- in their order
-abbrev pub ids_of : {N : Type 0} → List (Entry N) → List ℕ
+abbrev pub ids_of : {N : Type 0} → List (NodeEntry N) → List ℕ
 ids_of es = map (λ e. e.id) es
 
 -- each node has an id of its own, from 1 on

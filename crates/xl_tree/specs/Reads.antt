@@ -1,16 +1,16 @@
 -- What a tree tells of one node or one stack.
 use Rattle.std.specs.Prelude.{◌≡◌, ℕ, ◌+◌, Bool, false, if◌then◌else◌, Option, Some, None}
 use Rattle.spec_forest.specs.Forest.{Forest, none, leaf, group, size, levels, Found, nothing, a_leaf, a_group}
-use Rattle.xl_tree.specs.declared.entries.Entry.{Entry}
+use Rattle.xl_tree.specs.declared.entries.NodeEntry.{NodeEntry}
 use Rattle.spec_forest.specs.Holes.{from_place}
 use Rattle.xl_tree.specs.Places.{first_some}
 
 -- a node with this entry and these children was found
-abbrev pub found_as : {N : Type 0} → Entry N → (children : Forest N N) → Found N N
+abbrev pub found_as : {N : Type 0} → NodeEntry N → (children : Forest N N) → Found N N
 found_as entry children = if entry.group then a_group entry.node children else a_leaf entry.node
 
 -- the entry and the children of what was found; a leaf has none
-pub record IsFound {N : Type 0} (found : Found N N) (entry : Entry N) (children : Forest N N) : Type 0 where
+pub record IsFound {N : Type 0} (found : Found N N) (entry : NodeEntry N) (children : Forest N N) : Type 0 where
   pub found_is : found ≡ found_as entry children
   pub leaf_is : entry.group ≡ false → children ≡ none
 

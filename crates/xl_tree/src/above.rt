@@ -2,7 +2,7 @@ ghost use Rattle.std.specs.Prelude.{◌≡◌, ◌≤◌, ◌<◌, [], ◌∷◌
 ghost use Rattle.spec_forest.specs.Forest.{ancestors};
 ghost use Rattle.xl_tree.specs.Above.{groups_before};
 
-use crate::entries::Entry;
+use crate::entries::NodeEntry;
 use crate::forest::Tree;
 use crate::naming::NodeId;
 use std::marker::Model;
@@ -70,7 +70,7 @@ impl<N: Drop> Tree<N> {
 }
 
 /// The groups among these entries that are above what follows them at a level.
-fn groups_before<N>(before: &[Entry<N>], level: u32) -> Ancestors
+fn groups_before<N>(before: &[NodeEntry<N>], level: u32) -> Ancestors
     requires { level ≤ 8 }
     ensures { map (λ i. i.0) result ≡ groups_before before.now level }
 {

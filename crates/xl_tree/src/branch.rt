@@ -1,14 +1,14 @@
 ghost use Rattle.std.specs.Prelude.{◌≡◌, IfOk};
 ghost use Rattle.spec_forest.specs.Forest.{none};
 
-use crate::entries::Entry;
+use crate::entries::NodeEntry;
 use std::alloc::{AllocError, Global};
 use std::marker::Model;
 
 /// A node with all below it that was taken out of a tree, or nothing.
 #[derive(Drop)]
 pub struct Branch<N> {
-    pub(crate) entries: Vec<Entry<N>>,
+    pub(crate) entries: Vec<NodeEntry<N>>,
     pub(crate) room: u32,
 }
 

@@ -1,7 +1,7 @@
 ghost use Rattle.std.specs.Prelude.{◌≡◌, ◌≤◌, IfOk};
 ghost use Rattle.std.specs.Vec.{vec_capacity};
 
-use crate::entries::Entry;
+use crate::entries::NodeEntry;
 use crate::forest::Tree;
 use crate::index::Index;
 use crate::naming::Share;
@@ -21,11 +21,11 @@ impl<N: Share + Drop> Tree<N> {
 }
 
 /// The same entry again.
-fn shared_entry<N: Share>(alloc: Global, entry: &Entry<N>) -> Result<Entry<N>, AllocError>
+fn shared_entry<N: Share>(alloc: Global, entry: &NodeEntry<N>) -> Result<NodeEntry<N>, AllocError>
     ensures { IfOk result (λ other. other ≡ entry.now) }
 {
     let node = entry.node.share(alloc)?;
-    Ok(Entry {
+    Ok(NodeEntry {
         id: entry.id,
         level: entry.level,
         group: entry.group,
@@ -36,8 +36,8 @@ fn shared_entry<N: Share>(alloc: Global, entry: &Entry<N>) -> Result<Entry<N>, A
 /// The same entries again, with the room of a tree.
 fn share_entries<N: Share + Drop>(
     alloc: Global,
-    entries: &[Entry<N>],
-) -> Result<Vec<Entry<N>>, AllocError>
+    entries: &[NodeEntry<N>],
+) -> Result<Vec<NodeEntry<N>>, AllocError>
     ensures items { IfOk result (λ other. other.items ≡ entries.now) }
     ensures room { IfOk result (λ other. MAX_NODES ≤ vec_capacity other) }
 {

@@ -9,7 +9,7 @@ ghost use Rattle.xl_tree.specs.Refusals.{answer_of, answer_with, no_node, no_sta
 ghost use Rattle.spec_forest.specs.declared.TheConstants.{MAX_NODES};
 
 use crate::branch::Branch;
-use crate::entries::Entry;
+use crate::entries::NodeEntry;
 use crate::forest::Tree;
 use crate::moves::{move_tail, put_back, take_out};
 use crate::naming::{NodeId, Shown};
@@ -39,7 +39,7 @@ impl<N: Shown + Drop> Tree<N> {
             Ok(slot) => slot,
             Err(refused) => return Err((refused, node)),
         };
-        let entry = Entry {
+        let entry = NodeEntry {
             id: id.0,
             level: slot.level,
             group: node.is_group(),

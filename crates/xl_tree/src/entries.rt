@@ -4,7 +4,7 @@ ghost use Rattle.xl_tree.specs.Ids.{ids_of};
 
 /// A node at its level. The entries that follow at a deeper level are those below it.
 #[derive(Drop)]
-pub struct Entry<N> {
+pub struct NodeEntry<N> {
     pub id: u32,
     pub level: u32,
     pub group: bool,
@@ -12,7 +12,7 @@ pub struct Entry<N> {
 }
 
 /// How many entries at the front are deeper than a level.
-pub fn deeper<N>(entries: &[Entry<N>], level: u32) -> usize
+pub fn deeper<N>(entries: &[NodeEntry<N>], level: u32) -> usize
     ensures { result ≡ below level entries.now }
 {
     for (at, entry) in entries.iter().enumerate() {
@@ -24,7 +24,7 @@ pub fn deeper<N>(entries: &[Entry<N>], level: u32) -> usize
 }
 
 /// The entries from the first with an id on, none where there is no such.
-pub fn from_id<N>(entries: &[Entry<N>], id: u32) -> &[Entry<N>]
+pub fn from_id<N>(entries: &[NodeEntry<N>], id: u32) -> &[NodeEntry<N>]
     ensures { result.now ≡ from_id id entries.now }
 {
     for (at, entry) in entries.iter().enumerate() {
@@ -36,7 +36,7 @@ pub fn from_id<N>(entries: &[Entry<N>], id: u32) -> &[Entry<N>]
 }
 
 /// The deepest level of these entries, and 0 where there is none.
-pub fn deepest<N>(entries: &[Entry<N>]) -> u32
+pub fn deepest<N>(entries: &[NodeEntry<N>]) -> u32
     ensures { result ≡ deepest entries.now }
 {
     let mut level = 0u32;
@@ -47,7 +47,7 @@ pub fn deepest<N>(entries: &[Entry<N>]) -> u32
 }
 
 /// The greatest id of these entries, and 0 where there is none.
-pub fn greatest<N>(entries: &[Entry<N>]) -> u32
+pub fn greatest<N>(entries: &[NodeEntry<N>]) -> u32
     ensures { result ≡ fold max 0 (ids_of entries.now) }
 {
     let mut greatest = 0u32;

@@ -7,7 +7,7 @@ ghost use Rattle.xl_tree.specs.Kept.{AreSiblings};
 ghost use Rattle.xl_tree.specs.Places.{alone};
 ghost use Rattle.xl_tree.specs.Reads.{IsFound};
 
-use crate::entries::{Entry, deeper};
+use crate::entries::{NodeEntry, deeper};
 use crate::index::Index;
 use crate::naming::{NodeId, Shown};
 use crate::places::end_at;
@@ -20,7 +20,7 @@ use std::marker::Model;
 /// 0. Its room is taken when it is made.
 #[derive(Drop)]
 pub struct Tree<N> {
-    pub(crate) entries: Vec<Entry<N>>,
+    pub(crate) entries: Vec<NodeEntry<N>>,
     pub(crate) index: Index,
 }
 
@@ -83,7 +83,7 @@ impl<N: Drop> Tree<N> {
     }
 
     /// The entry of a node, and its children.
-    pub(crate) fn find_entry(&self, id: NodeId) -> Option<(&Entry<N>, Stack<'_, N>)>
+    pub(crate) fn find_entry(&self, id: NodeId) -> Option<(&NodeEntry<N>, Stack<'_, N>)>
         ensures none { IfNone result (find id.0 self.now ≡ nothing) }
         ensures some { IfSome result (λ p. IsFound (find id.0 self.now) p.0.now p.1) }
         ensures few { IfSome result (λ p. size p.1 ≤ MAX_NODES) }
@@ -99,7 +99,7 @@ impl<N: Drop> Tree<N> {
     }
 
     /// The entries from a node on, none where there is no such node.
-    pub(crate) fn from_node(&self, id: NodeId) -> &[Entry<N>]
+    pub(crate) fn from_node(&self, id: NodeId) -> &[NodeEntry<N>]
         ensures from { result.now ≡ from_id id.0 (flat 0 self.now) }
         ensures siblings { AreSiblings 0 (flat 0 self.now) }
     {
@@ -128,7 +128,7 @@ impl<N: Shown + Drop> Tree<N> {
         ensures { put_last path.now (alone (N.is_group node) id.0 node) self.old ≡ Some self.new }
     {
         let at = end_at(self.top(), path).unwrap();
-        let entry = Entry {
+        let entry = NodeEntry {
             id: id.0,
             level: path.len() as u32,
             group: node.is_group(),

@@ -1,7 +1,7 @@
 ghost use Rattle.std.specs.Prelude.{◌≡◌, ◌≤◌, ℕ, None, length, IfOk};
 ghost use Rattle.xl_tree.specs.Index.{HasRoom, IsIndex, place_at};
 
-use crate::entries::Entry;
+use crate::entries::NodeEntry;
 use spec_forest::MAX_NODES;
 use std::alloc::{AllocError, Global};
 use std::collections::HashMap;
@@ -30,7 +30,7 @@ impl Index {
     }
 
     /// Tells of these entries from now on.
-    pub fn renew<N>(&mut self, entries: &[Entry<N>])
+    pub fn renew<N>(&mut self, entries: &[NodeEntry<N>])
         requires room { HasRoom self.old }
         requires few { length entries.now ≤ MAX_NODES }
         ensures room { HasRoom self.new }

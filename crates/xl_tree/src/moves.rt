@@ -2,10 +2,10 @@ ghost use Rattle.std.specs.Prelude.{◌≡◌, ◌+◌, ◌-◌, ◌<◌, ◌≤
 ghost use Rattle.std.specs.Vec.{vec_capacity};
 ghost use Rattle.xl_tree.specs.Moves.{AreShallow, shifted};
 
-use crate::entries::Entry;
+use crate::entries::NodeEntry;
 
 /// Moves the first entries from one level to another.
-fn shift_front<N>(run: &mut [Entry<N>], count: usize, from: u32, to: u32)
+fn shift_front<N>(run: &mut [NodeEntry<N>], count: usize, from: u32, to: u32)
     requires within { count ≤ length run.old }
     requires shallow { AreShallow (take count run.old) }
     requires low { to ≤ 8 }
@@ -18,7 +18,7 @@ fn shift_front<N>(run: &mut [Entry<N>], count: usize, from: u32, to: u32)
 }
 
 /// Moves so many entries from a place on to the end, from their level to the top's.
-pub fn take_out<N>(entries: &mut Vec<Entry<N>>, at: usize, count: usize, level: u32)
+pub fn take_out<N>(entries: &mut Vec<NodeEntry<N>>, at: usize, count: usize, level: u32)
     requires within { at + count ≤ vec_len entries.old }
     requires shallow { AreShallow (take count (drop at entries.old.items)) }
     ensures items { entries.new.items ≡ take at entries.old.items
@@ -32,7 +32,7 @@ pub fn take_out<N>(entries: &mut Vec<Entry<N>>, at: usize, count: usize, level: 
 }
 
 /// Moves so many entries from the end to a place, from the top's level to another.
-pub fn put_back<N>(entries: &mut Vec<Entry<N>>, at: usize, count: usize, level: u32)
+pub fn put_back<N>(entries: &mut Vec<NodeEntry<N>>, at: usize, count: usize, level: u32)
     requires within { at + count ≤ vec_len entries.old }
     requires shallow { AreShallow (drop (vec_len entries.old - count) entries.old.items) }
     requires low { level ≤ 8 }
@@ -47,7 +47,7 @@ pub fn put_back<N>(entries: &mut Vec<Entry<N>>, at: usize, count: usize, level: 
 }
 
 /// Moves so many entries from the end of one list into another, which is empty.
-pub fn move_tail<N: Drop>(from: &mut Vec<Entry<N>>, to: &mut Vec<Entry<N>>, count: usize)
+pub fn move_tail<N: Drop>(from: &mut Vec<NodeEntry<N>>, to: &mut Vec<NodeEntry<N>>, count: usize)
     requires within { count ≤ vec_len from.old }
     requires empty { to.old.items ≡ [] }
     requires room { count ≤ vec_capacity to.old }

@@ -8,24 +8,24 @@ ghost use Rattle.xl_tree.specs.Refusals.{no_stack, past, put_refusal, refusal_of
 ghost use Rattle.xl_tree.specs.Slots.{IsSlot, IsStackAt};
 ghost use Rattle.spec_forest.specs.declared.TheConstants.{MAX_NODES};
 
-use crate::entries::{Entry, deeper, from_id};
+use crate::entries::{NodeEntry, deeper, from_id};
 use crate::naming::NodeId;
 use crate::refused::TreeRefused;
 use crate::stacks::{Split, Stack};
 
 /// Where something may be put among the entries of a forest.
 #[derive(Clone, Copy)]
-pub struct Slot {
+pub struct EntrySlot {
     pub at: usize,
     pub level: u32,
 }
 
 /// The slot at a place of a stack.
 pub fn slot_in<N: Drop>(
-    entries: &[Entry<N>],
+    entries: &[NodeEntry<N>],
     stack: NodeId,
     place: u32,
-) -> Result<Slot, TreeRefused>
+) -> Result<EntrySlot, TreeRefused>
     requires siblings { AreSiblings 0 entries.now }
     requires distinct { IsDistinct nat_eq (ids (forest_of entries.now)) }
     ensures refused { refusal_of result ≡ put_refusal stack.0 place (forest_of entries.now) }
@@ -33,7 +33,7 @@ pub fn slot_in<N: Drop>(
 {
     let (first, nodes) = stack_in(entries, stack)?;
     let before = nodes_before(nodes, place)?;
-    Ok(Slot {
+    Ok(EntrySlot {
         at: first.at + before as usize,
         level: first.level,
     })
@@ -41,9 +41,9 @@ pub fn slot_in<N: Drop>(
 
 /// The nodes of a stack, and the slot before the first of them.
 fn stack_in<N: Drop>(
-    entries: &[Entry<N>],
+    entries: &[NodeEntry<N>],
     stack: NodeId,
-) -> Result<(Slot, Stack<'_, N>), TreeRefused>
+) -> Result<(EntrySlot, Stack<'_, N>), TreeRefused>
     requires siblings { AreSiblings 0 entries.now }
     requires distinct { IsDistinct nat_eq (ids (forest_of entries.now)) }
     ensures refused { refusal_of result ≡ no_stack stack.0 (forest_of entries.now) }
@@ -51,7 +51,7 @@ fn stack_in<N: Drop>(
         IsStackAt stack.0 (forest_of entries.now) p.1 p.0.at p.0.level) }
 {
     if stack.0 == 0 {
-        let first = Slot { at: 0, level: 0 };
+        let first = EntrySlot { at: 0, level: 0 };
         return Ok((first, Stack::of(entries, 0)));
     }
     match from_id(entries, stack.0).split_first() {
@@ -63,7 +63,7 @@ fn stack_in<N: Drop>(
             let level = entry.level + 1;
             let inside = deeper(rest, entry.level);
             let at = entries.len() - rest.len();
-            Ok((Slot { at, level }, Stack::of(&rest[..inside], level)))
+            Ok((EntrySlot { at, level }, Stack::of(&rest[..inside], level)))
         }
     }
 }

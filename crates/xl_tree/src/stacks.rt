@@ -5,14 +5,14 @@ ghost use Rattle.xl_tree.specs.Kept.{AreSiblings};
 ghost use Rattle.xl_tree.specs.Parts.{whole, Falls};
 ghost use Rattle.spec_forest.specs.declared.TheConstants.{MAX_NODES};
 
-use crate::entries::{Entry, deeper, deepest};
+use crate::entries::{NodeEntry, deeper, deepest};
 use crate::naming::NodeId;
 use std::marker::Model;
 
 /// Siblings, with all below them, lent by a tree.
 #[derive(Drop)]
 pub struct Stack<'a, N> {
-    entries: &'a [Entry<N>],
+    entries: &'a [NodeEntry<N>],
     level: u32,
 }
 
@@ -61,7 +61,7 @@ impl<'a, N: Drop> Stack<'a, N> {
     }
 
     /// The siblings at a level of which these are the entries.
-    pub(crate) fn of(entries: &'a [Entry<N>], level: u32) -> Stack<'a, N>
+    pub(crate) fn of(entries: &'a [NodeEntry<N>], level: u32) -> Stack<'a, N>
         requires { AreSiblings level entries.now }
         ensures { result ≡ forest_of entries.now }
     {

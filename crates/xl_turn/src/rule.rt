@@ -28,9 +28,9 @@ impl<T: Chronicle> Play<Option<T>, View<T::Entry>> for Draw {
 }
 
 /// A seat looks which ticket has the turn, and takes the slot where it is its own.
-pub struct Look;
+pub struct Inspect;
 
-impl<T: Chronicle> Play<Option<T>, View<T::Entry>> for Look {
+impl<T: Chronicle> Play<Option<T>, View<T::Entry>> for Inspect {
     ghost use Rattle.xl_turn.specs.Steps.{Looks};
 
     ghost then = { Looks T.entries T.closes };

@@ -10,4 +10,4 @@ returns c =
     ∙ (ap (λ xs. pairs_of xs ++ damage_between c.args.before.now c.args.after.now c.args.next_id (edit_of c.args.edit.now))
     c.new-list.ensures.items
     ∙ settled c.args.before.now c.args.after.now c.args.next_id
-    (edit_of c.args.edit.now) c.limits.ensures c.requires.positive c.requires.above c.requires.made)
+    (edit_of c.args.edit.now) c.know_limits.ensures c.requires.positive c.requires.above c.requires.made)

@@ -2,7 +2,7 @@
 use Rattle.std.proofs.Common.{◌*◌, ◌∙◌, ap, sym, subst}
 use Rattle.spec_edit.specs.Refusal.{node}
 use Rattle.xl_doc.specs.Sheet.{Sheet}
-use Rattle.xl_edit.specs.declared.places.Part.TheVariants.{Pixels}
+use Rattle.xl_edit.specs.declared.places.LayerPart.TheVariants.{Pixels}
 use Rattle.xl_edit.specs.declared.places.Site.{Site}
 use Rattle.xl_edit.specs.Filling.{AreRows, byte_in, in_rows}
 use Rattle.xl_edit.specs.Filtered.{filters}

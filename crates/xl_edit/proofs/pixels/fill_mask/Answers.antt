@@ -2,7 +2,7 @@
 use Rattle.std.proofs.Common.{List, ℕ, refl, sym, subst}
 use Rattle.spec_edit.specs.Edit as edits
 use Rattle.spec_edit.specs.Refusal.{node}
-use Rattle.xl_edit.specs.declared.places.Part.TheVariants.{Mask}
+use Rattle.xl_edit.specs.declared.places.LayerPart.TheVariants.{Mask}
 use Rattle.xl_checks.specs.Found.{IsLayer}
 use Rattle.xl_edit.specs.Paint.{Paints, fills_mask}
 use Rattle.xl_edit.proofs.PaintMade.{paint_fits, paint_made}

@@ -1,6 +1,6 @@
 -- What was asked of the layer is said of the document's node.
 use Rattle.spec_edit.specs.Refusal.{node}
-use Rattle.xl_edit.specs.declared.places.Part.TheVariants.{Mask}
+use Rattle.xl_edit.specs.declared.places.LayerPart.TheVariants.{Mask}
 use Rattle.xl_edit.specs.Paint.{Paints, fills_mask}
 use Rattle.xl_checks.proofs.LayerFound.{of_sheet}
 use Rattle.xl_edit.proofs.PaintMade.{mask_painted}

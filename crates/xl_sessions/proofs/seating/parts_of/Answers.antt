@@ -5,13 +5,13 @@ use Rattle.spec_filters.specs.declared.FilterState.{FilterState}
 use Rattle.spec_script.specs.Script as script
 use Rattle.xl_filters.specs.declared.chest.Slot.{Slot}
 use Rattle.xl_script.specs.declared.script.Line.{Line}
-use Rattle.xl_sessions.specs.declared.players.Part.{Part}
+use Rattle.xl_sessions.specs.declared.players.SessionPart.{SessionPart}
 use Rattle.xl_sessions.proofs.Brought.{ArePartsUpTo, parts_none, parts_below, parts_more, parts_all}
 use Rattle.xl_sessions.proofs.seating.parts_of.Goals as goal
 
 with_parts : {B X : Type 0} {H : X → Type 0} {state : B → FilterState} {in_slot : Slot X H → FilterState}
     {lists : List (List script.Line)} {boxes : List (Vec B Global)} {left : List (List Line)}
-    {left_boxes : List (Vec B Global)} {session : ℕ} {parts more : List (Part X H)}
+    {left_boxes : List (Vec B Global)} {session : ℕ} {parts more : List (SessionPart X H)}
     → more ≡ parts → ArePartsUpTo state in_slot lists boxes left left_boxes session parts
     → ArePartsUpTo state in_slot lists boxes left left_boxes session more
 with_parts {state = state} {in_slot = in_slot} {lists = lists} {boxes = boxes} {left = left} {left_boxes = left_boxes}

@@ -4,11 +4,11 @@ use Rattle.spec_history.specs.Machine.{Saving}
 use Rattle.spec_history.specs.History.{replay}
 use Rattle.xl_core.specs.Editing.{Editing, out_of}
 use Rattle.xl_core.specs.Holding.{shelf_in, IsPlace}
-use Rattle.xl_core.specs.declared.saving.Place.{Place}
-use Rattle.xl_core.specs.declared.saving.Place.TheVariants.{In, Out}
+use Rattle.xl_core.specs.declared.saving.ShelfPlace.{ShelfPlace}
+use Rattle.xl_core.specs.declared.saving.ShelfPlace.TheVariants.{In, Out}
 use Rattle.xl_core.proofs.state.Core.know_shelf.Goals as goal
 
-is_in : (K : Type 0) (place : Place K) (out : Option Saving) → IsPlace place out → out ≡ None → IsSome (shelf_in place)
+is_in : (K : Type 0) (place : ShelfPlace K) (out : Option Saving) → IsPlace place out → out ≡ None → IsSome (shelf_in place)
 is_in K (In k) out there none = refl
 is_in K (Out index version) None there none = absurd there
 is_in K (Out index version) (Some out) there none = cc

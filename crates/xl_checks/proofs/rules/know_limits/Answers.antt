@@ -1,6 +1,0 @@
-use Rattle.std.proofs.Common.{subst}
-use Rattle.spec_document.specs.Limits.{IsDocument}
-use Rattle.xl_checks.proofs.rules.know_limits.Goals as goal
-
-pub returns : goal.returns
-returns c = subst IsDocument c.doc.view_is c.doc.invariant.limits

@@ -1,0 +1,20 @@
+use Rattle.std.proofs.Common.{ap}
+use Rattle.xl_edit.specs.Replies.{reply_of}
+use Rattle.xl_sessions.specs.Playing.{said}
+use Rattle.xl_sessions.proofs.setting.Setting.play_call.Goals as goal
+
+pub returns-clause-made : goal.returns-clause-made
+returns-clause-made g c = (
+  said c.asks_tile-asks.result (reply_of c.in_ok-reply.reply) c.make_call.new.desk.out,
+  c.in_ok-say.ensures,
+  record {
+    reply = reply_of c.in_ok-reply.reply;
+    called = λ filters agrees. c.in_ok-reply.ensures.answered filters agrees;
+    printed = c.in_ok-check_printed.ensures.printed;
+    fresh = c.in_ok-reply.ensures.fresh;
+    used = c.in_ok-reply.ensures.chest;
+    bytes = c.make_call.new.desk.out;
+    shown = c.in_ok-reply.ensures.shown;
+    digests_are = ap (λ b. said b (reply_of c.in_ok-reply.reply) c.make_call.new.desk.out) c.asks_tile-asks.ensures;
+  },
+)
