@@ -1,5 +1,5 @@
 -- Planes that a coder followed, behind others that it followed.
-use Rattle.std.proofs.Common.{◌≡◌, ℕ, List, [], ◌∷◌, ◌++◌, refl, subst}
+use Rattle.std.proofs.Common.{ℕ, List, [], ◌∷◌, ◌++◌, refl, subst}
 use Rattle.xl_rle.specs.Follows.{FollowsEach}
 
 module _ {S : Type 0} (follows : S → List ℕ → S → Type 0) where

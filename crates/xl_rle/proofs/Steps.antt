@@ -59,7 +59,7 @@ pub record Begins (file : List ℕ) (at : ℕ) (h : Head) : Type 0 where
   pub starts : at < length file
   pub fits : h.body ≤ length file
 
-pub head_begins : (file : List ℕ) (at : ℕ) (h : code.Head) → HeadAt file at (Some h) → Begins file at (as_read h)
+pub head_begins : (file : List ℕ) (at : ℕ) (h : code.CodeHead) → HeadAt file at (Some h) → Begins file at (as_read h)
 head_begins file at h head = record { is = head.0; starts = omega (arith, head.1, head.2); fits = head.2 }
 
 -- the rules of the plane, and of the body

@@ -1,6 +1,6 @@
 use Rattle.std.proofs.lemmas.Result.{on_ok_weaker}
 use Rattle.xl_rle.proofs.GreedySpells.{are_bytes, greedy_spells, greedy_short}
-use Rattle.xl_rle.proofs.coder.KeptPlaneCoder.encode_plane.Goals as goal
+use Rattle.xl_rle.proofs.coder.KeepingPlaneCoder.encode_plane.Goals as goal
 
 pub returns-clause-ok : goal.returns-clause-ok
 returns-clause-ok c =
