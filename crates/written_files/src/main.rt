@@ -11,7 +11,7 @@ use std::process::ExitCode;
 use std::{fs, io};
 use xcf::{Document, open, picture};
 use xl_compose::Recompose;
-use xl_write::{Greedy, Kept, PlaneCoder, encode};
+use xl_write::{Greedy, Keeping, PlaneCoder, encode};
 
 const NAMES: [&str; 31] = [
     "one.xcf",
@@ -114,7 +114,7 @@ fn line_of(alloc: Global, name: &str, bytes: Vec<u8>) -> Result<String, AllocErr
         return format!(in alloc; "{name} is refused");
     };
     let own = copy_text(alloc, &document, Greedy)?;
-    let kept = copy_text(alloc, &document, Kept)?;
+    let kept = copy_text(alloc, &document, Keeping)?;
     let other = copy_text(alloc, &at_other_compression(document), Greedy)?;
     format!(in alloc; "{name} {own} {other} {kept}")
 }

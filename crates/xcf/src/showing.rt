@@ -15,7 +15,7 @@ use xl_blend::Steps;
 use xl_compose::{Picture, Recompose, recompose_tile};
 use xl_doc::{Document, NodeId, Pictures, Rect, TileAt};
 use xl_standing::{has_stack, has_tile};
-use xl_write::{Kept, encode};
+use xl_write::{Keeping, encode};
 
 // The picture of a tile that is there, with a counter of steps of its own.
 fn compose_tile<L: Ledger>(
@@ -86,5 +86,5 @@ pub fn save(alloc: Global, document: &Document) -> Result<Vec<u8>, AllocError>
     ensures written { IfOk result (λ file. Written file.items document.now) }
     ensures read { IfOk result (λ file. reading file.items ≡ Ok (renumber document.now)) }
 {
-    encode(alloc, document, &mut Kept, &mut Recompose::new())
+    encode(alloc, document, &mut Keeping, &mut Recompose::new())
 }
