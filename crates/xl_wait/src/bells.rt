@@ -2,11 +2,11 @@ use crate::bell::Bell;
 use std::array;
 use std::sync::Wait;
 
-/// How many bells there are: more than threads that wait for numbers close to each other.
+/// How many bells there are.
 const BELLS: u64 = 16;
 
-/// A row of bells for threads that wait for numbers: each number has its bell, so that a ring wakes who waits for that number, and
-/// not all. Numbers that are 16 apart share a bell.
+/// A row of bells for threads that wait for numbers: each number has its bell, so that a ring wakes who waits for that
+/// number, and not all. Numbers that are 16 apart share a bell.
 #[derive(Drop)]
 pub struct Bells {
     bells: [Bell; 16],
@@ -25,12 +25,13 @@ impl Bells {
         &self.bells[(number % BELLS) as usize]
     }
 
-    /// How often the bell of a number was rung, as far as it is told. It is asked before one looks for what one waits for.
+    /// How often the bell of a number was rung, modulo 2^64. To be asked before the look for what is waited for, and
+    /// handed to `wait`.
     pub fn heard(&self, number: u64) -> u64 {
         self.bell(number).heard()
     }
 
-    /// Sleeps, unless the bell of the number was rung since then.
+    /// Sleeps until the bell of the number is rung, for a millisecond at most; not at all where it was rung since `heard`.
     pub fn wait<W: Wait>(&self, rt: &W, number: u64, heard: u64) {
         self.bell(number).wait(rt, heard);
     }
