@@ -1,3 +1,4 @@
+//! Where a rectangle of a plane begins.
 ghost use Rattle.std.specs.Prelude.{◌≡◌, ◌+◌, ◌≤◌};
 ghost use Rattle.spec_grid.specs.Rect.{part_above_0};
 ghost use Rattle.xl_tiles.specs.Sized.{IsSized};

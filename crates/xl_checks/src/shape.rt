@@ -1,3 +1,5 @@
+//! What is asked of a new layer.
+
 /// Where a new layer lies on the canvas, its sides and its type.
 #[derive(Clone, Copy)]
 pub struct LayerShape {

@@ -1,3 +1,4 @@
+//! What a session asks.
 use crate::edit_list::Edits;
 use xl_doc::{NodeId, TileAt};
 
@@ -13,9 +14,11 @@ pub struct Group {
 /// What a session asks. The node of a tile is a stack: 0 for the image, or a group.
 #[derive(Debug, Drop)]
 pub enum Call {
+    /// Makes a group of edits.
     Edit(Group),
     /// Undoes the last group, if it is the one that is named.
     Undo(Option<u32>),
+    /// Makes the group again that was undone last.
     Redo,
     /// The tile of the latest version.
     Tile(NodeId, TileAt),

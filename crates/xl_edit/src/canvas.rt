@@ -15,7 +15,8 @@ use xl_checks::{check_channel, check_colours, check_new_channel, check_select};
 use xl_doc::{Bytes, Channel, ColourMap, Document, Rect};
 use xl_tiles::repeat;
 
-/// Errors: `OutsideLayer`, `TooLarge`.
+/// Sets the bytes of the selection in a rectangle of the canvas to one value. Where there is no selection, all its
+/// other bytes are 0. Errors: `OutsideLayer`, `TooLarge`.
 pub(crate) fn select(
     alloc: Global,
     doc: &mut Document,
@@ -42,7 +43,7 @@ fn own_selection(alloc: Global, doc: &Document) -> Result<Channel, AllocError>
     }
 }
 
-// Writes bytes that are all alike.
+// Writes bytes that are all alike into a rectangle of a channel.
 fn write_channel(
     alloc: Global,
     channel: &mut Channel,
@@ -66,7 +67,7 @@ fn flat_bytes(alloc: Global, doc: &Document, rect: Rect, value: u8) -> Result<Ve
     repeat(alloc, &[value], rect.w as usize * rect.h as usize)
 }
 
-/// No errors.
+/// Takes the selection away, where there is one. This is never refused.
 pub(crate) fn select_none(doc: &mut Document) -> Result<(), EditRefusedOrMemory>
     ensures { Makes doc.old doc.new edits.select_none result }
 {
@@ -74,7 +75,7 @@ pub(crate) fn select_none(doc: &mut Document) -> Result<(), EditRefusedOrMemory>
     Ok(())
 }
 
-/// Errors: `BadName`, `TooMany`, `TooLarge`.
+/// Puts a channel of zeros behind all others. Errors: `BadName`, `TooMany`, `TooLarge`.
 pub(crate) fn add_channel(
     alloc: Global,
     doc: &mut Document,
@@ -90,7 +91,7 @@ pub(crate) fn add_channel(
     Ok(())
 }
 
-/// Errors: `NoChannel`.
+/// Takes away the channel with an index, counted from 0. Errors: `NoChannel`.
 pub(crate) fn drop_channel(doc: &mut Document, index: u32) -> Result<(), EditRefusedOrMemory>
     ensures { Makes doc.old doc.new (edits.drop_channel index) result }
 {
@@ -99,7 +100,7 @@ pub(crate) fn drop_channel(doc: &mut Document, index: u32) -> Result<(), EditRef
     Ok(())
 }
 
-/// Errors: `NotIndexed`.
+/// Makes the colour map of these bytes, three for each colour: red, green and blue. Errors: `NotIndexed`.
 pub(crate) fn set_colours(
     alloc: Global,
     doc: &mut Document,

@@ -1,3 +1,4 @@
+//! Lists of edits.
 ghost use Rattle.std.specs.Prelude.{◌≡◌, [], ◌∷◌, ◌++◌, length, OnOk, OnErr};
 
 use crate::edit::Edit;
@@ -20,6 +21,7 @@ impl Model for Edits {
 }
 
 impl Edits {
+    /// No edits.
     pub fn new(alloc: Global) -> Self
         ensures { result ≡ [] }
     {
@@ -28,12 +30,14 @@ impl Edits {
         }
     }
 
+    /// How many edits there are.
     pub fn len(&self) -> usize
         ensures { result ≡ length self.now }
     {
         self.items.len()
     }
 
+    /// The edits, in their order.
     pub fn as_slice(&self) -> &[Edit]
         ensures { result.now ≡ self.now }
     {

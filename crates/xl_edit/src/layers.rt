@@ -26,7 +26,7 @@ pub(crate) enum LayerChange {
     DropMask,
 }
 
-/// Errors: `NoNode`, `IsGroup`, `OffsetRange`.
+/// Moves a layer: its top left pixel comes to this point of the canvas. Errors: `NoNode`, `IsGroup`, `OffsetRange`.
 pub(crate) fn set_offset(
     doc: &mut Document,
     id: NodeId,
@@ -41,7 +41,7 @@ pub(crate) fn set_offset(
     Ok(())
 }
 
-/// Errors: `NoNode`, `IsGroup`, `NoMask`.
+/// Says whether the mask of a layer is applied. Errors: `NoNode`, `IsGroup`, `NoMask`.
 pub(crate) fn set_apply_mask(
     doc: &mut Document,
     id: NodeId,
@@ -54,7 +54,7 @@ pub(crate) fn set_apply_mask(
     Ok(())
 }
 
-/// Errors: `NoNode`, `IsGroup`, `HasMask`, `TooLarge`.
+/// Gives a layer a mask that shows all of it, and applies it. Errors: `NoNode`, `IsGroup`, `HasMask`, `TooLarge`.
 pub(crate) fn add_mask(
     alloc: Global,
     doc: &mut Document,
@@ -69,7 +69,7 @@ pub(crate) fn add_mask(
     Ok(())
 }
 
-/// Errors: `NoNode`, `IsGroup`, `NoMask`.
+/// Takes the mask of a layer away. Errors: `NoNode`, `IsGroup`, `NoMask`.
 pub(crate) fn drop_mask(doc: &mut Document, id: NodeId) -> Result<(), EditRefusedOrMemory>
     ensures { Makes doc.old doc.new (edits.drop_mask id.0) result }
 {

@@ -1,4 +1,4 @@
-//! Nodes that come, go and move.
+//! Nodes that come and go.
 ghost use Rattle.std.specs.Prelude.{◌≡◌, ℕ, ◌<◌, ◌≤◌, List, None, OnOk, OnErr, nat_eq};
 ghost use Rattle.std.specs.List.{IsDistinct};
 ghost use Rattle.spec_forest.specs.Forest.{ids, find, levels, size};
@@ -23,7 +23,7 @@ use xl_checks::{LayerShape, check_new_group, check_new_layer, check_node};
 use xl_doc::{Bytes, Document, Node, NodeId, Tree};
 use xl_tree::Branch;
 
-/// Errors: `NoNode`.
+/// Takes out a node with all below it. Errors: `NoNode`.
 pub(crate) fn delete(
     alloc: Global,
     doc: &mut Document,
@@ -36,7 +36,7 @@ pub(crate) fn delete(
     Ok(())
 }
 
-// Takes out a node with all below it. After want of memory all is as before.
+// Takes out a node with all below it. After out of memory all is as before.
 fn take_node(alloc: Global, tree: &mut Tree<Node>, id: NodeId) -> Result<(), AllocError>
     requires ids { IsDistinct nat_eq (ids tree.old) }
     requires marks { MarksAgree tree.old }
@@ -52,7 +52,8 @@ fn take_node(alloc: Global, tree: &mut Tree<Node>, id: NodeId) -> Result<(), All
     Ok(())
 }
 
-/// Errors: `GroupInIndexed`, `NoNode`, `NotGroup`, `BadPlace`, `BadName`, `TooDeep`, `TooMany`, `TooLarge`.
+/// Puts a group without children into a stack, before the child at a place. It gets the next id. Errors:
+/// `GroupInIndexed`, `NoNode`, `NotGroup`, `BadPlace`, `BadName`, `TooDeep`, `TooMany`, `TooLarge`.
 pub(crate) fn new_group(
     alloc: Global,
     doc: &mut Document,
@@ -73,7 +74,8 @@ pub(crate) fn new_group(
     Ok(())
 }
 
-/// Errors: `NoNode`, `NotGroup`, `BadPlace`, `OffsetRange`, `OtherType`, `BadName`, `TooDeep`, `TooMany`, `TooLarge`.
+/// Puts a layer of zero bytes into a stack, before the child at a place. It gets the next id. Errors: `NoNode`,
+/// `NotGroup`, `BadPlace`, `OffsetRange`, `OtherType`, `BadName`, `TooDeep`, `TooMany`, `TooLarge`.
 pub(crate) fn new_layer(
     alloc: Global,
     doc: &mut Document,

@@ -1,3 +1,5 @@
+//! Where bytes are written.
+
 /// Where a plane lies on the canvas, and whether its pixels are places of a colour map.
 #[derive(Clone, Copy)]
 pub(crate) struct Site {

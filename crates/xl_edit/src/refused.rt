@@ -1,3 +1,4 @@
+//! Why an edit was not applied.
 ghost use Rattle.std.specs.Prelude.{◌≡◌};
 ghost use Rattle.xl_edit.specs.declared.refused.EditRefusedOrMemory.TheVariants.{Memory, Refused};
 

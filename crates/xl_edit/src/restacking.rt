@@ -17,7 +17,8 @@ use xl_checks::{check_depth, check_node, check_parent, child_count};
 use xl_doc::{Document, Node, NodeId, Tree, know_limits};
 use xl_tree::{Split, Stack};
 
-/// The place counts after the node is taken out. Errors: `NoNode`, `NotGroup`, `Inside`, `BadPlace`, `TooDeep`.
+/// Moves a node with all below it into a stack, before the child at a place, which counts after the node is taken out.
+/// Errors: `NoNode`, `NotGroup`, `Inside`, `BadPlace`, `TooDeep`.
 pub(crate) fn restack(
     doc: &mut Document,
     id: NodeId,
@@ -46,7 +47,7 @@ fn move_node(tree: &mut Tree<Node>, id: NodeId, parent: NodeId, place: u32)
     };
 }
 
-// Errors: `NoNode`, `NotGroup`, `Inside`, `BadPlace`, `TooDeep`.
+// Refuses a move by the first rule that it breaks. Errors: `NoNode`, `NotGroup`, `Inside`, `BadPlace`, `TooDeep`.
 fn check_restack(doc: &Document, id: NodeId, parent: NodeId, place: u32) -> Result<(), EditRefused>
     ensures refused { IfErr result (λ cause. refusal doc.now (edits.restack id.0 parent.0 place)
         ≡ Some cause) }
