@@ -42,6 +42,7 @@ const OPAQUE: u32 = 0xff00_0000;
 /// The least word of a pixel with some alpha.
 const SOME: u32 = 0x0100_0000;
 
+/// The least of the words of the pixels, whose highest byte is the alpha.
 fn least_word(row: &[Pixel]) -> u32
     ensures least { (k : ℕ) → k < length row.now
         → result ≤ word_of (slice_index_or row.now k clear) }
@@ -54,6 +55,7 @@ fn least_word(row: &[Pixel]) -> u32
     least
 }
 
+/// The greatest of the words of the pixels, and 0 where there is none.
 fn greatest_word(row: &[Pixel]) -> u32
     ensures { (k : ℕ) → k < length row.now → word_of (slice_index_or row.now k clear) ≤ result }
 {
@@ -78,7 +80,7 @@ pub fn wholes_of(below: &[Pixel], above: &[Pixel], wholes: &mut [u32])
     }
 }
 
-/// What weighs the colours of each pixel and the one below it in any mode but the normal one.
+/// The whole weight of the colours of each pixel and the one below it, in any mode but the normal one.
 #[inline]
 pub fn weights_of(below: &[Pixel], above: &[Pixel], weights: &mut [u32])
     requires above { length below.now ≡ length above.now }

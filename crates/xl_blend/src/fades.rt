@@ -5,7 +5,8 @@ ghost use Rattle.xl_blend.specs.Rows.{faded, faded_row, faded_row_by};
 use crate::words::{mul_bytes, of_bytes, wide_of};
 use spec_blend::Pixel;
 
-/// Colours are taken apart and put together as words, so that the loops below are compiled to vectors.
+/// The pixel with a part, of 255, of its alpha. Its bytes are taken apart and put together as words, so that the loops
+/// below are compiled to vectors.
 #[inline(always)]
 fn fade(pixel: Pixel, part: u8) -> Pixel
     ensures { result ≡ faded part pixel }
@@ -15,7 +16,7 @@ fn fade(pixel: Pixel, part: u8) -> Pixel
     of_bytes(wide.r, wide.g, wide.b, a)
 }
 
-/// The same part, of 255, of each pixel's alpha.
+/// Leaves of each pixel the same part, of 255, of its alpha.
 pub fn fade_row(row: &mut [Pixel], part: u8)
     ensures { row.new ≡ faded_row part row.old }
 {
@@ -27,7 +28,7 @@ pub fn fade_row(row: &mut [Pixel], part: u8)
     }
 }
 
-/// A part, of 255, of its own of each pixel's alpha.
+/// Leaves of each pixel a part of its own, of 255, of its alpha.
 pub fn fade_row_by(row: &mut [Pixel], parts: &[u8])
     requires { length row.old ≡ length parts.now }
     ensures { row.new ≡ faded_row_by parts.now row.old }

@@ -12,7 +12,7 @@ use crate::words::{alpha, mix_byte, mul_bytes, of_bytes, wide_of};
 use spec_blend::{Mode, Pixel};
 use std::sync::ledger::Ledger;
 
-/// A pixel laid over another in any other mode.
+/// A pixel laid over another in any mode but the normal one.
 #[inline(always)]
 pub fn over_blended(mode: Mode, below: Pixel, above: Pixel) -> Pixel
     ensures { result ≡ laid_blended mode below above }
@@ -31,7 +31,8 @@ pub fn over_blended(mode: Mode, below: Pixel, above: Pixel) -> Pixel
     }
 }
 
-/// What weighs the colours of two pixels in any other mode, and 1 where that is nothing.
+/// The whole weight of the colours of two pixels in any mode but the normal one, and 1 where that is nothing, so that
+/// it can divide.
 #[inline(always)]
 pub fn weight_of(below: Pixel, above: Pixel) -> u32
     ensures value { result ≡ weight below above }
@@ -42,7 +43,7 @@ pub fn weight_of(below: Pixel, above: Pixel) -> u32
     (lower + mul_bytes(255 - lower, part)).max(1)
 }
 
-/// The same by what weighs the colours and the reciprocal of that.
+/// A pixel laid over another in any mode but the normal one, by their whole weight and its reciprocal.
 #[inline(always)]
 pub fn blend_by(mode: Mode, below: Pixel, above: Pixel, whole: u32, reciprocal: u32) -> Pixel
     requires whole { whole ≡ weight below above }
@@ -61,7 +62,7 @@ pub fn blend_by(mode: Mode, below: Pixel, above: Pixel, whole: u32, reciprocal: 
     of_bytes(r, g, b, lower.a)
 }
 
-/// The same over a pixel that is opaque, whatever its alpha.
+/// A pixel laid in a mode over one that is taken as opaque, whatever its alpha.
 #[inline(always)]
 pub fn over_opaque(mode: Mode, below: Pixel, above: Pixel) -> Pixel
     ensures value { result ≡ laid_opaque mode below above }

@@ -6,7 +6,7 @@ ghost use Rattle.xl_blend.specs.Words.{word_of, pixel_of};
 
 use spec_blend::Pixel;
 
-/// The bytes of a pixel, red lowest.
+/// The bytes of a pixel as a word, red lowest and alpha highest.
 #[inline(always)]
 pub fn word(of: Pixel) -> u32
     ensures value { result ≡ word_of of }

@@ -1,3 +1,4 @@
+//! The bases of documents.
 ghost use Rattle.std.specs.Prelude.{◌≡◌, ◌≤◌};
 ghost use Rattle.spec_document.specs.Document.{base_code};
 

@@ -1,3 +1,4 @@
+//! Channels, masks and the selection.
 ghost use Rattle.std.specs.Prelude.{◌≡◌, ◌<◌, ◌≤◌, ◌++◌, ◌∷◌, [], length, insert, remove, slice_index_or, slice_set, IfOk};
 ghost use Rattle.std.specs.Borrow.{Lends, sem};
 ghost use Rattle.xl_doc.specs.contracts.channel.Channel.{the_row as channel_row};
@@ -84,6 +85,7 @@ impl Channels {
         })
     }
 
+    /// The channels, the first one first.
     pub fn as_slice(&self) -> &[Channel]
         ensures { result.now ≡ self.now }
     {

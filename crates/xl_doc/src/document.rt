@@ -1,3 +1,4 @@
+//! Whole documents.
 ghost use Rattle.std.specs.Prelude.{◌≡◌, ◌≤◌, IfOk};
 ghost use Rattle.spec_document.specs.Document.{area, selection_count};
 ghost use Rattle.spec_written.specs.Version.{least_version};

@@ -1,3 +1,4 @@
+//! The pictures of groups, for a file that is written.
 ghost use Rattle.std.specs.Prelude.{◌≡◌, ◌*◌, length, OnOk, IsSome};
 ghost use Rattle.spec_forest.specs.Forest.{stack_at};
 ghost use Rattle.spec_grid.specs.Rect.{part_above_0};
@@ -12,7 +13,7 @@ use xl_tree::NodeId;
 /// Who gives the pictures of groups, which a written file has beside their layers.
 pub trait Pictures {
     /// The picture of a stack over a rectangle of the canvas: RGBA bytes, row by row, without the opacity of the group.
-    /// After want of memory `out` holds any bytes.
+    /// After out of memory `out` holds any bytes.
     fn fill(
         &mut self,
         alloc: Global,

@@ -42,7 +42,7 @@ fn put(out: &mut [u8], at: usize, row: &[u8])
     out[at..at + row.len()].copy_from_slice(row);
 }
 
-/// The scratch that `selected_row` needs: a row, and a tile of the selection.
+/// How many bytes of scratch `selected_row` needs: for a row, and for a tile of the selection.
 pub const ROW_SCRATCH: usize = MAX_SIDE as usize + SCRATCH;
 
 // The bytes of n pixels of row y, from column x on, in the scratch.
@@ -83,7 +83,8 @@ fn plane_row(plane: &Plane, x: i32, y: i32, out: &mut [u8], scratch: &mut [u8])
 }
 
 impl Document {
-    /// How much of a point is selected, of 255.
+    /// How much of a point is selected, of 255: all of it where there is no selection, and nothing of it off the canvas
+    /// where there is one.
     pub fn selected(&self, x: i32, y: i32) -> u8
         ensures { result ≡ selected self.now x y }
     {
@@ -98,7 +99,7 @@ impl Document {
         }
     }
 
-    /// The same for a row of points, from a point on.
+    /// The same for each point of a row, from a point on. `scratch` has `ROW_SCRATCH` bytes.
     pub fn selected_row(&self, x: i32, y: i32, out: &mut [u8], scratch: &mut [u8])
         requires scratch { length scratch.old ≡ ROW_SCRATCH }
         requires near { IsNear x }

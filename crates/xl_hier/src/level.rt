@@ -6,7 +6,7 @@ ghost use Rattle.xl_hier.specs.Level.{level_at};
 use crate::frame::Frame;
 use xl_fields::{Kind, ReadRefused, refuse, u32_at};
 
-// A word that has to be this one.
+// Refuses a word that is not this one, as BadHierarchy.
 fn same_word_at(bytes: &[u8], at: usize, n: usize) -> Result<(), ReadRefused>
     ensures value { result ≡ hierarchy.same_word_at bytes.now at n BadHierarchy }
     ensures within { OnOk result (at + 4 ≤ length bytes.now) }
@@ -18,7 +18,7 @@ fn same_word_at(bytes: &[u8], at: usize, n: usize) -> Result<(), ReadRefused>
     Ok(())
 }
 
-/// A pointer that is not zero.
+/// The pointer at an offset. BadHierarchy there where it is 0.
 pub fn pointer_at(bytes: &[u8], at: usize) -> Result<usize, ReadRefused>
     ensures value { result ≡ hierarchy.pointer_at bytes.now at BadHierarchy }
     ensures within { OnOk result (at + 4 ≤ length bytes.now) }
@@ -31,7 +31,8 @@ pub fn pointer_at(bytes: &[u8], at: usize) -> Result<usize, ReadRefused>
     Ok(pointer as usize)
 }
 
-/// The offset of the level in use of the hierarchy at an offset. Both repeat what the frame says.
+/// The offset of the level in use of the hierarchy at an offset. BadHierarchy at the first word of either that does not
+/// repeat the frame, and at a pointer of 0.
 pub fn level_at(bytes: &[u8], at: usize, frame: Frame) -> Result<usize, ReadRefused>
     ensures value { result ≡ level_at bytes.now at frame.width frame.height frame.bpp }
     ensures within { IfOk result (λ level. level + 8 ≤ length bytes.now) }

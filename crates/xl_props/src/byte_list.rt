@@ -18,6 +18,7 @@ impl Model for Bytes {
 }
 
 impl Bytes {
+    /// No bytes.
     pub fn new(alloc: Global) -> Self
         ensures { result ≡ [] }
     {
@@ -26,6 +27,7 @@ impl Bytes {
         }
     }
 
+    /// A copy of these bytes.
     pub fn from_slice(alloc: Global, bytes: &[u8]) -> Result<Self, AllocError>
         ensures { IfOk result (λ own. own ≡ bytes.now) }
     {
@@ -48,12 +50,14 @@ impl Bytes {
         Bytes::from_slice(alloc, self.as_slice())
     }
 
+    /// How many bytes there are.
     pub fn len(&self) -> usize
         ensures { result ≡ length self.now }
     {
         self.items.len()
     }
 
+    /// The bytes, in their order.
     pub fn as_slice(&self) -> &[u8]
         ensures { result.now ≡ self.now }
     {

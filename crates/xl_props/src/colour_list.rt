@@ -18,6 +18,7 @@ impl Model for ColourMap {
 }
 
 impl ColourMap {
+    /// No colours.
     pub fn new(alloc: Global) -> Self
         ensures { result ≡ [] }
     {
@@ -35,12 +36,14 @@ impl ColourMap {
         })
     }
 
+    /// How many colours there are.
     pub fn len(&self) -> usize
         ensures { result ≡ length self.now }
     {
         self.items.len()
     }
 
+    /// The colours, in their order: red, green and blue of each.
     pub fn as_slice(&self) -> &[[u8; 3]]
         ensures { result.now ≡ self.now }
     {

@@ -48,6 +48,7 @@ impl Model for PropList {
 }
 
 impl PropList {
+    /// No properties.
     pub fn new(alloc: Global) -> Self
         ensures { result ≡ [] }
     {
@@ -67,12 +68,14 @@ impl PropList {
         Ok(PropList { items })
     }
 
+    /// How many properties there are.
     pub fn len(&self) -> usize
         ensures { result ≡ length self.now }
     {
         self.items.len()
     }
 
+    /// The properties, in their order.
     pub fn as_slice(&self) -> &[Kept]
         ensures { result.now ≡ self.now }
     {

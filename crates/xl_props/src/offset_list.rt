@@ -18,6 +18,7 @@ impl Model for Offsets {
 }
 
 impl Offsets {
+    /// No offsets.
     pub fn new(alloc: Global) -> Self
         ensures { result ≡ [] }
     {
@@ -26,12 +27,14 @@ impl Offsets {
         }
     }
 
+    /// How many offsets there are.
     pub fn len(&self) -> usize
         ensures { result ≡ length self.now }
     {
         self.items.len()
     }
 
+    /// The offsets, in their order.
     pub fn as_slice(&self) -> &[usize]
         ensures { result.now ≡ self.now }
     {

@@ -18,6 +18,7 @@ impl Model for Path {
 }
 
 impl Path {
+    /// The path of the top.
     pub fn new(alloc: Global) -> Self
         ensures { result ≡ [] }
     {
@@ -26,12 +27,14 @@ impl Path {
         }
     }
 
+    /// How many places there are.
     pub fn len(&self) -> usize
         ensures { result ≡ length self.now }
     {
         self.items.len()
     }
 
+    /// The places, from the top.
     pub fn as_slice(&self) -> &[u32]
         ensures { result.now ≡ self.now }
     {

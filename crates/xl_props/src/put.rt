@@ -23,6 +23,7 @@ fn put_word(alloc: Global, out: &mut Vec<u8>, value: u32) -> Result<(), AllocErr
     put_u32(alloc, out, value)
 }
 
+/// The type word of a property, and the number of bytes behind its length word.
 fn put_head(alloc: Global, out: &mut Vec<u8>, kind: u32, len: usize) -> Result<(), AllocError>
     requires { len < 2 ^ 32 }
     ensures ok { OnOk result (out.new.items ≡ out.old.items ++ (word kind ++ word len)) }
@@ -63,6 +64,7 @@ fn put_words(alloc: Global, out: &mut Vec<u8>, values: &[u32]) -> Result<(), All
     Ok(())
 }
 
+/// The property of an item path.
 fn put_places(alloc: Global, out: &mut Vec<u8>, places: &[u32]) -> Result<(), AllocError>
     requires { length places.now ≤ 2 ^ 22 }
     ensures ok { OnOk result (out.new.items ≡ out.old.items ++ property_bytes
@@ -73,6 +75,7 @@ fn put_places(alloc: Global, out: &mut Vec<u8>, places: &[u32]) -> Result<(), Al
     put_words(alloc, out, places)
 }
 
+/// The item path, where there is one.
 pub fn put_path(alloc: Global, out: &mut Vec<u8>, path: &Option<Path>) -> Result<(), AllocError>
     requires { IfSome path.now (λ places. length places ≤ 2 ^ 22) }
     ensures ok { OnOk result (out.new.items ≡ out.old.items ++ list_bytes
@@ -99,6 +102,7 @@ fn put_bytes_of_each(
     Ok(())
 }
 
+/// The property of a colour map.
 fn put_map(alloc: Global, out: &mut Vec<u8>, colours: &[[u8; 3]]) -> Result<(), AllocError>
     requires { AreFewColours colours.now }
     ensures ok { OnOk result (out.new.items ≡ out.old.items ++ property_bytes
@@ -110,6 +114,7 @@ fn put_map(alloc: Global, out: &mut Vec<u8>, colours: &[[u8; 3]]) -> Result<(), 
     put_bytes_of_each(alloc, out, colours)
 }
 
+/// The colour map, where there is one.
 pub fn put_colours(
     alloc: Global,
     out: &mut Vec<u8>,
@@ -126,6 +131,7 @@ pub fn put_colours(
     }
 }
 
+/// The compression, where there is one: a byte.
 pub fn put_compression(alloc: Global, out: &mut Vec<u8>, code: Option<u8>) -> Result<(), AllocError>
     ensures ok { OnOk result (out.new.items ≡ out.old.items ++ list_bytes
         (if_there COMPRESSION one_byte code)) }
@@ -137,6 +143,7 @@ pub fn put_compression(alloc: Global, out: &mut Vec<u8>, code: Option<u8>) -> Re
     }
 }
 
+/// The opacity, where there is one: a word.
 pub fn put_opacity(alloc: Global, out: &mut Vec<u8>, opacity: Option<u8>) -> Result<(), AllocError>
     ensures ok { OnOk result (out.new.items ≡ out.old.items ++ list_bytes
         (if_there OPACITY word opacity)) }
@@ -148,6 +155,7 @@ pub fn put_opacity(alloc: Global, out: &mut Vec<u8>, opacity: Option<u8>) -> Res
     }
 }
 
+/// The blend mode, where there is one: the word of its code.
 pub fn put_mode(alloc: Global, out: &mut Vec<u8>, mode: Option<Mode>) -> Result<(), AllocError>
     ensures ok { OnOk result (out.new.items ≡ out.old.items ++ list_bytes
         (if_there MODE mode_word mode)) }
@@ -159,7 +167,7 @@ pub fn put_mode(alloc: Global, out: &mut Vec<u8>, mode: Option<Mode>) -> Result<
     }
 }
 
-/// A flag of a layer: 1 where it is set.
+/// A flag of a layer, where there is one: a word, 1 where it is set.
 pub fn put_flag(
     alloc: Global,
     out: &mut Vec<u8>,
@@ -176,6 +184,7 @@ pub fn put_flag(
     }
 }
 
+/// The property of offsets: two signed words.
 fn put_point(alloc: Global, out: &mut Vec<u8>, x: i32, y: i32) -> Result<(), AllocError>
     ensures ok { OnOk result (out.new.items ≡ out.old.items ++ property_bytes
         (raw OFFSETS (offset_words (x, y)))) }
@@ -186,6 +195,7 @@ fn put_point(alloc: Global, out: &mut Vec<u8>, x: i32, y: i32) -> Result<(), All
     put_word(alloc, out, y.cast_unsigned())
 }
 
+/// The offsets, where there are some.
 pub fn put_offsets(
     alloc: Global,
     out: &mut Vec<u8>,
@@ -201,7 +211,7 @@ pub fn put_offsets(
     }
 }
 
-/// A mark that has no bytes.
+/// A mark that has no bytes, where it is set.
 pub fn put_mark(alloc: Global, out: &mut Vec<u8>, kind: u32, is_set: bool) -> Result<(), AllocError>
     ensures ok { OnOk result (out.new.items ≡ out.old.items ++ list_bytes (if_so kind is_set)) }
     ensures front { BeginsWith out.new.items out.old.items }

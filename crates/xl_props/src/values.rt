@@ -10,6 +10,7 @@ use spec_blend::Mode;
 use std::alloc::{AllocError, Global};
 use xl_blend::mode_of;
 
+/// The opacity in a payload: its word, and 255 where that is greater.
 pub fn opacity_of(payload: &[u8]) -> u8
     requires { 4 ≤ length payload.now }
     ensures { result ≡ opacity_in (property 0 0 payload.now) }
@@ -17,7 +18,7 @@ pub fn opacity_of(payload: &[u8]) -> u8
     word(payload, 0).min(255) as u8
 }
 
-/// The mode of a code, Normal where the code stands for none.
+/// The mode of the code in a payload, and the normal one where the code stands for none.
 pub fn mode_in_payload(payload: &[u8]) -> Mode
     requires { 4 ≤ length payload.now }
     ensures { result ≡ mode_in (property 0 0 payload.now) }
@@ -25,6 +26,7 @@ pub fn mode_in_payload(payload: &[u8]) -> Mode
     mode_of(word(payload, 0)).unwrap_or(Mode::Normal)
 }
 
+/// The flag in a payload: set where its word is not 0.
 pub fn flag_of(payload: &[u8]) -> bool
     requires { 4 ≤ length payload.now }
     ensures { result ≡ is_set (property 0 0 payload.now) }
@@ -32,7 +34,7 @@ pub fn flag_of(payload: &[u8]) -> bool
     word(payload, 0) != 0
 }
 
-/// x and y.
+/// The offsets in a payload: x and y.
 pub fn offsets_of(payload: &[u8]) -> (i32, i32)
     requires { 8 ≤ length payload.now }
     ensures { result ≡ offsets_in (property 0 0 payload.now) }
@@ -40,6 +42,7 @@ pub fn offsets_of(payload: &[u8]) -> (i32, i32)
     (int(payload, 0), int(payload, 1))
 }
 
+/// The colour number `i` of a colour map, behind the word that counts them.
 fn colour(payload: &[u8], i: usize) -> [u8; 3]
     requires number { i ≤ MAX_COLOURS }
     requires inside { 4 + 3 * i + 3 ≤ length payload.now }
@@ -50,6 +53,7 @@ fn colour(payload: &[u8], i: usize) -> [u8; 3]
     [part[0], part[1], part[2]]
 }
 
+/// The colours in a payload: a word that counts them, and three bytes for each.
 #[tactic(auto, using(crate::proofs::Counted::counted_more))]
 pub fn colours_of(alloc: Global, payload: &[u8]) -> Result<ColourMap, AllocError>
     requires count { 4 ≤ length payload.now }
@@ -64,6 +68,7 @@ pub fn colours_of(alloc: Global, payload: &[u8]) -> Result<ColourMap, AllocError
     Ok(colours)
 }
 
+/// The item path in a payload: a word for each place.
 #[tactic(auto, using(crate::proofs::Counted::counted_more))]
 pub fn path_of(alloc: Global, payload: &[u8]) -> Result<Path, AllocError>
     requires { length payload.now ≤ 2 ^ 24 }

@@ -44,7 +44,8 @@ fn put(draft: &mut DocumentDraft, selection: bool, channel: Channel)
     }
 }
 
-/// Puts in the channel at an offset, or makes it the selection. Its pointer stands at a place.
+/// Reads the channel at the offset `at`, and makes it the selection or puts it last; or its first fault. At `place`
+/// stands the pointer to it.
 #[tactic(auto, unfolding(spec_file::specs::Channels::channel_at))]
 pub fn channel_at(
     alloc: Global,

@@ -37,6 +37,7 @@ fn begins(bytes: &[u8], at: usize, word: &[u8]) -> bool
     bytes[at..].starts_with(word)
 }
 
+/// The version that a file names at byte 9, from 0 to 3.
 fn version_of(bytes: &[u8]) -> Option<u8>
     requires { 9 ≤ length bytes.now }
     ensures { result ≡ version_of bytes.now }
@@ -54,6 +55,7 @@ fn version_of(bytes: &[u8]) -> Option<u8>
     }
 }
 
+/// The base that a file has this code for.
 fn base_of(code: u32) -> Option<Base>
     ensures { result ≡ base_of code }
 {
@@ -79,6 +81,7 @@ pub fn is_side(n: u32) -> bool
     1 <= n && n <= MAX_SIDE
 }
 
+/// The side at an offset. BadSize there where it is none.
 #[tactic(auto, unfolding(spec_file::specs::Header::side_at))]
 fn side_at(bytes: &[u8], at: usize) -> Result<u32, ReadRefused>
     ensures read { result ≡ side_at bytes.now at }
@@ -92,6 +95,9 @@ fn side_at(bytes: &[u8], at: usize) -> Result<u32, ReadRefused>
 }
 
 /// The head of a file, or its first fault.
+///
+/// TooLarge for a file of 2^31 bytes or more, then NotXcf, Version, BadSize of a side, BaseType, and OldColourMap for
+/// an indexed image of version 0; Truncated at the first field that is not there.
 #[tactic(auto, unfolding(spec_file::specs::Header::header_of))]
 pub fn header_at(bytes: &[u8]) -> Result<Header, ReadRefused>
     requires { length bytes.now ≤ 2 ^ 31 }

@@ -16,7 +16,8 @@ pub fn payload_bytes(kept: &PropList) -> u64
     kept.as_slice().iter().map(|k| k.payload.len() as u64).sum()
 }
 
-/// Refuses the first of the payloads, which stand at these places, that takes what is kept past the limit.
+/// Refuses, as TooLarge, the first payload with which more bytes are kept than may be. The properties stand at these
+/// places, and `before` bytes are kept before them.
 #[tactic(auto, using(crate::proofs::Payloads::passed_not))]
 pub fn within(kept: &PropList, places: &Offsets, before: u64) -> Result<(), ReadRefused>
     requires before { before ≤ MAX_KEPT_BYTES }

@@ -50,6 +50,7 @@ fn literal_length(bytes: &[u8]) -> usize
     n
 }
 
+// Appends the code of a run, in the short form where it fits.
 fn push_run(out: &mut Vec<u8>, count: usize, value: u8) -> Result<(), AllocError>
     requires some { 0 < count }
     requires few { count ≤ 4096 }
@@ -64,6 +65,7 @@ fn push_run(out: &mut Vec<u8>, count: usize, value: u8) -> Result<(), AllocError
     }
 }
 
+// Appends the code of literal bytes, in the short form where they fit.
 fn push_literal(out: &mut Vec<u8>, bytes: &[u8]) -> Result<(), AllocError>
     requires some { 0 < length bytes.now }
     requires few { length bytes.now ≤ 4096 }

@@ -18,6 +18,7 @@ const LONG_LITERAL: u8 = 128;
 /// Most codes give at most so many bytes. They are put by one write of so many: the codes behind put the rest.
 pub const BLOCK: usize = 16;
 
+// The two bytes behind the first one of a code, as a number.
 fn long_count(bytes: &[u8], at: usize) -> usize
     requires { at + 2 < length bytes.now }
     ensures { result ≡ 256 * slice_index bytes.now (at + 1) + slice_index bytes.now (at + 2) }

@@ -99,6 +99,7 @@ impl Plane {
         Ok(plane)
     }
 
+    /// The width in pixels.
     pub fn width(&self) -> u32
         ensures value { result ≡ self.now.width }
         ensures sized { IsSized self.now }
@@ -106,6 +107,7 @@ impl Plane {
         self.sheet.width as u32
     }
 
+    /// The height in pixels.
     pub fn height(&self) -> u32
         ensures value { result ≡ self.now.height }
         ensures sized { IsSized self.now }

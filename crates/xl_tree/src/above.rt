@@ -7,7 +7,7 @@ use crate::forest::Tree;
 use crate::naming::NodeId;
 use std::marker::Model;
 
-/// The most groups that a node may be in, and one more.
+/// How many groups there is room for: one more than a node may be in.
 const ROOM: usize = 8;
 
 /// The groups above a node, innermost first.
@@ -56,7 +56,7 @@ impl Ancestors {
 }
 
 impl<N: Drop> Tree<N> {
-    /// The groups above a node. None where there is no such node.
+    /// The groups above a node, innermost first. There are none where there is no such node.
     pub fn ancestors(&self, id: NodeId) -> Ancestors
         ensures { map (λ i. i.0) result ≡ unwrap_or (ancestors id.0 self.now) [] }
     {

@@ -17,8 +17,9 @@ use crate::refused::TreeRefused;
 use crate::slots::slot_in;
 
 impl<N: Shown + Drop> Tree<N> {
-    /// Puts a node into a stack, before the child at a place. A refused node comes back. Its id is
-    /// one that no node has, and not 0.
+    /// Puts a node into a stack, before the child at a place. Its id is one that no node has, and not 0.
+    ///
+    /// Errors: `NoNode`, `NotGroup`, `BadPlace`. A refused node comes back, and the tree is as before.
     pub fn insert(
         &mut self,
         parent: NodeId,
@@ -52,7 +53,7 @@ impl<N: Shown + Drop> Tree<N> {
 }
 
 impl<N: Drop> Tree<N> {
-    /// Moves a node with all below it into a branch.
+    /// Moves a node with all below it into a branch. Errors: `NoNode`, after which both are as before.
     pub fn remove(&mut self, id: NodeId, branch: &mut Branch<N>) -> Result<(), TreeRefused>
         requires empty { branch.old.forest ≡ none }
         requires room { size_of (find id.0 self.old) ≤ branch.old.room }
@@ -73,8 +74,10 @@ impl<N: Drop> Tree<N> {
         Ok(())
     }
 
-    /// Puts what a branch holds into a stack, before the child at a place. No node of the branch has
-    /// the id of a node of the tree.
+    /// Puts what a branch holds into a stack, before the child at a place. No node of the branch has the id of a node
+    /// of the tree.
+    ///
+    /// Errors: `NoNode`, `NotGroup`, `BadPlace`, after which both are as before.
     pub fn graft(
         &mut self,
         parent: NodeId,
@@ -101,8 +104,10 @@ impl<N: Drop> Tree<N> {
         Ok(())
     }
 
-    /// Moves a node with all below it into a stack, before the child at a place, which counts
-    /// after the node is taken out.
+    /// Moves a node with all below it into a stack, before the child at a place, which counts after the node is taken
+    /// out.
+    ///
+    /// Errors: `NoNode`, `NotGroup`, `Inside`, `BadPlace`, after which the tree is as before.
     pub fn restack(&mut self, id: NodeId, parent: NodeId, place: u32) -> Result<(), TreeRefused>
         requires low { restack_refusal id.0 parent.0 place self.old ≡ None
             → levels (put_into parent.0 place (branch_of id.0 self.old) (without id.0 self.old))
@@ -136,7 +141,7 @@ impl<N: Drop> Tree<N> {
         }
     }
 
-    /// Refuses what is no stack.
+    /// Refuses what is no stack: an id that no node has, and a node that is no group.
     fn can_hold(&self, stack: NodeId) -> Result<(), TreeRefused>
         ensures { result ≡ answer_of (no_stack stack.0 self.now) }
     {

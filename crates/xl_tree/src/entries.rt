@@ -2,7 +2,7 @@ ghost use Rattle.std.specs.Prelude.{◌≡◌, fold, max};
 ghost use Rattle.xl_tree.specs.Flat.{below, deepest, from_id};
 ghost use Rattle.xl_tree.specs.Ids.{ids_of};
 
-/// A node at its level. The entries that follow at a deeper level are those below it.
+/// A node at its level, which is 0 at the top. The entries that follow at a deeper level are those below it.
 #[derive(Drop)]
 pub struct NodeEntry<N> {
     pub id: u32,

@@ -29,7 +29,7 @@ impl Index {
         self.places.get(&id).copied()
     }
 
-    /// Tells of these entries from now on.
+    /// Makes it the index of these entries.
     pub fn renew<N>(&mut self, entries: &[NodeEntry<N>])
         requires room { HasRoom self.old }
         requires few { length entries.now ≤ MAX_NODES }

@@ -13,14 +13,14 @@ use crate::naming::NodeId;
 use crate::refused::TreeRefused;
 use crate::stacks::{Split, Stack};
 
-/// Where something may be put among the entries of a forest.
+/// Where something may be put among the entries of a forest: before the entry at `at`, at this level.
 #[derive(Clone, Copy)]
 pub struct EntrySlot {
     pub at: usize,
     pub level: u32,
 }
 
-/// The slot at a place of a stack.
+/// The slot at a place of a stack. Errors: `NoNode`, `NotGroup`, `BadPlace`.
 pub fn slot_in<N: Drop>(
     entries: &[NodeEntry<N>],
     stack: NodeId,
@@ -39,7 +39,7 @@ pub fn slot_in<N: Drop>(
     })
 }
 
-/// The nodes of a stack, and the slot before the first of them.
+/// The nodes of a stack, and the slot before the first of them. Errors: `NoNode`, `NotGroup`.
 fn stack_in<N: Drop>(
     entries: &[NodeEntry<N>],
     stack: NodeId,
@@ -68,7 +68,7 @@ fn stack_in<N: Drop>(
     }
 }
 
-/// How many nodes of a stack come before a place.
+/// How many nodes of a stack, at any depth, come before a place. Errors: `BadPlace`.
 fn nodes_before<N: Drop>(stack: Stack<'_, N>, place: u32) -> Result<u32, TreeRefused>
     ensures refused { refusal_of result ≡ past place (count stack.entry) }
     ensures before { IfOk result (λ n. n ≡ size stack.entry - size (from_place place stack.entry)) }
