@@ -17,7 +17,7 @@ pub struct Hold {
     pub until_nth: u32,
 }
 
-/// Two kinds of actors, each with a byte for its number, and four places.
+/// How many kinds of passes there are: two kinds of actors, each with a byte for its number, at four places.
 const PASSES: usize = 2 * 256 * 4;
 
 /// A gate that holds the passes that it was told to hold, each for so many looks at most.
@@ -72,7 +72,7 @@ impl Gate for HoldGate {
     }
 }
 
-// No pass has begun.
+// A count of 0 for each kind of pass.
 fn blank_counts(alloc: Global) -> Result<Vec<AtomicU64>, AllocError>
     ensures { IfOk result (λ counts. vec_len counts ≡ 2048) }
 {
@@ -83,7 +83,7 @@ fn blank_counts(alloc: Global) -> Result<Vec<AtomicU64>, AllocError>
     Ok(counts)
 }
 
-// Who passes where, as a number.
+// The number of a kind of pass: who passes, and where.
 fn pass_number(actor: Actor, place: Place) -> usize
     ensures { result < 2048 }
 {

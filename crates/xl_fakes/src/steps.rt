@@ -11,7 +11,7 @@ use crate::shelf_calls::ShelfCalls;
 use std::alloc::{AllocError, Global};
 use xl_ports::Failed;
 
-/// Records a call that lets nothing go.
+/// Records a call after which a crash may leave all that it might have left before.
 pub fn note(log: &mut Vec<Option<Settled>>) -> Result<(), AllocError>
     ensures ok { OnOk result (Notes log.old.items log.new.items) }
     ensures err { OnErr result (log.new.items ≡ log.old.items) }
@@ -20,7 +20,7 @@ pub fn note(log: &mut Vec<Option<Settled>>) -> Result<(), AllocError>
     Ok(())
 }
 
-/// Lets all go but what a read gives, and records that.
+/// Settles a name, and records what a crash can leave of it no more.
 pub fn settle_kept(
     alloc: Global,
     kept: &mut NamedFile,
@@ -40,7 +40,8 @@ pub fn settle_kept(
     Ok(())
 }
 
-/// Counts a call that reads, and answers for it. Where it was to fail, memory that was not there is not counted.
+/// Counts a call that reads, and answers how it ended: it failed where it was to fail (`failed`), or where it found no
+/// memory (`is_starved`). `starved` counts the latter, but in a call that was to fail.
 pub fn conclude_reading(
     calls: &mut ShelfCalls,
     starved: &mut u64,
@@ -69,7 +70,7 @@ pub fn conclude_reading(
     Ok(())
 }
 
-/// Counts a call that saves, and answers for it. Where it was to fail, memory that was not there is not counted.
+/// The same for a call that saves.
 pub fn conclude_saving(
     calls: &mut ShelfCalls,
     starved: &mut u64,

@@ -19,7 +19,7 @@ fn posterize_byte(levels: u32, byte: u32) -> u32
     (510 * mul(byte, steps) + steps) / (2 * steps)
 }
 
-// The byte, lessened by the amount of each use.
+// The part of a byte that is left after so many uses, each of which takes the amount of 255.
 fn fade_byte(amount: u8, uses: u32, byte: u32) -> u32
     requires byte { byte ≤ 255 }
     ensures value { result ≡ filters.table_byte kinds.Fade amount uses byte }

@@ -65,7 +65,7 @@ impl Chest {
         matches!(self.slots.get(slot as usize), Some(Some(_)))
     }
 
-    /// The table of the filter in a slot. This is one use more of that filter.
+    /// The table of the filter in a slot, which was then used once more.
     pub fn table(&mut self, slot: u32) -> Table
         requires { IsTrue (has_slot (states (λ s. state s.filter) self.old) slot) }
         ensures table { IfSome (state_at (states (λ s. state s.filter) self.old) slot)

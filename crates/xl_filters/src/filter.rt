@@ -9,7 +9,7 @@ pub trait PointFilter: Drop {
 
     ghost state: { Self → FilterState };
 
-    /// The table of the state as it was. This is one use more.
+    /// The table of the state as it was. The filter was then used once more.
     fn table(&mut self) -> Table
         ensures table { result ≡ table_of (state self.old) }
         ensures after { state self.new ≡ after_use (state self.old) };

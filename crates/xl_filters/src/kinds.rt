@@ -7,6 +7,7 @@ use crate::table::Table;
 use spec_filters::{FilterKind, FilterState};
 use std::marker::Model;
 
+// The state of a filter that was never used.
 fn unused_state(kind: FilterKind, amount: u8) -> FilterState
     ensures { result ≡ record { kind = kind; amount = amount; uses = 0 } }
 {
@@ -17,7 +18,7 @@ fn unused_state(kind: FilterKind, amount: u8) -> FilterState
     }
 }
 
-// The table of the state as it was. This is one use more.
+// The table of the state as it was, which is then one use more.
 fn next_table(state: &mut FilterState) -> Table
     ensures table { result ≡ table_of state.old }
     ensures after { state.new ≡ after_use state.old }
@@ -27,7 +28,7 @@ fn next_table(state: &mut FilterState) -> Table
     table
 }
 
-/// Turns each byte round.
+/// Makes of each byte 255 less the byte.
 #[derive(Drop)]
 pub struct Invert {
     state: FilterState,
@@ -42,7 +43,7 @@ impl Model for Invert {
 }
 
 impl Invert {
-    /// The amount has no effect.
+    /// The filter, never used. The amount has no effect.
     pub fn new(amount: u8) -> Self
         ensures { result ≡ record { kind = kinds.Invert; amount = amount; uses = 0 } }
     {
@@ -75,6 +76,7 @@ impl Model for Threshold {
 }
 
 impl Threshold {
+    /// The filter, never used. Bytes from the amount on become 255.
     pub fn new(amount: u8) -> Self
         ensures { result ≡ record { kind = kinds.Threshold; amount = amount; uses = 0 } }
     {
@@ -92,7 +94,7 @@ impl PointFilter for Threshold {
     }
 }
 
-/// Takes the nearest of as many levels as the amount says, of two at least.
+/// Makes of each byte the nearest of evenly spaced levels from 0 to 255, as many as the amount says, two at least.
 #[derive(Drop)]
 pub struct Posterize {
     state: FilterState,
@@ -107,6 +109,7 @@ impl Model for Posterize {
 }
 
 impl Posterize {
+    /// The filter, never used. The amount is how many levels there are.
     pub fn new(amount: u8) -> Self
         ensures { result ≡ record { kind = kinds.Posterize; amount = amount; uses = 0 } }
     {
@@ -124,7 +127,7 @@ impl PointFilter for Posterize {
     }
 }
 
-/// Lessens each byte by the amount of each use so far.
+/// Leaves of each byte a part of 255: 255 less the amount for each earlier use, and nothing once that is used up.
 #[derive(Drop)]
 pub struct Fade {
     state: FilterState,
@@ -139,6 +142,7 @@ impl Model for Fade {
 }
 
 impl Fade {
+    /// The filter, never used. The amount is what a byte loses for each use, in parts of 255.
     pub fn new(amount: u8) -> Self
         ensures { result ≡ record { kind = kinds.Fade; amount = amount; uses = 0 } }
     {

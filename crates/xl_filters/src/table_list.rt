@@ -19,6 +19,7 @@ impl Model for Tables {
 }
 
 impl Tables {
+    /// No tables.
     pub fn new(alloc: Global) -> Self
         ensures { result ≡ [] }
     {
@@ -27,6 +28,7 @@ impl Tables {
         }
     }
 
+    /// The tables, in their order.
     pub fn as_slice(&self) -> &[Table]
         ensures { result.now ≡ self.now }
     {

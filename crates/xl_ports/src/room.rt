@@ -2,7 +2,7 @@ ghost use Rattle.std.specs.Prelude.{◌≡◌, ◌≤◌, ◌<◌, vec_len, take
 
 use std::alloc::AllocError;
 
-// How much room is made at a time: as much as is filled, and no less and no more than this.
+// How many bytes of room are made at a time: as many as are filled, and no fewer and no more than this.
 const LEAST: usize = 1 << 16;
 
 const MOST: usize = 1 << 20;

@@ -12,7 +12,7 @@ pub trait Sink {
     /// How often it has failed. It never falls.
     ghost faults: { Self → ℕ };
 
-    /// Takes the first bytes, at least one where there are some, and answers how many.
+    /// Takes the first bytes, at least one where there are some, and answers how many. After `Failed` none were taken.
     fn write(&mut self, bytes: &[u8]) -> Result<usize, Failed>
         ensures within { IfOk result (λ k. k ≤ length bytes.now) }
         ensures some { IfOk result (λ k. 0 < length bytes.now → 0 < k) }

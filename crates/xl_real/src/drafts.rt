@@ -39,7 +39,7 @@ fn open_new(rt: &HostRuntime, name: &str, mode: u32) -> io::Result<File> {
         .open(rt, name)
 }
 
-// There need be none.
+// Removes an older draft, if there is one.
 fn remove_older(rt: &HostRuntime, name: &str) -> io::Result<()> {
     match fs::remove_file(rt, name) {
         Err(error) if error.kind() != ErrorKind::NotFound => Err(error),
@@ -47,7 +47,7 @@ fn remove_older(rt: &HostRuntime, name: &str) -> io::Result<()> {
     }
 }
 
-// `None` where there is no file.
+// The permission bits of a file. `None` where there is no file.
 fn permissions_of(rt: &HostRuntime, place: &str) -> io::Result<Option<Permissions>> {
     match fs::metadata(rt, place) {
         Ok(old) => Ok(Some(old.permissions())),

@@ -11,6 +11,7 @@ pub struct StdSink {
 }
 
 impl StdSink {
+    /// The standard output, without a fault.
     pub fn new(rt: &HostRuntime) -> Self
         ensures { result.faults ≡ 0 }
     {

@@ -12,6 +12,7 @@ pub struct StdSource {
 }
 
 impl StdSource {
+    /// The standard input, not read yet and without a fault.
     pub fn new(rt: &HostRuntime) -> Self
         ensures faults { result.faults ≡ 0 }
         ensures reads { result.reads ≡ 0 }
