@@ -1,3 +1,5 @@
+//! The commands, with what they name.
+
 /// What the arguments ask for, with the name of a file.
 #[derive(Clone, Copy, Debug, PartialEq, Eq)]
 pub enum Command<'a> {

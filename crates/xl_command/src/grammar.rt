@@ -15,6 +15,7 @@ fn file<'a>(alloc: Global) -> Arg<'a>
     Arg::new(alloc, "file").required(true)
 }
 
+// How many workers there are, 0 to 8.
 fn workers<'a>(alloc: Global) -> Arg<'a>
     ensures rule { rule_of result ≡ number_rule (codes "workers") 0 8 false }
     ensures local { result.global ≡ false }
@@ -24,6 +25,7 @@ fn workers<'a>(alloc: Global) -> Arg<'a>
         .value_parser(value_parser!(u32).range(0..=8))
 }
 
+// The seed, which has to be there.
 fn seed<'a>(alloc: Global) -> Arg<'a>
     ensures rule { rule_of result ≡ number_rule (codes "seed") 0 (2 ^ 32 - 1) true }
     ensures local { result.global ≡ false }
@@ -34,6 +36,7 @@ fn seed<'a>(alloc: Global) -> Arg<'a>
         .value_parser(value_parser!(u32))
 }
 
+// Whether the plans of the planes are told.
 fn plan<'a>(alloc: Global) -> Arg<'a>
     ensures rule { rule_of result ≡ flag_rule (codes "plan") }
     ensures local { result.global ≡ false }
@@ -43,7 +46,7 @@ fn plan<'a>(alloc: Global) -> Arg<'a>
         .action(ArgAction::SetTrue)
 }
 
-// A side of a window, in tiles.
+// A side of a window, 1 to 16 tiles, which has to be there.
 fn side<'a>(alloc: Global, name: &'a str) -> Arg<'a>
     ensures rule { rule_of result ≡ number_rule name.entry.now 1 16 true }
     ensures local { result.global ≡ false }
@@ -61,24 +64,28 @@ pub fn plain_command<'a>(alloc: Global, name: &'a str) -> Result<Command<'a>, Al
     Command::new(alloc, name).arg(file(alloc))
 }
 
+/// `edit`: a file, and how many workers there are.
 pub fn edit_command<'a>(alloc: Global) -> Result<Command<'a>, AllocError>
     ensures { IfOk result (λ c. app_of c ≡ edit_app) }
 {
     plain_command(alloc, "edit")?.arg(workers(alloc))
 }
 
+/// `make`: a file and a seed.
 pub fn make_command<'a>(alloc: Global) -> Result<Command<'a>, AllocError>
     ensures { IfOk result (λ c. app_of c ≡ make_app) }
 {
     plain_command(alloc, "make")?.arg(seed(alloc))
 }
 
+/// `pack`: a file, and whether the plans are told.
 pub fn pack_command<'a>(alloc: Global) -> Result<Command<'a>, AllocError>
     ensures { IfOk result (λ c. app_of c ≡ pack_app) }
 {
     plain_command(alloc, "pack")?.arg(plan(alloc))
 }
 
+/// `view`: a file, and the sides of a window.
 pub fn view_command<'a>(alloc: Global) -> Result<Command<'a>, AllocError>
     ensures { IfOk result (λ c. app_of c ≡ view_app) }
 {

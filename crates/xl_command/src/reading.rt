@@ -1,3 +1,4 @@
+//! The command that arguments are, by the matches that clap finds.
 ghost use Rattle.std.specs.Prelude.{◌≡◌, nat_abs, ◌^◌, ◌-◌, ℕ, List, true, false, pos, Some, IfOk, IfSome, MatchOption};
 ghost use Rattle.std.specs.Prelude.{option_map, codes};
 ghost use Rattle.clap.specs.Words.{app_of, found_of, rows_of, matches_of, first_of, is_simple_and_free, IsParsedFrom, IsSignedIn};

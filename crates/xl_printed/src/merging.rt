@@ -39,6 +39,7 @@ impl Model for Merging {
     ghost invariant = { λ m. length m.nexts ≡ 8 };
 }
 
+// Whether a word names the save that is out.
 fn is_start(out: Option<OrderWord>, word: OrderWord) -> bool
     ensures { result ≡ merging.is_start out word }
 {
@@ -62,6 +63,7 @@ fn out_with(out: Option<OrderWord>, word: OrderWord, save: bool) -> Option<Optio
 }
 
 impl Saves {
+    /// No calls.
     pub fn new(alloc: Global) -> Self
         ensures { result ≡ [] }
     {
@@ -103,6 +105,7 @@ impl Merging {
         }
     }
 
+    // Ends the save that is out. False where the word is not its end.
     fn take_end(&mut self, word: OrderWord) -> bool
         ensures { if_holds result self.new ≡ merging.take_end self.old word }
     {
@@ -114,6 +117,7 @@ impl Merging {
         }
     }
 
+    // Counts the next call of a session. False where the word names another call, or a save while one is out.
     fn take_call(&mut self, saves: &[Saves], word: OrderWord) -> bool
         requires eight { length saves.now ≡ 8 }
         requires session { word.session < 8 }
@@ -134,6 +138,7 @@ impl Merging {
         true
     }
 
+    // Takes a word. False where it may not stand here.
     fn take(&mut self, saves: &[Saves], word: OrderWord) -> bool
         requires { length saves.now ≡ 8 }
         ensures { if_holds result self.new ≡ merging.take_word saves.now self.old word }
@@ -148,6 +153,7 @@ impl Merging {
         }
     }
 
+    // Whether each session has made all of its calls.
     fn has_all(&self, saves: &[Saves]) -> bool
         requires { length saves.now ≡ 8 }
         ensures { result ≡ bytes_eq self.now.nexts (map length saves.now) }
@@ -160,6 +166,7 @@ impl Merging {
         true
     }
 
+    // Whether all calls were made, and no save is out.
     fn is_whole(&self, saves: &[Saves]) -> bool
         requires { length saves.now ≡ 8 }
         ensures { result ≡ merging.is_whole saves.now (Some self.now) }
@@ -168,7 +175,8 @@ impl Merging {
     }
 }
 
-/// Whether the words are a merge of calls, each once, each session's in order, and of these saves each ends before the next one starts.
+/// Whether the words are a merge of the sessions' calls: each call stands once, those of a session in their order, and
+/// each save ends before the next one starts.
 pub fn is_merge(saves: &[Saves], order: &[OrderWord]) -> bool
     requires { length saves.now ≡ 8 }
     ensures { result ≡ merging.merges saves.now order.now }

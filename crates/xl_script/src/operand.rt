@@ -33,7 +33,7 @@ impl<'a> Operand<'a> {
         }
     }
 
-    // What the word was read as, which is none where it is not of its kind.
+    // What the word was read as, or what is wrong with it where that is nothing.
     fn read<T>(self, value: Option<T>, kind: WordKind) -> Result<T, Cause>
         requires { is_some value ≡ has kind self.text.now }
         ensures { Reads result value }
@@ -44,18 +44,21 @@ impl<'a> Operand<'a> {
         }
     }
 
+    /// A number of 32 bits.
     pub fn number(self) -> Result<u32, Cause>
         ensures { Reads result (grammar.number self.entry.text.now) }
     {
         self.read(number(self.text), WordKind::Number)
     }
 
+    /// A number of 0 to 255.
     pub fn byte(self) -> Result<u8, Cause>
         ensures { Reads result (grammar.number_below 256 self.entry.text.now) }
     {
         self.read(byte(self.text), WordKind::Byte)
     }
 
+    /// A flag: 0 or 1.
     pub fn flag(self) -> Result<bool, Cause>
         ensures { Reads result (grammar.flag self.entry.text.now) }
     {
@@ -77,6 +80,7 @@ impl<'a> Operand<'a> {
         self.read(side(self.text), WordKind::Side)
     }
 
+    /// The type of a layer: a number of 0 to 5.
     pub fn layer_type(self) -> Result<u32, Cause>
         ensures { Reads result (grammar.number_below 6 self.entry.text.now) }
     {
@@ -90,6 +94,7 @@ impl<'a> Operand<'a> {
         self.read(signed_number(self.text), WordKind::Offset)
     }
 
+    /// Bytes in hexadecimal digits, or a minus for none.
     pub fn hex(self, alloc: Global) -> Result<Bytes, CauseOrMemory>
         ensures { ReadsIf result (grammar.hex self.entry.text.now) }
     {

@@ -70,7 +70,7 @@ fn at(before: u8, text: &[u8]) -> Operand<'_>
 }
 
 impl<'a> Operands<'a> {
-    // There are more or fewer words than these.
+    // The cause that there are fewer than `least` words behind the keyword, or more than `most`.
     fn word_count_fault(self, least: u8, most: u8) -> Cause
         ensures { Blames result }
     {
@@ -82,7 +82,7 @@ impl<'a> Operands<'a> {
         }
     }
 
-    /// The keyword stands alone.
+    /// Refuses words behind the keyword.
     pub fn none(self) -> Result<(), Cause>
         ensures { Holds result (grammar.none (words_left (option_copied self.entry.words))) }
     {
@@ -93,6 +93,7 @@ impl<'a> Operands<'a> {
         }
     }
 
+    /// The one word behind the keyword, or that there are more or fewer.
     pub fn one(self) -> Result<Operand<'a>, Cause>
         ensures { MatchResult result
             (λ a. grammar.one (words_left (option_copied self.entry.words)) ≡ Some a.text.now)
@@ -105,6 +106,7 @@ impl<'a> Operands<'a> {
         }
     }
 
+    /// The two words behind the keyword, or that there are more or fewer.
     pub fn two(self) -> Result<(Operand<'a>, Operand<'a>), Cause>
         ensures { MatchResult result
             (λ t. grammar.two (words_left (option_copied self.entry.words))
@@ -118,6 +120,7 @@ impl<'a> Operands<'a> {
         }
     }
 
+    /// The three words behind the keyword, or that there are more or fewer.
     pub fn three(self) -> Result<(Operand<'a>, Operand<'a>, Operand<'a>), Cause>
         ensures { MatchResult result
             (λ t. grammar.three (words_left (option_copied self.entry.words))
@@ -131,6 +134,7 @@ impl<'a> Operands<'a> {
         }
     }
 
+    /// The five words behind the keyword, or that there are more or fewer.
     pub fn five(self) -> Result<Five<'a>, Cause>
         ensures { MatchResult result
             (λ t. grammar.five (words_left (option_copied self.entry.words))
@@ -144,6 +148,7 @@ impl<'a> Operands<'a> {
         }
     }
 
+    /// The six words behind the keyword, or that there are more or fewer.
     pub fn six(self) -> Result<Six<'a>, Cause>
         ensures { MatchResult result
             (λ t. grammar.six (words_left (option_copied self.entry.words))
@@ -171,6 +176,7 @@ impl<'a> Operands<'a> {
         }
     }
 
+    /// The eight words behind the keyword, or that there are more or fewer.
     pub fn eight(self) -> Result<Eight<'a>, Cause>
         ensures { MatchResult result
             (λ t. grammar.eight (words_left (option_copied self.entry.words))
@@ -202,7 +208,7 @@ impl<'a> Operands<'a> {
         }
     }
 
-    /// A number, or none where there is no word.
+    /// The number behind the keyword, or none where it stands alone.
     pub fn optional_number(self) -> Result<Option<u32>, Cause>
         ensures { Reads result (grammar.number_or_none
             (words_left (option_copied self.entry.words))) }

@@ -43,6 +43,7 @@ fn refusal(line: u32, cause: Cause) -> BadLineOrMemory
     BadLineOrMemory::Refused(BadLine { line, cause })
 }
 
+// Whether a line is empty or a comment.
 fn is_skipped(line: &[u8]) -> bool
     ensures { result ≡ grammar.is_skipped line.now }
 {
@@ -90,6 +91,7 @@ fn take_line(
     }
 }
 
+// The sessions after all lines of a text, or the first line that is refused.
 fn all_lines(
     alloc: Global,
     scope: Scope,

@@ -6,6 +6,7 @@ use crate::cause::Cause;
 use crate::operand::Operand;
 use xl_edit::Rect;
 
+/// A rectangle: its top left corner and its sides, in pixels.
 pub fn rect(x: Operand<'_>, y: Operand<'_>, w: Operand<'_>, h: Operand<'_>) -> Result<Rect, Cause>
     ensures { Reads result (grammar.rect x.entry.text.now y.entry.text.now w.entry.text.now
         h.entry.text.now) }
@@ -35,13 +36,14 @@ pub fn spot(
     Ok((id, rect(x, y, w, h)?))
 }
 
+/// The place of a layer on the canvas, in pixels, which may be left of it or above it.
 pub fn offset(x: Operand<'_>, y: Operand<'_>) -> Result<(i32, i32), Cause>
     ensures { Reads result (grammar.offset x.entry.text.now y.entry.text.now) }
 {
     Ok((x.signed_number()?, y.signed_number()?))
 }
 
-/// The sides of a new layer.
+/// The sides of a new layer, in pixels.
 pub fn size(w: Operand<'_>, h: Operand<'_>) -> Result<(u32, u32), Cause>
     ensures { Reads result (grammar.size w.entry.text.now h.entry.text.now) }
 {

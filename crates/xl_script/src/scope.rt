@@ -51,7 +51,7 @@ impl Scope {
         }
     }
 
-    /// What a line asks for may stand in such a script.
+    /// Refuses what may not stand in such a script.
     pub fn check(self, asked: &Asked<'_>) -> Result<(), Cause>
         ensures { Holds result (scopes.may_ask self (asked_of asked.now)) }
     {
