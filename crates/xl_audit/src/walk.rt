@@ -1,3 +1,4 @@
+//! What a walk along an order keeps.
 use crate::versions::Versions;
 use xl_standing::Standing;
 

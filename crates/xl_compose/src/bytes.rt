@@ -4,7 +4,7 @@ ghost use Rattle.xl_compose.specs.Rows.{row_bytes};
 
 use xl_blend::Pixel;
 
-/// Writes the RGBA bytes of the pixels.
+/// Writes the RGBA bytes of the pixels, four for each.
 pub fn write_row(row: &[Pixel], out: &mut [u8])
     requires { length out.old ≡ 4 * length row.now }
     ensures { out.new ≡ row_bytes row.now }

@@ -39,6 +39,7 @@ fn stack_picture<L: Ledger>(
 pub struct Recompose;
 
 impl Recompose {
+    /// It keeps nothing between two pictures.
     pub fn new() -> Recompose {
         Recompose
     }

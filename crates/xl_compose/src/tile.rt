@@ -44,6 +44,7 @@ impl Picture {
         })
     }
 
+    /// The RGBA bytes, row by row: four for each pixel of the tile.
     pub fn bytes(&self) -> &[u8]
         ensures { result.now ≡ self.now }
     {

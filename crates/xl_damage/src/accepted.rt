@@ -1,3 +1,4 @@
+//! The damage of an edit, by the document before it alone.
 ghost use Rattle.std.specs.Prelude.{◌≡◌, ◌-◌, ◌<◌, ◌^◌, None, true, IfOk};
 ghost use Rattle.spec_damage.specs.Damage as damage;
 ghost use Rattle.spec_document.specs.Ids as ids;

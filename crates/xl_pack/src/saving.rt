@@ -1,3 +1,4 @@
+//! The save of a packed file.
 ghost use Rattle.std.specs.Prelude.{◌≡◌, false, length, IfSome, IsSome, OnErr, OnOk};
 ghost use Rattle.spec_document.specs.Document.{Document};
 ghost use Rattle.spec_shortest.specs.Files.{IsSmallestFile};

@@ -1,3 +1,4 @@
+//! Opening a core on a document.
 ghost use Rattle.std.specs.Prelude.{◌≡◌, [], IfOk, IfErr, IsSome, Some};
 ghost use Rattle.spec_document.specs.Limits.{IsDocument};
 ghost use Rattle.xl_doc.specs.Numbered.{AreNumbered};

@@ -1,3 +1,4 @@
+//! The run of a script of session 0 alone, without threads.
 ghost use Rattle.spec_history.specs.Calls.{IsCall, most_entries};
 ghost use Rattle.spec_history.specs.History.{next_index};
 ghost use Rattle.spec_history.specs.Machine.{Reply as Plain};

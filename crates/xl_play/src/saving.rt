@@ -1,3 +1,4 @@
+//! A save, from its start to its end.
 ghost use Rattle.spec_history.specs.Calls.{most_entries};
 ghost use Rattle.std.specs.Prelude.{◌≡◌, ◌+◌, ◌<◌, ◌≤◌, length, IfOk, OnOk, IsSome};
 ghost use Rattle.spec_history.specs.Kept.{IsLegal};

@@ -1,3 +1,4 @@
+//! The run of a script, with or without threads.
 ghost use Rattle.std.specs.Prelude.{◌≡◌, ◌<◌, ◌≤◌, ◌^◌, true, false, [], length, map, Ok, IfOk, IsSome};
 ghost use Rattle.std.specs.List.{AllByRecursion};
 ghost use Rattle.spec_document.specs.Limits.{IsDocument};

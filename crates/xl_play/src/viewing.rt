@@ -1,7 +1,7 @@
-//! What stands still while a script is viewed.
+//! What stays the same while a script is viewed.
 use std::alloc::Global;
 
-/// The memory, and the columns and rows of a window.
+/// The memory, and how many columns and rows of tiles a window has.
 #[derive(Drop)]
 pub struct Viewing {
     pub alloc: Global,

@@ -1,3 +1,4 @@
+//! Digests of bytes.
 ghost use Rattle.std.specs.Prelude.{◌≡◌, IfOk, string_bytes};
 ghost use Rattle.spec_text.specs.Text.{digest_of};
 

@@ -1,3 +1,4 @@
+//! Why a picture was not written whole.
 ghost use Rattle.std.specs.Prelude.{◌≡◌};
 ghost use Rattle.xl_report.specs.declared.fault.PamFaultOrMemory.TheVariants as causes;
 

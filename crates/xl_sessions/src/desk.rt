@@ -1,3 +1,4 @@
+//! The desk of a session, from its filters.
 ghost use Rattle.std.specs.Prelude.{◌≡◌, ◌^◌, ◌<◌, Some, length, map, IfOk};
 ghost use Rattle.xl_filters.specs.Chests.{states};
 

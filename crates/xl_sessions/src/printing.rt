@@ -1,3 +1,4 @@
+//! The text of a history.
 ghost use Rattle.spec_document.specs.Document.{Document};
 ghost use Rattle.spec_history.specs.History.{Entry as Plain, mine};
 ghost use Rattle.spec_history.specs.Kept.{IsLegal};

@@ -1,3 +1,4 @@
+//! Why a session ends before its last line.
 ghost use Rattle.std.specs.Prelude.{◌≡◌};
 ghost use Rattle.xl_sessions.specs.declared.unplayed.Unplayed.TheVariants.{Memory};
 

@@ -1,3 +1,4 @@
+//! Desks, at which sessions make their calls.
 ghost use Rattle.std.specs.Prelude.{◌≡◌, [], IfOk, IfErr};
 
 use std::alloc::{AllocFailed, Global};

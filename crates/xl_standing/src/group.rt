@@ -85,7 +85,7 @@ pub(crate) fn make_group(
     try_group(alloc, document, next_id, edits, tables)
 }
 
-// Whether a group of edits is refused.
+// Refuses a group of edits in which one is refused, whatever its filters answer.
 fn check_group(
     alloc: Global,
     document: &Document,
@@ -223,7 +223,7 @@ fn apply_one(
     Ok(())
 }
 
-// The document before the first edit of a group, at the first one.
+// The document before the edits, for the first of them alone.
 fn at_first(index: usize, first: &Document) -> Option<&Document>
     ensures { IfSome result (λ before. (index ≡ 0) × (before.now ≡ first.now)) }
 {

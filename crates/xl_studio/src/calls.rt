@@ -31,7 +31,9 @@ use xl_filters::PointFilter;
 use xl_ports::Shelf;
 
 impl<D: Shelf> Studio<D> {
-    /// Makes a call of a session in one hold of the turn. The calls below are this at one kind.
+    /// Makes a call of a session in one hold of the turn. Each call below is this one, for calls of one kind.
+    ///
+    /// The reply is `HistoryFull` where the history has no room for it, and then there is no entry.
     ///
     /// The filters that a group names are in the desk's chest. After out of memory nothing was made, but that the filters of the
     /// first edits of a group that is accepted may have been asked.

@@ -1,3 +1,4 @@
+//! Undo records.
 ghost use Rattle.std.specs.Prelude.{◌≡◌, ◌≤◌};
 ghost use Rattle.spec_undo.specs.Changed.{changed_in};
 ghost use Rattle.xl_undo.specs.Leads.{LeadsBack, turned};

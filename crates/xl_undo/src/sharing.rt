@@ -1,3 +1,4 @@
+//! A record of a document that is not handed in.
 ghost use Rattle.std.specs.Prelude.{◌≤◌, IfOk};
 ghost use Rattle.spec_undo.specs.Changed.{changed_in};
 ghost use Rattle.xl_undo.specs.Leads.{LeadsBack};
