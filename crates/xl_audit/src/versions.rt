@@ -29,6 +29,7 @@ fn version_named(calls: &[SessionCalls], output: &Output, word: OrderWord) -> Op
     }
 }
 
+// Marks a version as wanted, if a history may have so many.
 fn want(wanted: &mut Vec<bool>, version: u32) -> Result<(), AllocError>
     ensures this { OnOk result (version ≤ most_entries → is_wanted wanted.new.items version
         ≡ true) }
@@ -45,7 +46,7 @@ fn want(wanted: &mut Vec<bool>, version: u32) -> Result<(), AllocError>
     Ok(())
 }
 
-// What a word wants.
+// Marks the version that the reply to a word shows, if it is that of a peek.
 fn want_of_word(
     calls: &[SessionCalls],
     output: &Output,

@@ -31,6 +31,7 @@ use xl_printed::{Output, Printed};
 use xl_script::OrderWord;
 use xl_standing::{Desk, has_stack, has_tile};
 
+// Whether a reply says that a version was made.
 fn is_changed(reply: Reply) -> bool
     ensures { result ≡ is_changed (reply_of reply) }
 {

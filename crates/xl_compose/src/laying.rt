@@ -97,8 +97,8 @@ fn lay_piece<L: Ledger>(
     }
 }
 
-/// Lays pieces upon pictures without anything. The scratch holds the pictures of all levels, one after another, and
-/// `source` one picture.
+/// Lays pieces upon pictures without anything. `scratch` holds the pictures of all levels, one after another, `source`
+/// has room for one picture, and `bytes` for a tile and for the bytes of a layer and its mask in the band.
 pub fn lay_pieces<L: Ledger>(
     colours: &[[u8; 3]],
     pieces: &[Piece],

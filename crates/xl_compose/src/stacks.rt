@@ -20,7 +20,7 @@ use xl_blend::{Mode, Pixel, Steps, fade_row};
 use xl_doc::{Body, Node};
 use xl_tree::{Split, Stack};
 
-/// The pixel of nothing.
+/// The pixel without colour and without alpha.
 pub const CLEAR: Pixel = Pixel {
     r: 0,
     g: 0,
@@ -38,7 +38,7 @@ pub fn clear_row(row: &mut [Pixel])
     }
 }
 
-/// The bottommost visible node is laid as normal.
+/// The mode in which a node is laid: the bottommost visible one of its stack as normal, any other in its own.
 pub fn mode_above(some_under: bool, mode: Mode) -> Mode
     ensures { result ≡ mode_over some_under mode }
 {

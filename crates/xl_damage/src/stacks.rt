@@ -47,6 +47,7 @@ pub(crate) fn bottom_visible(doc: &Document, stack: NodeId) -> Option<NodeId>
     doc.tree.bottom_visible(stack)
 }
 
+/// Whether both are one node, or neither is any.
 pub(crate) fn same_id(first: Option<NodeId>, second: Option<NodeId>) -> bool
     ensures { result ≡ damage.same_id (option_map (λ i. i.0) first) (option_map (λ i. i.0) second) }
 {
@@ -57,6 +58,7 @@ pub(crate) fn same_id(first: Option<NodeId>, second: Option<NodeId>) -> bool
     }
 }
 
+// Whether a stack is among these.
 fn has_stack(stacks: &[NodeId], stack: NodeId) -> bool
     ensures { result ≡ list_any (λ m. m == stack.0) (numbers stacks.now) }
 {
@@ -68,6 +70,7 @@ fn has_stack(stacks: &[NodeId], stack: NodeId) -> bool
     false
 }
 
+// Adds the same rectangle of each of these stacks.
 fn add_copies(
     list: &mut Vec<(NodeId, Rect)>,
     stacks: &[NodeId],
@@ -81,7 +84,7 @@ fn add_copies(
     Ok(())
 }
 
-/// Adds the copies for those stacks that are not among the ones before.
+/// Adds the same rectangle of each of these stacks that is not among those before.
 fn add_other_copies(
     list: &mut Vec<(NodeId, Rect)>,
     before: &[NodeId],

@@ -58,7 +58,7 @@ impl Damage {
         }
     }
 
-    /// Adds that of an edit, by the documents before and after it. `next_id` is the id that a new node got.
+    /// Adds the damage of an edit, by the documents before and after it. `next_id` is the id that a new node got.
     pub fn add(
         &mut self,
         alloc: Global,

@@ -32,6 +32,7 @@ pub enum Code {
     TooDeep,
 }
 
+// Each refusal by its number.
 const CODES: [(u32, Code); 19] = [
     (1, Code::NoNode),
     (2, Code::IsGroup),
@@ -54,7 +55,7 @@ const CODES: [(u32, Code); 19] = [
     (19, Code::TooDeep),
 ];
 
-// An area is below this.
+// A number of pixels is below this.
 const AREA_LIMIT: u128 = 1 << 64;
 
 // The refusal of this number, if there is one.
@@ -70,7 +71,7 @@ fn code_of(number: u32) -> Option<Code>
     None
 }
 
-// The number of these digits, if it is that of an area.
+// The number of these digits, if it is below `AREA_LIMIT`.
 fn digits(word: &[u8]) -> Option<u64>
     ensures { result ≡ below (2 ^ 64) (grammar.digits_from 0 word.now) }
 {
@@ -87,6 +88,7 @@ fn digits(word: &[u8]) -> Option<u64>
     Some(value as u64)
 }
 
+// A number of pixels, without a leading zero.
 fn area(word: &[u8]) -> Option<u64>
     ensures { result ≡ grammar.number_below (2 ^ 64) word.now }
 {
@@ -103,18 +105,21 @@ fn value(words: Option<&[u8]>) -> Option<u32>
     number(one_word(words)?)
 }
 
+// The number of pixels that is the only word.
 fn area_value(words: Option<&[u8]>) -> Option<u64>
     ensures { result ≡ only_number (2 ^ 64) (words_left (option_copied words.entry)) }
 {
     area(one_word(words)?)
 }
 
+// A refusal without a value, where no word is left.
 fn alone(cause: EditRefused, words: Option<&[u8]>) -> Option<EditRefused>
     ensures { result ≡ reading.without_value cause (words_left (option_copied words.entry)) }
 {
     if no_words(words) { Some(cause) } else { None }
 }
 
+// The refusal, with its value among the words that are left.
 fn cause(code: Code, words: Option<&[u8]>) -> Option<EditRefused>
     ensures { result ≡ cause_of code (words_left (option_copied words.entry)) }
 {

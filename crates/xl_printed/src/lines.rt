@@ -10,7 +10,7 @@ use xl_script::{SESSIONS, number, number_below};
 
 const SESSION_LIMIT: u64 = SESSIONS as u64;
 
-/// A session and an index.
+/// A session, a point, and the index of its call.
 pub fn read_place(word: &[u8]) -> Option<(u8, u32)>
     ensures { result ≡ reading.read_place word.now }
 {
@@ -20,7 +20,7 @@ pub fn read_place(word: &[u8]) -> Option<(u8, u32)>
     Some((session, index))
 }
 
-// The line of this call.
+// The reply in a line, where it is that of this call.
 fn read_line(session: u8, index: u32, line: &[u8]) -> Option<Printed<'_>>
     ensures { result ≡ reading.read_line session index line.now }
 {
@@ -33,7 +33,7 @@ fn read_line(session: u8, index: u32, line: &[u8]) -> Option<Printed<'_>>
     }
 }
 
-// The first line of a session's call, and what is behind it.
+// The reply in the first line, where it is that of this call, and what is behind the line.
 fn first_reply(session: u8, index: u32, text: &[u8]) -> Option<(Printed<'_>, &[u8])>
     ensures { MatchOption result
         (first_line session index text.now ≡ None)
@@ -43,7 +43,7 @@ fn first_reply(session: u8, index: u32, text: &[u8]) -> Option<(Printed<'_>, &[u
     Some((read_line(session, index, line)?, after))
 }
 
-/// So many lines of a session, and what is behind them.
+/// The replies in the first `count` lines, which are those of a session, and what is behind them.
 pub fn read_lines(
     alloc: Global,
     session: u8,

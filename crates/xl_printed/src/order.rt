@@ -84,7 +84,7 @@ fn order_words(text: &[u8]) -> Option<&[u8]>
     if after.is_empty() { Some(rest) } else { None }
 }
 
-/// The words of the order line, behind which nothing is.
+/// The words of a text that is the order line and nothing more. None where it is not.
 pub fn read_order(alloc: Global, text: &[u8]) -> Result<Option<Vec<OrderWord>>, AllocError>
     ensures { IfOk result (λ o. MatchOption o
         (reading.read_order text.now ≡ None)

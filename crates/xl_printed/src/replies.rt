@@ -48,6 +48,7 @@ const PHRASES: [(&'static [u8], Phrase); 13] = [
     (b"save fault ", Phrase::SaveFault),
 ];
 
+// How many hexadecimal digits a digest has.
 const DIGEST_LEN: usize = 64;
 
 fn read_changed(rest: &[u8]) -> Option<Printed<'static>>
@@ -125,6 +126,7 @@ fn read_tile(rest: &[u8]) -> Option<Printed<'_>>
     })
 }
 
+// A reply behind whose phrase nothing stands.
 fn nothing_more(reply: Reply, rest: &[u8]) -> Option<Printed<'static>>
     ensures { result ≡ reading.nothing_more (reply_of reply) rest.now }
 {

@@ -29,8 +29,10 @@ use xl_filters::PointFilter;
 use xl_play::Host;
 use xl_ports::{Gate, Shelf, Sink, Source};
 
+/// The status where all went well.
 const DONE: u8 = 0;
 
+/// The status where the words are no command.
 const USAGE: u8 = 2;
 
 /// The status that a command came to, and the shelf that was handed in.

@@ -7,21 +7,28 @@ use crate::stopped::Stopped;
 use std::alloc::{AllocError, Global};
 use xl_ports::Sink;
 
+/// The status where a line of the script, or the head of what is audited, is refused.
 const BAD_SOURCE: u8 = 3;
 
+/// The status where the file holds no document.
 const REFUSED: u8 = 4;
 
+/// The status where the source failed.
 const SOURCE_FAULT: u8 = 5;
 
+/// The status where the file could not be read, or a save failed.
 const SHELF_FAULT: u8 = 6;
 
+/// The status where the sink failed.
 const SINK_FAULT: u8 = 7;
 
 /// The status where memory ran out.
 pub const MEMORY: u8 = 8;
 
+/// The status where the image cannot be made flat.
 const NOT_FLATTENED: u8 = 9;
 
+/// The status where the printed run is rejected.
 const REJECTED: u8 = 10;
 
 // Writes a line and answers its status, unless memory ran out for it.

@@ -29,7 +29,7 @@ impl Draws {
         Draws { state: seed }
     }
 
-    /// A number below n.
+    /// The next number, below n.
     pub fn draw(&mut self, n: u32) -> u32
         requires { 0 < n }
         ensures value { IsDrawn (draw n) self.old result self.new }

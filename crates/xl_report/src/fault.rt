@@ -1,4 +1,4 @@
-//! Why a picture was not written whole.
+//! How writing a picture fails.
 ghost use Rattle.std.specs.Prelude.{◌≡◌};
 ghost use Rattle.xl_report.specs.declared.fault.PamFaultOrMemory.TheVariants as causes;
 
@@ -6,9 +6,10 @@ use std::alloc::AllocError;
 use thiserror::Error;
 use xl_ports::Failed;
 
-/// Why a picture was not written whole.
+/// Why a picture was not written whole, other than that memory ran out.
 #[derive(Clone, Copy, Debug, PartialEq, Eq, Error)]
 pub enum PamFault {
+    /// The sink failed.
     #[error("the sink failed")]
     Write,
 }

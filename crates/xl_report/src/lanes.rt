@@ -136,7 +136,7 @@ pub fn new_lanes(alloc: Global, doc: &Document, count: usize) -> Result<Vec<Lane
     Ok(lanes)
 }
 
-/// Composes the bands from a row on beside one another, each in a thread where one can be made.
+/// Composes the bands from a row on beside one another, one in each lane, each in a thread where one can be made.
 pub fn compose_lanes<R: Threads + Sync>(rt: &R, doc: &Document, first: u32, lanes: &mut [Lane])
     requires first { first ≤ doc.now.height }
     requires few { length lanes.old ≤ 32 }

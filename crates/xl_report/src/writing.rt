@@ -15,9 +15,10 @@ use xl_doc::Document;
 use xl_grid::MAX_SIDE;
 use xl_ports::{Failed, Sink, write_all};
 
-/// The pixels that the longest rows of all bands composed beside one another have at most, where these are more than one.
+/// How many pixels the rows of all lanes together have at most, one row of each, unless there is one lane alone.
 const MOST_PIXELS: u32 = 49_152;
 
+// The head of a PAM of these sides.
 fn head(alloc: Global, width: u32, height: u32) -> Result<String, AllocError>
     ensures { IfOk result (λ text. string_bytes text ≡ pam_head width height) }
 {
@@ -30,7 +31,8 @@ fn head(alloc: Global, width: u32, height: u32) -> Result<String, AllocError>
     Ok(text)
 }
 
-// How many bands are composed beside one another: one for each processor, as far as their rows have MOST_PIXELS at most.
+// How many bands are composed beside one another: one for each processor, 32 at most, no more than the picture has, and
+// as far as their rows have `MOST_PIXELS` at most; but one at least.
 fn lanes_for(threads: usize, width: u32, height: u32) -> usize
     ensures some { 1 ≤ result }
     ensures few { result ≤ 32 }
@@ -88,8 +90,9 @@ fn write_rows<R: Threads + Sync, K: Sink>(
 
 /// Writes the picture of a document as a PAM: a head of lines, and then RGBA bytes, row by row.
 ///
-/// All memory is taken before the first byte is written. A band is a row of tiles, so that each tile is unpacked once; as many bands as
-/// there are processors are composed beside one another, each in a thread where one can be made.
+/// All memory is taken before the first byte is written. A band is a row of tiles, so that each tile is unpacked once;
+/// as many bands as there are processors, 32 at most and fewer where rows are long, are composed beside one another,
+/// each in a thread where one can be made. Where the sink fails, a front of the PAM was written.
 pub fn pam<R: Threads + Sync, K: Sink>(
     rt: &R,
     alloc: Global,

@@ -23,11 +23,13 @@ pub struct Audit {
 /// Why a source is no audit.
 #[derive(Clone, Copy, Debug, PartialEq, Eq)]
 pub enum Unread {
+    /// The source failed.
     SourceFault,
     /// The first line does not say how long the script is, or there are too few bytes behind it, or too many.
     BadHead,
     /// The script is refused at a line.
     BadLine(BadLine),
+    /// Memory ran out.
     Memory,
 }
 
