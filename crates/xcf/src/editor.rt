@@ -22,7 +22,8 @@ use xl_doc::Document;
 use xl_edit::{Call, Edits, Group, Reply};
 use xl_filters::{Chest, PointFilter};
 
-/// An image with its history: each call is an entry, and the last 256 groups can be undone. A history has at most 2^20 entries.
+/// An image with its history: each call is an entry, and the last 256 groups can be undone. A history has at most 2^20
+/// entries.
 #[derive(Drop)]
 pub struct Editor {
     core: Core<NoShelf>,
@@ -65,7 +66,8 @@ fn submit<L: Ledger>(
 impl Editor {
     /// The image that a file holds, from the file's bytes, with a history without entries.
     ///
-    /// Errors: `Refused` with the first rule that the file breaks and its offset, `TooLong` for more than 2^31 bytes, `Memory`.
+    /// Errors: `Refused` with the first rule that the file breaks and its offset, `TooLong` for more than 2^31 bytes,
+    /// `Memory`.
     pub fn open(alloc: Global, file: Vec<u8>) -> Result<Editor, NotOpened>
         ensures opens { Opens file.items (λ editor. editor.base) result }
         ensures first { IfOk result (λ editor. editor ≡ history_of editor.base) }
@@ -93,11 +95,11 @@ impl Editor {
         submit::<Brand>(alloc, &mut self.core, call, &mut desk, Blank::new(1))
     }
 
-    /// Makes a group of 1 to 1024 edits in turn, all or none. The reply is `Changed` with the new version, `Refused` with the first
-    /// edit that is refused and why, or `HistoryFull`; after the last two the document is as before.
+    /// Makes a group of 1 to 1024 edits in turn, all or none. The reply is `Changed` with the new version, `Refused`
+    /// with the first edit that is refused and why, or `HistoryFull`; after the last two the document is as before.
     ///
-    /// Errors, after which the history is as before: `NotGroup` for no edits, too many, a filter among them, or one that is past the
-    /// limits of its type, and `Memory`.
+    /// Errors, after which the history is as before: `NotGroup` for no edits, too many, a filter among them, or one
+    /// that is past the limits of its type, and `Memory`.
     pub fn edit(&mut self, alloc: Global, edits: Edits) -> Result<Reply, NotAsked>
         ensures answered { IfOk result (λ reply.
             Answers self.old 0 (machine.edit None (edits_of edits)) [] (reply_of reply) self.new) }
@@ -110,8 +112,8 @@ impl Editor {
         Ok(self.ask(alloc, call)?)
     }
 
-    /// Undoes the last group: the document before it is the next version. The reply is `Changed`, `NothingToUndo` or `HistoryFull`.
-    /// Its one error is that memory ran out; the history is as before then.
+    /// Undoes the last group: the document before it is the next version. The reply is `Changed`, `NothingToUndo` or
+    /// `HistoryFull`. Its one error is that memory ran out; the history is as before then.
     pub fn undo(&mut self, alloc: Global) -> Result<Reply, AllocError>
         ensures answered { IfOk result (λ reply. Answers self.old 0 (machine.undo None) []
             (reply_of reply) self.new) }
@@ -120,8 +122,8 @@ impl Editor {
         self.ask(alloc, Call::Undo(None))
     }
 
-    /// Makes the group again that was undone last. The reply is `Changed`, `NothingToRedo` or `HistoryFull`. Its one error is that
-    /// memory ran out; the history is as before then.
+    /// Makes the group again that was undone last. The reply is `Changed`, `NothingToRedo` or `HistoryFull`. Its one
+    /// error is that memory ran out; the history is as before then.
     pub fn redo(&mut self, alloc: Global) -> Result<Reply, AllocError>
         ensures answered { IfOk result (λ reply. Answers self.old 0 machine.redo [] (reply_of reply)
             self.new) }

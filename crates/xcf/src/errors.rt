@@ -25,8 +25,8 @@ pub enum NotGroup {
     /// A group has 1 to 1024 edits.
     #[error("a group has 1 to 1024 edits")]
     Count,
-    /// The first edit, counted from 0, that is a filter, makes a layer with a side of 0 or above `MAX_SIDE`, or sets colours that
-    /// are not 1 to 256 of three bytes.
+    /// The first edit, counted from 0, that is a filter, makes a layer with a side of 0 or above `MAX_SIDE`, or sets
+    /// colours that are not 1 to 256 of three bytes.
     #[error("edit {0} is a filter or past the limits of its type")]
     NotPlain(u32),
 }

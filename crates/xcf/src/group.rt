@@ -138,8 +138,8 @@ fn first_unplain(edits: &[Edit]) -> Option<usize>
     None
 }
 
-/// Whether edits are a group that a session may ask for at a desk without filters: 1 to 1024 of them, no filter among them, and each
-/// within the limits of its type. It looks at no document, and takes no memory.
+/// Whether edits are a group that a session may ask for at a desk without filters: 1 to 1024 of them, no filter among
+/// them, and each within the limits of its type. It looks at no document, and takes no memory.
 ///
 /// Errors: `Count`, or else `NotPlain` with the first edit that is a filter or past its limits, counted from 0.
 pub fn check_group(edits: &[Edit]) -> Result<(), NotGroup>

@@ -55,9 +55,11 @@ fn first_table(kind: FilterKind, amount: u8) -> Table
 }
 
 impl Image {
-    /// The image that a file holds, from the file's bytes. Its tiles stay in these bytes and are unpacked as they are looked at.
+    /// The image that a file holds, from the file's bytes. Its tiles stay in these bytes and are unpacked as they are
+    /// looked at.
     ///
-    /// Errors: `Refused` with the first rule that the file breaks and its offset, `TooLong` for more than 2^31 bytes, `Memory`.
+    /// Errors: `Refused` with the first rule that the file breaks and its offset, `TooLong` for more than 2^31 bytes,
+    /// `Memory`.
     pub fn open(alloc: Global, file: Vec<u8>) -> Result<Image, NotOpened>
         ensures opens { Opens file.items (λ image. image.document) result }
         ensures first { IfOk result (λ image. image ≡ image_of image.document) }
@@ -84,9 +86,9 @@ impl Image {
 
     /// Makes a group of 1 to 1024 edits in turn, all or none. Filters are made by [`Image::filter`].
     ///
-    /// Errors, after each of which the image is as before: `Refused` with the first edit that is refused and why, `NotGroup` for no
-    /// edits, too many, a filter among them, or one that is past the limits of its type, `NoIds` where at most 1024 ids are left
-    /// for new nodes, `Memory`.
+    /// Errors, after each of which the image is as before: `Refused` with the first edit that is refused and why,
+    /// `NotGroup` for no edits, too many, a filter among them, or one that is past the limits of its type, `NoIds`
+    /// where at most 1024 ids are left for new nodes, `Memory`.
     #[tactic(auto, using(crate::proofs::Plain::few, crate::proofs::Plain::each, crate::proofs::Plain::no_tables, crate::proofs::Plain::bare))]
     pub fn edit(&mut self, alloc: Global, edits: &[Edit]) -> Result<(), NotEdited>
         ensures { Edits self.old self.new (edits_of edits.now) result }
@@ -114,8 +116,8 @@ impl Image {
         }
     }
 
-    /// Puts the colour bytes in a rectangle of a layer, in its own coordinates, through a filter that was never used, and through
-    /// the selection. Of `amount` see [`xl_filters`]: `Invert` has none.
+    /// Puts the colour bytes in a rectangle of a layer, in its own coordinates, through a filter that was never used,
+    /// and through the selection. Of `amount` see [`xl_filters`]: `Invert` has none.
     ///
     /// Errors, after each of which the image is as before: `Refused` with index 0 and why, `Memory`.
     pub fn filter(

@@ -1,8 +1,9 @@
 //! XCF images for programs of one's own: open a file, edit it, look at it, make the file again.
 //!
-//! An [`Image`] is a document with the id that its next new node gets; [`Image::edit`] makes a group of edits, all or nothing. An
-//! [`Editor`] keeps the history of an image too, so that groups can be undone. [`tile`], [`picture`] and [`save`] show and write the
-//! document of either. None of these asks for a filter, a counter of steps or a shelf: who needs those goes to the crates below.
+//! An [`Image`] is a document with the id that its next new node gets; [`Image::edit`] makes a group of edits, all or
+//! nothing. An [`Editor`] keeps the history of an image too, so that groups can be undone. [`tile`], [`picture`] and
+//! [`save`] show and write the document of either. None of these asks for a filter, a counter of steps or a shelf: who
+//! needs those goes to the crates below.
 #![tactic(auto)]
 
 mod editor;

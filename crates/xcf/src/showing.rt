@@ -38,8 +38,8 @@ fn compose_tile<L: Ledger>(
     Ok(picture)
 }
 
-/// The picture of a tile of 64 by 64 pixels, cut to the canvas: RGBA, four bytes a pixel, row by row. The stack is node 0 for the
-/// image, or a group, without its opacity.
+/// The picture of a tile of 64 by 64 pixels, cut to the canvas: RGBA, four bytes a pixel, row by row. The stack is node
+/// 0 for the image, or a group, without its opacity.
 ///
 /// Errors: `NoStack` where the node is neither, else `OutsideTile` where the canvas has no such tile, `Memory`.
 pub fn tile(
@@ -62,8 +62,8 @@ pub fn tile(
     }
 }
 
-/// The picture of the image: RGBA, four bytes a pixel, row by row, the canvas's width times its height of them. Its one error is
-/// that memory ran out.
+/// The picture of the image: RGBA, four bytes a pixel, row by row, the canvas's width times its height of them. Its one
+/// error is that memory ran out.
 pub fn picture(alloc: Global, document: &Document) -> Result<Vec<u8>, AllocError>
     ensures { IfOk result (λ bytes.
         bytes.items ≡ picture_bytes document.now 0 0 0 document.now.width document.now.height) }
@@ -80,8 +80,8 @@ pub fn picture(alloc: Global, document: &Document) -> Result<Vec<u8>, AllocError
     Ok(bytes)
 }
 
-/// The bytes of a file of the document, which [`crate::Image::open`] reads back as this document, its ids counted anew. Its one
-/// error is that memory ran out.
+/// The bytes of a file of the document, which [`crate::Image::open`] reads back as this document, its ids counted anew.
+/// Its one error is that memory ran out.
 pub fn save(alloc: Global, document: &Document) -> Result<Vec<u8>, AllocError>
     ensures written { IfOk result (λ file. Written file.items document.now) }
     ensures read { IfOk result (λ file. reading file.items ≡ Ok (renumber document.now)) }

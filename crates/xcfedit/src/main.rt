@@ -1,9 +1,9 @@
-//! `xcfedit render FILE` writes a file of GIMP's as a PAM to the standard output, `xcfedit info FILE` its layers as a line of
-//! JSON. `xcfedit edit FILE` makes the calls and saves of a script from the standard input on such a file, and writes the replies;
-//! `xcfedit view FILE` makes the calls of one and shows windows, and `xcfedit audit FILE` judges what an edit is said to have printed.
-//! `xcfedit make FILE` saves what a seed makes, `xcfedit pack FILE` the smallest file, and `xcfedit flatten FILE` one layer in the
-//! place of all.
-//! Where a command stops, a sentence on the standard error says why.
+//! `xcfedit render FILE` writes a file of GIMP's as a PAM to the standard output, `xcfedit info FILE` its layers as a
+//! line of JSON. `xcfedit edit FILE` makes the calls and saves of a script from the standard input on such a file, and
+//! writes the replies; `xcfedit view FILE` makes the calls of one and shows windows, and `xcfedit audit FILE` judges
+//! what an edit is said to have printed. `xcfedit make FILE` saves what a seed makes, `xcfedit pack FILE` the smallest
+//! file, and `xcfedit flatten FILE` one layer in the place of all. Where a command stops, a sentence on the standard
+//! error says why.
 #![tactic(auto)]
 
 use std::alloc::AllocError;
@@ -65,7 +65,8 @@ fn run_with_filters<R: Threads + Wait + Sync>(
     ))
 }
 
-// Says why a command stopped, and what the system said of the file. Where it cannot be written there is nothing else to say.
+// Says why a command stopped, and what the system said of the file. Where it cannot be written there is nothing else to
+// say.
 fn tell(rt: &HostRuntime, text: String, ended: &Ended<FileShelf>) {
     let _ = match ended.shelf.error() {
         Some(error) if ended.status == SHELF_FAULT => eprintln!(rt; "{text}: {error}"),

@@ -138,12 +138,12 @@ fn judge<L: Ledger>(
 
 /// The verdict on an output of a run of the script, which started with this document and these filters.
 ///
-/// The replies are walked along the order, each beside what the machine answers and the digest of the tile that it shows. The script
-/// has to be one that was read for these chests, from which nothing was taken.
+/// The replies are walked along the order, each beside what the machine answers and the digest of the tile that it
+/// shows. The script has to be one that was read for these chests, from which nothing was taken.
 ///
-/// At most one verdict is that of an output, and for a script that was read it is exact, by `verdict_is_exact` of `spec_audit`:
-/// accepted just where the output is a text of the script, shape just where it has not the shape of one, and reply just at the call
-/// of the first word that fails.
+/// At most one verdict is that of an output, and for a script that was read it is exact, by `verdict_is_exact` of
+/// `spec_audit`: accepted just where the output is a text of the script, shape just where it has not the shape of one,
+/// and reply just at the call of the first word that fails.
 #[tactic(auto, using(crate::proofs::Along::shape_prints))]
 pub fn audit<L: Ledger>(
     alloc: Global,

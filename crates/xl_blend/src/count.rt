@@ -4,8 +4,8 @@ ghost use Rattle.std.specs.Prelude.{◌≡◌, ◌+◌, ◌<◌};
 use std::marker::Model;
 use std::sync::ledger::{Blank, Book, Ledger, Share};
 
-/// How many pixels were laid over others. It takes no bytes, and counting has no code. Only
-/// `over` and `over_row` add to it: one step is one pixel laid over another.
+/// How many pixels were laid over others. It takes no bytes, and counting has no code. Only `over` and `over_row` add
+/// to it: one step is one pixel laid over another.
 ///
 /// A caller that counts nothing passes a `Blank::new(1)` to a function that is generic in `L`,
 /// called with `Brand` for `L`, and makes the counter there by `new`.

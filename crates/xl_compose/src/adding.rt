@@ -90,8 +90,8 @@ fn add_over(
     Ok(())
 }
 
-/// Adds the pieces that make the picture of a stack at a level. Where `clean` has the picture of a group, it comes in place of the
-/// group's own pieces. Answers whether some node is visible.
+/// Adds the pieces that make the picture of a stack at a level. Where `clean` has the picture of a group, it comes in
+/// place of the group's own pieces. Answers whether some node is visible.
 pub fn add_stack<K: CleanTiles>(
     alloc: Global,
     nodes: Stack<'_, Node>,

@@ -56,8 +56,8 @@ fn pieces_of<K: CleanTiles>(
     Ok(Pile { pieces, levels })
 }
 
-/// A job for a tile of a stack of a document. Where `clean` has the picture of a group below the stack, it is taken as it is: the
-/// group is one node then, and those in it take no step.
+/// A job for a tile of a stack of a document. Where `clean` has the picture of a group below the stack, it is taken as
+/// it is: the group is one node then, and those in it take no step.
 pub fn job<K: CleanTiles>(
     alloc: Global,
     doc: &Document,

@@ -104,8 +104,8 @@ fn levels_of(doc: &Document, stack: NodeId) -> u32
     doc.tree.stack(stack).unwrap().levels()
 }
 
-/// Room for composing pictures in bands of 64 rows. It is taken once, and composing takes none. Contracts see the longest row, in
-/// pixels, and the most levels.
+/// Room for composing pictures in bands of 64 rows. It is taken once, and composing takes none. Contracts see the
+/// longest row, in pixels, and the most levels.
 #[derive(Drop)]
 pub struct Composer {
     width: u32,
@@ -148,8 +148,8 @@ impl Composer {
         })
     }
 
-    /// The picture of a stack over a rectangle of the canvas: RGBA bytes, row by row. It takes at most one step for each point and
-    /// each visible node below the stack.
+    /// The picture of a stack over a rectangle of the canvas: RGBA bytes, row by row. It takes at most one step for
+    /// each point and each visible node below the stack.
     pub fn compose<L: Ledger>(
         &mut self,
         doc: &Document,
@@ -174,8 +174,9 @@ impl Composer {
     }
 }
 
-/// The picture of a stack over a rectangle of the canvas: RGBA bytes, row by row. After out of memory `out` and the steps are as
-/// before: nothing was composed. It takes at most one step for each point and each visible node below the stack.
+/// The picture of a stack over a rectangle of the canvas: RGBA bytes, row by row. After out of memory `out` and the
+/// steps are as before: nothing was composed. It takes at most one step for each point and each visible node below the
+/// stack.
 pub fn picture<L: Ledger>(
     alloc: Global,
     doc: &Document,

@@ -224,8 +224,8 @@ fn lay_rect<L: Ledger>(
     lay_rows(laid, patch, band, picture, source, steps);
 }
 
-// The most columns of a layer that are unpacked at a time. The pixels of so many are still in the processor's cache when their rows
-// are laid; those of a whole row of tiles are not.
+// The most columns of a layer that are unpacked at a time. The pixels of so many are still in the processor's cache
+// when their rows are laid; those of a whole row of tiles are not.
 const COLUMNS: u32 = 512;
 
 // How many of the columns that are left are laid at a time, from a column of a layer on: up to the edge of a tile, so
@@ -283,8 +283,9 @@ fn lay_columns<L: Ledger>(
     }
 }
 
-/// Lays the part of a layer that lies in a band of the canvas over the band's picture, some columns at a time and these row by row.
-/// `source` has room for a row, and `bytes` for a tile and for the bytes of the part and of its mask. Each tile is unpacked once.
+/// Lays the part of a layer that lies in a band of the canvas over the band's picture, some columns at a time and these
+/// row by row. `source` has room for a row, and `bytes` for a tile and for the bytes of the part and of its mask. Each
+/// tile is unpacked once.
 pub fn lay_layer<L: Ledger>(
     laid: LaidLayer<'_>,
     band: Band,

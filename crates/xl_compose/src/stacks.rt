@@ -82,8 +82,9 @@ fn lay_children<L: Ledger>(
     lay_part(mode, picture, 0, children, steps);
 }
 
-/// The picture of a stack over a band of the canvas, row by row. `scratch` has a picture for each level of the stack, and
-/// `bytes` has room for a tile and for the bytes of a layer and its mask in the band. Answers whether some node is visible.
+/// The picture of a stack over a band of the canvas, row by row. `scratch` has a picture for each level of the stack,
+/// and `bytes` has room for a tile and for the bytes of a layer and its mask in the band. Answers whether some node is
+/// visible.
 pub fn lay_stack<L: Ledger>(
     colours: &[[u8; 3]],
     nodes: Stack<'_, Node>,

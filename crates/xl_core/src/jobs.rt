@@ -20,7 +20,8 @@ pub enum Taken {
     Closing,
 }
 
-/// Where workers take jobs, each with a seat of its own, and hand in what they have composed. A seat has one job out at most.
+/// Where workers take jobs, each with a seat of its own, and hand in what they have composed. A seat has one job out at
+/// most.
 pub trait JobDesk {
     ghost use mathlib.Core.List.{IsPrefix};
     ghost use Rattle.spec_document.specs.Document.{Document};
@@ -55,8 +56,8 @@ pub trait JobDesk {
     /// What became of the pictures that were handed in with the seat.
     ghost tally: { Self.Seat → Tally };
 
-    /// Takes a job, which is then out. It is of the last version of the history that the seat knows then. After out of memory none
-    /// is out.
+    /// Takes a job, which is then out. It is of the last version of the history that the seat knows then. After out of
+    /// memory none is out.
     fn take_job<W: Wait>(
         &self,
         rt: &W,
@@ -75,7 +76,8 @@ pub trait JobDesk {
         ensures begins { IsPrefix (entries seat.old) (entries seat.new) }
         ensures tally { tally seat.new ≡ tally seat.old };
 
-    /// Hands in the picture of the job that is out. None is out then. The answer follows from the history that the seat knows then.
+    /// Hands in the picture of the job that is out. None is out then. The answer follows from the history that the seat
+    /// knows then.
     fn finish<W: Wait>(&self, rt: &W, seat: &mut Self::Seat, done: Done) -> Finished
         requires seat { is_of self.now seat.old }
         requires done { IsOutcomeOf (out seat.old) done }
@@ -90,8 +92,8 @@ pub trait JobDesk {
         ensures tally { tally seat.new ≡ counted (tally seat.old) result };
 }
 
-/// What a core does without its shelf. Behind this bound nothing is said of threads, which an `impl` of a trait could not know of a
-/// shelf; so desks build on it.
+/// What a core does without its shelf. Behind this bound nothing is said of threads, which an `impl` of a trait could
+/// not know of a shelf; so desks build on it.
 pub trait JobSource {
     ghost use Rattle.xl_compose.specs.declared.clean.Done.{Done};
 

@@ -14,7 +14,8 @@ use xl_doc::{Document, NodeId, Rect};
 use xl_edit::{Edit, EditRefusedOrMemory, apply};
 use xl_filters::{FilterKind, FilterState, Table};
 
-/// What an edit that is not refused can change of which pictures: a list of stacks and rectangles of theirs, cut to the canvas.
+/// What an edit that is not refused can change of which pictures: a list of stacks and rectangles of theirs, cut to the
+/// canvas.
 ///
 /// The edit is made on a share of the document. Who has the documents before and after it calls [`damage_between`].
 pub fn damage(

@@ -102,8 +102,8 @@ fn add_other_copies(
     Ok(())
 }
 
-/// Adds a rectangle of a stack, cut to the canvas, and then the same for each stack above it, before the edit or after it. Nothing
-/// where no point of it is on the canvas.
+/// Adds a rectangle of a stack, cut to the canvas, and then the same for each stack above it, before the edit or after
+/// it. Nothing where no point of it is on the canvas.
 pub(crate) fn add(
     alloc: Global,
     list: &mut Vec<(NodeId, Rect)>,

@@ -4,7 +4,8 @@ use spec_edit::EditRefused;
 /// What a session is answered.
 #[derive(Clone, Copy, Debug, PartialEq, Eq)]
 pub enum Reply {
-    /// A new version was made by a group of edits, by its undo or by its redo. `next` is the id that the next new node gets.
+    /// A new version was made by a group of edits, by its undo or by its redo. `next` is the id that the next new node
+    /// gets.
     Changed { version: u32, group: u32, next: u32 },
     /// The first edit of the group that is refused, counted from 0.
     Refused { index: u32, cause: EditRefused },

@@ -5,8 +5,8 @@ use std::sync::atomic::{AtomicBool, AtomicU64, Ordering};
 use std::thread;
 use xl_ports::{Actor, Gate, Place};
 
-/// Who is held where: the pass number `nth`, from 0, of an actor at a place looks again until pass number `until_nth` of
-/// another actor, or at another place, has begun.
+/// Who is held where: the pass number `nth`, from 0, of an actor at a place looks again until pass number `until_nth`
+/// of another actor, or at another place, has begun.
 #[derive(Clone, Copy, Debug)]
 pub struct Hold {
     pub actor: Actor,

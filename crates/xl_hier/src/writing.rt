@@ -119,8 +119,8 @@ fn append_plane<C: PlaneCoder>(
 
 /// Appends a plane: its hierarchy, its one level and its tiles, whose pointers count from the start of `out`.
 ///
-/// The tiles stand as they are where the compression is 0, and as the coder spells their planes where it is 1; so the coder
-/// followed these planes, in the order in which they stand. Out of memory, `out` is as before.
+/// The tiles stand as they are where the compression is 0, and as the coder spells their planes where it is 1; so the
+/// coder followed these planes, in the order in which they stand. Out of memory, `out` is as before.
 pub fn write_hierarchy<C: PlaneCoder>(
     alloc: Global,
     out: &mut Vec<u8>,

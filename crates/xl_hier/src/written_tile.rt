@@ -89,8 +89,8 @@ fn append_run_length<C: PlaneCoder>(
     append_spellings(alloc, plane, spot, out, scratch, coder)
 }
 
-/// Appends a tile: its pixels as they are, or spelled, and the coder followed the planes that are spelled. The scratch is for
-/// a plane of it, and for all of it.
+/// Appends a tile: its pixels as they are, or spelled, and the coder followed the planes that are spelled. The scratch
+/// is for a plane of it, and for all of it.
 ///
 /// Out of memory, a part of the tile may stand behind what was there.
 pub fn write_tile<C: PlaneCoder>(

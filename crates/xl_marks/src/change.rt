@@ -64,8 +64,8 @@ impl Change {
         })
     }
 
-    /// Drops the slots of the stacks that go, marks by the damage, and adds blank slots for the stacks that come. The next time it
-    /// goes the way back. No memory is taken.
+    /// Drops the slots of the stacks that go, marks by the damage, and adds blank slots for the stacks that come. The
+    /// next time it goes the way back. No memory is taken.
     pub fn go(&mut self, cache: &mut Cache, version: u32)
         requires version { 1 ≤ version }
         requires leads { change.Leads self.old cache.old }

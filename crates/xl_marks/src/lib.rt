@@ -1,6 +1,7 @@
 //! What a group of edits, its undo or its redo does to the pictures that are kept.
 //!
-//! A [`Change`] is made when the group is accepted, with all the memory that it takes to go there and back any number of times.
+//! A [`Change`] is made when the group is accepted, with all the memory that it takes to go there and back any number
+//! of times.
 #![tactic(auto)]
 
 mod change;

@@ -1,5 +1,5 @@
-//! Sentences for people: why a command stopped, in the words of the field. Programs read the status and the lines of the
-//! standard output, which these sentences never change.
+//! Sentences for people: why a command stopped, in the words of the field. Programs read the status and the lines of
+//! the standard output, which these sentences never change.
 #![tactic(auto)]
 
 mod faults;

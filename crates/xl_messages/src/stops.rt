@@ -19,8 +19,8 @@ pub const VERSION: &str = "0.1.0";
 /// The status where memory ran out.
 const MEMORY: u8 = 8;
 
-/// A sentence on how the words came to this status, other than 0: which file, what is wrong and where. `cause` is that of
-/// [`xl_program::Ended`]. It has no newline at its end.
+/// A sentence on how the words came to this status, other than 0: which file, what is wrong and where. `cause` is that
+/// of [`xl_program::Ended`]. It has no newline at its end.
 pub fn message<'a>(
     alloc: Global,
     words: &'a [&'a str],
@@ -70,7 +70,8 @@ fn line_text(alloc: Global, bad: BadLine) -> Result<String, AllocError> {
     format!(in alloc; "script line {line}: {fault}")
 }
 
-// A fault of the shelf before the output: what is made is not read, but saved, and two commands may have failed at either.
+// A fault of the shelf before the output: what is made is not read, but saved, and two commands may have failed at
+// either.
 fn shelf_text(alloc: Global, command: Command<'_>) -> Result<String, AllocError> {
     let name = file_of(command);
     let done = match command {

@@ -1,8 +1,8 @@
 //! A script that is played on an opened document, and the text of it.
 //!
-//! `run_script` makes the calls and saves of its sessions: beside each other and beside workers, or, where session 0 is alone and no
-//! worker is asked for, straight on a core, without threads. `Viewing::view_script` makes those of session 0 that save nothing, each tile
-//! with those to its right and below.
+//! `run_script` makes the calls and saves of its sessions: beside each other and beside workers, or, where session 0 is
+//! alone and no worker is asked for, straight on a core, without threads. `Viewing::view_script` makes those of session
+//! 0 that save nothing, each tile with those to its right and below.
 #![tactic(auto)]
 
 mod host;

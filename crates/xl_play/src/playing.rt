@@ -248,8 +248,8 @@ pub fn has_save_fault(entries: &[Entry]) -> bool
     false
 }
 
-/// Makes the calls and saves of session 0, which is alone, without threads or workers. Answers the text of the run, which has a
-/// line for each call and save and the order line, and whether a save failed.
+/// Makes the calls and saves of session 0, which is alone, without threads or workers. Answers the text of the run,
+/// which has a line for each call and save and the order line, and whether a save failed.
 pub fn play<D: Shelf, G: Gate>(
     alloc: Global,
     core: &mut Core<D>,

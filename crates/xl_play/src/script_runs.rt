@@ -127,8 +127,8 @@ fn play_together<R: Threads + Wait + Sync, D: Shelf, G: Gate>(
     }
 }
 
-/// Makes the calls and saves of a script: without threads where session 0 is alone and no worker is asked for, and else beside
-/// workers.
+/// Makes the calls and saves of a script: without threads where session 0 is alone and no worker is asked for, and else
+/// beside workers.
 pub fn run_script<R: Threads + Wait + Sync, D: Shelf, G: Gate>(
     host: &Host<'_, R, G>,
     document: Document,

@@ -79,7 +79,8 @@ impl Viewing {
         }
     }
 
-    // The digest that the line of a reply has: that of the window from the tile that was asked for, where the reply is one.
+    // The digest that the line of a reply has: that of the window from the tile that was asked for, where the reply is
+    // one.
     fn reply_digest<D: Shelf, L: Ledger>(
         &self,
         viewer: &mut Viewer,
@@ -243,8 +244,8 @@ impl Viewing {
         Ok(transcript.text)
     }
 
-    /// Makes the calls of session 0, which is alone, without threads or workers and without a save. Answers a line for each call; that of
-    /// a tile has the digest of the window from there.
+    /// Makes the calls of session 0, which is alone, without threads or workers and without a save. Answers a line for
+    /// each call; that of a tile has the digest of the window from there.
     pub fn view_script<D: Shelf>(
         &self,
         core: &mut Core<D>,

@@ -1,5 +1,5 @@
-//! The outside as the engine sees it: a source of bytes, a sink for bytes, a shelf of files, and a gate that sessions and
-//! workers pass.
+//! The outside as the engine sees it: a source of bytes, a sink for bytes, a shelf of files, and a gate that sessions
+//! and workers pass.
 //!
 //! Each but the gate is a trait with a count of its faults, so that whoever calls it can say that a failure was the
 //! outside's. What it holds is known where the implementation says so, as those in memory do. Here are also the loops

@@ -9,8 +9,8 @@ use std::alloc::Global;
 
 /// The bytes that the source has left, the first `limit` of them where there are more.
 ///
-/// Each call of `read` but the last takes a byte, so there are no more calls than bytes that are asked for. After an error
-/// some of the bytes were taken and are lost.
+/// Each call of `read` but the last takes a byte, so there are no more calls than bytes that are asked for. After an
+/// error some of the bytes were taken and are lost.
 pub fn read_all<S: Source>(
     alloc: Global,
     source: &mut S,

@@ -104,7 +104,8 @@ pub trait Shelf: Send + Drop {
 
     /// Brings the bytes of the open draft to the disk: it is synced then.
     ///
-    /// Nothing that is kept under any name changes. After `Failed` the draft is open still, not synced, and holds any bytes.
+    /// Nothing that is kept under any name changes. After `Failed` the draft is open still, not synced, and holds any
+    /// bytes.
     fn draft_sync(&mut self) -> Result<(), Failed>
         requires selected { IsSome (shelf_state self.old).selected }
         requires opened { (shelf_state self.old).is_open ≡ true }
@@ -123,7 +124,8 @@ pub trait Shelf: Send + Drop {
         ensures loads { (shelf_state self.new).loads ≡ (shelf_state self.old).loads }
         ensures cause { HasCause (shelf_state self.old).saving (shelf_state self.new).saving result };
 
-    /// The open draft takes the selected name, and a read gives its bytes. No draft is open then, after `Failed` neither.
+    /// The open draft takes the selected name, and a read gives its bytes. No draft is open then, after `Failed`
+    /// neither.
     ///
     /// A crash leaves what it might have left before, or the draft's bytes; of a draft that was not synced, any bytes.
     /// After `Failed` the same holds, and a read gives what it gave or the draft's bytes. Other names stay as they are.

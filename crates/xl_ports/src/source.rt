@@ -17,8 +17,8 @@ pub trait Source {
 
     /// Gives the next bytes in the first places of the buffer, and answers how many.
     ///
-    /// 0, where some were asked for, means the end. Behind those that were given, and after `Failed` in all its places, the
-    /// buffer holds anything. After `Failed` none were taken.
+    /// 0, where some were asked for, means the end. Behind those that were given, and after `Failed` in all its places,
+    /// the buffer holds anything. After `Failed` none were taken.
     fn read(&mut self, buf: &mut [u8]) -> Result<usize, Failed>
         ensures within { IfOk result (λ k. k ≤ length buf.old) }
         ensures given { IfOk result (λ k. left self.old ≡ led_by (take k buf.new) (left self.new)) }

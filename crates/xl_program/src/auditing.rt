@@ -19,8 +19,8 @@ use xl_filters::PointFilter;
 use xl_ports::{Shelf, Sink, Source, write_all};
 use xl_verdict::{Audit, Unread, Verdict, find_verdict, read_audit, rejection_of, verdict_line};
 
-/// Judges whether a printed run is one of an edit of a file by a script, with the filters of the sessions, and writes the verdict.
-/// Both stand in the source, behind a head that says how long the script is.
+/// Judges whether a printed run is one of an edit of a file by a script, with the filters of the sessions, and writes
+/// the verdict. Both stand in the source, behind a head that says how long the script is.
 ///
 /// The source is read before the file, and the line is made before its first byte is written. Nothing is saved.
 pub fn audit<S: Source, K: Sink, D: Shelf>(

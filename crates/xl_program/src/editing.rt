@@ -23,10 +23,11 @@ use xl_script::{BadLineOrMemory, Script, parse};
 /// How much of a script is read: one byte more than it may have.
 pub(crate) const MOST_BYTES: usize = (1 << 24) + 1;
 
-/// Makes the calls and saves of a script on the document of a file, and writes the replies. The sessions are played beside each
-/// other, and beside workers; session 0 alone, where no worker is asked for, without threads.
+/// Makes the calls and saves of a script on the document of a file, and writes the replies. The sessions are played
+/// beside each other, and beside workers; session 0 alone, where no worker is asked for, without threads.
 ///
-/// The script is read before the file, and all the text is made before its first byte is written. The shelf comes back always.
+/// The script is read before the file, and all the text is made before its first byte is written. The shelf comes back
+/// always.
 pub fn edit<R: Threads + Wait + Sync, S: Source, K: Sink, D: Shelf, G: Gate>(
     host: &Host<'_, R, G>,
     name: &str,

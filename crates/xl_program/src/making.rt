@@ -36,7 +36,8 @@ use xl_snapshot::{file_of, save_file};
 /// How many workers are beside the sessions of what is made.
 const WORKERS: u8 = 2;
 
-/// Saves the document of a seed, makes the calls and saves of the seed's script on it, and writes the line that sums them up.
+/// Saves the document of a seed, makes the calls and saves of the seed's script on it, and writes the line that sums
+/// them up.
 ///
 /// The line is made before its first byte is written. The shelf comes back always.
 pub fn make<R: Threads + Wait + Sync, K: Sink, D: Shelf, G: Gate>(

@@ -10,8 +10,8 @@ use std::alloc::Global;
 use xl_pack::save_smallest;
 use xl_ports::{Shelf, Sink, write_all};
 
-/// Saves the document of a file in the smallest file that has its tiles run-length coded, and writes the lengths before and after
-/// with the number of planes; before that, where it is asked for, a line for the plan of each plane.
+/// Saves the document of a file in the smallest file that has its tiles run-length coded, and writes the lengths before
+/// and after with the number of planes; before that, where it is asked for, a line for the plan of each plane.
 ///
 /// The file and the text are made before the save begins.
 pub fn pack<K: Sink, D: Shelf>(

@@ -40,8 +40,8 @@ const USAGE: u8 = 2;
 pub struct Ended<D> {
     /// What the program is to end with: 0 where all went well, else by the table at `run`.
     pub status: u8,
-    /// Why a command stopped, for people to be told. There is none where all went well, or where the words are no command; and
-    /// at status 8 the cause may be a line for which memory ran out. No clause speaks of it.
+    /// Why a command stopped, for people to be told. There is none where all went well, or where the words are no
+    /// command; and at status 8 the cause may be a line for which memory ran out. No clause speaks of it.
     pub cause: Option<Stopped>,
     /// The shelf that was handed in, with what the command saved.
     pub shelf: D,
@@ -49,21 +49,23 @@ pub struct Ended<D> {
 
 /// Does what the words ask for. The shelf comes back always.
 ///
-/// `chest` holds the filters of each session, those of session 0 first, each in the slot of its place; a session without a list
-/// has none. A box is dropped where its session forgets it, and at the latest when all sessions have ended.
+/// `chest` holds the filters of each session, those of session 0 first, each in the slot of its place; a session
+/// without a list has none. A box is dropped where its session forgets it, and at the latest when all sessions have
+/// ended.
 ///
-/// `edit` and `make` play the sessions of their script beside each other, in threads where these can be made, and beside workers:
-/// two, or as many as the words of an edit name. An edit by session 0 alone with 0 workers takes no thread. `gate` is passed by
-/// sessions and workers on their way. `view` plays a script of session 0 alone, without a thread or the gate; `pack` and `flatten`
-/// make one save. `audit` judges a printed run of an `edit` with these filters, and saves nothing.
+/// `edit` and `make` play the sessions of their script beside each other, in threads where these can be made, and
+/// beside workers: two, or as many as the words of an edit name. An edit by session 0 alone with 0 workers takes no
+/// thread. `gate` is passed by sessions and workers on their way. `view` plays a script of session 0 alone, without a
+/// thread or the gate; `pack` and `flatten` make one save. `audit` judges a printed run of an `edit` with these
+/// filters, and saves nothing.
 ///
-/// The statuses: 0 done, 2 the words are no command, 3 the head or a line of the script is refused, 4 the file holds no document,
-/// 5 the source failed, 6 the file could not be read, or the save of `pack` and `flatten` or the first save of what is made failed, or
-/// a later save after which all was written, 7 the sink failed while the output was written, 8 memory ran out, 9 the image of the
-/// file cannot be made flat, 10 the printed run is rejected, which is written.
+/// The statuses: 0 done, 2 the words are no command, 3 the head or a line of the script is refused, 4 the file holds no
+/// document, 5 the source failed, 6 the file could not be read, or the save of `pack` and `flatten` or the first save
+/// of what is made failed, or a later save after which all was written, 7 the sink failed while the output was written,
+/// 8 memory ran out, 9 the image of the file cannot be made flat, 10 the printed run is rejected, which is written.
 ///
-/// No clause says that memory is there, that a device does not fail, or that a run of sessions, which may wait, returns. Where
-/// memory runs out for the line of a stop, the status is 8 and not that of the stop.
+/// No clause says that memory is there, that a device does not fail, or that a run of sessions, which may wait,
+/// returns. Where memory runs out for the line of a stop, the status is 8 and not that of the stop.
 pub fn run<R: Threads + Wait + Sync, S: Source, K: Sink, D: Shelf, G: Gate>(
     rt: &R,
     alloc: Global,

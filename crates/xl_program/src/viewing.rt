@@ -26,11 +26,12 @@ use xl_play::{Viewing, open_core};
 use xl_ports::{FailedOrMemory, Shelf, Sink, Source, read_all, write_all};
 use xl_script::{BadLineOrMemory, Script, parse_viewed};
 
-/// Makes the calls of a script of session 0 on the document of a file, without threads, and writes the replies. The digest of a
-/// tile's line is that of the tiles from there on to its right and below, as many as `view` says, as far as the grid goes.
+/// Makes the calls of a script of session 0 on the document of a file, without threads, and writes the replies. The
+/// digest of a tile's line is that of the tiles from there on to its right and below, as many as `view` says, as far as
+/// the grid goes.
 ///
-/// The script is read before the file, and all the text is made before its first byte is written. Nothing is saved. The shelf comes
-/// back always.
+/// The script is read before the file, and all the text is made before its first byte is written. Nothing is saved. The
+/// shelf comes back always.
 pub fn view<S: Source, K: Sink, D: Shelf>(
     view: &Viewing,
     name: &str,

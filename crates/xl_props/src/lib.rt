@@ -1,8 +1,8 @@
 //! Lists of properties: what is interpreted, and what is kept as it was read.
 //!
-//! `read_props` reads a list from an offset of a file up to its end. It answers the values that the owner of the list interprets
-//! (`Known`), the other properties in their order (`PropList`), and where in the file they stand (`Places`). `write_props` appends
-//! such a list, and `written_props_are_read` says that it is read back as the same.
+//! `read_props` reads a list from an offset of a file up to its end. It answers the values that the owner of the list
+//! interprets (`Known`), the other properties in their order (`PropList`), and where in the file they stand (`Places`).
+//! `write_props` appends such a list, and `written_props_are_read` says that it is read back as the same.
 #![tactic(auto)]
 
 mod answer;

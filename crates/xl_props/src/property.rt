@@ -33,7 +33,8 @@ fn may_stand(owner: Owner, kind: u32, kept: usize) -> bool
     is_interpreted(owner, kind) || kept > 0
 }
 
-/// The number and the payload of the next property at an offset, where `kept` more may be kept. None at the end of the list.
+/// The number and the payload of the next property at an offset, where `kept` more may be kept. None at the end of the
+/// list.
 #[tactic(auto, unfolding(spec_props::specs::Reading::list_at, spec_props::specs::Reading::end_at))]
 pub fn next_property(
     bytes: &[u8],

@@ -28,9 +28,9 @@ fn end_of_full(bytes: &[u8], at: usize) -> Result<(), ReadRefused>
 
 /// The list of properties at an offset, up to its end, or its first fault.
 ///
-/// TooMany at the type word of the 1025th property that is not the end, or of the 257th that is kept. BadProperty at a length word
-/// above 2^24, and at the number of colours above 256. Truncated at the first word, payload or colour that does not fit. Then the
-/// rules of the property's kind, as BadProperty at the type word where its length is wrong.
+/// TooMany at the type word of the 1025th property that is not the end, or of the 257th that is kept. BadProperty at a
+/// length word above 2^24, and at the number of colours above 256. Truncated at the first word, payload or colour that
+/// does not fit. Then the rules of the property's kind, as BadProperty at the type word where its length is wrong.
 pub fn read_props(
     alloc: Global,
     bytes: &[u8],

@@ -18,8 +18,8 @@ use xl_ports::{Failed, Shelf};
 ///
 /// - `select` reads links, and answers `Failed` where a link cannot be followed. It removes the draft that is open.
 /// - `load` opens the file once and reads at the offset that is asked for.
-/// - `draft_new` removes an older draft, makes a new one that must not be there, and gives it the permission bits of the
-///   file, where there is one.
+/// - `draft_new` removes an older draft, makes a new one that must not be there, and gives it the permission bits of
+///   the file, where there is one.
 /// - `draft_add` writes, and `draft_sync` syncs the draft.
 /// - `swap_in` renames the draft over the file.
 /// - `settle` syncs the file's folder.

@@ -22,7 +22,8 @@ pub struct Lane {
     pub(crate) used: usize,
 }
 
-/// The row at which the band of a place begins, where the first one begins at `first`; behind the last row it is the height.
+/// The row at which the band of a place begins, where the first one begins at `first`; behind the last row it is the
+/// height.
 pub fn row_at(height: u32, first: u32, place: u32) -> u32
     requires low { first ≤ MAX_SIDE }
     requires few { place ≤ 64 }
@@ -113,8 +114,8 @@ impl Lane {
     }
 }
 
-/// Room for so many bands of the picture of a document, or for as many as there is memory for. Out of memory only where there is
-/// none for one.
+/// Room for so many bands of the picture of a document, or for as many as there is memory for. Out of memory only where
+/// there is none for one.
 pub fn new_lanes(alloc: Global, doc: &Document, count: usize) -> Result<Vec<Lane>, AllocError>
     requires some { 1 ≤ count }
     requires few { count ≤ 32 }

@@ -23,8 +23,8 @@ const MODES: [Mode; 5] = [
     Mode::SoftLight,
 ];
 
-/// Where a layer lies, in pixels of the canvas, how it is laid over what is below it, and the pixel that it is filled with: red,
-/// green, blue and alpha.
+/// Where a layer lies, in pixels of the canvas, how it is laid over what is below it, and the pixel that it is filled
+/// with: red, green, blue and alpha.
 #[derive(Drop)]
 pub struct Look {
     pub x: u32,

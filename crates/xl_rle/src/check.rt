@@ -6,8 +6,8 @@ use crate::head::{BLOCK, body_length, head_at, is_ample, short_literal, short_ru
 use spec_rle::MAX_CODES;
 use xl_fields::{Kind, ReadRefused, refuse};
 
-/// Walks the codes of a plane of so many bytes that begin at an offset, and writes none of it. Gives the offset after the
-/// last code, or the refusal that `decode_plane` gives.
+/// Walks the codes of a plane of so many bytes that begin at an offset, and writes none of it. Gives the offset after
+/// the last code, or the refusal that `decode_plane` gives.
 // Out of line, so that the loop keeps its state in registers.
 #[inline(never)]
 pub fn check_plane(bytes: &[u8], at: usize, count: usize) -> Result<usize, ReadRefused>

@@ -88,8 +88,8 @@ fn put_code(
 
 /// Fills a plane from the codes that begin at an offset. Gives the offset after the last code.
 ///
-/// Truncated at a code that does not fit the file; BadRun at one that gives more bytes than the plane has left, and at one
-/// code too many. The bytes of the plane are then unspecified.
+/// Truncated at a code that does not fit the file; BadRun at one that gives more bytes than the plane has left, and at
+/// one code too many. The bytes of the plane are then unspecified.
 // Out of line, so that the loop keeps its state in registers.
 #[inline(never)]
 pub fn decode_plane(bytes: &[u8], at: usize, out: &mut [u8]) -> Result<usize, ReadRefused>

@@ -11,8 +11,8 @@ use xl_ports::{Failed, Shelf};
 /// It opens a new draft, adds the bytes in pieces, syncs it, swaps it in and settles the name, and takes no memory. At
 /// each moment a crash leaves what it might have left before the save, or these bytes; after Ok these bytes alone.
 ///
-/// `Failed` where one of the calls failed, at which it stops. Then a read gives the old file or the new one, and a draft
-/// may be open. A later save opens a draft of its own.
+/// `Failed` where one of the calls failed, at which it stops. Then a read gives the old file or the new one, and a
+/// draft may be open. A later save opens a draft of its own.
 pub fn save<D: Shelf>(bytes: &[u8], shelf: &mut D) -> Result<(), Failed>
     requires { IsSome (D.shelf_state shelf.old).selected }
     ensures moments { IfSome (D.shelf_state shelf.old).selected

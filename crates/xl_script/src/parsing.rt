@@ -141,8 +141,8 @@ pub fn parse(alloc: Global, text: &[u8], chests: &[u32]) -> Result<Script, BadLi
     read(alloc, Scope::Whole, text, chests)
 }
 
-/// The lines of session 0, where the script may be viewed, or the line that is refused: by the rules of `parse`, or since it is of
-/// another session, a save or a peek. `filters` is the number of the session's filters.
+/// The lines of session 0, where the script may be viewed, or the line that is refused: by the rules of `parse`, or
+/// since it is of another session, a save or a peek. `filters` is the number of the session's filters.
 pub fn parse_viewed(alloc: Global, text: &[u8], filters: u32) -> Result<Script, BadLineOrMemory>
     ensures read { ScriptOf result (view_lists text.now filters) }
     ensures fits { IfOk result (λ script. FitsFilters (filters ∷ []) (lists_of script)) }

@@ -221,13 +221,13 @@ fn play_in<R: Threads + Wait + Sync, D: Shelf, G: Gate>(
     }
 }
 
-/// Makes the calls and saves of the sessions beside each other, each in a thread of its own, while workers keep the pictures of
-/// marked tiles up to date. Answers the printed text: the lines of each session, and the order line.
+/// Makes the calls and saves of the sessions beside each other, each in a thread of its own, while workers keep the
+/// pictures of marked tiles up to date. Answers the printed text: the lines of each session, and the order line.
 ///
-/// `chest` holds the filters of each session, those of session 0 first. Where a thread cannot be made the sessions are played one
-/// after another. A session ends early where memory runs out for it, and then there is no text; a worker ends where memory runs out
-/// for it. No session finds the history full, since a script has at most half as many calls and saves as a history may have entries.
-/// All saves that were started have ended in any case, and the shelf is in.
+/// `chest` holds the filters of each session, those of session 0 first. Where a thread cannot be made the sessions are
+/// played one after another. A session ends early where memory runs out for it, and then there is no text; a worker
+/// ends where memory runs out for it. No session finds the history full, since a script has at most half as many calls
+/// and saves as a history may have entries. All saves that were started have ended in any case, and the shelf is in.
 pub fn play_beside<R: Threads + Wait + Sync, D: Shelf, G: Gate>(
     rt: &R,
     alloc: Global,

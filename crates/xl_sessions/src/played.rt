@@ -70,12 +70,12 @@ impl<'a, W: Wait, D: Shelf, G: Gate> Setting<'a, W, D, G> {
 
     /// Makes what the lines of a session say, one after another, and passes the gate before and after each call.
     ///
-    /// `digests` becomes the list of the digests of the tiles that the session was shown, in order. It stops where memory runs out, for
-    /// a line or for the file of a save, and where the history has no room for a call or a save; each save that it started has ended
-    /// then too. It makes at most two entries for each call or save of its lines.
+    /// `digests` becomes the list of the digests of the tiles that the session was shown, in order. It stops where
+    /// memory runs out, for a line or for the file of a save, and where the history has no room for a call or a save;
+    /// each save that it started has ended then too. It makes at most two entries for each call or save of its lines.
     ///
-    /// What the seat knows may name no change yet: a session is never shown less than what its seat knows, and has seen nothing before
-    /// its first call.
+    /// What the seat knows may name no change yet: a session is never shown less than what its seat knows, and has seen
+    /// nothing before its first call.
     pub fn play_session(
         &self,
         lines: Vec<Line>,

@@ -189,8 +189,8 @@ fn print_all(
     Ok(text)
 }
 
-/// The printed text of a legal history in which each save has ended. `digests` has a list for each session, of the tiles that it
-/// was shown.
+/// The printed text of a legal history in which each save has ended. `digests` has a list for each session, of the
+/// tiles that it was shown.
 pub fn print_history(
     alloc: Global,
     entries: &[Entry],

@@ -95,7 +95,8 @@ impl<'a, W: Wait, D: Shelf, G: Gate> Setting<'a, W, D, G> {
         }
     }
 
-    // Makes a call of a session, and passes the gate before it and after it. A marked tile that it asks for is composed first.
+    // Makes a call of a session, and passes the gate before it and after it. A marked tile that it asks for is composed
+    // first.
     fn make_call<L: Ledger>(
         &self,
         call: Call,

@@ -143,8 +143,8 @@ fn work_all<R: Threads + Wait + Sync, D: Shelf, G: Gate>(
     );
 }
 
-/// Lets the sessions play and the workers work beside each other. Where no thread can be made the sessions come first, and the
-/// workers find that no more jobs are given out: `join_mut` calls its first closure last then.
+/// Lets the sessions play and the workers work beside each other. Where no thread can be made the sessions come first,
+/// and the workers find that no more jobs are given out: `join_mut` calls its first closure last then.
 pub(crate) fn run<'a, R: Threads + Wait + Sync, D: Shelf, G: Gate>(
     rt: &'a R,
     alloc: Global,

@@ -5,8 +5,8 @@ ghost use Rattle.xl_sessions.specs.declared.unplayed.Unplayed.TheVariants.{Memor
 use std::alloc::AllocError;
 use thiserror::Error;
 
-/// Why a session ends before its last line: memory ran out, for a line or for the file of a save, or the history had no room for
-/// a call or a save.
+/// Why a session ends before its last line: memory ran out, for a line or for the file of a save, or the history had no
+/// room for a call or a save.
 #[derive(Clone, Copy, Debug, PartialEq, Eq, Error)]
 pub enum Unplayed {
     #[error("out of memory")]

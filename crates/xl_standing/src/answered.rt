@@ -6,8 +6,8 @@ use std::alloc::Global;
 use xl_edit::Reply;
 use xl_filters::Tables;
 
-/// The reply to a call, and the tables that its filters answered, of 256 bytes each: one for each edit that names a filter, in
-/// their order, where a group was accepted, and else none.
+/// The reply to a call, and the tables that its filters answered, of 256 bytes each: one for each edit that names a
+/// filter, in their order, where a group was accepted, and else none.
 #[derive(Drop)]
 pub struct Answered {
     pub reply: Reply,

@@ -50,8 +50,8 @@ pub struct MadeGroup {
     pub damage: Damage,
 }
 
-/// Makes a group of edits on a share of a document. The filters are asked when it is known that no edit is refused, which no table
-/// decides.
+/// Makes a group of edits on a share of a document. The filters are asked when it is known that no edit is refused,
+/// which no table decides.
 pub(crate) fn make_group(
     alloc: Global,
     document: &Document,
@@ -151,8 +151,8 @@ pub fn try_group(
     })
 }
 
-// Applies the edits in turn to a share of a document, each filter with the next table. `next_id` is the id that the next new node
-// gets, and `damage` what the edits so far may have changed.
+// Applies the edits in turn to a share of a document, each filter with the next table. `next_id` is the id that the
+// next new node gets, and `damage` what the edits so far may have changed.
 //
 // A refusal and out of memory leave what the edits before have made, which the caller drops.
 #[tactic(auto, using(crate::proofs::Groups::begins, crate::proofs::Groups::next_is_edit, crate::proofs::Groups::next_has_id, crate::proofs::Groups::next_has_table, crate::proofs::Groups::stops, crate::proofs::Groups::is_done, crate::proofs::Groups::is_damaged, crate::proofs::Groups::is_within, crate::proofs::Groups::is_first))]
@@ -230,8 +230,8 @@ fn at_first(index: usize, first: &Document) -> Option<&Document>
     if index == 0 { Some(first) } else { None }
 }
 
-// Applies an edit of a group. The damage is told by the documents before and after it: where the one before is not there, a share of
-// it is taken.
+// Applies an edit of a group. The damage is told by the documents before and after it: where the one before is not
+// there, a share of it is taken.
 fn apply_next(
     alloc: Global,
     before: Option<&Document>,

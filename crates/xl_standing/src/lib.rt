@@ -1,8 +1,9 @@
-//! What stands after the calls of a run: a document, what can be undone and redone of it, and the pictures of tiles that are
-//! kept.
+//! What stands after the calls of a run: a document, what can be undone and redone of it, and the pictures of tiles
+//! that are kept.
 //!
-//! A contract sees a [`Standing`] as what stands in the machine of `spec_history` after the calls that were answered, with a
-//! cache of `spec_cache`. It has no list of what was done: who answers calls with it keeps that, or has it printed.
+//! A contract sees a [`Standing`] as what stands in the machine of `spec_history` after the calls that were answered,
+//! with a cache of `spec_cache`. It has no list of what was done: who answers calls with it keeps that, or has it
+//! printed.
 #![tactic(auto)]
 
 mod answered;

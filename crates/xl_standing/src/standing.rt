@@ -49,7 +49,8 @@ use xl_undo::Trail;
 /// How many entries a history has at most.
 pub const MOST_ENTRIES: usize = 1 << 20;
 
-/// The last version's document and what its next changes need. The last of `undo` is undone next, and the last of `redo` redone.
+/// The last version's document and what its next changes need. The last of `undo` is undone next, and the last of
+/// `redo` redone.
 #[derive(Drop)]
 pub struct Standing {
     document: Document,
@@ -123,10 +124,12 @@ impl Standing {
         &self.document
     }
 
-    /// Answers a call of a caller that has seen the versions up to `seen`. Only an answer that is a tile leaves its bytes in the
-    /// desk. After out of memory all is as before, but that the first filters of a group that is accepted may have been asked.
+    /// Answers a call of a caller that has seen the versions up to `seen`. Only an answer that is a tile leaves its
+    /// bytes in the desk. After out of memory all is as before, but that the first filters of a group that is accepted
+    /// may have been asked.
     ///
-    /// It asks what stands to be right and its numbers to be small, as they are where `Stands` holds of it and a history.
+    /// It asks what stands to be right and its numbers to be small, as they are where `Stands` holds of it and a
+    /// history.
     pub fn answer<L: Ledger>(
         &mut self,
         alloc: Global,
@@ -186,7 +189,8 @@ impl Standing {
         }
     }
 
-    // Makes a group of edits on a share of the document, which takes the document's place where all of them are accepted.
+    // Makes a group of edits on a share of the document, which takes the document's place where all of them are
+    // accepted.
     fn edit(
         &mut self,
         alloc: Global,
@@ -382,8 +386,8 @@ impl Standing {
         }
     }
 
-    /// A job for the next marked slot, which counts as taken: the kept picture of a clean group is taken as it is. None where no slot
-    /// is marked, which takes no memory.
+    /// A job for the next marked slot, which counts as taken: the kept picture of a clean group is taken as it is. None
+    /// where no slot is marked, which takes no memory.
     pub fn take_job(&mut self, alloc: Global) -> Result<Option<Job>, AllocError>
         requires kept { IsKeptNow self.old }
         requires place { IfSome (next_place self.old.cache) (IsTileOf self.old.document) }
@@ -404,8 +408,9 @@ impl Standing {
         Ok(Some(job))
     }
 
-    /// A job for the tile that is named, where its slot is marked. The kept picture of a clean group is taken as it is, and the slot
-    /// does not count as taken. None exactly where the stack or the tile is not there or the slot is clean, which takes no memory.
+    /// A job for the tile that is named, where its slot is marked. The kept picture of a clean group is taken as it is,
+    /// and the slot does not count as taken. None exactly where the stack or the tile is not there or the slot is
+    /// clean, which takes no memory.
     pub fn job_for(
         &self,
         alloc: Global,

@@ -9,8 +9,8 @@ use xl_doc::{Document, know_limits};
 use xl_marks::Change;
 use xl_undo::Record;
 
-/// A group of edits that was made, or undone: the record that leads back (`lead`), and what that does to the pictures that
-/// are kept.
+/// A group of edits that was made, or undone: the record that leads back (`lead`), and what that does to the pictures
+/// that are kept.
 #[derive(Drop)]
 pub struct Step {
     lead: Record,
@@ -34,7 +34,8 @@ impl Model for Step {
 }
 
 impl Step {
-    /// The step back over a group of edits that was made: from the document after it to the one before it. It takes no memory.
+    /// The step back over a group of edits that was made: from the document after it to the one before it. It takes no
+    /// memory.
     pub(crate) fn back(before: Document, after: &Document, change: Change) -> Step
         requires change { IsChange after.now before change }
         ensures { result ≡ record { from = after.now; to = before; damage = change.damage } }
@@ -43,8 +44,8 @@ impl Step {
         Step { lead, change }
     }
 
-    /// Takes the step to a new version: the document and the pictures that are kept are those of where it leads. It leads back from
-    /// then on. It takes no memory.
+    /// Takes the step to a new version: the document and the pictures that are kept are those of where it leads. It
+    /// leads back from then on. It takes no memory.
     pub(crate) fn take(&mut self, document: &mut Document, cache: &mut Cache, version: u32)
         requires version { 1 ≤ version }
         requires from { self.old.from ≡ document.old }

@@ -58,8 +58,8 @@ fn copy_clean(cache: &Cache, node: NodeId, at: TileAt, out: &mut Picture) -> boo
     }
 }
 
-/// Leaves the picture of a tile in `out`. Where its slot is marked the picture is composed once, and kept. After out of memory all is
-/// as before.
+/// Leaves the picture of a tile in `out`. Where its slot is marked the picture is composed once, and kept. After out of
+/// memory all is as before.
 pub(crate) fn show<L: Ledger>(
     alloc: Global,
     document: &Document,

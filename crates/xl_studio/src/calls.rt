@@ -35,8 +35,8 @@ impl<D: Shelf> Studio<D> {
     ///
     /// The reply is `HistoryFull` where the history has no room for it, and then there is no entry.
     ///
-    /// The filters that a group names are in the desk's chest. After out of memory nothing was made, but that the filters of the
-    /// first edits of a group that is accepted may have been asked.
+    /// The filters that a group names are in the desk's chest. After out of memory nothing was made, but that the
+    /// filters of the first edits of a group that is accepted may have been asked.
     pub fn call<W: Wait, L: Ledger>(
         &self,
         rt: &W,
@@ -97,9 +97,9 @@ impl<D: Shelf> Studio<D> {
         reply
     }
 
-    /// Makes a group of edits, all or none. The filters that the group names are in the desk's chest; they are asked where it is
-    /// accepted, and their tables are in its entry. It takes no step. After out of memory there is no entry, and the filters of the
-    /// first edits of a group that is accepted may have been asked.
+    /// Makes a group of edits, all or none. The filters that the group names are in the desk's chest; they are asked
+    /// where it is accepted, and their tables are in its entry. It takes no step. After out of memory there is no
+    /// entry, and the filters of the first edits of a group that is accepted may have been asked.
     pub fn edit<W: Wait, L: Ledger>(
         &self,
         rt: &W,
@@ -247,9 +247,10 @@ impl<D: Shelf> Studio<D> {
         self.call(rt, alloc, seat, session, Call::Top, desk, steps)
     }
 
-    /// The tile of a stack at the latest version, which is in the desk after `Tile`. Where the tile was kept at the latest version
-    /// before the call's own entry, it takes no step, nor with any other reply than `Tile`, nor after out of memory. Else the tile is
-    /// composed at most once: that takes at most one step for each pixel of the tile and each visible node below the stack.
+    /// The tile of a stack at the latest version, which is in the desk after `Tile`. Where the tile was kept at the
+    /// latest version before the call's own entry, it takes no step, nor with any other reply than `Tile`, nor after
+    /// out of memory. Else the tile is composed at most once: that takes at most one step for each pixel of the tile
+    /// and each visible node below the stack.
     pub fn tile<W: Wait, L: Ledger>(
         &self,
         rt: &W,
@@ -299,8 +300,8 @@ impl<D: Shelf> Studio<D> {
         self.call(rt, alloc, seat, session, Call::Tile(node, at), desk, steps)
     }
 
-    /// The tile of a stack as it is kept, at a version that is no older than the last one that the seat knows. It composes nothing,
-    /// and takes no step.
+    /// The tile of a stack as it is kept, at a version that is no older than the last one that the seat knows. It
+    /// composes nothing, and takes no step.
     pub fn peek<W: Wait, L: Ledger>(
         &self,
         rt: &W,

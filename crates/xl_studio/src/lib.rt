@@ -1,7 +1,7 @@
 //! A document that sessions edit side by side.
 //!
-//! A [`Studio`] keeps a core under a lock that is entered in turns, and each call of a session is one hold of the turn. A [`Seat`]
-//! knows a beginning of the one history, its front, and which entries it made.
+//! A [`Studio`] keeps a core under a lock that is entered in turns, and each call of a session is one hold of the turn.
+//! A [`Seat`] knows a beginning of the one history, its front, and which entries it made.
 #![tactic(auto)]
 
 mod calls;

@@ -50,7 +50,8 @@ impl<D: Shelf> Studio<D> {
         }
     }
 
-    /// Splits a seat in two. The new one knows the same front, made nothing, handed nothing in, and takes a weight of 1.
+    /// Splits a seat in two. The new one knows the same front, made nothing, handed nothing in, and takes a weight of
+    /// 1.
     pub fn split(&self, seat: &mut Seat<D>) -> Seat<D>
         requires seat { IsSeatOf self.now seat.old }
         requires weight { 2 ≤ weight_of seat.old }
@@ -105,8 +106,8 @@ impl<D: Shelf> Studio<D> {
         seat.seen = seat.seen.max(seen);
     }
 
-    /// Takes the studio apart once all other seats were joined, and no job is out. The seat made each entry of the one history,
-    /// each once.
+    /// Takes the studio apart once all other seats were joined, and no job is out. The seat made each entry of the one
+    /// history, each once.
     pub fn close(self, seat: Seat<D>) -> Core<D>
         requires seat { IsSeatOf self seat }
         requires weight { weight_of seat ≡ 2 ^ 32 }

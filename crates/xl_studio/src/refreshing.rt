@@ -68,13 +68,13 @@ impl<D: Shelf> Studio<D> {
         finished
     }
 
-    /// Composes the picture of a tile outside the turn where its slot is marked, so that the call that asks for the tile next takes
-    /// no step where no other marks it in between.
+    /// Composes the picture of a tile outside the turn where its slot is marked, so that the call that asks for the
+    /// tile next takes no step where no other marks it in between.
     ///
-    /// The first hold of the turn makes a job of the last version, and the second hands its picture in: it is kept, unless the tile was
-    /// marked at a later version or its stack is gone. Where the slot is clean, or the stack or the tile is not there, there is no job
-    /// and no second hold. It makes no entry, and takes no job of the desk: the slot does not count as taken, and the seat's tally does
-    /// not count the picture.
+    /// The first hold of the turn makes a job of the last version, and the second hands its picture in: it is kept,
+    /// unless the tile was marked at a later version or its stack is gone. Where the slot is clean, or the stack or the
+    /// tile is not there, there is no job and no second hold. It makes no entry, and takes no job of the desk: the slot
+    /// does not count as taken, and the seat's tally does not count the picture.
     ///
     /// Where memory runs out nothing is composed, which is no failure: the call that asks for the tile decides.
     pub fn refresh<W: Wait, L: Ledger>(

@@ -16,8 +16,8 @@ pub trait Taking {
     /// The picture may be handed in.
     ghost may_finish: { Self → Done → Type 0 };
 
-    /// Takes a job. It is closing exactly where it was shut, and there is no job exactly where it is not and no slot is marked.
-    /// After out of memory the slot counts as taken.
+    /// Takes a job. It is closing exactly where it was shut, and there is no job exactly where it is not and no slot is
+    /// marked. After out of memory the slot counts as taken.
     fn take(&mut self, alloc: Global) -> Result<Taken, AllocError>;
 
     /// Hands a picture in.

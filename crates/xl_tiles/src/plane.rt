@@ -26,7 +26,8 @@ use std::alloc::{AllocError, AllocFailed, Global};
 use std::marker::Model;
 use xl_grid::{Rect, TileAt, tiles_along};
 
-/// The pixels of a plane, row by row, each of 1 to 4 bytes. They are kept in tiles of 64 by 64, which several planes may hold.
+/// The pixels of a plane, row by row, each of 1 to 4 bytes. They are kept in tiles of 64 by 64, which several planes
+/// may hold.
 #[derive(Drop)]
 pub struct Plane {
     sheet: Sheet,
@@ -162,7 +163,8 @@ impl Plane {
         read_area(self.sheet, &self.tiles, area, out, scratch);
     }
 
-    /// The bytes of n pixels of row y, from column x on. The scratch is for a tile: each call unpacks the tiles that it meets.
+    /// The bytes of n pixels of row y, from column x on. The scratch is for a tile: each call unpacks the tiles that it
+    /// meets.
     pub fn read_row(&self, x: u32, y: u32, n: u32, out: &mut [u8], scratch: &mut [u8])
         requires columns { x + n ≤ self.now.width }
         requires row { y < self.now.height }
@@ -250,8 +252,8 @@ impl Plane {
             .share()
     }
 
-    /// Puts a tile of the same size in the place of one, which it hands out. Where others hold the row of tiles, that row is
-    /// copied; without memory for it the tile is handed back.
+    /// Puts a tile of the same size in the place of one, which it hands out. Where others hold the row of tiles, that
+    /// row is copied; without memory for it the tile is handed back.
     pub fn swap_tile(
         &mut self,
         alloc: Global,
@@ -274,7 +276,8 @@ impl Plane {
 
     /// At most how many tiles have other bytes than those of a plane of the same size. Each scratch is for a tile.
     ///
-    /// Rows and tiles that both planes share are not looked at, so a plane is quickly compared with one that it was made of.
+    /// Rows and tiles that both planes share are not looked at, so a plane is quickly compared with one that it was
+    /// made of.
     pub fn tiles_changed(&self, other: &Plane, scratch: &mut [u8], other_scratch: &mut [u8]) -> u32
         requires width { other.now.width ≡ self.now.width }
         requires height { other.now.height ≡ self.now.height }

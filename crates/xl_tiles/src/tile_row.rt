@@ -55,8 +55,8 @@ impl TileRow {
         tile_at(self.tiles.as_slice(), col)
     }
 
-    /// Exchanges the tile of a column, in a copy of the row where others hold it. Without memory for the copy the tile is
-    /// handed back.
+    /// Exchanges the tile of a column, in a copy of the row where others hold it. Without memory for the copy the tile
+    /// is handed back.
     pub fn replace(
         &mut self,
         alloc: Global,

@@ -11,7 +11,8 @@ use xl_doc::Document;
 
 /// What leads from one document to another, and back once it has been followed.
 ///
-/// It is a share of the document that it leads to, and so holds a tile of its own only where the other document has another one.
+/// It is a share of the document that it leads to, and so holds a tile of its own only where the other document has
+/// another one.
 #[derive(Drop)]
 pub struct Record {
     // The document that it leads from: for contracts alone.
@@ -46,7 +47,8 @@ impl Record {
         }
     }
 
-    /// Makes the document that the record leads to of the one that it leads from. The record then leads back. It takes no memory.
+    /// Makes the document that the record leads to of the one that it leads from. The record then leads back. It takes
+    /// no memory.
     pub fn revert(&mut self, doc: &mut Document)
         requires from { self.old.from ≡ doc.old }
         ensures to { doc.new ≡ self.old.to }
@@ -56,8 +58,8 @@ impl Record {
         self.from = Snapshot::of(doc);
     }
 
-    /// How many tiles were found to differ when the record was made: at most the tiles of layers, masks, channels and selections
-    /// that differ, and all tiles of those that only one of the documents has.
+    /// How many tiles were found to differ when the record was made: at most the tiles of layers, masks, channels and
+    /// selections that differ, and all tiles of those that only one of the documents has.
     pub fn tiles_kept(&self) -> u32
         ensures { result ≡ self.now.tiles }
     {

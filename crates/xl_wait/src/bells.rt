@@ -31,7 +31,8 @@ impl Bells {
         self.bell(number).heard()
     }
 
-    /// Sleeps until the bell of the number is rung, for a millisecond at most; not at all where it was rung since `heard`.
+    /// Sleeps until the bell of the number is rung, for a millisecond at most; not at all where it was rung since
+    /// `heard`.
     pub fn wait<W: Wait>(&self, rt: &W, number: u64, heard: u64) {
         self.bell(number).wait(rt, heard);
     }
