@@ -79,11 +79,12 @@ const MARK_GROUP: [(Ask, Reply); 2] = [
     (Ask::Tile, Reply::Tile { version: 1 }),
 ];
 
-/// A reply before the job was taken that is another, what came of the job, and a reply after it was handed in that is another.
+/// A reply before the job was taken that is another, what came of the job, and a reply after it was handed in that is
+/// another.
 pub(crate) type MarkedAgain = (Option<Reply>, Finished, Option<Reply>);
 
-/// A reply before the jobs were taken that is another, what came of one job after the group was deleted, the reply to the undo of
-/// that, and what came of the other job then.
+/// A reply before the jobs were taken that is another, what came of one job after the group was deleted, the reply to
+/// the undo of that, and what came of the other job then.
 pub(crate) type Undone = (Option<Reply>, Finished, Reply, Finished);
 
 // A session's call.
@@ -255,8 +256,8 @@ fn mark_and_undo<W: Wait, D: Shelf>(
     Ok((before, finished, undone, finished_after))
 }
 
-/// A group is made, and each of two workers takes a job of it. One is handed in after the group was deleted, and the other after
-/// that was undone.
+/// A group is made, and each of two workers takes a job of it. One is handed in after the group was deleted, and the
+/// other after that was undone.
 pub(crate) fn delete_and_undo<W: Wait>(rt: &W, alloc: Global) -> Result<Undone, AllocError> {
     let (studio, mut seat) = studio_of(alloc)?;
     let mut first = worker_of(&studio, &mut seat);

@@ -1,5 +1,5 @@
-//! Sessions and workers beside each other, over one studio with its devices in memory. A gate holds each of them until another has
-//! come where it has to be first.
+//! Sessions and workers beside each other, over one studio with its devices in memory. A gate holds each of them until
+//! another has come where it has to be first.
 #![tactic(auto)]
 
 #[cfg(test)]

@@ -1,7 +1,8 @@
-//! Scripts on small files, one after another: what a run of each writes, its status, and the SHA-256 of the file afterwards.
+//! Scripts on small files, one after another: what a run of each writes, its status, and the SHA-256 of the file
+//! afterwards.
 //!
-//! `data/` has the files and the rows, and `stdout` what they must give. A row begins with a line `== FILE NAME`, and its script
-//! ends ahead of the line end before the next row.
+//! `data/` has the files and the rows, and `stdout` what they must give. A row begins with a line `== FILE NAME`, and
+//! its script ends ahead of the line end before the next row.
 #![tactic(auto)]
 
 use sha2::{Digest, Sha256};

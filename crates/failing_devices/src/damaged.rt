@@ -7,9 +7,10 @@ use std::sync::Wait;
 use std::thread::Threads;
 use xl_fakes::MemorySink;
 
-/// Words that the worked file may have at an offset in place of its own: a pointer to its layer outside the file, to the file's last
-/// byte, and none; a second pointer to the layer; the length of a name; a pointer to a mask that is none; pointers to a tile at no
-/// place and at another one; and the length word behind the end of the image's properties.
+/// Words that the worked file may have at an offset in place of its own: a pointer to its layer outside the file, to
+/// the file's last byte, and none; a second pointer to the layer; the length of a name; a pointer to a mask that is
+/// none; pointers to a tile at no place and at another one; and the length word behind the end of the image's
+/// properties.
 const CHANGES: [(u32, u32); 9] = [
     (43, u32::MAX),
     (43, 192),

@@ -1,8 +1,8 @@
-//! Runs over devices in memory of which one call fails, or all from one on: what was written, the status, and what a crash may
-//! leave of the file. And renderings of files that are cut or have another word somewhere.
+//! Runs over devices in memory of which one call fails, or all from one on: what was written, the status, and what a
+//! crash may leave of the file. And renderings of files that are cut or have another word somewhere.
 //!
-//! `data/one.xcf` is the worked file of one pixel, `data/flat.xcf` the same made flat, `data/packed.xcf` one of its smallest files,
-//! and `stdout` what each run must give.
+//! `data/one.xcf` is the worked file of one pixel, `data/flat.xcf` the same made flat, `data/packed.xcf` one of its
+//! smallest files, and `stdout` what each run must give.
 #![tactic(auto)]
 
 mod damaged;
@@ -122,8 +122,8 @@ fn run_words<R: Threads + Wait + Sync>(
     ))
 }
 
-// Whether it is one of the smallest files of the worked image. They end with the spellings of four planes of one byte, and such a
-// plane has two shortest ones: a run, with the code 0, and a literal byte, with the code 255.
+// Whether it is one of the smallest files of the worked image. They end with the spellings of four planes of one byte,
+// and such a plane has two shortest ones: a run, with the code 0, and a literal byte, with the code 255.
 fn is_packed(file: &[u8], packed: &[u8]) -> bool {
     if file.len() != packed.len() {
         return false;

@@ -1,6 +1,5 @@
 //! The kept pictures of a core, over documents that are read from bytes: which answers calls give, which slots they
-//! mark, and what becomes of
-//! jobs that are out.
+//! mark, and what becomes of jobs that are out.
 #![tactic(auto)]
 
 #[cfg(test)]

@@ -1,5 +1,5 @@
-//! The command `make made.xcf` on the real devices, as a stored run: of two seeds, of the second one twice, and then what the file
-//! holds. The lines that `stdout` wants are those of the plain model.
+//! The command `make made.xcf` on the real devices, as a stored run: of two seeds, of the second one twice, and then
+//! what the file holds. The lines that `stdout` wants are those of the plain model.
 #![tactic(auto)]
 
 use std::process::ExitCode;

@@ -4,8 +4,8 @@
 use sample_files::ONE;
 use std::alloc::{AllocError, Global};
 
-// What is behind the pointers of 1023 layers: the end of the list, no channel, and the layer of the worked file, 4088 bytes
-// further behind.
+// What is behind the pointers of 1023 layers: the end of the list, no channel, and the layer of the worked file, 4088
+// bytes further behind.
 const CROWDED_TAIL: [u8; 146] = [
     0, 0, 0, 0, 0, 0, 0, 0, 0, 0, 0, 1, 0, 0, 0, 1, 0, 0, 0, 1, 0, 0, 0, 2, 65, 0, 0, 0, 0, 6, 0,
     0, 0, 4, 0, 0, 0, 255, 0, 0, 0, 7, 0, 0, 0, 4, 0, 0, 0, 0, 0, 0, 0, 8, 0, 0, 0, 4, 0, 0, 0, 1,

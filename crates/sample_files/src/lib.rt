@@ -36,7 +36,8 @@ pub const TWO: [u8; 379] = [
     0, 0, 0, 0, 127, 0, 1, 0,
 ];
 
-/// Four layers on an indexed canvas of 100 times 100 with one colour: at 0, 0, at 5, 5, at 90, 90, and a hidden one outside.
+/// Four layers on an indexed canvas of 100 times 100 with one colour: at 0, 0, at 5, 5, at 90, 90, and a hidden one
+/// outside.
 pub const FOUR: [u8; 482] = [
     103, 105, 109, 112, 32, 120, 99, 102, 32, 118, 48, 48, 49, 0, 0, 0, 0, 100, 0, 0, 0, 100, 0, 0,
     0, 2, 0, 0, 0, 1, 0, 0, 0, 7, 0, 0, 0, 1, 10, 20, 30, 0, 0, 0, 17, 0, 0, 0, 1, 1, 0, 0, 0, 0,

@@ -4,8 +4,8 @@ use xl_fakes::MemoryShelf;
 use xl_ports::{Failed, Shelf};
 use xl_save::save;
 
-// What a crash may leave under f where all calls from this one on fail: first what a read gives, with a bar behind each.
-// The file was old, and is saved as one and then as two.
+// What a crash may leave under f where all calls from this one on fail: first what a read gives, with a bar behind
+// each. The file was old, and is saved as one and then as two.
 const LEFT_BY_STOP: [(u32, &str); 12] = [
     // the selection
     (0, "old|"),

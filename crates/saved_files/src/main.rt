@@ -1,6 +1,6 @@
 //! Saves files of the system and writes what came of each: through symbolic links, over an older draft, with the
-//! permission bits of the old file, where there was no file, and where a save cannot be; and what becomes of a draft when
-//! another name is selected.
+//! permission bits of the old file, where there was no file, and where a save cannot be; and what becomes of a draft
+//! when another name is selected.
 #![tactic(auto)]
 
 use std::alloc::Global;

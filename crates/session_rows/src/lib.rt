@@ -1,4 +1,5 @@
-//! Sessions and workers beside each other, through `run` over devices in memory, held at a gate where a row needs an order.
+//! Sessions and workers beside each other, through `run` over devices in memory, held at a gate where a row needs an
+//! order.
 #![tactic(auto)]
 
 #[cfg(test)]

@@ -23,7 +23,8 @@ fn saves_beside_fills(alloc: Global) -> Result<Vec<u8>, AllocError> {
     Ok(script)
 }
 
-// The version that a file holds, by the first byte of its pixel: a fill writes its version there, and the opened file has 200.
+// The version that a file holds, by the first byte of its pixel: a fill writes its version there, and the opened file
+// has 200.
 fn version_in(file: &[u8]) -> u8 {
     match file.get(189) {
         Some(200) => 0,

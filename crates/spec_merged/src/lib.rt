@@ -31,8 +31,8 @@ pub fn fill_changes_no_refusal()
         (fill b other colour) ≡ refusal d (fill b other colour) }
 {}
 
-/// Where each session fills only layers of its own, the last document of a history of their calls is that after the calls of one
-/// session after another.
+/// Where each session fills only layers of its own, the last document of a history of their calls is that after the
+/// calls of one session after another.
 pub fn order_of_sessions_makes_no_document()
     ensures { (owner : ℕ → ℕ) (out : List ℕ) (base : Document) (lists : List (List Line))
         (chests : List (List FilterState)) (es : List Entry) → IsTextOf out base lists chests es
@@ -47,8 +47,8 @@ pub fn order_of_generated_sessions_makes_no_document()
         → document_of (document seed) es (latest_of es) ≡ outcome (document seed) (script seed) }
 {}
 
-/// Where the lines of each session end with a save, so do the calls of all sessions in the order of their history. So no call comes
-/// behind the start of the save that starts last.
+/// Where the lines of each session end with a save, so do the calls of all sessions in the order of their history. So
+/// no call comes behind the start of the save that starts last.
 pub fn last_call_is_a_save()
     ensures { (out : List ℕ) (base : Document) (lists : List (List Line))
         (chests : List (List FilterState)) (es : List Entry) → IsTextOf out base lists chests es

@@ -1,4 +1,5 @@
-//! What the file may hold after a history of a document with saves, and what a shelf has to keep that is handed out to a save.
+//! What the file may hold after a history of a document with saves, and what a shelf has to keep that is handed out to
+//! a save.
 #![tactic(auto)]
 
 ghost use Rattle.std.specs.Prelude.{◌≡◌, ℕ, false, List, [], ◌∷◌, ◌++◌, None, IsSome};
@@ -39,7 +40,8 @@ pub fn shelf_comes_back_right()
         → ShelfIsRight opening base (es ++ end_entry base es session index how ∷ []) now }
 {}
 
-/// The versions of the saves that a legal history acknowledges never fall: the later of two saves is of no earlier version.
+/// The versions of the saves that a legal history acknowledges never fall: the later of two saves is of no earlier
+/// version.
 pub fn acknowledged_versions_never_fall()
     ensures { (base : Document) (es : List Entry) → IsLegal base es
         → IsNonDecreasing (acknowledged_versions es) }

@@ -1,4 +1,5 @@
-//! Which entries of a history a session has made, and that the histories of eight sessions beside each other have a text.
+//! Which entries of a history a session has made, and that the histories of eight sessions beside each other have a
+//! text.
 #![tactic(auto)]
 
 ghost use Rattle.std.specs.Prelude.{◌≡◌, ℕ, ◌<◌, List, [], length, slice_get, slice_index_or, unwrap_or, None};

@@ -27,8 +27,8 @@ pub fn calls_leave_jobs()
     ensures { (base : Document) → CallsLeaveJobs base }
 {}
 
-/// A call that makes a version marks the slots of tiles that its damage meets, gives blank slots to each stack that has come, and
-/// leaves all other slots as they were.
+/// A call that makes a version marks the slots of tiles that its damage meets, gives blank slots to each stack that has
+/// come, and leaves all other slots as they were.
 pub fn calls_mark_exactly()
     ensures { (base : Document) → CallsMarkExactly base }
 {}

@@ -1,7 +1,8 @@
 //! What the lines of a script ask.
 use xl_script::{Call, Line};
 
-/// The keyword of a line, and the first number that it gives, if it gives one. An edit and a group have the same keyword.
+/// The keyword of a line, and the first number that it gives, if it gives one. An edit and a group have the same
+/// keyword.
 pub fn keyword_and_number(line: &Line) -> (&'static str, Option<u32>) {
     match line {
         Line::Call(Call::Edit(_)) => ("edit", None),

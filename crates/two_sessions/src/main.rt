@@ -28,8 +28,8 @@ const LAYER: NodeId = NodeId(1);
 /// The one tile of the canvas.
 const TILE: TileAt = TileAt { col: 0, row: 0 };
 
-// Both sessions ask for an edit of version 0. The one that comes second is answered that the document has moved, and looks at the
-// tile. Then the first undoes its edit, and saves.
+// Both sessions ask for an edit of version 0. The one that comes second is answered that the document has moved, and
+// looks at the tile. Then the first undoes its edit, and saves.
 fn take_turns<W: Wait + Print>(
     rt: &W,
     alloc: Global,

@@ -1,8 +1,9 @@
-//! Files read and written again, at the compression that they have and at the other one, and with the codes that they have.
+//! Files read and written again, at the compression that they have and at the other one, and with the codes that they
+//! have.
 //!
-//! For each file its name, and for each of the three copies its length and its SHA-256. A copy is shown only where it is read back
-//! with the same picture, and where a copy of it has the same digest. `data/` has the files, and `stdout` what each must give: the
-//! lengths and digests are those of `bench/xcf_written.py`, which knows nothing of the engine.
+//! For each file its name, and for each of the three copies its length and its SHA-256. A copy is shown only where it
+//! is read back with the same picture, and where a copy of it has the same digest. `data/` has the files, and `stdout`
+//! what each must give: the lengths and digests are those of `bench/xcf_written.py`, which knows nothing of the engine.
 #![tactic(auto)]
 
 use sha2::{Digest, Sha256};

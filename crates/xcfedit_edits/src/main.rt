@@ -1,4 +1,5 @@
-//! The command `edit one.xcf` on the real devices, as a stored run: the script on standard input, the replies on standard output.
+//! The command `edit one.xcf` on the real devices, as a stored run: the script on standard input, the replies on
+//! standard output.
 #![tactic(auto)]
 
 use std::process::ExitCode;

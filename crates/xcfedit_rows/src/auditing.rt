@@ -11,7 +11,8 @@ use xl_real::OpenGate;
 // What an audit of f comes to by a source: the status, and what is written.
 type Row = (&'static [u8], u8, &'static [u8]);
 
-// What is printed for one call of one session, and the same with another version, without its order, and for a save that failed.
+// What is printed for one call of one session, and the same with another version, without its order, and for a save
+// that failed.
 const CALLS: [Row; 11] = [
     (
         b"script 6\n0 top\n0.0 top none 0\norder 0.0\n",

@@ -7,7 +7,8 @@ use std::test::Fail;
 use std::thread::Threads;
 use xl_fakes::MemorySink;
 
-// Does the first words, and then the second ones on the file that they leave: both statuses, what the second wrote being in the sink.
+// Does the first words, and then the second ones on the file that they leave: both statuses, what the second wrote
+// being in the sink.
 fn one_after_another<R: Threads + Wait + Sync>(
     rt: &R,
     alloc: Global,

@@ -1,4 +1,5 @@
-//! The worked script on locks: alpha that stays, and a layer that takes no paint. And locks of a wrong length in a file.
+//! The worked script on locks: alpha that stays, and a layer that takes no paint. And locks of a wrong length in a
+//! file.
 use crate::tests::{plain_sink, status_of};
 use sample_files::ONE;
 use std::alloc::{AllocError, Global};
