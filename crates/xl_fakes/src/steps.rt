@@ -40,8 +40,8 @@ pub fn settle_kept(
     Ok(())
 }
 
-/// Counts a call that reads, and answers how it ended: it failed where it was to fail (`failed`), or where it found no
-/// memory (`is_starved`). `starved` counts the latter, but in a call that was to fail.
+/// Counts a call that reads, and answers how it ended. It failed where it was to fail (`failed`), and where it found no
+/// memory (`is_starved`); `starved` counts the calls that found none and were not to fail.
 pub fn conclude_reading(
     calls: &mut ShelfCalls,
     starved: &mut u64,

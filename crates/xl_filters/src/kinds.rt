@@ -127,7 +127,7 @@ impl PointFilter for Posterize {
     }
 }
 
-/// Leaves of each byte a part of 255: 255 less the amount for each earlier use, and nothing once that is used up.
+/// Leaves of each byte so many parts of 255: 255 less the amount for each earlier use, and none once that is used up.
 #[derive(Drop)]
 pub struct Fade {
     state: FilterState,

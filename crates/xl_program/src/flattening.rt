@@ -29,8 +29,8 @@ use xl_standing::next_id_of;
 /// The session that makes the group.
 const SESSION: u8 = 0;
 
-/// Puts one layer in the place of all nodes of a file's image, which shows what they show, saves that and writes the
-/// number of its version.
+/// Puts one layer, which shows what all nodes of a file's image show, in their place, saves that and writes the number
+/// of its version.
 ///
 /// The file is made before the save begins. The shelf comes back always.
 pub fn flatten<K: Sink, D: Shelf>(

@@ -23,7 +23,7 @@ fn put_word(alloc: Global, out: &mut Vec<u8>, value: u32) -> Result<(), AllocErr
     put_u32(alloc, out, value)
 }
 
-/// The type word of a property, and the number of bytes behind its length word.
+/// The type word and the length word of a property with so many bytes of payload.
 fn put_head(alloc: Global, out: &mut Vec<u8>, kind: u32, len: usize) -> Result<(), AllocError>
     requires { len < 2 ^ 32 }
     ensures ok { OnOk result (out.new.items ≡ out.old.items ++ (word kind ++ word len)) }

@@ -31,8 +31,8 @@ fn head(alloc: Global, width: u32, height: u32) -> Result<String, AllocError>
     Ok(text)
 }
 
-// How many bands are composed beside one another: one for each processor, 32 at most, no more than the picture has, and
-// as far as their rows have `MOST_PIXELS` at most; but one at least.
+// How many bands are composed beside one another: one for each processor, 32 at most, at most one more than the picture
+// has, and as far as their rows have `MOST_PIXELS` at most; but one at least.
 fn lanes_for(threads: usize, width: u32, height: u32) -> usize
     ensures some { 1 ≤ result }
     ensures few { result ≤ 32 }
