@@ -6,7 +6,8 @@ ghost use Rattle.spec_fields.specs.Field.{HasWord, word_at, HasName, name_at, Te
 
 use thiserror::Error;
 
-/// Why a file is refused.
+/// Why a file is refused. The number of a kind is its place here, from 1; section 3 of docs/FORMAT.md says when it
+/// comes.
 #[derive(Clone, Copy, Debug, PartialEq, Eq)]
 pub enum Kind {
     NotXcf,
