@@ -171,7 +171,7 @@ impl Walk {
         shows_version(alloc, &self.versions, node, at, printed, picture, steps)
     }
 
-    // A peek.
+    // A peek. What is printed for it is right, or it fails.
     fn peek<L: Ledger>(
         &mut self,
         alloc: Global,

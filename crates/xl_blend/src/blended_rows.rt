@@ -27,7 +27,7 @@ fn lay_by(mode: Mode, below: &mut [Pixel], above: &[Pixel], weights: &[u32], rec
     }
 }
 
-/// The same in each mode: each arm names its mode, so that its loop is compiled for that mode alone.
+/// The same as `lay_by`. Each arm names its mode, so that its loop is compiled for that mode alone.
 fn lay_by_each(
     mode: Mode,
     below: &mut [Pixel],

@@ -30,7 +30,7 @@ impl Model for Channel {
 }
 
 impl Channel {
-    /// The same channel again.
+    /// The same channel. Its plane is shared, its name and its properties are copied.
     pub fn share(&self, alloc: Global) -> Result<Channel, AllocError>
         ensures { IfOk result (λ other. other ≡ self.now) }
     {
@@ -108,7 +108,7 @@ impl Channels {
         self.list.len() as u64
     }
 
-    /// The same channels again, with room for 64.
+    /// The same channels, with room for 64. Their planes are shared.
     pub fn share(&self, alloc: Global) -> Result<Channels, AllocError>
         ensures { IfOk result (λ other. other ≡ self.now) }
     {

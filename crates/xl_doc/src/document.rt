@@ -64,7 +64,7 @@ impl Model for Document {
 }
 
 impl Document {
-    /// The same document.
+    /// The same document. Its planes are shared; its nodes, names, colours and properties are copied.
     pub fn share(&self, alloc: Global) -> Result<Document, AllocError>
         ensures { IfOk result (λ other. other ≡ self.now) }
     {

@@ -99,7 +99,8 @@ impl Document {
         }
     }
 
-    /// The same for each point of a row, from a point on. `scratch` has `ROW_SCRATCH` bytes.
+    /// How much of each point of a row is selected, as `selected` says, from a point on. `scratch` has `ROW_SCRATCH`
+    /// bytes.
     pub fn selected_row(&self, x: i32, y: i32, out: &mut [u8], scratch: &mut [u8])
         requires scratch { length scratch.old ≡ ROW_SCRATCH }
         requires near { IsNear x }

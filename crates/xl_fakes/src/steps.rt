@@ -70,7 +70,7 @@ pub fn conclude_reading(
     Ok(())
 }
 
-/// The same for a call that saves.
+/// Counts a call that saves, and answers how it ended, as `conclude_reading` does for one that reads.
 pub fn conclude_saving(
     calls: &mut ShelfCalls,
     starved: &mut u64,

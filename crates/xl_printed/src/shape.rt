@@ -27,7 +27,7 @@ fn session_saves(alloc: Global, lines: &[Line]) -> Result<Saves, AllocError>
     Ok(saves)
 }
 
-// The same of each session.
+// Which calls of each session are saves.
 fn script_saves(alloc: Global, script: &Script) -> Result<Vec<Saves>, AllocError>
     ensures { IfOk result (λ saves. saves.items ≡ saves_of (lists_of script.now)) }
 {

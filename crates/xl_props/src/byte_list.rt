@@ -43,7 +43,7 @@ impl Bytes {
         Bytes { items: bytes }
     }
 
-    /// The same bytes again.
+    /// A copy of the bytes.
     pub fn share(&self, alloc: Global) -> Result<Self, AllocError>
         ensures { IfOk result (λ other. other ≡ self.now) }
     {

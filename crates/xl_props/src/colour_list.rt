@@ -27,7 +27,7 @@ impl ColourMap {
         }
     }
 
-    /// The same colours again.
+    /// A copy of the colours.
     pub fn share(&self, alloc: Global) -> Result<Self, AllocError>
         ensures { IfOk result (λ other. other ≡ self.now) }
     {

@@ -21,7 +21,7 @@ impl Model for Kept {
 }
 
 impl Kept {
-    /// The same property again.
+    /// A copy of the property.
     pub fn share(&self, alloc: Global) -> Result<Self, AllocError>
         ensures { IfOk result (λ other. other ≡ self.now) }
     {
@@ -57,7 +57,7 @@ impl PropList {
         }
     }
 
-    /// The same properties again.
+    /// A copy of the properties.
     pub fn share(&self, alloc: Global) -> Result<Self, AllocError>
         ensures { IfOk result (λ other. other ≡ self.now) }
     {

@@ -4,7 +4,7 @@ ghost use Rattle.spec_fields.specs.Field.{word_value};
 
 use xl_fields::u32_at;
 
-/// The word number `i` of a payload.
+/// The word number `i` of a payload, from 0.
 pub fn word(payload: &[u8], i: usize) -> u32
     requires number { i ≤ 2 ^ 32 }
     requires inside { 4 * i + 4 ≤ length payload.now }
@@ -13,7 +13,7 @@ pub fn word(payload: &[u8], i: usize) -> u32
     u32_at(payload, 4 * i).unwrap()
 }
 
-/// The same as a signed number.
+/// The word number `i` of a payload, as a signed number.
 pub fn int(payload: &[u8], i: usize) -> i32
     requires number { i ≤ 2 ^ 32 }
     requires inside { 4 * i + 4 ≤ length payload.now }

@@ -99,7 +99,7 @@ impl FileShelf {
         Ok(())
     }
 
-    // The same of a call on the draft, which is removed where that call failed.
+    // Counts a fault where a call on the draft failed, and then removes the draft.
     fn conclude_draft(&mut self, done: io::Result<()>) -> Result<(), Failed>
         ensures name { self.new.name ≡ self.old.name }
         ensures draft { self.new.draft ≡ self.old.draft }

@@ -9,7 +9,7 @@ use spec_forest::MAX_NODES;
 use std::alloc::{AllocError, Global};
 
 impl<N: Share + Drop> Tree<N> {
-    /// The same tree again.
+    /// The same tree, with room of its own. Each node is shared as its type says.
     pub fn share(&self, alloc: Global) -> Result<Tree<N>, AllocError>
         ensures { IfOk result (λ other. other ≡ self.now) }
     {

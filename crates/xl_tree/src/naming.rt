@@ -23,7 +23,7 @@ pub trait Shown {
 
 /// What a tree asks of its nodes to be made once more.
 pub trait Share: Sized {
-    /// The same again.
+    /// The same again, which costs what its type says.
     fn share(&self, alloc: Global) -> Result<Self, AllocError>
         ensures { IfOk result (λ other. other ≡ self.now) };
 }
