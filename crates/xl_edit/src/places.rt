@@ -1,6 +1,6 @@
 //! Where bytes are written.
 
-/// Where a plane lies on the canvas, and whether its pixels are places of a colour map.
+/// Where the top left pixel of a plane lies on the canvas, and whether its pixels are places of a colour map.
 #[derive(Clone, Copy)]
 pub(crate) struct Site {
     pub x: i32,

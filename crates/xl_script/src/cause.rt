@@ -10,7 +10,9 @@ use std::alloc::{AllocError, AllocFailed};
 pub enum Cause {
     /// The script is longer than a script may be.
     TooLong,
+    /// There is a tab in the line.
     Tab,
+    /// There is a carriage return in the line.
     CarriageReturn,
     /// Two blanks side by side, or one at an end of the line.
     Blank,
@@ -18,6 +20,7 @@ pub enum Cause {
     NoSession(WordFront),
     /// There is nothing behind the session.
     NoKeyword,
+    /// The second word is no keyword.
     UnknownWord(WordFront),
     /// Another number of words than the keyword takes.
     WordCount {
@@ -37,16 +40,21 @@ pub enum Cause {
         word: WordFront,
         kind: WordKind,
     },
+    /// An `end` where no group is begun.
     EndOutside,
     /// A keyword other than of an edit, inside a group.
     InsideGroup(WordFront),
+    /// An `end` of a group without an edit.
     EmptyGroup,
+    /// An edit more than a group may have.
     FullGroup,
+    /// A `begin` whose group is never ended.
     NotEnded,
     /// The session dropped this filter.
     DroppedFilter(u32),
     /// The session never had this filter.
     NoFilter(u32),
+    /// A call more than a script may have.
     TooManyCalls,
     /// A script that is viewed has session 0 alone.
     OtherSession,

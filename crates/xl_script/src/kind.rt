@@ -3,13 +3,15 @@
 pub enum WordKind {
     /// A number of 32 bits.
     Number,
-    /// A place or a side of a rectangle.
+    /// A place or a side of a rectangle, below 2^20.
     Coordinate,
     /// A side of a new layer.
     Side,
+    /// A number of 0 to 255.
     Byte,
-    /// The type of a new layer.
+    /// The type of a new layer, 0 to 5.
     LayerType,
+    /// 0 or 1.
     Flag,
     /// A number of 32 bits with its sign.
     Offset,

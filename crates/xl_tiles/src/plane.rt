@@ -46,7 +46,7 @@ impl Model for Plane {
 }
 
 impl Plane {
-    /// The plane of these tiles, row by row.
+    /// The plane of these sides and bytes per pixel whose tiles are these, row by row.
     pub fn of_tiles(
         alloc: Global,
         w: u32,
@@ -152,7 +152,7 @@ impl Plane {
         )
     }
 
-    /// The bytes of the pixels of a rectangle, row by row. The scratch is for a tile.
+    /// Fills `out` with the bytes of the pixels of a rectangle, row by row. `scratch` has `SCRATCH` bytes.
     pub fn read_rect(&self, rect: Rect, out: &mut [u8], scratch: &mut [u8])
         requires within { IsWithin self.now.width self.now.height rect }
         requires out { length out.old ≡ rect.w * rect.h * self.now.bpp }
@@ -163,8 +163,8 @@ impl Plane {
         read_area(self.sheet, &self.tiles, area, out, scratch);
     }
 
-    /// The bytes of n pixels of row y, from column x on. The scratch is for a tile: each call unpacks the tiles that it
-    /// meets.
+    /// Fills `out` with the bytes of n pixels of row y, from column x on. `scratch` has `SCRATCH` bytes: each call
+    /// unpacks the tiles that it meets.
     pub fn read_row(&self, x: u32, y: u32, n: u32, out: &mut [u8], scratch: &mut [u8])
         requires columns { x + n ≤ self.now.width }
         requires row { y < self.now.height }
@@ -182,7 +182,7 @@ impl Plane {
         read_area(self.sheet, &self.tiles, area, out, scratch);
     }
 
-    /// The bytes of a row of a rectangle whose bytes were read.
+    /// The bytes of row y of a rectangle, of which `bytes` were read, row by row.
     pub fn row_in<'a>(&self, rect: Rect, bytes: &'a [u8], y: u32) -> &'a [u8]
         requires within { IsWithin self.now.width self.now.height rect }
         requires bytes { bytes.now ≡ bytes_in self.now rect }
@@ -196,7 +196,7 @@ impl Plane {
         row_of(area, self.sheet.bpp, bytes, y as usize)
     }
 
-    /// Writes the pixels of a rectangle, row by row. All memory is taken first, and all other pixels stay.
+    /// Writes the pixels of a rectangle, row by row, and leaves all others. Out of memory, the plane is as before.
     pub fn write_rect(&mut self, alloc: Global, rect: Rect, bytes: &[u8]) -> Result<(), AllocError>
         requires within { IsWithin self.old.width self.old.height rect }
         requires bytes { length bytes.now ≡ rect.w * rect.h * self.old.bpp }
@@ -207,7 +207,7 @@ impl Plane {
         write_area(alloc, self.sheet, &mut self.tiles, area, bytes)
     }
 
-    /// The bytes of a tile, in the scratch where a file has them in runs.
+    /// The bytes of a tile, row by row, in the scratch where a file has them in runs. It has `SCRATCH` bytes.
     pub fn tile_bytes<'a>(&'a self, at: TileAt, scratch: &'a mut [u8]) -> &'a [u8]
         requires column { at.col < grid.tiles_along self.now.width }
         requires row { at.row < grid.tiles_along self.now.height }
@@ -274,7 +274,8 @@ impl Plane {
         self.tiles.replace(alloc, place, tile)
     }
 
-    /// At most how many tiles have other bytes than those of a plane of the same size. Each scratch is for a tile.
+    /// At most how many tiles have other bytes than those of a plane of the same size. Each scratch has `SCRATCH`
+    /// bytes.
     ///
     /// Rows and tiles that both planes share are not looked at, so a plane is quickly compared with one that it was
     /// made of.

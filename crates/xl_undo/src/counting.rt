@@ -57,6 +57,7 @@ fn are_alike(before: &Plane, after: &Plane) -> bool
         && (before.height() == after.height() && before.bpp() == after.bpp())
 }
 
+// At most how many tiles of two planes differ: all tiles of both, where their sides or bytes per pixel do.
 #[tactic(auto, unfolding(spec_undo::specs::Planes::changed_tiles))]
 fn changed_plane(before: &Plane, after: &Plane, scratch: &mut [u8], other_scratch: &mut [u8]) -> u32
     requires scratch { length scratch.old ≡ SCRATCH }
@@ -72,6 +73,7 @@ fn changed_plane(before: &Plane, after: &Plane, scratch: &mut [u8], other_scratc
 
 // ---- channels, masks and selections
 
+// The tiles of a channel, if there is one.
 fn count_if_any(channel: &Option<Channel>) -> u32
     ensures { result ≡ doc.count_if_any channel.now }
 {
@@ -81,6 +83,7 @@ fn count_if_any(channel: &Option<Channel>) -> u32
     }
 }
 
+// At most how many tiles of two channels differ, with all tiles of one that is there alone.
 fn changed_if_any(
     before: &Option<Channel>,
     after: &Option<Channel>,
@@ -100,6 +103,7 @@ fn changed_if_any(
     }
 }
 
+// The tiles of all these channels.
 fn channels_count(channels: &[Channel]) -> u32
     ensures { result ≤ doc.channels_count channels.now }
 {
@@ -109,6 +113,7 @@ fn channels_count(channels: &[Channel]) -> u32
     }
 }
 
+// At most how many tiles differ of channels with the same index, with all tiles of those that are there alone.
 fn changed_channels(
     before: &[Channel],
     after: &[Channel],
@@ -133,12 +138,14 @@ fn changed_channels(
 
 // ---- layers
 
+// The tiles of a layer and its mask.
 fn layer_count(layer: &Layer) -> u32
     ensures { result ≤ tile_count layer.now.plane + doc.count_if_any layer.now.mask }
 {
     sum(layer.plane.tile_count(), count_if_any(&layer.mask))
 }
 
+// At most how many tiles of two layers and their masks differ.
 fn changed_layer(before: &Layer, after: &Layer, scratch: &mut [u8], other_scratch: &mut [u8]) -> u32
     requires scratch { length scratch.old ≡ SCRATCH }
     requires other_scratch { length other_scratch.old ≡ SCRATCH }
@@ -152,7 +159,8 @@ fn changed_layer(before: &Layer, after: &Layer, scratch: &mut [u8], other_scratc
     )
 }
 
-// Between the layer of a node and what another document has at its id. A group has no tiles.
+// At most how many tiles differ of the layer of a node and of what another document has at its id. A group has no
+// tiles.
 fn changed_body(
     before: &Body,
     after: Option<&Node>,
@@ -176,7 +184,7 @@ fn changed_body(
     }
 }
 
-// Of the layer of a node that another document has not at its id.
+// The tiles of the layer of a node, where another document has no layer at its id.
 fn body_alone(body: &Body, other: Option<&Node>) -> u32
     ensures { (l : sheet.Layer) (found : Found sheet.Layer sheet.Group) → IsLayerOf l body.now
         → IsSeen found (option_copied other.entry) → result ≤ doc.count_if_alone l found }
@@ -193,6 +201,7 @@ fn body_alone(body: &Body, other: Option<&Node>) -> u32
     }
 }
 
+// At most how many tiles differ of the layers of these nodes, at any depth, and of what another tree has at their ids.
 fn changed_layers(
     nodes: Stack<'_, Node>,
     other: &Tree<Node>,
@@ -223,6 +232,7 @@ fn changed_layers(
     }
 }
 
+// The tiles of the layers of these nodes, at any depth, at whose ids another tree has no layer.
 fn layers_alone(nodes: Stack<'_, Node>, other: &Tree<Node>) -> u32
     requires agree { MarksAgree other.now }
     requires leaves { MarksAgree nodes }
