@@ -32,14 +32,14 @@ fn play<W: Wait, D: Shelf, G: Gate>(
     ensures { Plays (in_slots state) studio.now player.old player.new }
 {
     let lines = std::mem::replace(&mut player.part.lines, Vec::new(alloc));
-    let stage = Setting {
+    let setting = Setting {
         rt,
         alloc,
         studio,
         gate,
         session: player.part.session,
     };
-    let played = stage.play_session(
+    let played = setting.play_session(
         lines,
         &mut player.part.desk,
         &mut player.seat,

@@ -5,6 +5,7 @@
 #![tactic(auto)]
 
 mod lock;
+mod patience;
 mod rule;
 mod seat;
 mod view;
