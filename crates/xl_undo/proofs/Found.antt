@@ -1,5 +1,5 @@
 -- What a document has at an id is what its tree has there.
-use Rattle.std.proofs.Common.{◌≡◌, ℕ, ◌+◌, ◌≤◌, Bool, true, false, cond, refl, sym, subst, arith}
+use Rattle.std.proofs.Common.{◌≡◌, ℕ, ◌+◌, ◌≤◌, min, Bool, true, false, cond, refl, sym, subst, arith}
 use Rattle.std.specs.Prelude.{◌==◌, Option}
 use Rattle.spec_forest.specs.Forest.{Forest, none, leaf, group, Found, nothing, a_leaf, a_group, or_else, find}
 use Rattle.spec_document.specs.Document.{Layer, Group}
@@ -8,7 +8,7 @@ use Rattle.xl_doc.specs.declared.node.Node.{Node}
 use Rattle.xl_doc.specs.declared.node.Body.{Body}
 use Rattle.xl_doc.specs.declared.node.Body.TheVariants as body
 use Rattle.xl_doc.specs.Nodes.{nodes_of, layer_of, group_of, IsLeaf, MarksAgree}
-use Rattle.spec_undo.specs.Changed.{over_layers}
+use Rattle.spec_undo.specs.Changed.{over_layers, held}
 use Rattle.xl_undo.specs.Seen.{IsLayerOf, IsSeen}
 
 either : (x y : Found Layer Group) (a b : Found Node Node) → IsSeen x (node_of a) → IsSeen y (node_of b)
@@ -61,3 +61,12 @@ pub leaf_bound : (count : Layer → Found Layer Group
     → sum ≤ over_layers count (nodes_of other) (nodes_of nodes)
 leaf_bound count other nodes under id n one rest sum is a b s =
     subst (λ f. sum ≤ over_layers count (nodes_of other) (nodes_of f)) is (omega (arith, a, b, s))
+
+-- it is at least what is held of the sum, where each part is so
+pub leaf_least : (count : Layer → Found Layer Group
+    → ℕ) (other nodes under : Forest Node Node) (id : ℕ) (n : Node) (one rest sum : ℕ) → leaf id n under ≡ nodes
+    → held (count (layer_of n) (find id (nodes_of other))) ≤ one
+    → held (over_layers count (nodes_of other) (nodes_of under)) ≤ rest → held (one + rest) ≤ sum
+    → held (over_layers count (nodes_of other) (nodes_of nodes)) ≤ sum
+leaf_least count other nodes under id n one rest sum is a b s =
+    subst (λ f. held (over_layers count (nodes_of other) (nodes_of f)) ≤ sum) is (omega (arith, a, b, s))

@@ -4,6 +4,7 @@ ghost use Rattle.std.specs.Option.{option_copied};
 ghost use Rattle.spec_document.specs.Document as sheet;
 ghost use Rattle.spec_undo.specs.Planes.{are_alike, changed_tiles as changed_planes, tile_count};
 ghost use Rattle.spec_undo.specs.Changed as doc;
+ghost use Rattle.spec_undo.specs.Changed.{held, tiles_alone};
 ghost use Rattle.spec_forest.specs.Forest.{Found};
 ghost use Rattle.xl_doc.specs.Nodes.{MarksAgree, nodes_of};
 ghost use Rattle.xl_undo.specs.Seen.{IsLayerOf, IsSeen};
@@ -12,9 +13,10 @@ use xl_doc::{Body, Channel, Document, Layer, Node, Plane, Tree};
 use xl_tiles::SCRATCH;
 use xl_tree::{Split, Stack};
 
-/// At most the tiles that differ between two documents, with all tiles of planes that only one of them has.
+/// At most the tiles that differ between two documents, and at least all tiles of planes that only one of them has.
 pub fn changed_tiles(before: &Document, after: &Document) -> u32
-    ensures { result ≤ doc.changed_in before.now after.now }
+    ensures few { result ≤ doc.changed_in before.now after.now }
+    ensures alone { held (doc.alone_in before.now after.now) ≤ result }
 {
     let mut scratch = [0; SCRATCH];
     let mut other_scratch = [0; SCRATCH];
@@ -42,7 +44,8 @@ pub fn changed_tiles(before: &Document, after: &Document) -> u32
 
 // The sum, or the greatest number where it is above that.
 fn sum(one: u32, other: u32) -> u32
-    ensures { result ≤ one + other }
+    ensures few { result ≤ one + other }
+    ensures least { held (one + other) ≤ result }
 {
     one.saturating_add(other)
 }
@@ -58,11 +61,12 @@ fn are_alike(before: &Plane, after: &Plane) -> bool
 }
 
 // At most how many tiles of two planes differ: all tiles of both, where their sides or bytes per pixel do.
-#[tactic(auto, unfolding(spec_undo::specs::Planes::changed_tiles))]
+#[tactic(auto, unfolding(spec_undo::specs::Planes::changed_tiles, spec_undo::specs::Changed::tiles_alone))]
 fn changed_plane(before: &Plane, after: &Plane, scratch: &mut [u8], other_scratch: &mut [u8]) -> u32
     requires scratch { length scratch.old ≡ SCRATCH }
     requires other_scratch { length other_scratch.old ≡ SCRATCH }
-    ensures { result ≤ changed_planes before.now after.now }
+    ensures few { result ≤ changed_planes before.now after.now }
+    ensures alone { held (tiles_alone before.now after.now) ≤ result }
 {
     if are_alike(before, after) {
         before.tiles_changed(after, scratch, other_scratch)
@@ -92,7 +96,8 @@ fn changed_if_any(
 ) -> u32
     requires scratch { length scratch.old ≡ SCRATCH }
     requires other_scratch { length other_scratch.old ≡ SCRATCH }
-    ensures { result ≤ doc.changed_if_any before.now after.now }
+    ensures few { result ≤ doc.counted_if_any changed_planes before.now after.now }
+    ensures alone { held (doc.counted_if_any tiles_alone before.now after.now) ≤ result }
 {
     let Some(before) = before else {
         return count_if_any(after);
@@ -105,7 +110,8 @@ fn changed_if_any(
 
 // The tiles of all these channels.
 fn channels_count(channels: &[Channel]) -> u32
-    ensures { result ≤ doc.channels_count channels.now }
+    ensures few { result ≤ doc.channels_count channels.now }
+    ensures alone { held (doc.channels_count channels.now) ≤ result }
 {
     match channels.split_first() {
         None => 0,
@@ -122,7 +128,8 @@ fn changed_channels(
 ) -> u32
     requires scratch { length scratch.old ≡ SCRATCH }
     requires other_scratch { length other_scratch.old ≡ SCRATCH }
-    ensures { result ≤ doc.changed_channels before.now after.now }
+    ensures few { result ≤ doc.counted_channels changed_planes before.now after.now }
+    ensures alone { held (doc.counted_channels tiles_alone before.now after.now) ≤ result }
 {
     let Some((one, before)) = before.split_first() else {
         return channels_count(after);
@@ -140,7 +147,8 @@ fn changed_channels(
 
 // The tiles of a layer and its mask.
 fn layer_count(layer: &Layer) -> u32
-    ensures { result ≤ tile_count layer.now.plane + doc.count_if_any layer.now.mask }
+    ensures few { result ≤ tile_count layer.now.plane + doc.count_if_any layer.now.mask }
+    ensures alone { held (tile_count layer.now.plane + doc.count_if_any layer.now.mask) ≤ result }
 {
     sum(layer.plane.tile_count(), count_if_any(&layer.mask))
 }
@@ -149,8 +157,10 @@ fn layer_count(layer: &Layer) -> u32
 fn changed_layer(before: &Layer, after: &Layer, scratch: &mut [u8], other_scratch: &mut [u8]) -> u32
     requires scratch { length scratch.old ≡ SCRATCH }
     requires other_scratch { length other_scratch.old ≡ SCRATCH }
-    ensures { result ≤ changed_planes before.now.plane after.now.plane + doc.changed_if_any
-        before.now.mask after.now.mask }
+    ensures few { result ≤ changed_planes before.now.plane after.now.plane + doc.counted_if_any
+        changed_planes before.now.mask after.now.mask }
+    ensures alone { held (tiles_alone before.now.plane after.now.plane + doc.counted_if_any
+        tiles_alone before.now.mask after.now.mask) ≤ result }
 {
     let plane = changed_plane(&before.plane, &after.plane, scratch, other_scratch);
     sum(
@@ -169,8 +179,11 @@ fn changed_body(
 ) -> u32
     requires scratch { length scratch.old ≡ SCRATCH }
     requires other_scratch { length other_scratch.old ≡ SCRATCH }
-    ensures { (l : sheet.Layer) (found : Found sheet.Layer sheet.Group) → IsLayerOf l before.now
-        → IsSeen found (option_copied after.entry) → result ≤ doc.changed_layer l found }
+    ensures few { (l : sheet.Layer) (found : Found sheet.Layer sheet.Group) → IsLayerOf l before.now
+        → IsSeen found (option_copied after.entry) → result ≤ doc.counted_layer changed_planes l found }
+    ensures alone { (l : sheet.Layer) (found : Found sheet.Layer sheet.Group) → IsLayerOf l before.now
+        → IsSeen found (option_copied after.entry)
+        → held (doc.counted_layer tiles_alone l found) ≤ result }
 {
     let Body::Leaf(before) = before else {
         return 0;
@@ -186,8 +199,10 @@ fn changed_body(
 
 // The tiles of the layer of a node, where another document has no layer at its id.
 fn body_alone(body: &Body, other: Option<&Node>) -> u32
-    ensures { (l : sheet.Layer) (found : Found sheet.Layer sheet.Group) → IsLayerOf l body.now
+    ensures few { (l : sheet.Layer) (found : Found sheet.Layer sheet.Group) → IsLayerOf l body.now
         → IsSeen found (option_copied other.entry) → result ≤ doc.count_if_alone l found }
+    ensures alone { (l : sheet.Layer) (found : Found sheet.Layer sheet.Group) → IsLayerOf l body.now
+        → IsSeen found (option_copied other.entry) → held (doc.count_if_alone l found) ≤ result }
 {
     let Body::Leaf(layer) = body else {
         return 0;
@@ -212,8 +227,10 @@ fn changed_layers(
     requires other_scratch { length other_scratch.old ≡ SCRATCH }
     requires agree { MarksAgree other.now }
     requires leaves { MarksAgree nodes }
-    ensures { result ≤ doc.over_layers doc.changed_layer (nodes_of other.now)
+    ensures few { result ≤ doc.over_layers (doc.counted_layer changed_planes) (nodes_of other.now)
         (nodes_of nodes.entry) }
+    ensures alone { held (doc.over_layers (doc.counted_layer tiles_alone) (nodes_of other.now)
+        (nodes_of nodes.entry)) ≤ result }
 {
     match nodes.split() {
         Split::Empty => 0,
@@ -236,8 +253,10 @@ fn changed_layers(
 fn layers_alone(nodes: Stack<'_, Node>, other: &Tree<Node>) -> u32
     requires agree { MarksAgree other.now }
     requires leaves { MarksAgree nodes }
-    ensures { result ≤ doc.over_layers doc.count_if_alone (nodes_of other.now)
+    ensures few { result ≤ doc.over_layers doc.count_if_alone (nodes_of other.now)
         (nodes_of nodes.entry) }
+    ensures alone { held (doc.over_layers doc.count_if_alone (nodes_of other.now)
+        (nodes_of nodes.entry)) ≤ result }
 {
     match nodes.split() {
         Split::Empty => 0,
