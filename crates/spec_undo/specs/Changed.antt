@@ -1,5 +1,5 @@
 -- How many tiles differ between two documents, and how many only one of them has.
-use Rattle.std.specs.Prelude.{ℕ, ◌+◌, ◌-◌, ◌^◌, min, if◌then◌else◌, List, [], ◌∷◌, Option, Some, None}
+use Rattle.std.specs.Prelude.{ℕ, ◌+◌, if◌then◌else◌, List, [], ◌∷◌, Option, Some, None}
 use Rattle.spec_forest.specs.Forest.{none, leaf, group, Found, nothing, a_leaf, a_group, find}
 use Rattle.spec_document.specs.Document.{Channel, Layer, Group, Nodes, Document}
 use Rattle.spec_document.specs.Plane.{Plane}
@@ -10,10 +10,6 @@ use Rattle.spec_undo.specs.Planes.{tile_count, are_alike, changed_tiles}
 -- of planes that are not alike the tiles of both, and of others none
 unfoldable pub tiles_alone : Plane → Plane → ℕ
 tiles_alone p q = if are_alike p q then 0 else tile_count p + tile_count q
-
--- a count as 32 bits hold it: the greatest number stands for all above it
-abbrev pub held : ℕ → ℕ
-held count = min (2 ^ 32 - 1) count
 
 -- what is counted between two planes is an argument of all that follows
 

@@ -8,7 +8,8 @@ use Rattle.xl_doc.specs.declared.node.Node.{Node}
 use Rattle.xl_doc.specs.declared.node.Body.{Body}
 use Rattle.xl_doc.specs.declared.node.Body.TheVariants as body
 use Rattle.xl_doc.specs.Nodes.{nodes_of, layer_of, group_of, IsLeaf, MarksAgree}
-use Rattle.spec_undo.specs.Changed.{over_layers, held}
+use Rattle.spec_undo.specs.Changed.{over_layers}
+use Rattle.xl_undo.specs.Held.{held}
 use Rattle.xl_undo.specs.Seen.{IsLayerOf, IsSeen}
 
 either : (x y : Found Layer Group) (a b : Found Node Node) → IsSeen x (node_of a) → IsSeen y (node_of b)

@@ -4,17 +4,27 @@ ghost use Rattle.std.specs.Option.{option_copied};
 ghost use Rattle.spec_document.specs.Document as sheet;
 ghost use Rattle.spec_undo.specs.Planes.{are_alike, changed_tiles as changed_planes, tile_count};
 ghost use Rattle.spec_undo.specs.Changed as doc;
-ghost use Rattle.spec_undo.specs.Changed.{held, tiles_alone};
+ghost use Rattle.spec_undo.specs.Changed.{tiles_alone};
 ghost use Rattle.spec_forest.specs.Forest.{Found};
 ghost use Rattle.xl_doc.specs.Nodes.{MarksAgree, nodes_of};
+ghost use Rattle.xl_undo.specs.Held.{held};
 ghost use Rattle.xl_undo.specs.Seen.{IsLayerOf, IsSeen};
 
-use xl_doc::{Body, Channel, Document, Layer, Node, Plane, Tree};
+use xl_doc::{Body, Channel, Document, Layer, Node, Plane, Tree, know_limits};
 use xl_tiles::SCRATCH;
 use xl_tree::{Split, Stack};
 
 /// At most the tiles that differ between two documents, and at least all tiles of planes that only one of them has.
 pub fn changed_tiles(before: &Document, after: &Document) -> u32
+    ensures few { result ≤ doc.changed_in before.now after.now }
+    ensures alone { doc.alone_in before.now after.now ≤ result }
+{
+    know_limits(before);
+    know_limits(after);
+    sum_of_parts(before, after)
+}
+
+fn sum_of_parts(before: &Document, after: &Document) -> u32
     ensures few { result ≤ doc.changed_in before.now after.now }
     ensures alone { held (doc.alone_in before.now after.now) ≤ result }
 {

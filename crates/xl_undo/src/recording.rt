@@ -1,6 +1,6 @@
 //! Undo records.
 ghost use Rattle.std.specs.Prelude.{◌≡◌, ◌≤◌};
-ghost use Rattle.spec_undo.specs.Changed.{alone_in, changed_in, held};
+ghost use Rattle.spec_undo.specs.Changed.{alone_in, changed_in};
 ghost use Rattle.xl_undo.specs.Leads.{LeadsBack, turned};
 
 use crate::counting::changed_tiles;
@@ -38,7 +38,7 @@ impl Record {
     pub fn new(before: Document, after: &Document) -> Record
         ensures leads { LeadsBack before after.now result }
         ensures few { result.tiles ≤ changed_in before after.now }
-        ensures alone { held (alone_in before after.now) ≤ result.tiles }
+        ensures alone { alone_in before after.now ≤ result.tiles }
     {
         let tiles = changed_tiles(&before, after);
         Record {
