@@ -1,5 +1,6 @@
--- The tiles that only one of two documents has are fewer than 2 ^ 32: a plane has at most 65536, and a document few planes.
-use Rattle.std.proofs.Common.{◌≡◌, ℕ, ◌+◌, ◌*◌, ◌^◌, ◌<◌, ◌≤◌, Bool, true, false, cond, List, [], ◌∷◌, length, sym, subst, arith}
+-- The tiles that only one of two documents has are fewer than 2 ^ 32: a plane has at most 65536, a document few planes.
+use Rattle.std.proofs.Common.{◌≡◌, ℕ, ◌+◌, ◌*◌, ◌^◌, ◌<◌, ◌≤◌, Bool, true, false, cond, List, [], ◌∷◌, length, sym}
+use Rattle.std.proofs.Common.{subst, arith}
 use Rattle.std.specs.Prelude.{◌==◌, Option, Some, None}
 use Rattle.std.specs.List.{AllByRecursion}
 use Rattle.std.proofs.Math.Nat.{mul-le-mul}
@@ -12,8 +13,8 @@ use Rattle.spec_document.specs.Plane.{Plane}
 use Rattle.spec_document.specs.Document.{Channel, Layer, Group, Nodes, Document}
 use Rattle.spec_document.specs.Limits.{AreNodes, IsChannel, IsChannelIfAny, IsDocument, IsLayer, IsSide}
 use Rattle.spec_undo.specs.Planes.{are_alike, tile_count}
-use Rattle.spec_undo.specs.Changed.{tiles_alone, alone_in, channels_count, count_if_alone, count_if_any, counted_channels}
-use Rattle.spec_undo.specs.Changed.{counted_if_any, counted_layer, layer_count, over_layers}
+use Rattle.spec_undo.specs.Changed.{tiles_alone, alone_in, channels_count, count_if_alone, count_if_any}
+use Rattle.spec_undo.specs.Changed.{counted_channels, counted_if_any, counted_layer, layer_count, over_layers}
 
 -- ---- planes
 
@@ -34,15 +35,18 @@ few_alone p q a b = unless_alike (are_alike p q) (tile_count p) (tile_count q) a
 
 -- ---- channels, masks and selections
 
-few_of_channel : (o : Owner) (w h : ℕ) (c : Channel) → IsSide w → IsSide h → IsChannel o w h c → tile_count c.plane ≤ 65536
+few_of_channel : (o : Owner) (w h : ℕ) (c : Channel) → IsSide w → IsSide h → IsChannel o w h c
+    → tile_count c.plane ≤ 65536
 few_of_channel o w h c width height is =
     few_tiles c.plane (subst IsSide (sym is.plane.width_is) width) (subst IsSide (sym is.plane.height_is) height)
 
-few_if_any : (o : Owner) (w h : ℕ) (c : Option Channel) → IsSide w → IsSide h → IsChannelIfAny o w h c → count_if_any c ≤ 65536
+few_if_any : (o : Owner) (w h : ℕ) (c : Option Channel) → IsSide w → IsSide h → IsChannelIfAny o w h c
+    → count_if_any c ≤ 65536
 few_if_any o w h None width height is = omega arith
 few_if_any o w h (Some c) width height is = few_of_channel o w h c width height is
 
-few_between : (c d : Option Channel) → count_if_any c ≤ 65536 → count_if_any d ≤ 65536 → counted_if_any tiles_alone c d ≤ 131072
+few_between : (c d : Option Channel) → count_if_any c ≤ 65536 → count_if_any d ≤ 65536
+    → counted_if_any tiles_alone c d ≤ 131072
 few_between None d a b = omega (arith, b)
 few_between (Some c) None a b = omega (arith, a)
 few_between (Some c) (Some d) a b = few_alone c.plane d.plane a b

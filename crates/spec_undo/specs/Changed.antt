@@ -63,11 +63,13 @@ over_layers count other (group id g children under) = over_layers count other ch
 
 -- the layers of both, by their ids
 abbrev pub counted_nodes : (between : Plane → Plane → ℕ) → Nodes → Nodes → ℕ
-counted_nodes between before after = over_layers (counted_layer between) after before + over_layers count_if_alone before after
+counted_nodes between before after =
+    over_layers (counted_layer between) after before + over_layers count_if_alone before after
 
 -- ---- documents
 
--- all tiles of layers, masks, channels and selections that only one of the documents has, and what is counted of those of both
+-- all tiles of layers, masks, channels and selections that only one of the documents has, and what is counted between
+-- those of both
 abbrev pub counted_in : (between : Plane → Plane → ℕ) → (before after : Document) → ℕ
 counted_in between before after =
     (counted_nodes between before.nodes after.nodes + counted_channels between before.channels after.channels)
@@ -77,6 +79,6 @@ counted_in between before after =
 abbrev pub changed_in : (before after : Document) → ℕ
 changed_in = counted_in changed_tiles
 
--- all tiles of layers, masks, channels and selections that only one of the documents has, or that are not alike in both
+-- all tiles of layers, masks, channels and selections that only one document has, or whose planes are not alike
 abbrev pub alone_in : (before after : Document) → ℕ
 alone_in = counted_in tiles_alone

@@ -14,7 +14,8 @@ use xl_doc::{Body, Channel, Document, Layer, Node, Plane, Tree, know_limits};
 use xl_tiles::SCRATCH;
 use xl_tree::{Split, Stack};
 
-/// At most the tiles that differ between two documents, and at least all tiles of planes that only one of them has.
+/// At most the tiles that differ between two documents, with all tiles of planes that only one of them has, and
+/// at least these.
 pub fn changed_tiles(before: &Document, after: &Document) -> u32
     ensures few { result ≤ doc.changed_in before.now after.now }
     ensures alone { doc.alone_in before.now after.now ≤ result }

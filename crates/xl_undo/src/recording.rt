@@ -59,8 +59,8 @@ impl Record {
         self.from = Snapshot::of(doc);
     }
 
-    /// How many tiles were found to differ when the record was made: at most the tiles of layers, masks, channels and
-    /// selections that differ, and all tiles of those that only one of the documents has.
+    /// How many tiles were found to differ when the record was made: at most the tiles of layers, masks, channels
+    /// and selections that differ, with all tiles of those that only one of the documents has, and at least these.
     pub fn tiles_kept(&self) -> u32
         ensures { result ≡ self.now.tiles }
     {

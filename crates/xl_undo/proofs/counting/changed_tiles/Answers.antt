@@ -5,4 +5,5 @@ use Rattle.xl_undo.proofs.counting.changed_tiles.Goals as goal
 
 pub returns-clause-alone : goal.returns-clause-alone
 returns-clause-alone c =
-    omega (arith, alone_fits c.args.before.now c.args.after.now c.know_limits.ensures c.know_limits-2.ensures, c.sum_of_parts.ensures.alone)
+    let fits = alone_fits c.args.before.now c.args.after.now c.know_limits.ensures c.know_limits-2.ensures in
+    omega (arith, fits, c.sum_of_parts.ensures.alone)
