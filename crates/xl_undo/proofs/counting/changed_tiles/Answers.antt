@@ -1,5 +1,5 @@
 -- All that only one of the documents has is below 2 ^ 32, so no sum was cut.
-use Rattle.std.proofs.Common.{◌<◌, arith}
+use Rattle.std.proofs.Common.{arith}
 use Rattle.spec_undo.proofs.Small.{alone_fits}
 use Rattle.xl_undo.proofs.counting.changed_tiles.Goals as goal
 
