@@ -5,7 +5,6 @@
 #![tactic(auto)]
 
 mod lock;
-mod patience;
 mod rule;
 mod seat;
 mod view;

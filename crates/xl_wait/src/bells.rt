@@ -3,13 +3,13 @@ use std::array;
 use std::sync::Wait;
 
 /// How many bells there are.
-const BELLS: u64 = 16;
+const BELLS: usize = 16;
 
 /// A row of bells for threads that wait for numbers: each number has its bell, so that a ring wakes who waits for that
 /// number, and not all. Numbers that are 16 apart share a bell.
 #[derive(Drop)]
 pub struct Bells {
-    bells: [Bell; 16],
+    bells: [Bell; BELLS],
 }
 
 impl Bells {
@@ -22,7 +22,7 @@ impl Bells {
 
     // The bell of a number.
     fn bell(&self, number: u64) -> &Bell {
-        &self.bells[(number % BELLS) as usize]
+        &self.bells[(number % BELLS as u64) as usize]
     }
 
     /// How often the bell of a number was rung, modulo 2^64. To be asked before the look for what is waited for, and
