@@ -1,17 +1,18 @@
 -- The tiles that only one of two documents has are fewer than 2 ^ 32: a plane has at most 65536, a document few planes.
 use Rattle.std.proofs.Common.{ℕ, ◌+◌, ◌*◌, ◌^◌, ◌<◌, ◌≤◌, Bool, true, false, cond, List, [], ◌∷◌, length, sym}
 use Rattle.std.proofs.Common.{subst, arith}
-use Rattle.std.specs.Prelude.{◌==◌, Option, Some, None}
+use Rattle.std.specs.Prelude.{Option, Some, None}
 use Rattle.std.specs.List.{AllByRecursion}
 use Rattle.std.proofs.Math.Nat.{mul-le-mul}
 use Rattle.spec_grid.specs.Grid.{tiles_along}
-use Rattle.spec_forest.specs.Forest.{none, leaf, group, Found, nothing, a_leaf, a_group, size, or_else, find}
+use Rattle.spec_forest.specs.Forest.{none, leaf, group, Found, nothing, a_leaf, a_group, size, find}
 use Rattle.spec_document.specs.declared.Base.{Base}
 use Rattle.spec_document.specs.declared.Owner.{Owner}
 use Rattle.spec_document.specs.declared.Owner.TheVariants as owner
 use Rattle.spec_document.specs.Plane.{Plane}
 use Rattle.spec_document.specs.Document.{Channel, Layer, Group, Nodes, Document}
 use Rattle.spec_document.specs.Limits.{AreNodes, IsChannel, IsChannelIfAny, IsDocument, IsLayer, IsSide}
+use Rattle.spec_document.proofs.FoundLayers.{IsFound, found_layer}
 use Rattle.spec_undo.specs.Planes.{are_alike, tile_count}
 use Rattle.spec_undo.specs.Changed.{tiles_alone, alone_in, channels_count, count_if_alone, count_if_any}
 use Rattle.spec_undo.specs.Changed.{counted_channels, counted_if_any, counted_layer, layer_count, over_layers}
@@ -80,29 +81,6 @@ few_of_mask base l is = few_if_any owner.Mask l.plane.width l.plane.height l.mas
 few_of_layer : (base : Base) (l : Layer) → IsLayer base l → layer_count l ≤ 131072
 few_of_layer base l is = omega (arith, few_of_plane base l is, few_of_mask base l is)
 
--- a layer that is found is within the limits
-abbrev IsFound : Base → Found Layer Group → Type 0
-IsFound base nothing = Unit {0}
-IsFound base (a_leaf l) = IsLayer base l
-IsFound base (a_group g children) = Unit {0}
-
-by_test : (P : Found Layer Group → Type 0) (test : Bool) (x y : Found Layer Group) → P x → P y → P (cond test x y)
-by_test P true x y p q = p
-by_test P false x y p q = q
-
-found_of_either : (base : Base) (x y : Found Layer Group) → IsFound base x → IsFound base y → IsFound base (or_else x y)
-found_of_either base nothing y p q = q
-found_of_either base (a_leaf l) y p q = p
-found_of_either base (a_group g children) y p q = p
-
-found_in : (base : Base) (id : ℕ) (f : Nodes) → AreNodes base f → IsFound base (find id f)
-found_in base id none is = tt
-found_in base id (leaf i l under) is =
-    by_test (IsFound base) (id == i) (a_leaf l) (find id under) is.0 (found_in base id under is.1)
-found_in base id (group i g children under) is =
-    by_test (IsFound base) (id == i) (a_group g children) (or_else (find id children) (find id under)) tt
-    (found_of_either base (find id children) (find id under) (found_in base id children is.1.0) (found_in base id under is.1.1))
-
 few_between_layers : (base other : Base) (l : Layer) (found : Found Layer Group) → IsLayer base l → IsFound other found
     → counted_layer tiles_alone l found ≤ 262144
 few_between_layers base other l nothing is there = omega (arith, few_of_layer base l is)
@@ -123,7 +101,7 @@ few_over : (count : Layer → Found Layer Group → ℕ) (base other : Base) (no
     → AreNodes base nodes → AreNodes other others → over_layers count others nodes ≤ 262144 * size nodes
 few_over count base other none others each is there = omega arith
 few_over count base other (leaf id l under) others each is there =
-    let one = each l (find id others) is.0 (found_in other id others there) in
+    let one = each l (find id others) is.0 (found_layer other id others there) in
     omega (arith, one, few_over count base other under others each is.1 there)
 few_over count base other (group id g children under) others each is there =
     let inside = few_over count base other children others each is.1.0 there in
