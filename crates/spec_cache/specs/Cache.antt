@@ -121,6 +121,7 @@ with_last (Some place) cache = record cache { last = Some place }
 abbrev pub after_take : Cache → Cache
 after_take cache = with_last (next_place cache) cache
 
+-- what becomes of the picture of a version at a slot: gone where there is no slot, late where it was marked after the version
 abbrev pub finish_at : (version : ℕ) → Option Slot → Finished
 finish_at version None = Gone
 finish_at version (Some s) = if nat_lt version s.marked_at then Late s.marked_at else Installed

@@ -24,7 +24,7 @@ abbrev pub peek_reply : Option Shown → (seen : ℕ) → Reply
 peek_reply None seen = stale None seen
 peek_reply (Some shown) seen = if nat_lt shown.version seen then stale (Some shown.version) seen else tile_of shown.version
 
--- in the place of a reply that shows a tile
+-- the second reply, where the plain one shows a tile, and else the plain one
 abbrev pub where_tile : (plain shown : Reply) → Reply
 where_tile plain shown = unwrap_or (option_map (λ version. shown) (version_shown plain)) plain
 

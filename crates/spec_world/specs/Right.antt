@@ -19,7 +19,7 @@ use Rattle.spec_world.specs.Events.{Event, Happen, place_of, submit}
 
 -- ---- the document
 
--- The document is that of the latest version: the state is what the entries come to.
+-- The state is what the entries come to from the opened document.
 abbrev pub IsReplayed : Document → World → Type 0
 IsReplayed base w = w.state ≡ replay base w.entries
 

@@ -15,7 +15,8 @@ pub record IsJobAt (h : History) (stack : ℕ) (at : TileAt) (job : Job) : Type 
   pub stands : StandsFor (document h) stack at (version h) job
   pub there : IsTileOf (document h) (record { stack = stack; at = at })
 
--- A picture of the tile was composed once, at a version of this history, and the history says what became of it.
+-- What is told of a picture of the tile is what becomes, by this history, of one of some version of it, and the steps taken are no
+-- more than that version's tile costs. That the tile was marked, or that a picture was composed, is not said.
 pub record IsRefreshed (h : History) (stack : ℕ) (at : TileAt) (before after : ℕ) (finished : Finished) : Type 0 where
   pub number : ℕ
   pub known : number ≤ version h
