@@ -1,2 +1,2 @@
-//! How a document is written.
+//! The least version of the format that can hold a document.
 #![tactic(auto)]
