@@ -1,6 +1,6 @@
 //! Rows of one pixel throughout.
 ghost use Rattle.std.specs.Prelude.{◌≡◌, ℕ, ◌≤◌, ◌<◌, length, slice_index_or, map};
-ghost use Rattle.std.specs.Bool.{OnTrue};
+ghost use Rattle.std.specs.Bool.{OnTrue, OnFalse};
 ghost use Rattle.spec_blend.specs.declared.Pixel.{Pixel};
 ghost use Rattle.spec_blend.specs.Over.{clear};
 ghost use Rattle.xl_blend.specs.Uniform.{IsFirstAt, IsUniform};
@@ -16,9 +16,12 @@ const BLOCK: usize = 32;
 fn are_firsts(below: &[Pixel], above: &[Pixel], from: usize, to: usize) -> bool
     requires some { 0 < length below.now }
     requires lengths { length below.now ≡ length above.now }
+    requires order { from ≤ to }
     requires within { to ≤ length below.now }
-    ensures { OnTrue result ((k : ℕ) → from ≤ k → k < to → IsFirstAt k below.now × IsFirstAt k
-        above.now) }
+    ensures each { OnTrue result ((k : ℕ) → from ≤ k → k < to → IsFirstAt k below.now × IsFirstAt
+        k above.now) }
+    ensures one_is_not { OnFalse result (¬ ((k : ℕ) → from ≤ k → k < to → IsFirstAt k below.now
+        × IsFirstAt k above.now)) }
 {
     let lower = word(below[0]);
     let upper = word(above[0]);
@@ -36,6 +39,7 @@ fn are_throughout(below: &[Pixel], above: &[Pixel]) -> bool
     requires lengths { length below.now ≡ length above.now }
     ensures below { OnTrue result (IsUniform below.now) }
     ensures above { OnTrue result (IsUniform above.now) }
+    ensures otherwise { OnFalse result (¬ (IsUniform below.now × IsUniform above.now)) }
 {
     let mut at = 0;
     while at < below.len() {
@@ -50,7 +54,8 @@ fn are_throughout(below: &[Pixel], above: &[Pixel]) -> bool
 
 /// Whether the first pixel of a row is its last; of an empty row the answer is no.
 fn has_same_ends(row: &[Pixel]) -> bool
-    ensures { OnTrue result (0 < length row.now) }
+    ensures some { OnTrue result (0 < length row.now) }
+    ensures otherwise { OnFalse result (¬ (0 < length row.now × IsUniform row.now)) }
 {
     match row.first() {
         Some(first) => word(*first) == word(row[row.len() - 1]),
@@ -67,6 +72,8 @@ pub fn are_uniform(below: &[Pixel], above: &[Pixel]) -> bool
     ensures some { OnTrue result (0 < length below.now) }
     ensures below { OnTrue result (IsUniform below.now) }
     ensures above { OnTrue result (IsUniform above.now) }
+    ensures otherwise { OnFalse result (¬ (0 < length below.now × IsUniform below.now × IsUniform
+        above.now)) }
 {
     if has_same_ends(above) && has_same_ends(below) {
         are_throughout(below, above)
@@ -75,7 +82,7 @@ pub fn are_uniform(below: &[Pixel], above: &[Pixel]) -> bool
     }
 }
 
-/// Each pixel becomes this one.
+/// Each pixel becomes this one, which is put together from its word, so that the loop is compiled to vectors.
 pub fn fill(row: &mut [Pixel], pixel: Pixel)
     ensures { row.new ≡ map (λ (_ : Pixel). pixel) row.old }
 {
