@@ -24,7 +24,7 @@ stripped spec_blend 'none'
 stripped spec_rle 'none'
 stripped xl_blend 'tests|count'
 stripped xl_rle 'lib|coder|greedy|tests'
-python3 "$here/strip.py" "$top" "$out" xl_tiles join block planes area spelled rows
+python3 "$here/strip.py" "$top" "$out" xl_tiles join block planes area run_length rows
 python3 "$here/strip.py" "$top" "$out" xl_compose own lay bytes
 
 # a counter of steps that is a number
@@ -49,13 +49,16 @@ cat > "$out/xl_fields/lib.rs" <<'TEXT'
 pub enum Kind { Truncated, BadRun }
 #[derive(Clone, Copy, Debug)]
 pub struct ReadRefused { pub kind: Kind, pub at: usize }
-pub fn refused(kind: Kind, at: usize) -> ReadRefused { ReadRefused { kind, at } }
+pub fn refuse(kind: Kind, at: usize) -> ReadRefused { ReadRefused { kind, at } }
 TEXT
-echo 'pub struct Rect { pub x: i32, pub y: i32, pub w: u32, pub h: u32 }' > "$out/xl_grid/lib.rs"
+cat > "$out/xl_grid/lib.rs" <<'TEXT'
+pub struct Rect { pub x: i32, pub y: i32, pub w: u32, pub h: u32 }
+pub fn tiles_along(side: usize) -> usize { side.div_ceil(64) }
+TEXT
 rm -f "$out/xl_rle/lib.rs"
 modules=$(cd "$out/xl_rle" && ls | sed 's/\.rs$//')
 { for module in $modules; do echo "mod $module;"; done; echo 'pub use check::check_plane; pub use decode::decode_plane;'; } > "$out/xl_rle/lib.rs"
-echo 'pub mod join; pub mod block; pub mod planes; pub mod area; pub mod spelled; pub mod rows;' > "$out/xl_tiles/lib.rs"
+echo 'pub mod join; pub mod block; pub mod planes; pub mod area; pub mod run_length; pub mod rows;' > "$out/xl_tiles/lib.rs"
 echo 'pub mod own; pub mod lay; pub mod bytes;' > "$out/xl_compose/lib.rs"
 
 export RUSTC_BOOTSTRAP=1 # for vectors

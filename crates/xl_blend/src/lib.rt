@@ -17,6 +17,7 @@ mod opaque_rows;
 mod pixels;
 mod reciprocals;
 mod rows;
+mod uniform_rows;
 mod words;
 
 pub use bytes::mul;
