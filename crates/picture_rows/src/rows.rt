@@ -1,4 +1,4 @@
-//! Rows of several lengths, so that both the vector loops and what is left over run.
+//! Rows of one pixel throughout, and others, on which both the vector loops and what is left over run.
 ghost use Rattle.std.specs.Prelude.{◌≡◌, ◌<◌, length};
 
 use std::marker::Brand;
@@ -17,7 +17,8 @@ fn grey(parts: (u8, u8)) -> Pixel {
     }
 }
 
-fn lay<L: Ledger>(mode: Mode, below: Pixel, above: Pixel, blank: Blank) -> [Pixel; 6]
+// Six equal pixels under five equal ones and another, the first of them laid by itself.
+fn lay<L: Ledger>(mode: Mode, below: Pixel, above: Pixel, last: Pixel, blank: Blank) -> [Pixel; 6]
     requires name { blank.name ≡ L.name }
     requires parts { blank.parts ≡ L.parts }
     requires some { 0 < blank.parts }
@@ -25,13 +26,13 @@ fn lay<L: Ledger>(mode: Mode, below: Pixel, above: Pixel, blank: Blank) -> [Pixe
     let mut steps = Steps::<L>::new(blank);
     let one = over(mode, below, above, &mut steps);
     let mut row = [below; 6];
-    over_row(mode, &mut row[1..], &[above; 5], &mut steps);
+    over_row(mode, &mut row[1..], &[above, above, above, above, last], &mut steps);
     row[0] = one;
     row
 }
 
-fn lay_pixels(mode: Mode, below: Pixel, above: Pixel) -> [Pixel; 6] {
-    lay::<Brand>(mode, below, above, Blank::new(1))
+fn lay_pixels(mode: Mode, below: Pixel, above: Pixel, last: Pixel) -> [Pixel; 6] {
+    lay::<Brand>(mode, below, above, last, Blank::new(1))
 }
 
 /// A mode, a pixel below, one above, and what comes of them, each as a grey and an alpha.
@@ -47,8 +48,20 @@ const LAID: [(Mode, (u8, u8), (u8, u8), (u8, u8)); 4] = [
 fn rows_are_laid(rt: HostRuntime) {
     for (mode, below, above, mixed) in &LAID {
         assert_eq!(rt;
-            lay_pixels(*mode, grey(*below), grey(*above)),
+            lay_pixels(*mode, grey(*below), grey(*above), grey(*above)),
             [grey(*mixed); 6]
+        );
+    }
+}
+
+// A clear pixel leaves the one below it.
+#[test]
+fn rows_of_two_pixels_are_laid(rt: HostRuntime) {
+    for (mode, below, above, mixed) in &LAID {
+        let mixed = grey(*mixed);
+        assert_eq!(rt;
+            lay_pixels(*mode, grey(*below), grey(*above), grey((0, 0))),
+            [mixed, mixed, mixed, mixed, mixed, grey(*below)]
         );
     }
 }
