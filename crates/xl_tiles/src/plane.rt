@@ -252,8 +252,8 @@ impl Plane {
             .share()
     }
 
-    /// Puts a tile of the same size in the place of one, which it hands out. What others hold of the list of rows and of
-    /// the row of tiles is copied first; without memory for that the tile is handed back.
+    /// Puts a tile of the same size in the place of one, which it hands out. The list of rows and the row of tiles are
+    /// copied first where others hold them; without memory for that the tile is handed back.
     pub fn swap_tile(
         &mut self,
         alloc: Global,

@@ -81,7 +81,8 @@ impl RowList {
         }
     }
 
-    // Exchanges the tile at a place in a copy of the list, which shares the other rows.
+    // Exchanges the tile at a place in a copy of the list, which shares the other rows. A second handle of the tile is
+    // there to be handed back where the copy, which has the tile by then, cannot be kept.
     fn replace_in_copy(
         &mut self,
         alloc: Global,
