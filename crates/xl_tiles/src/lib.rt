@@ -12,6 +12,7 @@ mod packed;
 mod plane;
 mod planes;
 mod reading;
+mod row_list;
 mod rows;
 mod run_length;
 mod shares;

@@ -124,13 +124,13 @@ impl Plane {
         self.sheet.bpp as u32
     }
 
-    /// The same pixels: one count for each row of tiles.
-    pub fn share(&self, alloc: Global) -> Result<Plane, AllocError>
+    /// The same pixels: one count.
+    pub fn share(&self, _alloc: Global) -> Result<Plane, AllocError>
         ensures { IfOk result (λ p. p ≡ self.now) }
     {
         Ok(Plane {
             sheet: self.sheet,
-            tiles: self.tiles.share(alloc)?,
+            tiles: self.tiles.share()?,
         })
     }
 
@@ -252,8 +252,8 @@ impl Plane {
             .share()
     }
 
-    /// Puts a tile of the same size in the place of one, which it hands out. Where others hold the row of tiles, that
-    /// row is copied; without memory for it the tile is handed back.
+    /// Puts a tile of the same size in the place of one, which it hands out. The list of rows and the row of tiles are
+    /// copied first where others hold them; without memory for that the tile is handed back.
     pub fn swap_tile(
         &mut self,
         alloc: Global,
@@ -277,8 +277,8 @@ impl Plane {
     /// At most how many tiles have other bytes than those of a plane of the same size. Each scratch has `SCRATCH`
     /// bytes.
     ///
-    /// Rows and tiles that both planes share are not looked at, so a plane is quickly compared with one that it was
-    /// made of.
+    /// A table, rows and tiles that both planes share are not looked at, so a plane is quickly compared with one that it
+    /// was made of, and at once with a share of itself.
     pub fn tiles_changed(&self, other: &Plane, scratch: &mut [u8], other_scratch: &mut [u8]) -> u32
         requires width { other.now.width ≡ self.now.width }
         requires height { other.now.height ≡ self.now.height }

@@ -2,7 +2,7 @@ use Rattle.std.proofs.Common.{◌∙◌, ap, sym, subst}
 use Rattle.std.proofs.lemmas.Result.{IfOk-weaker, on_ok_weaker, on_err_weaker}
 use Rattle.xl_tiles.specs.TileRows.{AreRows}
 use Rattle.xl_tiles.proofs.RowLists.{flat, row_there, column_there, item_is, set_is, still_rows, either}
-use Rattle.xl_tiles.proofs.table.replace_in_rows.Goals as goal
+use Rattle.xl_tiles.proofs.row_list.replace_in_rows.Goals as goal
 
 pub replace_in_row-requires-clause-row : goal.replace_in_row-requires-clause-row
 replace_in_row-requires-clause-row c = row_there c.args.columns c.args.rows.now.items c.requires.rows c.args.i c.requires.place

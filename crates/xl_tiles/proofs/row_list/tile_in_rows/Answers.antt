@@ -1,6 +1,6 @@
 use Rattle.std.proofs.Common.{◌∙◌}
 use Rattle.xl_tiles.proofs.RowLists.{row_there, column_there, item_is}
-use Rattle.xl_tiles.proofs.table.tile_in_rows.Goals as goal
+use Rattle.xl_tiles.proofs.row_list.tile_in_rows.Goals as goal
 
 pub row_at-requires : goal.row_at-requires
 row_at-requires c = row_there c.args.columns c.args.rows.now c.requires.rows c.args.i c.requires.place
