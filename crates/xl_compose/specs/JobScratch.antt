@@ -1,15 +1,12 @@
 -- What a job holds.
-use Rattle.std.specs.Prelude.{◌≡◌, ℕ, ◌+◌, ◌-◌, ◌*◌, ◌≤◌, min, List, length}
+use Rattle.std.specs.Prelude.{◌≡◌, ℕ, ◌+◌, ◌-◌, ◌*◌, ◌≤◌, min, List}
 use Rattle.spec_grid.specs.declared.TileAt.{TileAt}
 use Rattle.spec_document.specs.Document.{Document}
-use Rattle.spec_blend.specs.declared.Pixel.{Pixel}
-use Rattle.spec_blend.specs.Over.{clear}
 use Rattle.xl_compose.specs.declared.pieces.Piece.{Piece}
 use Rattle.xl_compose.specs.declared.span.Band.{Band}
-use Rattle.xl_compose.specs.Laid.{pixel}
 use Rattle.spec_picture.specs.Picture.{project}
 use Rattle.xl_compose.specs.Cost.{visible_below}
-use Rattle.xl_compose.specs.Levels.{AreIn, points}
+use Rattle.xl_compose.specs.Levels.{points}
 use Rattle.xl_compose.specs.Pieces.{AllFit, composed, weights}
 use Rattle.spec_grid.specs.declared.TheConstants.{MAX_SIDE}
 
@@ -21,14 +18,16 @@ pub record IsTile (band : Band) : Type 0 where
   pub high : band.h ≤ 64
   pub some : 1 ≤ band.h
 
--- all pieces are in the scratch, which is as yet clear, and there is room for all that laying them needs
-pub record IsReady (band : Band) (pieces : List Piece) (scratch source : List Pixel) (bytes : List ℕ) : Type 0 where
+-- all pieces are on so many levels, and there is capacity for the pictures of these, for one picture more and for all bytes that
+-- laying them needs; nothing is said of what is written there
+pub record IsReady (band : Band) (levels : ℕ) (pieces : List Piece) (scratch source bytes : ℕ) : Type 0 where
   pub tile : IsTile band
-  pub fit : AreIn (length scratch) band pieces
-  pub first : points band ≤ length scratch
-  pub blank : (i : ℕ) → pixel scratch i ≡ clear
-  pub source_is : length source ≡ points band
-  pub bytes_is : length bytes ≡ 32768 + 320 * band.w
+  pub some : 1 ≤ levels
+  pub deep : levels ≤ 10
+  pub fit : AllFit levels band pieces
+  pub scratch_taken : levels * points band ≤ scratch
+  pub source_taken : points band ≤ source
+  pub bytes_taken : 32768 + 320 * band.w ≤ bytes
 
 -- the tile of a document
 abbrev pub tile_band : Document → TileAt → Band

@@ -1,5 +1,5 @@
 //! Jobs: all that is needed to compose the picture of a tile later, beside edits.
-ghost use Rattle.std.specs.Prelude.{◌≡◌, ◌+◌, ◌*◌, ◌≤◌, length, replicate, IfOk};
+ghost use Rattle.std.specs.Prelude.{◌≡◌, ◌+◌, ◌*◌, ◌≤◌, length, replicate, IfOk, vec_capacity};
 ghost use Rattle.spec_blend.specs.Over.{clear};
 ghost use Rattle.xl_compose.specs.Job.{IsDone, planned};
 ghost use Rattle.xl_compose.specs.JobScratch.{IsTile};
@@ -19,7 +19,8 @@ use xl_doc::{ColourMap, NodeId, TileAt};
 use xl_tiles::SCRATCH;
 
 /// The picture of a tile of a stack at a version, to be composed. It holds shares of the pixels that are to be laid
-/// over one another and all the scratch that composing needs, so that an edit changes nothing of it.
+/// over one another, so that an edit changes nothing of it, and all the scratch that composing needs. The scratch is
+/// taken but not written: a job is made while others wait for the document, and composed while they go on.
 #[derive(Drop)]
 pub struct Job {
     node: NodeId,
@@ -28,6 +29,7 @@ pub struct Job {
     band: Band,
     colours: ColourMap,
     pieces: Vec<Piece>,
+    levels: u32,
     scratch: Vec<Pixel>,
     source: Vec<Pixel>,
     bytes: Vec<u8>,
@@ -36,30 +38,52 @@ pub struct Job {
 
 impl Model for Job {
     ghost use Rattle.xl_compose.specs.Job as jobs;
+    ghost use Rattle.std.specs.Prelude.{vec_capacity};
     ghost use Rattle.xl_compose.specs.JobScratch.{IsReady};
 
     ghost Value = { jobs.Job };
 
     ghost view = { λ j. jobs.planned j.node.0 j.at j.version j.colours j.band j.pieces.items };
 
-    ghost invariant = { λ j. IsReady j.band j.pieces.items j.scratch.items j.source.items j.bytes.items };
+    ghost invariant = { λ j. IsReady j.band j.levels j.pieces.items (vec_capacity j.scratch)
+        (vec_capacity j.source) (vec_capacity j.bytes) };
 }
 
-// Room for the pictures of so many levels.
-fn clear_scratch(alloc: Global, deep: u32, points: usize) -> Result<Vec<Pixel>, AllocError>
+// Memory for the pictures of so many levels, which nothing is written to.
+fn take_pixels(alloc: Global, deep: u32, points: usize) -> Result<Vec<Pixel>, AllocError>
     requires deep { deep ≤ 10 }
     requires points { points ≤ 4096 }
-    ensures { IfOk result (λ scratch. scratch.items ≡ replicate (deep * points) clear) }
+    ensures { IfOk result (λ scratch. deep * points ≤ vec_capacity scratch) }
 {
-    vec![in alloc; CLEAR; deep as usize * points]
+    Vec::with_capacity(alloc, deep as usize * points)
 }
 
-// Room for the bytes of a layer and its mask at the points of a tile, and for a tile of theirs.
-fn byte_room(alloc: Global, width: u32) -> Result<Vec<u8>, AllocError>
+// Memory for the bytes of a layer and its mask at the points of a tile, and for a tile of theirs.
+fn take_bytes(alloc: Global, width: u32) -> Result<Vec<u8>, AllocError>
     requires { width ≤ 64 }
-    ensures { IfOk result (λ bytes. length bytes.items ≡ SCRATCH + 320 * width) }
+    ensures { IfOk result (λ bytes. SCRATCH + 320 * width ≤ vec_capacity bytes) }
 {
-    vec![in alloc; 0; SCRATCH + 320 * width as usize]
+    Vec::with_capacity(alloc, SCRATCH + 320 * width as usize)
+}
+
+// Clear pixels for so many levels, in the memory that was taken.
+fn clear_pixels(scratch: &mut Vec<Pixel>, deep: u32, points: usize)
+    requires deep { deep ≤ 10 }
+    requires points { points ≤ 4096 }
+    requires taken { deep * points ≤ vec_capacity scratch.old }
+    ensures { scratch.new.items ≡ replicate (deep * points) clear }
+{
+    scratch.clear();
+    scratch.resize(deep as usize * points, CLEAR).unwrap();
+}
+
+// Any bytes, as many as a tile so wide needs, in the memory that was taken.
+fn any_bytes(bytes: &mut Vec<u8>, width: u32)
+    requires narrow { width ≤ 64 }
+    requires taken { SCRATCH + 320 * width ≤ vec_capacity bytes.old }
+    ensures { length bytes.new.items ≡ SCRATCH + 320 * width }
+{
+    bytes.resize(SCRATCH + 320 * width as usize, 0).unwrap();
 }
 
 impl Job {
@@ -82,9 +106,9 @@ impl Job {
     {
         let Pile { pieces, levels } = pile;
         let points = band.h as usize * band.w as usize;
-        let scratch = clear_scratch(alloc, levels, points)?;
-        let source = clear_scratch(alloc, 1, points)?;
-        let bytes = byte_room(alloc, band.w)?;
+        let scratch = take_pixels(alloc, levels, points)?;
+        let source = take_pixels(alloc, 1, points)?;
+        let bytes = take_bytes(alloc, band.w)?;
         let out = Picture::blank(alloc)?;
         Ok(Job {
             node,
@@ -93,6 +117,7 @@ impl Job {
             band,
             colours,
             pieces,
+            levels,
             scratch,
             source,
             bytes,
@@ -134,22 +159,27 @@ pub fn compose<L: Ledger>(job: Job, steps: &mut Steps<L>) -> Done
         band,
         colours,
         pieces,
+        levels,
         mut scratch,
         mut source,
         mut bytes,
         mut out,
     } = job;
-    let levels = scratch.as_mut_slice();
+    let points = band.h as usize * band.w as usize;
+    clear_pixels(&mut scratch, levels, points);
+    clear_pixels(&mut source, 1, points);
+    any_bytes(&mut bytes, band.w);
+    let pictures = scratch.as_mut_slice();
     lay_pieces(
         colours.as_slice(),
         pieces.as_slice(),
         band,
-        levels,
+        pictures,
         source.as_mut_slice(),
         bytes.as_mut_slice(),
         steps,
     );
-    out.set_pixels(&levels[..band.h as usize * band.w as usize]);
+    out.set_pixels(&pictures[..points]);
     Done {
         node,
         at,
