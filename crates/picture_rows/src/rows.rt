@@ -26,7 +26,12 @@ fn lay<L: Ledger>(mode: Mode, below: Pixel, above: Pixel, last: Pixel, blank: Bl
     let mut steps = Steps::<L>::new(blank);
     let one = over(mode, below, above, &mut steps);
     let mut row = [below; 6];
-    over_row(mode, &mut row[1..], &[above, above, above, above, last], &mut steps);
+    over_row(
+        mode,
+        &mut row[1..],
+        &[above, above, above, above, last],
+        &mut steps,
+    );
     row[0] = one;
     row
 }
