@@ -4,6 +4,7 @@ ghost use Rattle.spec_script.specs.Fits.{FitsFilters};
 ghost use Rattle.spec_command.specs.Arguments.{edit as edit_of};
 ghost use Rattle.xl_ports.specs.Source.{IsEnded};
 ghost use Rattle.xl_ports.specs.Disk.{read_at};
+ghost use Rattle.xl_program.specs.AtSource.{IfOfSource};
 ghost use Rattle.xl_program.specs.Outcome.{given_of, ComesTo, LoadsFew, ReadsToEnd, SourceCause, ShelfCause, TakesFront};
 ghost use Rattle.xl_program.specs.Parts.{ReadsScript, WritesReplies, StopsEdit};
 ghost use Rattle.xl_script.specs.Lines.{lists_of};
@@ -53,6 +54,7 @@ pub fn edit<R: Threads + Wait + Sync, S: Source, K: Sink, D: Shelf, G: Gate>(
     ensures selected { ((D.shelf_state result.shelf).selected ≡ (D.shelf_state shelf).selected) ⊎
         ((D.shelf_state result.shelf).selected ≡ Some name.now) }
     ensures named { OnOk result.result ((D.shelf_state result.shelf).selected ≡ Some name.now) }
+    ensures shelf_as_before { IfOfSource result.result (result.shelf ≡ shelf) }
 {
     let alloc = host.alloc;
     let script = match read_script(alloc, source, &chest) {
@@ -128,7 +130,8 @@ pub fn write_replies<K: Sink>(
     sink: &mut K,
     replies: Result<Replies, AllocError>,
 ) -> Result<(), Stopped>
-    ensures { WritesReplies K.held K.faults sink.old sink.new replies result }
+    ensures writes { WritesReplies K.held K.faults sink.old sink.new replies result }
+    ensures past_source { IfOfSource result ⊥ }
 {
     let Ok(replies) = replies else {
         return Err(Stopped::Memory);

@@ -1,6 +1,7 @@
 ghost use Rattle.std.specs.Prelude.{◌≡◌, ◌⊎◌, Some, IfOk, OnOk};
 ghost use Rattle.spec_document.specs.Limits.{IsDocument};
 ghost use Rattle.xl_doc.specs.Numbered.{AreNumbered};
+ghost use Rattle.xl_program.specs.AtSource.{IfOfSource};
 ghost use Rattle.xl_program.specs.Outcome.{IsUntouched, LoadsFew, ShelfCause};
 ghost use Rattle.xl_program.specs.Parts.{Loads, LoadsMeasured};
 ghost use Rattle.xl_ports.specs.Disk.{read_at};
@@ -32,6 +33,7 @@ pub fn read_document<D: Shelf>(
     ensures loads { Loads (read_at (D.shelf_state shelf.old).disk name.now) result }
     ensures limits { IfOk result (λ document. IsDocument document) }
     ensures numbered { IfOk result (λ document. AreNumbered document.nodes) }
+    ensures past_source { IfOfSource result ⊥ }
     ensures cause { ShelfCause (D.shelf_state shelf.old).reading (D.shelf_state shelf.new).reading
         result }
     ensures untouched { IsUntouched (D.shelf_state shelf.old)
@@ -50,6 +52,7 @@ pub fn load_document<D: Shelf>(alloc: Global, name: &str, shelf: &mut D) -> Resu
     ensures loads { LoadsMeasured (read_at (D.shelf_state shelf.old).disk name.now) result }
     ensures limits { IfOk result (λ loaded. IsDocument loaded.document) }
     ensures numbered { IfOk result (λ loaded. AreNumbered loaded.document.nodes) }
+    ensures past_source { IfOfSource result ⊥ }
     ensures cause { ShelfCause (D.shelf_state shelf.old).reading (D.shelf_state shelf.new).reading
         result }
     ensures untouched { IsUntouched (D.shelf_state shelf.old)
