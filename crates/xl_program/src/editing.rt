@@ -19,10 +19,10 @@ use std::thread::Threads;
 use xl_filters::PointFilter;
 use xl_play::{Host, Replies, run_script};
 use xl_ports::{FailedOrMemory, Gate, Shelf, Sink, Source, read_all, write_all};
-use xl_script::{BadLineOrMemory, Script, parse};
+use xl_script::{BadLineOrMemory, MAX_SCRIPT_BYTES, Script, parse};
 
 /// How much of a script is read: one byte more than it may have.
-pub(crate) const MOST_BYTES: usize = (1 << 24) + 1;
+pub(crate) const MOST_BYTES: usize = MAX_SCRIPT_BYTES + 1;
 
 /// Makes the calls and saves of a script on the document of a file, and writes the replies. The sessions are played
 /// beside each other, and beside workers; session 0 alone, where no worker is asked for, without threads.

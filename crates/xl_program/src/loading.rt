@@ -12,10 +12,7 @@ use std::sync::Arc;
 use xl_doc::Document;
 use xl_fields::ReadRefusedOrMemory;
 use xl_ports::{Failed, FailedOrMemory, Shelf, load_all};
-use xl_read::decode;
-
-/// How much of a file is read. One of so many bytes or more is refused.
-const MOST_BYTES: usize = 1 << 31;
+use xl_read::{FILE_LIMIT, decode};
 
 /// A document, and how many bytes its file has.
 #[derive(Drop)]
@@ -66,7 +63,8 @@ pub fn load_document<D: Shelf>(alloc: Global, name: &str, shelf: &mut D) -> Resu
         Ok(()) => {}
         Err(Failed) => return Err(Stopped::ShelfFault),
     }
-    let bytes = match load_all(alloc, shelf, MOST_BYTES) {
+    // A file of so many bytes is refused, so no more of one are read.
+    let bytes = match load_all(alloc, shelf, FILE_LIMIT) {
         Ok(bytes) => bytes,
         Err(FailedOrMemory::Failed) => return Err(Stopped::ShelfFault),
         Err(FailedOrMemory::Memory) => return Err(Stopped::Memory),
