@@ -6,10 +6,7 @@ use crate::errors::NotOpened;
 use std::alloc::Global;
 use std::sync::Arc;
 use xl_doc::Document;
-use xl_read::{ReadRefusedOrMemory, decode};
-
-/// No file of more bytes is read.
-const MOST_BYTES: usize = 1 << 31;
+use xl_read::{FILE_LIMIT, ReadRefusedOrMemory, decode};
 
 /// The document that a file holds, from the file's bytes, its nodes numbered from 1. Its tiles stay in these bytes and
 /// are unpacked as they are looked at.
@@ -20,7 +17,8 @@ pub fn open(alloc: Global, file: Vec<u8>) -> Result<Document, NotOpened>
     ensures opens { Opens file.items (λ document. document) result }
     ensures numbered { IfOk result (λ document. AreNumbered document.nodes) }
 {
-    if file.len() > MOST_BYTES {
+    // No file of more bytes is read.
+    if file.len() > FILE_LIMIT {
         return Err(NotOpened::TooLong);
     }
     let Ok(file) = Arc::new(alloc, file) else {

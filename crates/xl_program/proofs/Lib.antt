@@ -1,6 +1,7 @@
 pub mod Limits
 pub mod Scripts
 pub mod StopLines
+mod AtSource
 mod Audited
 mod Causes
 mod Earlier

@@ -192,7 +192,7 @@ module _ (given : Given) (content : List ℕ → Option Content) where
   flat_of (audit name) why stops = absurd stops
 
   -- only an edit, a view and an audit read the source
-  reads_source : (command : Asked) → StopsFor given content command (Err SourceFault) → ReadsSource (Some command)
+  pub reads_source : (command : Asked) → StopsFor given content command (Err SourceFault) → ReadsSource (Some command)
   reads_source (render name) stops = absurd stops
   reads_source (info name) stops = absurd stops
   reads_source (make name seed) stops = absurd stops

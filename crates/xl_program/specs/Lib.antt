@@ -1,3 +1,4 @@
+pub mod AtSource
 pub mod Auditing
 pub mod Command
 pub mod Endings

@@ -3,6 +3,7 @@ use Rattle.std.specs.Prelude.{◌≡◌, ◌⊎◌, ◌==◌, ◌+◌, ◌^◌, 
 use Rattle.std.specs.Prelude.{Result, Ok, Err, Vec}
 use Rattle.std.specs.declared.alloc.Global.{Global}
 use Rattle.std.specs.List.{list_any}
+use Rattle.spec_audit.specs.Source.{most_script, most_source}
 use Rattle.spec_command.specs.Arguments.{Asked, edit, render, info, make, pack, flatten, view, audit, name_of}
 use Rattle.spec_command.specs.Ends.{Stop, source_fault, bad_head, bad_line, shelf_fault, refused, flat_refused, stop_line, stop_status}
 use Rattle.spec_document.specs.Document.{Document}
@@ -296,11 +297,11 @@ InGrammar given (Some (audit name)) = IsAuditScript given.left given.chests
 
 -- how often a source is read for a script at most: as often as a script may have bytes, and once more
 abbrev pub most_reads : ℕ
-most_reads = 2 ^ 24 + 1
+most_reads = most_script + 1
 
 -- and for an audit, with the script and the output
 abbrev pub most_audit_reads : ℕ
-most_audit_reads = 2 ^ 28 + 1
+most_audit_reads = most_source + 1
 
 module _ {S : Type 0} (left : S → Option (List ℕ)) (faults reads : S → ℕ) where
   -- the source was left as it was, and not read

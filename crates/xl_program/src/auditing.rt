@@ -5,6 +5,7 @@ ghost use Rattle.spec_command.specs.Arguments.{audit as audit_of};
 ghost use Rattle.spec_script.specs.Fits.{FitsFilters};
 ghost use Rattle.xl_ports.specs.Disk.{read_at};
 ghost use Rattle.xl_ports.specs.Source.{IsEnded};
+ghost use Rattle.xl_program.specs.AtSource.{IfOfSource};
 ghost use Rattle.xl_program.specs.Outcome.{given_of, ComesTo, LoadsFew, ReadsToEnd, SourceCause, ShelfCause};
 ghost use Rattle.xl_program.specs.Outcome.{most_audit_reads, TakesWithin};
 ghost use Rattle.xl_program.specs.Parts.{ReadsSourceOf, StopsAudit, WritesVerdict};
@@ -47,6 +48,7 @@ pub fn audit<S: Source, K: Sink, D: Shelf>(
     ensures selected { ((D.shelf_state shelf.new).selected ≡ (D.shelf_state shelf.old).selected) ⊎
         ((D.shelf_state shelf.new).selected ≡ Some name.now) }
     ensures named { OnOk result ((D.shelf_state shelf.new).selected ≡ Some name.now) }
+    ensures shelf_as_before { IfOfSource result (shelf.new ≡ shelf.old) }
 {
     // No `?`: clauses tell of the cause, and behind a conversion it is another one.
     let given = match read_source(alloc, source, &chest) {
@@ -95,7 +97,8 @@ fn write_verdict<K: Sink>(
     sink: &mut K,
     verdict: Result<Verdict, AllocError>,
 ) -> Result<(), Stopped>
-    ensures { WritesVerdict K.held K.faults sink.old sink.new verdict result }
+    ensures writes { WritesVerdict K.held K.faults sink.old sink.new verdict result }
+    ensures past_source { IfOfSource result ⊥ }
 {
     let Ok(verdict) = verdict else {
         return Err(Stopped::Memory);

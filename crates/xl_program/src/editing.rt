@@ -4,6 +4,7 @@ ghost use Rattle.spec_script.specs.Fits.{FitsFilters};
 ghost use Rattle.spec_command.specs.Arguments.{edit as edit_of};
 ghost use Rattle.xl_ports.specs.Source.{IsEnded};
 ghost use Rattle.xl_ports.specs.Disk.{read_at};
+ghost use Rattle.xl_program.specs.AtSource.{IfOfSource};
 ghost use Rattle.xl_program.specs.Outcome.{given_of, ComesTo, LoadsFew, ReadsToEnd, SourceCause, ShelfCause, TakesFront};
 ghost use Rattle.xl_program.specs.Parts.{ReadsScript, WritesReplies, StopsEdit};
 ghost use Rattle.xl_script.specs.Lines.{lists_of};
@@ -18,10 +19,10 @@ use std::thread::Threads;
 use xl_filters::PointFilter;
 use xl_play::{Host, Replies, run_script};
 use xl_ports::{FailedOrMemory, Gate, Shelf, Sink, Source, read_all, write_all};
-use xl_script::{BadLineOrMemory, Script, parse};
+use xl_script::{BadLineOrMemory, MAX_SCRIPT_BYTES, Script, parse};
 
 /// How much of a script is read: one byte more than it may have.
-pub(crate) const MOST_BYTES: usize = (1 << 24) + 1;
+pub(crate) const MOST_BYTES: usize = MAX_SCRIPT_BYTES + 1;
 
 /// Makes the calls and saves of a script on the document of a file, and writes the replies. The sessions are played
 /// beside each other, and beside workers; session 0 alone, where no worker is asked for, without threads.
@@ -53,6 +54,7 @@ pub fn edit<R: Threads + Wait + Sync, S: Source, K: Sink, D: Shelf, G: Gate>(
     ensures selected { ((D.shelf_state result.shelf).selected ≡ (D.shelf_state shelf).selected) ⊎
         ((D.shelf_state result.shelf).selected ≡ Some name.now) }
     ensures named { OnOk result.result ((D.shelf_state result.shelf).selected ≡ Some name.now) }
+    ensures shelf_as_before { IfOfSource result.result (result.shelf ≡ shelf) }
 {
     let alloc = host.alloc;
     let script = match read_script(alloc, source, &chest) {
@@ -128,7 +130,8 @@ pub fn write_replies<K: Sink>(
     sink: &mut K,
     replies: Result<Replies, AllocError>,
 ) -> Result<(), Stopped>
-    ensures { WritesReplies K.held K.faults sink.old sink.new replies result }
+    ensures writes { WritesReplies K.held K.faults sink.old sink.new replies result }
+    ensures past_source { IfOfSource result ⊥ }
 {
     let Ok(replies) = replies else {
         return Err(Stopped::Memory);

@@ -1,6 +1,7 @@
 ghost use Rattle.std.specs.Prelude.{◌≡◌, ◌⊎◌, Some, IfOk, OnOk};
 ghost use Rattle.spec_document.specs.Limits.{IsDocument};
 ghost use Rattle.xl_doc.specs.Numbered.{AreNumbered};
+ghost use Rattle.xl_program.specs.AtSource.{IfOfSource};
 ghost use Rattle.xl_program.specs.Outcome.{IsUntouched, LoadsFew, ShelfCause};
 ghost use Rattle.xl_program.specs.Parts.{Loads, LoadsMeasured};
 ghost use Rattle.xl_ports.specs.Disk.{read_at};
@@ -11,10 +12,7 @@ use std::sync::Arc;
 use xl_doc::Document;
 use xl_fields::ReadRefusedOrMemory;
 use xl_ports::{Failed, FailedOrMemory, Shelf, load_all};
-use xl_read::decode;
-
-/// How much of a file is read. One of so many bytes or more is refused.
-const MOST_BYTES: usize = 1 << 31;
+use xl_read::{FILE_LIMIT, decode};
 
 /// A document, and how many bytes its file has.
 #[derive(Drop)]
@@ -32,6 +30,7 @@ pub fn read_document<D: Shelf>(
     ensures loads { Loads (read_at (D.shelf_state shelf.old).disk name.now) result }
     ensures limits { IfOk result (λ document. IsDocument document) }
     ensures numbered { IfOk result (λ document. AreNumbered document.nodes) }
+    ensures past_source { IfOfSource result ⊥ }
     ensures cause { ShelfCause (D.shelf_state shelf.old).reading (D.shelf_state shelf.new).reading
         result }
     ensures untouched { IsUntouched (D.shelf_state shelf.old)
@@ -50,6 +49,7 @@ pub fn load_document<D: Shelf>(alloc: Global, name: &str, shelf: &mut D) -> Resu
     ensures loads { LoadsMeasured (read_at (D.shelf_state shelf.old).disk name.now) result }
     ensures limits { IfOk result (λ loaded. IsDocument loaded.document) }
     ensures numbered { IfOk result (λ loaded. AreNumbered loaded.document.nodes) }
+    ensures past_source { IfOfSource result ⊥ }
     ensures cause { ShelfCause (D.shelf_state shelf.old).reading (D.shelf_state shelf.new).reading
         result }
     ensures untouched { IsUntouched (D.shelf_state shelf.old)
@@ -63,7 +63,8 @@ pub fn load_document<D: Shelf>(alloc: Global, name: &str, shelf: &mut D) -> Resu
         Ok(()) => {}
         Err(Failed) => return Err(Stopped::ShelfFault),
     }
-    let bytes = match load_all(alloc, shelf, MOST_BYTES) {
+    // A file of so many bytes is refused, so no more of one are read.
+    let bytes = match load_all(alloc, shelf, FILE_LIMIT) {
         Ok(bytes) => bytes,
         Err(FailedOrMemory::Failed) => return Err(Stopped::ShelfFault),
         Err(FailedOrMemory::Memory) => return Err(Stopped::Memory),

@@ -10,6 +10,7 @@ ghost use Rattle.xl_ports.specs.Faults.{Rose};
 ghost use Rattle.xl_ports.specs.Shelf.{selected_content};
 ghost use Rattle.xl_ports.specs.Source.{IsEnded};
 ghost use Rattle.xl_ports.specs.Disk.{read_at};
+ghost use Rattle.xl_program.specs.AtSource.{StopsBeforeShelf};
 ghost use Rattle.xl_program.specs.Command.{IsFlatten, ReadsFile, ReadsSource};
 ghost use Rattle.xl_program.specs.Files.{CannotBeFlat, HasFault};
 ghost use Rattle.xl_program.specs.Lines.{WritesLine};
@@ -127,6 +128,7 @@ pub fn run<R: Threads + Wait + Sync, S: Source, K: Sink, D: Shelf, G: Gate>(
     ensures untouched { StopsBefore result.status → IsUntouched
         (D.shelf_state shelf)
         (D.shelf_state result.shelf) }
+    ensures shelf_as_before { StopsBeforeShelf result.status → result.shelf ≡ shelf }
 
     // What becomes of the source and the shelf.
     ensures no_reading_fault { result.status ≢ 6 → (D.shelf_state result.shelf).reading

@@ -10,6 +10,7 @@ ghost use Rattle.xl_command.specs.Asking.{IsWindowSize};
 ghost use Rattle.xl_doc.specs.Numbered.{AreNumbered};
 ghost use Rattle.xl_ports.specs.Source.{IsEnded};
 ghost use Rattle.xl_ports.specs.Disk.{read_at};
+ghost use Rattle.xl_program.specs.AtSource.{IfOfSource};
 ghost use Rattle.xl_program.specs.Outcome.{given_of, ComesTo, LoadsFew, ReadsToEnd, SourceCause, ShelfCause, TakesFront};
 ghost use Rattle.xl_program.specs.Parts.{ReadsViewed, StopsView, WritesViewed};
 ghost use Rattle.xl_script.specs.Lines.{lists_of};
@@ -56,6 +57,7 @@ pub fn view<S: Source, K: Sink, D: Shelf>(
     ensures selected { ((D.shelf_state result.shelf).selected ≡ (D.shelf_state shelf).selected) ⊎
         ((D.shelf_state result.shelf).selected ≡ Some name.now) }
     ensures named { OnOk result.result ((D.shelf_state result.shelf).selected ≡ Some name.now) }
+    ensures shelf_as_before { IfOfSource result.result (result.shelf ≡ shelf) }
 {
     let alloc = view.alloc;
     let script = match read_script(alloc, source, &chest) {
@@ -164,7 +166,8 @@ fn view_document<D: Shelf>(
 
 // Writes the text of a run.
 fn write_text<K: Sink>(sink: &mut K, text: Result<String, AllocError>) -> Result<(), Stopped>
-    ensures { WritesViewed K.held K.faults sink.old sink.new text result }
+    ensures writes { WritesViewed K.held K.faults sink.old sink.new text result }
+    ensures past_source { IfOfSource result ⊥ }
 {
     let Ok(text) = text else {
         return Err(Stopped::Memory);

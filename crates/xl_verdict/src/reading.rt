@@ -1,5 +1,6 @@
-ghost use Rattle.std.specs.Prelude.{◌≡◌, ◌≤◌, ◌+◌, ◌^◌, ℕ, List, length, IfOk, OnOk, Some};
+ghost use Rattle.std.specs.Prelude.{◌≡◌, ◌≤◌, ◌+◌, ℕ, List, length, IfOk, OnOk, Some};
 ghost use Rattle.spec_audit.specs.Limited.{AreNumbers};
+ghost use Rattle.spec_audit.specs.Source.{most_source};
 ghost use Rattle.spec_script.specs.Fits.{FitsFilters};
 ghost use Rattle.xl_ports.specs.Source.{led_by, IsEnded};
 ghost use Rattle.xl_script.specs.Lines.{lists_of};
@@ -8,10 +9,11 @@ ghost use Rattle.xl_verdict.specs.Reading.{HasCause, ReadsAudit};
 use std::alloc::Global;
 use xl_audit::split_source;
 use xl_ports::{FailedOrMemory, Source, read_all};
+use xl_printed::MAX_SOURCE_BYTES;
 use xl_script::{BadLine, BadLineOrMemory, Script, parse};
 
 /// How much of a source is read: one byte more than it may have.
-const MOST_BYTES: usize = (1 << 28) + 1;
+const MOST_BYTES: usize = MAX_SOURCE_BYTES + 1;
 
 /// A script, and the output that is judged by it.
 #[derive(Drop)]
@@ -61,8 +63,8 @@ pub fn read_audit<S: Source>(alloc: Global, source: &mut S, counts: &[u32]) -> R
     ensures fits { IfOk result (λ audit. FitsFilters counts.now (lists_of audit.script)) }
     ensures numbers { IfOk result (λ audit. AreNumbers (lists_of audit.script)) }
     ensures takes { (bytes : List ℕ) × (S.left source.old ≡ led_by bytes (S.left source.new))
-        × (length bytes ≤ 2 ^ 28 + 1) }
-    ensures few_reads { S.reads source.new ≤ S.reads source.old + (2 ^ 28 + 1) }
+        × (length bytes ≤ most_source + 1) }
+    ensures few_reads { S.reads source.new ≤ S.reads source.old + (most_source + 1) }
     ensures ended { OnOk result (IsEnded (S.left source.new)) }
     ensures cause { HasCause (S.faults source.old) (S.faults source.new) result }
 {

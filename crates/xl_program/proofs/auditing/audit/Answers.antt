@@ -1,8 +1,9 @@
-use Rattle.std.proofs.Common.{arith}
+use Rattle.std.proofs.Common.{arith, refl}
 use Rattle.std.specs.Prelude.{Err}
 use Rattle.xl_ports.specs.Disk.{read_at}
 use Rattle.xl_ports.specs.State.{ShelfState}
 use Rattle.xl_program.specs.Outcome.{Given, given_of}
+use Rattle.xl_program.proofs.AtSource.{past_source}
 use Rattle.xl_program.proofs.Audited.{IsAuditOpened, audit_comes, audit_stopped, source_stops, audit_file_stops, verdict_stops}
 use Rattle.xl_program.proofs.Audited.{unread_source}
 use Rattle.xl_program.proofs.FirstSaves.{ok_any}
@@ -24,7 +25,7 @@ returns-clause-comes g c =
       untouched = loaded.untouched;
     } in
     audit_comes given then g.K.Sink.held g.K.Sink.faults c.args.sink.now c.write_verdict.new.sink c.find_verdict.result
-    c.write_verdict.result c.find_verdict.ensures c.write_verdict.ensures
+    c.write_verdict.result c.find_verdict.ensures c.write_verdict.ensures.writes
 
 pub returns-in-Err-clause-comes : goal.returns-in-Err-clause-comes
 returns-in-Err-clause-comes g c =
@@ -56,7 +57,7 @@ returns-clause-stops g c =
     given_of (g.S.Source.left c.args.source.now) (λ b. (goal.PointFilter-dyn g (b.vtable, b.value)).state b.value)
     c.args.chest.items in
     verdict_stops g.K.Sink.held g.K.Sink.faults c.args.sink.now c.write_verdict.new.sink given
-    (read_at (g.D.Shelf.shelf_state c.args.shelf.now).disk c.args.name.now) c.find_verdict.result c.write_verdict.result c.write_verdict.ensures
+    (read_at (g.D.Shelf.shelf_state c.args.shelf.now).disk c.args.name.now) c.find_verdict.result c.write_verdict.result c.write_verdict.ensures.writes
 
 pub returns-in-Err-clause-ended : goal.returns-in-Err-clause-ended
 returns-in-Err-clause-ended g c =
@@ -78,3 +79,12 @@ returns-clause-named g c = ok_any c.write_verdict.result c.in-Ok-read_document.e
 
 pub returns-in-Err-clause-few_loads : goal.returns-in-Err-clause-few_loads
 returns-in-Err-clause-few_loads g c = omega arith
+
+pub returns-in-Err-clause-shelf_as_before : goal.returns-in-Err-clause-shelf_as_before
+returns-in-Err-clause-shelf_as_before g c = λ stops. refl
+
+pub returns-in-Err-read_document-clause-shelf_as_before : goal.returns-in-Err-read_document-clause-shelf_as_before
+returns-in-Err-read_document-clause-shelf_as_before g c = λ stops. absurd (c.in-Err-read_document.ensures.past_source stops)
+
+pub returns-clause-shelf_as_before : goal.returns-clause-shelf_as_before
+returns-clause-shelf_as_before g c = past_source _ c.write_verdict.result c.write_verdict.ensures.past_source

@@ -1,6 +1,7 @@
-use Rattle.std.proofs.Common.{◌∙◌, arith}
+use Rattle.std.proofs.Common.{◌∙◌, arith, refl}
 use Rattle.std.specs.Prelude.{Err}
 use Rattle.xl_script.specs.Lines.{lists_of}
+use Rattle.xl_program.proofs.AtSource.{past_source}
 use Rattle.xl_program.proofs.Edited.{IsOpened, played_comes, read_stopped, load_stops, play_stops}
 use Rattle.xl_program.proofs.FirstSaves.{ok_any}
 use Rattle.xl_program.proofs.ScriptEnded.{ended_anyhow, unread}
@@ -29,7 +30,7 @@ returns-clause-comes g c =
     } in
     played_comes then after c.args.workers g.K.Sink.held g.K.Sink.faults c.args.sink.now c.write_replies.new.sink
     c.run_script-played.result.replies c.write_replies.result
-    c.run_script-played.ensures c.write_replies.ensures
+    c.run_script-played.ensures c.write_replies.ensures.writes
 
 pub returns-in-Err-clause-comes : goal.returns-in-Err-clause-comes
 returns-in-Err-clause-comes g c =
@@ -47,7 +48,7 @@ pub returns-clause-stops : goal.returns-clause-stops
 returns-clause-stops g c =
     play_stops g.K.Sink.held g.K.Sink.faults c.args.sink.now c.write_replies.new.sink _
     (read_at (g.D.Shelf.shelf_state c.args.shelf).disk c.args.name.now) (lists_of c.in-Ok.script)
-    c.run_script-played.result.replies c.write_replies.result c.in-Ok.ensures.reads c.write_replies.ensures
+    c.run_script-played.result.replies c.write_replies.result c.in-Ok.ensures.reads c.write_replies.ensures.writes
 
 pub returns-in-Err-clause-ended : goal.returns-in-Err-clause-ended
 returns-in-Err-clause-ended g c = unread _ (g.S.Source.left c.read_script.new.source) c.in-Err.stopped c.in-Err.ensures.reads
@@ -69,3 +70,12 @@ returns-clause-few_loads g c =
 
 pub returns-in-Err-clause-few_loads : goal.returns-in-Err-clause-few_loads
 returns-in-Err-clause-few_loads g c = omega arith
+
+pub returns-in-Err-clause-shelf_as_before : goal.returns-in-Err-clause-shelf_as_before
+returns-in-Err-clause-shelf_as_before g c = λ stops. refl
+
+pub returns-in-Err-read_document-clause-shelf_as_before : goal.returns-in-Err-read_document-clause-shelf_as_before
+returns-in-Err-read_document-clause-shelf_as_before g c = λ stops. absurd (c.in-Err-read_document.ensures.past_source stops)
+
+pub returns-clause-shelf_as_before : goal.returns-clause-shelf_as_before
+returns-clause-shelf_as_before g c = past_source _ c.write_replies.result c.write_replies.ensures.past_source

@@ -67,12 +67,12 @@ returns-clause-comes g c = λ given.
     g.K.Sink.faults _ _ c.args.sink.now c.write_replies.new.sink
     c.run_made-played.result.replies c.write_replies.result
     run
-    c.write_replies.ensures
+    c.write_replies.ensures.writes
 
 pub returns-clause-stops : goal.returns-clause-stops
 returns-clause-stops g c =
     made_stops g.K.Sink.held g.K.Sink.faults c.args.sink.now c.write_replies.new.sink c.run_made-played.result.replies
-    c.write_replies.result c.write_replies.ensures
+    c.write_replies.result c.write_replies.ensures.writes
 
 pub returns-clause-cause : goal.returns-clause-cause
 returns-clause-cause g c =
@@ -84,7 +84,7 @@ returns-clause-cause g c =
     (see c.run_made-played.result.shelf) c.args.name.now c.args.seed
     c.run_made-played.result.replies c.write_replies.result
     ((c.run_made-played.ensures c.args.seed c.in-Ok.ensures.document c.in-Ok.ensures.script).shelf.reading ∙ saved.reading)
-    c.write_replies.ensures
+    c.write_replies.ensures.writes
 
 pub returns-clause-selected : goal.returns-clause-selected
 returns-clause-selected g c =

@@ -90,3 +90,12 @@ returns-in-Audit-clause-shelf_cause g c =
     let see = g.D.Shelf.shelf_state in
     rw c.in-Audit.is (cause_of (see c.args.shelf) (see c.audit-result.new.shelf) (audit c.in-Audit.name.now)
     c.audit-result.result (λ rose. rose) c.audit-result.ensures.shelf_cause)
+
+pub returns-in-Edit-clause-shelf_as_before : goal.returns-in-Edit-clause-shelf_as_before
+returns-in-Edit-clause-shelf_as_before g c = λ reads. c.edit.ensures.shelf_as_before
+
+pub returns-in-View-clause-shelf_as_before : goal.returns-in-View-clause-shelf_as_before
+returns-in-View-clause-shelf_as_before g c = λ reads. c.view.ensures.shelf_as_before
+
+pub returns-in-Audit-clause-shelf_as_before : goal.returns-in-Audit-clause-shelf_as_before
+returns-in-Audit-clause-shelf_as_before g c = λ reads. c.audit-result.ensures.shelf_as_before

@@ -1,4 +1,4 @@
-use Rattle.std.proofs.Common.{◌≡◌, inl, inr, refl, Option, Some, sym, ◌∙◌, ap, subst, arith}
+use Rattle.std.proofs.Common.{◌≡◌, inl, inr, refl, false, true, Option, Some, sym, ◌∙◌, ap, subst, arith}
 use Rattle.std.specs.Prelude.{IfSome, option_map}
 use Rattle.spec_command.specs.Arguments.{Asked, name_of}
 use Rattle.spec_command.specs.Grammar.{asked_in}
@@ -7,10 +7,12 @@ use Rattle.xl_command.specs.Asking.{asked_of, arguments_of}
 use Rattle.xl_ports.specs.Shelf.{Content, selected_content}
 use Rattle.xl_ports.specs.State.{ShelfState}
 use Rattle.xl_ports.specs.Disk.{read_at}
+use Rattle.xl_program.specs.AtSource.{StopsBeforeShelf}
 use Rattle.xl_program.specs.Command.{IsFlatten, ReadsFile, ReadsSource}
 use Rattle.xl_program.specs.Files.{CannotBeFlat, HasFault}
 use Rattle.xl_program.specs.Lines.{WritesLine}
 use Rattle.xl_program.specs.Outcome.{Given, given_of, InGrammar, OtherNamesStay}
+use Rattle.xl_program.proofs.AtSource.{at_source}
 use Rattle.xl_program.proofs.Taken.{nothing_taken, nothing_saved}
 use Rattle.xl_program.proofs.OtherNames.{all_stay, names_stay}
 use Rattle.xl_program.proofs.ScriptEnded.{ended_written}
@@ -184,3 +186,22 @@ returns-in_default-clause-few_loads g c = omega arith
 
 pub returns-in_default-asked-clause-few_loads : goal.returns-in_default-asked-clause-few_loads
 returns-in_default-asked-clause-few_loads g c = omega arith
+
+pub returns-in_default-clause-shelf_as_before : goal.returns-in_default-clause-shelf_as_before
+returns-in_default-clause-shelf_as_before g c = λ before. refl
+
+pub returns-in_default-asked-clause-shelf_as_before : goal.returns-in_default-asked-clause-shelf_as_before
+returns-in_default-asked-clause-shelf_as_before g c = λ before. refl
+
+pub returns-clause-shelf_as_before : goal.returns-clause-shelf_as_before
+returns-clause-shelf_as_before g c = λ before. elim c.match-done.branch [
+  | in-Ok-result w ↦ let bad : false ≡ true = subst StopsBeforeShelf w.status-is before in cc
+  | in-Err w ↦
+      let given : Given =
+      given_of (g.S.Source.left c.args.source.now) (λ b. (goal.PointFilter-dyn g (b.vtable, b.value)).state b.value)
+      c.args.chest.items in
+      let content = read_at (g.D.Shelf.shelf_state c.args.shelf).disk in
+      at_source given content g.K.Sink.held g.K.Sink.faults _ (asked_of c.in-Some.command) w.in-Err.stopped _ _ _ _ (sym w.status-is)
+      before (rw w.in-Err.is at c.obey-done.ensures.stops) w.write_stop-status.ensures
+      (rw w.in-Err.is at c.obey-done.ensures.shelf_as_before)
+]

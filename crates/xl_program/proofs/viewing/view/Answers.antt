@@ -1,6 +1,7 @@
-use Rattle.std.proofs.Common.{ap, subst, sym, ◌∙◌, arith}
+use Rattle.std.proofs.Common.{ap, subst, sym, ◌∙◌, arith, refl}
 use Rattle.std.specs.Prelude.{Err}
 use Rattle.xl_program.specs.Outcome.{Given, given_of, LoadsFew}
+use Rattle.xl_program.proofs.AtSource.{past_source}
 use Rattle.xl_program.proofs.FirstSaves.{ok_any}
 use Rattle.xl_program.proofs.ScriptEnded.{ended_anyhow}
 use Rattle.xl_program.proofs.Viewed.{IsViewOpened, viewed_comes, view_stopped, script_stops, file_stops, text_stops, unread_view}
@@ -25,7 +26,7 @@ returns-clause-comes g c =
     } in
     viewed_comes given then (see c.view_document-viewed.result.shelf) (ap see c.view_document-viewed.ensures.shelf) c.args.view.now.cols c.args.view.now.rows
     g.K.Sink.held g.K.Sink.faults c.args.sink.now c.write_text.new.sink c.view_document-viewed.result.text c.write_text.result
-    c.view_document-viewed.ensures.views c.write_text.ensures
+    c.view_document-viewed.ensures.views c.write_text.ensures.writes
 
 pub returns-in-Err-clause-comes : goal.returns-in-Err-clause-comes
 returns-in-Err-clause-comes g c =
@@ -59,7 +60,7 @@ returns-clause-stops g c =
     c.args.chest.items in
     text_stops g.K.Sink.held g.K.Sink.faults c.args.sink.now c.write_text.new.sink given
     (read_at (g.D.Shelf.shelf_state c.args.shelf).disk c.args.name.now) c.in-Ok.script c.view_document-viewed.result.text c.write_text.result c.in-Ok.ensures.reads
-    c.write_text.ensures
+    c.write_text.ensures.writes
 
 pub returns-in-Err-clause-ended : goal.returns-in-Err-clause-ended
 returns-in-Err-clause-ended g c =
@@ -89,3 +90,12 @@ returns-clause-few_loads g c =
 
 pub returns-in-Err-clause-few_loads : goal.returns-in-Err-clause-few_loads
 returns-in-Err-clause-few_loads g c = omega arith
+
+pub returns-in-Err-clause-shelf_as_before : goal.returns-in-Err-clause-shelf_as_before
+returns-in-Err-clause-shelf_as_before g c = λ stops. refl
+
+pub returns-in-Err-read_document-clause-shelf_as_before : goal.returns-in-Err-read_document-clause-shelf_as_before
+returns-in-Err-read_document-clause-shelf_as_before g c = λ stops. absurd (c.in-Err-read_document.ensures.past_source stops)
+
+pub returns-clause-shelf_as_before : goal.returns-clause-shelf_as_before
+returns-clause-shelf_as_before g c = past_source _ c.write_text.result c.write_text.ensures.past_source
