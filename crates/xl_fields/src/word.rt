@@ -1,4 +1,4 @@
-ghost use Rattle.std.specs.Prelude.{◌≡◌, ◌++◌, OnOk, OnErr};
+ghost use Rattle.std.specs.Prelude.{◌≡◌, ◌+◌, ◌≤◌, ◌++◌, length, take, drop, OnOk, OnErr};
 ghost use Rattle.std.specs.Int.{w32, to_be_bytes};
 ghost use Rattle.spec_fields.specs.Field.{word_at, int_at};
 
@@ -31,4 +31,12 @@ pub fn put_u32(_alloc: Global, out: &mut Vec<u8>, value: u32) -> Result<(), Allo
     ensures err { OnErr result (out.new.items ≡ out.old.items) }
 {
     out.extend_from_slice(&value.to_be_bytes())
+}
+
+/// Sets a word that stands already.
+pub fn set_word(out: &mut [u8], at: usize, value: u32)
+    requires { at + 4 ≤ length out.old }
+    ensures { out.new ≡ take at out.old ++ (to_be_bytes w32 value ++ drop (at + 4) out.old) }
+{
+    out[at..at + 4].copy_from_slice(&value.to_be_bytes());
 }

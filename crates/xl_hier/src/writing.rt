@@ -1,6 +1,5 @@
 ghost use Rattle.std.specs.Prelude.{◌≡◌, ◌+◌, ◌*◌, ◌<◌, ◌≤◌, ◌^◌, ◌++◌, [], ◌∷◌, length, take, drop, replicate};
 ghost use Rattle.std.specs.Prelude.{vec_len, OnOk, OnErr};
-ghost use Rattle.std.specs.Int.{w32, to_be_bytes};
 ghost use Rattle.spec_grid.specs.Grid as grid;
 ghost use Rattle.spec_hierarchy.specs.BytePlanes.{byte_planes};
 ghost use Rattle.spec_hierarchy.specs.Holds.{HasPlane};
@@ -12,7 +11,7 @@ ghost use Rattle.spec_hierarchy.specs.Layout.{words};
 
 use crate::written_tile::{MAX_PLANE, write_tile};
 use std::alloc::{AllocError, Global};
-use xl_fields::put_u32;
+use xl_fields::{put_u32, set_word};
 use xl_grid::TileAt;
 use xl_rle::PlaneCoder;
 use xl_tiles::{Plane, SCRATCH};
@@ -44,14 +43,6 @@ fn append_heads(alloc: Global, plane: &Plane, out: &mut Vec<u8>) -> Result<(), A
         out,
         &[width, height, plane.bpp(), level, 0, width, height],
     )
-}
-
-// Sets a word that stands already.
-fn set_word(out: &mut [u8], at: usize, value: u32)
-    requires { at + 4 ≤ length out.old }
-    ensures { out.new ≡ take at out.old ++ (to_be_bytes w32 value ++ drop (at + 4) out.old) }
-{
-    out[at..at + 4].copy_from_slice(&value.to_be_bytes());
 }
 
 // Appends the tiles, and sets the pointers to them, whose words begin at the table. The scratch is for a plane of a

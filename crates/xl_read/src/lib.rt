@@ -2,6 +2,7 @@
 #![tactic(auto)]
 
 mod channel;
+mod document_fields;
 mod draft;
 mod file;
 mod head;
@@ -12,7 +13,6 @@ mod listing;
 mod lists;
 mod mask;
 mod owners;
-mod parts;
 mod placing;
 mod sums;
 mod words;
