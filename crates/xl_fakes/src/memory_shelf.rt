@@ -14,7 +14,7 @@ ghost use Rattle.xl_fakes.specs.Kept.{IsSettled, KnowsToo, LeavesBoth, draft_in,
 
 use crate::draft::Draft;
 use crate::files::{bring, place_of};
-use crate::kept::NamedFile;
+use crate::named_file::NamedFile;
 use crate::settled::Settled;
 use crate::shelf_calls::ShelfCalls;
 use crate::steps::{conclude_reading, conclude_saving, note, settle_kept};

@@ -5,7 +5,7 @@ ghost use Rattle.xl_fakes.specs.Fakes.{CountsStarved};
 ghost use Rattle.xl_fakes.specs.Calls.{with_reading, with_saving};
 ghost use Rattle.xl_fakes.specs.Kept.{Notes};
 
-use crate::kept::NamedFile;
+use crate::named_file::NamedFile;
 use crate::settled::Settled;
 use crate::shelf_calls::ShelfCalls;
 use std::alloc::{AllocError, Global};
