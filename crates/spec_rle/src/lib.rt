@@ -10,6 +10,12 @@ ghost use Rattle.spec_rle.specs.Standing.{IsSpelledAt};
 /// How many codes a plane has at most.
 pub const MAX_CODES: u32 = 8192;
 
+/// The first byte of a run in the long form.
+pub const LONG_RUN: u8 = 127;
+
+/// The first byte of literal bytes in the long form.
+pub const LONG_LITERAL: u8 = 128;
+
 /// A spelling spells one plane of a length.
 pub fn spells_one_plane()
     ensures { (bytes a b : List ℕ) → Spells bytes a → Spells bytes b → a ≡ b }

@@ -4,7 +4,7 @@ ghost use Rattle.std.specs.Prelude.{drop, remove, ◌∷◌};
 ghost use Rattle.xl_ports.specs.Shelf.{absent};
 ghost use Rattle.xl_fakes.specs.Kept.{KnowsToo, is_known, Standing, found, standing, content_of, contents};
 
-use crate::kept::NamedFile;
+use crate::named_file::NamedFile;
 use std::alloc::{AllocError, AllocFailed, Global};
 
 /// The place of what is kept under a name, if anything is.

@@ -14,7 +14,7 @@ ghost use Rattle.xl_fakes.specs.Kept.{IsSettled, KnowsToo, LeavesBoth, draft_in,
 
 use crate::draft::Draft;
 use crate::files::{bring, place_of};
-use crate::kept::NamedFile;
+use crate::named_file::NamedFile;
 use crate::settled::Settled;
 use crate::shelf_calls::ShelfCalls;
 use crate::steps::{conclude_reading, conclude_saving, note, settle_kept};
@@ -176,17 +176,16 @@ impl MemoryShelf {
         ensures ends { EndsReading ⊥ result self.old self.new }
     {
         let failed = self.calls.next_fails();
-        if note(&mut self.log).is_err() {
-            return conclude_reading(&mut self.calls, &mut self.starved, failed, true);
+        let noted = note(&mut self.log);
+        if failed || noted.is_err() {
+            return conclude_reading(&mut self.calls, &mut self.starved, failed, noted);
         }
-        if failed {
-            return conclude_reading(&mut self.calls, &mut self.starved, true, false);
-        }
-        if bring(self.alloc, &mut self.here, &mut self.files, name).is_err() {
-            return conclude_reading(&mut self.calls, &mut self.starved, false, true);
+        let brought = bring(self.alloc, &mut self.here, &mut self.files, name);
+        if brought.is_err() {
+            return conclude_reading(&mut self.calls, &mut self.starved, false, brought);
         }
         self.draft = None;
-        conclude_reading(&mut self.calls, &mut self.starved, false, false)
+        conclude_reading(&mut self.calls, &mut self.starved, false, Ok(()))
     }
 
     fn open_draft(&mut self) -> Result<(), Failed>
@@ -199,12 +198,12 @@ impl MemoryShelf {
     {
         self.draft = None;
         let failed = self.calls.next_fails();
-        let starved = note(&mut self.log).is_err();
-        if failed || starved {
-            return conclude_saving(&mut self.calls, &mut self.starved, failed, starved);
+        let noted = note(&mut self.log);
+        if failed || noted.is_err() {
+            return conclude_saving(&mut self.calls, &mut self.starved, failed, noted);
         }
         self.draft = Some(Draft::new(self.alloc));
-        conclude_saving(&mut self.calls, &mut self.starved, false, false)
+        conclude_saving(&mut self.calls, &mut self.starved, false, Ok(()))
     }
 
     fn add_to_draft(&mut self, bytes: &[u8]) -> Result<(), Failed>
@@ -220,15 +219,15 @@ impl MemoryShelf {
     {
         let mut draft = self.draft.take().unwrap();
         let failed = self.calls.next_fails();
-        let starved = note(&mut self.log).is_err();
-        if failed || starved {
+        let noted = note(&mut self.log);
+        if failed || noted.is_err() {
             draft.set_synced(false);
             self.draft = Some(draft);
-            return conclude_saving(&mut self.calls, &mut self.starved, failed, starved);
+            return conclude_saving(&mut self.calls, &mut self.starved, failed, noted);
         }
-        let starved = draft.add(bytes).is_err();
+        let added = draft.add(bytes);
         self.draft = Some(draft);
-        conclude_saving(&mut self.calls, &mut self.starved, false, starved)
+        conclude_saving(&mut self.calls, &mut self.starved, false, added)
     }
 
     fn sync_draft(&mut self) -> Result<(), Failed>
@@ -243,15 +242,15 @@ impl MemoryShelf {
     {
         let mut draft = self.draft.take().unwrap();
         let failed = self.calls.next_fails();
-        let starved = note(&mut self.log).is_err();
-        if failed || starved {
+        let noted = note(&mut self.log);
+        if failed || noted.is_err() {
             draft.set_synced(false);
             self.draft = Some(draft);
-            return conclude_saving(&mut self.calls, &mut self.starved, failed, starved);
+            return conclude_saving(&mut self.calls, &mut self.starved, failed, noted);
         }
         draft.set_synced(true);
         self.draft = Some(draft);
-        conclude_saving(&mut self.calls, &mut self.starved, false, false)
+        conclude_saving(&mut self.calls, &mut self.starved, false, Ok(()))
     }
 
     fn swap_draft(&mut self) -> Result<(), Failed>
@@ -274,20 +273,20 @@ impl MemoryShelf {
         let bytes = self.draft.take().unwrap().into_bytes();
         let stopped = self.calls.is_stopped();
         let listed = self.calls.is_listed();
-        let starved = note(&mut self.log).is_err();
-        if stopped || starved {
-            return conclude_saving(&mut self.calls, &mut self.starved, stopped, starved);
+        let noted = note(&mut self.log);
+        if stopped || noted.is_err() {
+            return conclude_saving(&mut self.calls, &mut self.starved, stopped, noted);
         }
         let mut here = self.here.take().unwrap();
         if listed {
-            let starved = here.add(bytes).is_err();
+            let added = here.add(bytes);
             self.here = Some(here);
             // Where there is no memory for the draft, that is why it fails, and not its number.
-            return conclude_saving(&mut self.calls, &mut self.starved, !starved, starved);
+            return conclude_saving(&mut self.calls, &mut self.starved, added.is_ok(), added);
         }
-        let starved = here.swap(bytes).is_err();
+        let swapped = here.swap(bytes);
         self.here = Some(here);
-        conclude_saving(&mut self.calls, &mut self.starved, false, starved)
+        conclude_saving(&mut self.calls, &mut self.starved, false, swapped)
     }
 
     fn settle_name(&mut self) -> Result<(), Failed>
@@ -301,13 +300,13 @@ impl MemoryShelf {
     {
         let failed = self.calls.next_fails();
         if failed {
-            let starved = note(&mut self.log).is_err();
-            return conclude_saving(&mut self.calls, &mut self.starved, true, starved);
+            let noted = note(&mut self.log);
+            return conclude_saving(&mut self.calls, &mut self.starved, true, noted);
         }
         let mut here = self.here.take().unwrap();
-        let starved = settle_kept(self.alloc, &mut here, &mut self.log).is_err();
+        let settled = settle_kept(self.alloc, &mut here, &mut self.log);
         self.here = Some(here);
-        conclude_saving(&mut self.calls, &mut self.starved, false, starved)
+        conclude_saving(&mut self.calls, &mut self.starved, false, settled)
     }
 
     fn load_part(&mut self, at: u64, buf: &mut [u8]) -> Result<usize, Failed>
@@ -323,13 +322,13 @@ impl MemoryShelf {
     {
         self.loads = self.loads.saturating_add(1);
         let failed = self.calls.next_fails();
-        let starved = note(&mut self.log).is_err();
-        if failed || starved {
-            conclude_reading(&mut self.calls, &mut self.starved, failed, starved)?;
+        let noted = note(&mut self.log);
+        if failed || noted.is_err() {
+            conclude_reading(&mut self.calls, &mut self.starved, failed, noted)?;
             return Ok(0);
         }
         let given = give(self.here.as_ref().unwrap(), at, buf);
-        conclude_reading(&mut self.calls, &mut self.starved, given.is_err(), false)?;
+        conclude_reading(&mut self.calls, &mut self.starved, given.is_err(), Ok(()))?;
         given
     }
 }

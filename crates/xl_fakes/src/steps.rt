@@ -5,7 +5,7 @@ ghost use Rattle.xl_fakes.specs.Fakes.{CountsStarved};
 ghost use Rattle.xl_fakes.specs.Calls.{with_reading, with_saving};
 ghost use Rattle.xl_fakes.specs.Kept.{Notes};
 
-use crate::kept::NamedFile;
+use crate::named_file::NamedFile;
 use crate::settled::Settled;
 use crate::shelf_calls::ShelfCalls;
 use std::alloc::{AllocError, Global};
@@ -40,20 +40,20 @@ pub fn settle_kept(
     Ok(())
 }
 
-/// Counts a call that reads, and answers how it ended. It failed where it was to fail (`failed`), and where it found no
-/// memory (`is_starved`); `starved` counts the calls that found none and were not to fail.
+/// Counts a call that reads, and answers how it ended. It failed where it was to fail (`failed`), and where there was no
+/// `memory` for it; `starved` counts the calls that found none and were not to fail.
 pub fn conclude_reading(
     calls: &mut ShelfCalls,
     starved: &mut u64,
     failed: bool,
-    is_starved: bool,
+    memory: Result<(), AllocError>,
 ) -> Result<(), Failed>
-    ensures ok { OnOk result ((failed ≡ false) × (is_starved ≡ false)) }
-    ensures err { OnErr result ((failed ≡ true) ⊎ (is_starved ≡ true)) }
+    ensures ok { OnOk result ((failed ≡ false) × (is_err memory ≡ false)) }
+    ensures err { OnErr result ((failed ≡ true) ⊎ (is_err memory ≡ true)) }
     ensures calls { calls.new ≡ with_reading (is_err result) calls.old }
-    ensures rose { failed ≡ false → is_starved ≡ true → Rose starved.old starved.new }
+    ensures rose { failed ≡ false → is_err memory ≡ true → Rose starved.old starved.new }
     ensures spared { failed ≡ true → starved.new ≡ starved.old }
-    ensures not_starved { is_starved ≡ false → starved.new ≡ starved.old }
+    ensures not_starved { is_err memory ≡ false → starved.new ≡ starved.old }
     ensures counted { CountsStarved starved.old starved.new }
     ensures cause { HasCause calls.old.reading calls.new.reading result }
 {
@@ -61,7 +61,7 @@ pub fn conclude_reading(
         calls.count_reading(true);
         return Err(Failed);
     }
-    if is_starved {
+    if memory.is_err() {
         *starved = starved.saturating_add(1);
         calls.count_reading(true);
         return Err(Failed);
@@ -75,14 +75,14 @@ pub fn conclude_saving(
     calls: &mut ShelfCalls,
     starved: &mut u64,
     failed: bool,
-    is_starved: bool,
+    memory: Result<(), AllocError>,
 ) -> Result<(), Failed>
-    ensures ok { OnOk result ((failed ≡ false) × (is_starved ≡ false)) }
-    ensures err { OnErr result ((failed ≡ true) ⊎ (is_starved ≡ true)) }
+    ensures ok { OnOk result ((failed ≡ false) × (is_err memory ≡ false)) }
+    ensures err { OnErr result ((failed ≡ true) ⊎ (is_err memory ≡ true)) }
     ensures calls { calls.new ≡ with_saving (is_err result) calls.old }
-    ensures rose { failed ≡ false → is_starved ≡ true → Rose starved.old starved.new }
+    ensures rose { failed ≡ false → is_err memory ≡ true → Rose starved.old starved.new }
     ensures spared { failed ≡ true → starved.new ≡ starved.old }
-    ensures not_starved { is_starved ≡ false → starved.new ≡ starved.old }
+    ensures not_starved { is_err memory ≡ false → starved.new ≡ starved.old }
     ensures counted { CountsStarved starved.old starved.new }
     ensures cause { HasCause calls.old.saving calls.new.saving result }
 {
@@ -90,7 +90,7 @@ pub fn conclude_saving(
         calls.count_saving(true);
         return Err(Failed);
     }
-    if is_starved {
+    if memory.is_err() {
         *starved = starved.saturating_add(1);
         calls.count_saving(true);
         return Err(Failed);

@@ -3,15 +3,11 @@ ghost use Rattle.spec_rle.specs.Codes.{code_bytes, short_literal};
 ghost use Rattle.spec_rle.specs.Greedy as coder;
 ghost use Rattle.xl_fields.specs.Behind.{BeginsWith};
 
+use spec_rle::{LONG_LITERAL, LONG_RUN};
 use std::alloc::AllocError;
 
 // The longest run and the longest literal of the short form.
 const MAX_SHORT: usize = 127;
-
-// The first byte of a run, and of literal bytes, in the long form.
-const LONG_RUN: u8 = 127;
-
-const LONG_LITERAL: u8 = 128;
 
 // Whether three equal bytes begin here.
 fn begins_run(bytes: &[u8]) -> bool

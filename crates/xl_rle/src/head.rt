@@ -2,6 +2,8 @@ ghost use Rattle.std.specs.Prelude.{◌≡◌, ◌<◌, ◌≤◌, ◌+◌, ◌*
 ghost use Rattle.spec_rle.specs.Reading as plane;
 ghost use Rattle.xl_rle.specs.HeadAt.{HeadAt, as_read, short_literal_length, short_run_length};
 
+use spec_rle::{LONG_LITERAL, LONG_RUN};
+
 /// The head of a code: how many bytes of the plane it gives, and where its value or its bytes begin.
 #[derive(Clone, Copy)]
 pub struct CodeHead {
@@ -9,11 +11,6 @@ pub struct CodeHead {
     pub count: usize,
     pub body: usize,
 }
-
-// The first byte of a run in the long form, and of literal bytes in the long form.
-const LONG_RUN: u8 = 127;
-
-const LONG_LITERAL: u8 = 128;
 
 /// Most codes give at most so many bytes. They are put by one write of so many: the codes behind put the rest.
 pub const BLOCK: usize = 16;
