@@ -1,15 +1,21 @@
 #!/usr/bin/env python3
-"""How many crates a change of one has proved again: itself, and all that stand on it.
+"""How many crates a change of one has proved again: itself, and all that stand on it. And what each name in crates.txt costs.
 
     crates_above.py GROUP..
+    crates_above.py --paths [N]
 
 A GROUP is a crate, or several with commas between. For each crate the number is told, by the lists of crates.txt and all that
 follows from these; for a group also how many of today's crates it would be if each group that is given were one crate. A group
 that would then need a crate which needs it is told as a cycle. Last come the sums over all crates that are given.
+
+With --paths it tells how many paths go down from the libraries, each crate on the way the end of one, and of the N names in lists
+(20, where no N is given) that most paths go through how many these are and in how many files of the crate the name stands.
 """
 
 import argparse
+import functools
 import os
+import re
 
 TOP = os.path.dirname(os.path.dirname(os.path.abspath(__file__)))
 
@@ -23,6 +29,39 @@ def read_needs():
             if colon and not line.startswith("#"):
                 lists[name.split()[0]] = rest.split()
     return {name: {other for other in rest if other in lists} for name, rest in lists.items()}
+
+
+def is_program(name):
+    return os.path.exists(os.path.join(TOP, "crates", name, "src", "main.rt"))
+
+
+def files_naming(name, other):
+    """How many files of code, definitions and proofs of a crate name another one."""
+    word, count = re.compile(r"\b%s\b" % other), 0
+    for part in ("src", "specs", "proofs"):
+        for folder, _, files in os.walk(os.path.join(TOP, "crates", name, part)):
+            for file in files:
+                with open(os.path.join(folder, file), encoding="utf-8") as text:
+                    count += bool(word.search(text.read()))
+    return count
+
+
+def print_paths(needs, most):
+    """The number of all paths down from libraries, and the names in lists that most of them go through."""
+
+    @functools.lru_cache(None)
+    def down(name):
+        return 1 + sum(down(other) for other in needs[name])
+
+    @functools.lru_cache(None)
+    def up(name):
+        return 1 + sum(up(high) for high in libraries if name in needs[high])
+
+    libraries = [name for name in needs if not is_program(name)]
+    edges = sorted(((up(name) * down(other), name, other) for name in libraries for other in needs[name]), reverse=True)
+    print("%d paths from %d libraries" % (sum(down(name) for name in libraries), len(libraries)))
+    for count, name, other in edges[:most]:
+        print("%7d %s: %s, in %d files" % (count, name, other, files_naming(name, other)))
 
 
 def merged(needs, groups):
@@ -49,9 +88,15 @@ def above(needs, name):
 
 def main():
     options = argparse.ArgumentParser(description=__doc__, formatter_class=argparse.RawDescriptionHelpFormatter)
-    options.add_argument("groups", metavar="GROUP", nargs="+")
-    groups = [tuple(group.split(",")) for group in options.parse_args().groups]
+    options.add_argument("groups", metavar="GROUP", nargs="*")
+    options.add_argument("--paths", metavar="N", nargs="?", type=int, const=20)
+    given = options.parse_args()
     needs = read_needs()
+    if given.paths is not None:
+        return print_paths(needs, given.paths)
+    groups = [tuple(group.split(",")) for group in given.groups]
+    if not groups:
+        options.error("no GROUP is given")
     joined = merged(needs, groups)
     now, then = 0, 0
     for group in groups:

@@ -5,7 +5,7 @@ use Rattle.std.specs.Prelude.{not, nat_lt, ◌&&◌, ◌||◌, Option, Some, Non
 use Rattle.spec_grid.specs.declared.TileAt.{TileAt}
 use Rattle.spec_document.specs.Document.{Document}
 use Rattle.spec_document.specs.Limits.{IsDocument}
-use Rattle.spec_picture.specs.Picture.{project}
+use Rattle.spec_damage.specs.Picture.{project}
 use Rattle.spec_history.specs.Machine.{tile_of, stale, State, latest, document_at, has_stack}
 use Rattle.spec_history.specs.History.{Entry, replay, document_of, IsStep, Run, MayPeek, is_changed}
 use Rattle.spec_history.specs.Kept.{shown_version, or_earlier, last_tile, damaged_at, kept_in, kept, MeetsKept}

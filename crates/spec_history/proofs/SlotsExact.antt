@@ -6,7 +6,7 @@ use Rattle.std.specs.Prelude.{nat_lt, ◌==◌, ◌&&◌, Option, Some, None, is
 use Rattle.spec_grid.specs.declared.TileAt.{TileAt}
 use Rattle.spec_document.specs.Document.{Document}
 use Rattle.spec_document.specs.Limits.{IsDocument}
-use Rattle.spec_picture.specs.Picture.{project}
+use Rattle.spec_damage.specs.Picture.{project}
 use Rattle.spec_history.specs.Machine.{tile_of, stale, State, latest, has_stack}
 use Rattle.spec_history.specs.History.{Entry, replay, document_of, IsStep, Run, is_changed}
 use Rattle.spec_history.specs.Kept.{shown_version, or_earlier, damaged_at, kept}

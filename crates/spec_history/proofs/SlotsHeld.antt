@@ -5,7 +5,7 @@ use Rattle.std.specs.Prelude.{not, ◌&&◌, ◌||◌, ◌==◌, Option, Some, N
 use Rattle.spec_grid.specs.declared.TileAt.{TileAt}
 use Rattle.spec_document.specs.Document.{Document}
 use Rattle.spec_document.specs.Limits.{IsDocument}
-use Rattle.spec_picture.specs.Picture.{project}
+use Rattle.spec_damage.specs.Picture.{project}
 use Rattle.spec_history.specs.Machine.{State, latest, document_at, has_stack}
 use Rattle.spec_history.specs.History.{Entry, replay, document_of, IsStep, Run, is_changed}
 use Rattle.spec_history.specs.Kept.{shown_version, or_earlier, damaged_at, kept}

@@ -8,7 +8,7 @@ use Rattle.spec_grid.specs.Rect.{do_meet}
 use Rattle.spec_grid.specs.Grid.{tile_rect}
 use Rattle.spec_document.specs.Document.{Document}
 use Rattle.spec_document.specs.Limits.{IsDocument}
-use Rattle.spec_picture.specs.Picture.{project}
+use Rattle.spec_damage.specs.Picture.{project}
 use Rattle.spec_edit.specs.Apply.{At, apply_group}
 use Rattle.spec_damage.specs.Damage.{group_damage}
 use Rattle.spec_damage.proofs.Groups.{Ready, group_same, group_sides}

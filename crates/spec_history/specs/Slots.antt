@@ -3,7 +3,7 @@ use Rattle.std.specs.Prelude.{◌≡◌, ℕ, ◌<◌, ◌≤◌, Bool, true, fa
 use Rattle.std.specs.Prelude.{None, is_some, IfSome}
 use Rattle.spec_grid.specs.declared.TileAt.{TileAt}
 use Rattle.spec_document.specs.Document.{Document}
-use Rattle.spec_picture.specs.Picture.{project}
+use Rattle.spec_damage.specs.Picture.{project}
 use Rattle.spec_history.specs.Machine.{Reply, tile_of, stale, State, latest, document_at, has_stack}
 use Rattle.spec_history.specs.History.{Entry, replay}
 use Rattle.spec_history.specs.Kept.{kept}

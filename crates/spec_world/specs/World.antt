@@ -5,7 +5,7 @@ use Rattle.spec_grid.specs.declared.TileAt.{TileAt}
 use Rattle.spec_forest.specs.Forest.{none, leaf, group}
 use Rattle.spec_document.specs.Document.{Document, Nodes}
 use Rattle.spec_picture.specs.Picture.{project}
-use Rattle.spec_damage.specs.Damage.{group_damage}
+use Rattle.spec_history.specs.Damage.{group_damage}
 use Rattle.spec_cache.specs.Slots.{mark_slots}
 use Rattle.spec_cache.specs.Cache.{Cache, Held, no_slots, add_stack}
 use Rattle.spec_history.specs.Machine.{State, Saving, Cause, latest, document_at, initial, has_stack}
