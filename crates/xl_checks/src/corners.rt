@@ -1,8 +1,8 @@
 //! Where a rectangle of a plane begins.
 ghost use Rattle.std.specs.Prelude.{◌≡◌, ◌+◌, ◌≤◌};
 ghost use Rattle.spec_grid.specs.Rect.{part_above_0};
-ghost use Rattle.xl_tiles.specs.Sized.{IsSized};
-ghost use Rattle.xl_tiles.specs.Written.{IsWithin};
+ghost use Rattle.xl_doc.specs.Sized.{IsSized};
+ghost use Rattle.xl_doc.specs.Written.{IsWithin};
 
 use xl_doc::{Plane, Rect};
 

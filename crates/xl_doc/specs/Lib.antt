@@ -6,3 +6,5 @@ pub mod Canvas
 pub mod Numbered
 pub mod Selecting
 pub mod Extents
+pub use Rattle.xl_tiles.specs.Sized
+pub use Rattle.xl_tiles.specs.Written
