@@ -10,8 +10,7 @@ ghost use Rattle.xl_doc.specs.Nodes.{MarksAgree, nodes_of};
 ghost use Rattle.xl_undo.specs.Held.{held};
 ghost use Rattle.xl_undo.specs.Seen.{IsLayerOf, IsSeen};
 
-use xl_doc::{Body, Channel, Document, Layer, Node, Plane, Tree, know_limits};
-use xl_tiles::SCRATCH;
+use xl_doc::{Body, Channel, Document, Layer, Node, Plane, SCRATCH, Tree, know_limits};
 use xl_tree::{Split, Stack};
 
 /// At most the tiles that differ between two documents, with all tiles of planes that only one of them has, and
