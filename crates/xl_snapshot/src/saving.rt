@@ -9,9 +9,9 @@ ghost use Rattle.xl_rle.specs.Follows.{FollowsEach};
 ghost use Rattle.xl_save.specs.Save.{SavesOnly, HasSaved};
 ghost use Rattle.xl_snapshot.specs.Saving.{IsCodedOn, IsSavedOn};
 
+use spec_world::SaveEnd;
 use std::alloc::{AllocError, Global};
 use xl_compose::Recompose;
-use xl_core::SaveEnd;
 use xl_doc::Document;
 use xl_ports::{Failed, Shelf};
 use xl_rle::PlaneCoder;
