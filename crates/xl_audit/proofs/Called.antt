@@ -16,8 +16,8 @@ use Rattle.spec_text.specs.declared.OrderWord.{OrderWord}
 use Rattle.spec_text.specs.Text.{shown_digest}
 use Rattle.spec_world.specs.World.{entries_owed}
 use Rattle.spec_world.specs.Events as events
-use Rattle.xl_marks.proofs.Between.{leaves-between}
-use Rattle.xl_marks.proofs.Joined.{group-joined}
+use Rattle.xl_standing.proofs.Between.{leaves-between}
+use Rattle.xl_standing.proofs.Joined.{group-joined}
 use Rattle.spec_audit.specs.Output.{Printed, Output}
 use Rattle.spec_audit.specs.Reading.{plain}
 use Rattle.spec_audit.specs.Walk.{Start, call_at, printed_at, entry_at, IsAllowed}

@@ -7,9 +7,7 @@ use crate::versions::Versions;
 use crate::walk::Walk;
 use std::alloc::{AllocError, Global};
 use xl_doc::Document;
-use xl_marks::first_cache;
-use xl_standing::Standing;
-use xl_undo::Trail;
+use xl_standing::{Standing, Trail, first_cache};
 
 /// A walk that has not begun, from the document of the run and the versions that it will be asked for.
 pub(crate) fn first_walk(

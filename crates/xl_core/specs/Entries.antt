@@ -2,7 +2,7 @@
 use Rattle.spec_history.specs.History as history
 use Rattle.xl_core.specs.declared.entry.EntryKind.{EntryKind}
 use Rattle.xl_core.specs.declared.entry.EntryKind.TheVariants.{Asked, Start, End}
-use Rattle.xl_edit.specs.Calls.{call_of}
+use Rattle.xl_standing.specs.Calls.{call_of}
 
 -- a call has the tables that its filters answered
 abbrev pub kind_of : EntryKind → history.Kind

@@ -1,6 +1,6 @@
 use std::marker::Model;
-use xl_edit::{Call, Reply};
 use xl_filters::Tables;
+use xl_standing::{Call, Reply};
 
 /// What an entry of a history is.
 #[derive(Debug, Drop)]
@@ -30,7 +30,7 @@ impl Model for Entry {
     ghost Value = { history.Entry };
 
     ghost use Rattle.xl_core.specs.Entries.{kind_of};
-    ghost use Rattle.xl_edit.specs.Replies.{reply_of};
+    ghost use Rattle.xl_standing.specs.Replies.{reply_of};
 
     ghost view = { λ e. record { session = e.session; index = e.index; kind = kind_of e.kind; reply = reply_of e.reply } };
 }

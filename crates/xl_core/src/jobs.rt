@@ -3,9 +3,9 @@ ghost use Rattle.xl_standing.specs.Places.{place_done};
 ghost use Rattle.xl_core.specs.Jobs.{IsTaken, IsOfLatest, says_closing, IsOutcomeOf, finished_by};
 
 use crate::tally::Tally;
+use spec_cache::Finished;
 use std::alloc::{AllocError, Global};
 use std::sync::Wait;
-use xl_cache::Finished;
 use xl_compose::{Done, Job};
 use xl_doc::Document;
 

@@ -1,11 +1,11 @@
 ghost use Rattle.std.specs.Prelude.{◌≡◌, ◌≤◌};
 ghost use Rattle.spec_world.specs.Events.{end_reply};
 ghost use Rattle.xl_core.specs.Room.{owed_in};
-ghost use Rattle.xl_edit.specs.Replies.{reply_of};
+ghost use Rattle.xl_standing.specs.Replies.{reply_of};
 
 use spec_world::SaveEnd;
 use xl_doc::Document;
-use xl_edit::Reply;
+use xl_standing::Reply;
 
 /// What comes of a save that a session begins.
 pub enum Begun<D> {

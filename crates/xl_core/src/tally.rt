@@ -1,7 +1,7 @@
 ghost use Rattle.std.specs.Prelude.{◌≡◌};
 ghost use Rattle.xl_core.specs.Tally.{counted};
 
-use xl_cache::Finished;
+use spec_cache::Finished;
 
 /// How many of the pictures that were handed in were installed, and how many came too late. A count that has reached
 /// its greatest value stays there.

@@ -17,7 +17,7 @@ use Rattle.xl_doc.specs.declared.node.Node.{Node}
 use Rattle.xl_doc.specs.Nodes.{nodes_of}
 use Rattle.xl_edit.specs.Applied.{at}
 use Rattle.xl_edit.specs.Built.{HasNext}
-use Rattle.xl_checks.proofs.Seen.{ids-nodes_of}
+use Rattle.xl_edit.proofs.Seen.{ids-nodes_of}
 
 -- the document after it
 pub after_edit : (d : Document) (next : ℕ) (edit : Edit) (table : List ℕ) (new : At) → apply (at d next) edit table ≡ Ok new

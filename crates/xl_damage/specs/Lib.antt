@@ -1,1 +1,2 @@
 pub mod Marks
+pub use Rattle.xl_edit.specs.Edits

@@ -3,3 +3,4 @@ pub mod Group
 pub mod Pool
 pub mod Steps
 pub mod Sample
+pub use Rattle.xl_damage.specs.Marks

@@ -4,16 +4,15 @@ ghost use Rattle.std.specs.List.{AllByRecursion};
 ghost use Rattle.spec_damage.specs.Damage as damage;
 ghost use Rattle.spec_edit.specs.Refusal.{refusal};
 ghost use Rattle.spec_forest.specs.Forest.{ids};
+ghost use Rattle.xl_damage.specs.Edits.{edit_of};
 ghost use Rattle.xl_damage.specs.Marks.{IsMade, pairs_of};
-ghost use Rattle.xl_edit.specs.Edits.{edit_of};
 ghost use Rattle.xl_marks.specs.Change.{marked_by};
 
 use std::alloc::{AllocError, Global};
 use std::marker::Model;
 use xl_cache::Cache;
-use xl_damage::damage_between;
+use xl_damage::{Edit, damage_between};
 use xl_doc::{Document, NodeId, Rect};
-use xl_edit::Edit;
 
 /// The rectangles in which edits may change pictures, each with its stack, in the order of the edits.
 #[derive(Drop)]

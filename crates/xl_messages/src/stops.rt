@@ -3,9 +3,8 @@ use crate::lines::cause_text;
 use spec_fields::ReadRefused;
 use std::alloc::{AllocError, Global};
 use xl_command::{Command, command_of};
-use xl_program::Stopped;
+use xl_program::{Rejection, Stopped};
 use xl_script::BadLine;
-use xl_verdict::Rejection;
 
 const USAGE: &str =
     "these words are no command; the commands are\n  xcfedit render FILE              writes the picture of FILE as a PAM\n  xcfedit info FILE                writes the layers of FILE as a line of JSON\n  xcfedit edit FILE [--workers N]  runs a script from standard input on FILE, N from 0 to 8\n  xcfedit make FILE --seed N       saves the document of the seed N, runs the seed's script on FILE and sums the run up in a line\n  xcfedit pack FILE [--plan]       saves FILE as small as it can be with run-length coded tiles\n  xcfedit flatten FILE             puts one layer in the place of all nodes of FILE\n  xcfedit view FILE --cols W --rows H  runs a script of session 0 on FILE, a tile with its neighbours, W and H from 1 to 16\n  xcfedit audit FILE               judges a script and what an edit of FILE by it is said to have printed, from standard input";

@@ -3,9 +3,8 @@ use crate::{VERSION, message};
 use spec_fields::{Kind, ReadRefused};
 use std::alloc::{AllocError, Global};
 use std::test::Fail;
-use xl_program::Stopped;
+use xl_program::{Rejection, Stopped};
 use xl_script::{BadLine, BadLineOrMemory, Cause, Script, parse, parse_viewed};
-use xl_verdict::Rejection;
 
 // The sentence on a file that is edited.
 fn of_edit(alloc: Global, status: u8, cause: Stopped) -> Result<String, AllocError> {

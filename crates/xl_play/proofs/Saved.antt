@@ -19,7 +19,7 @@ use Rattle.spec_text.specs.Printed.{line_text}
 use Rattle.spec_text.specs.Text.{is_save_memory}
 use Rattle.xl_core.specs.Editing.{Editing, last_of, IsRight, ComesBack, KeepsShelf, IsAsBefore, Begins, Ends, start_of}
 use Rattle.xl_core.specs.Editing.{end_of, out_of, index_out, with_entry}
-use Rattle.xl_standing.specs.History.{History, version}
+use Rattle.xl_core.specs.History.{History, version}
 use Rattle.xl_edit.specs.declared.reply.Reply as code
 use Rattle.xl_edit.specs.declared.reply.Reply.TheVariants.{SaveMemory, HistoryFull}
 use Rattle.xl_edit.specs.Replies.{reply_of}

@@ -28,8 +28,8 @@ use Rattle.spec_world.specs.Right.{IsRight}
 use Rattle.spec_world.specs.Exact.{SlotsAreExact}
 use Rattle.spec_world.proofs.StaysExact.{stays-so}
 use Rattle.xl_core.specs.Editing.{Editing, world, IsSubmitted}
-use Rattle.xl_standing.specs.History as core
-use Rattle.xl_standing.specs.History.{History, version, Shows}
+use Rattle.xl_core.specs.History as core
+use Rattle.xl_core.specs.History.{History, version, Shows}
 use Rattle.xl_edit.specs.declared.reply.Reply as code
 use Rattle.xl_edit.specs.declared.reply.Reply.TheVariants.{SaveMemory, HistoryFull}
 use Rattle.xl_edit.specs.Replies.{reply_of}

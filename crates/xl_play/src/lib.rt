@@ -19,3 +19,5 @@ pub use opening::open_core;
 pub use playing::{Replies, has_save_fault};
 pub use script_runs::{Played, run_script};
 pub use viewing::Viewing;
+pub use xl_core::{Core, next_id_of};
+pub use xl_sessions::{PlayedBeside, desk_of, play_beside};

@@ -30,9 +30,8 @@ use xl_core::{Core, Desk, Entry, EntryKind};
 use xl_edit::{Call, Reply};
 use xl_filters::PointFilter;
 use xl_ports::{Actor, Gate, Place, Shelf};
-use xl_report::digest;
 use xl_script::{Line, Script, print_order, print_reply};
-use xl_sessions::{desk_of, first_boxes, order_words};
+use xl_sessions::{desk_of, digest, first_boxes, order_words};
 
 /// The session that is alone.
 pub(crate) const ALONE: u8 = 0;

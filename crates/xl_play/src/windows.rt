@@ -13,7 +13,7 @@ ghost use Rattle.spec_view.specs.Script.{is_viewed_call, IsViewedLine};
 ghost use Rattle.spec_view.specs.Text.{Views};
 ghost use Rattle.spec_window.specs.Window.{window, window_refusal};
 ghost use Rattle.xl_command.specs.Asking.{IsWindowSize};
-ghost use Rattle.xl_standing.specs.History.{document};
+ghost use Rattle.xl_core.specs.History.{document};
 ghost use Rattle.xl_edit.specs.Calls.{call_of};
 ghost use Rattle.xl_edit.specs.Replies.{reply_of};
 ghost use Rattle.xl_filters.specs.Chests.{states_in};
@@ -36,9 +36,8 @@ use xl_doc::{NodeId, TileAt};
 use xl_edit::{Call, Reply};
 use xl_filters::PointFilter;
 use xl_ports::Shelf;
-use xl_report::digest;
 use xl_script::{Line, Script, print_reply};
-use xl_sessions::{desk_of, first_boxes};
+use xl_sessions::{desk_of, digest, first_boxes};
 use xl_window::{Viewer, WindowRefusedOrMemory};
 
 // The tile that a call asks for.

@@ -30,8 +30,8 @@ use Rattle.xl_program.specs.Endings.{HaveFailed}
 use Rattle.xl_program.specs.Making.{IsMadeHistory, IsRunOf, IsSummary}
 use Rattle.xl_filters.specs.Chests.{states_of}
 use Rattle.xl_program.specs.Outcome.{Comes, opened, ShelfCauseOf}
-use Rattle.xl_core.specs.Editing.{Editing, IsRight}
-use Rattle.xl_standing.specs.History.{document as last_document}
+use Rattle.xl_play.specs.Editing.{Editing, IsRight}
+use Rattle.xl_play.specs.History.{document as last_document}
 use Rattle.xl_program.specs.Parts.{IsSummedUp, StopsMaking, SumsUp, WritesReplies}
 use Rattle.xl_play.specs.Versions.{AreWithin}
 use Rattle.xl_snapshot.specs.Saving.{IsSavedOn}

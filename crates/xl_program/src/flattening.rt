@@ -15,16 +15,13 @@ use std::alloc::{AllocError, Global};
 use std::marker::Brand;
 use std::sync::ledger::{Blank, Ledger};
 use xl_blend::Steps;
-use xl_core::Core;
 use xl_doc::Document;
 use xl_edit::{Call, Group};
 use xl_flat::{FlatRefusedOrMemory, flatten as flat_group};
-use xl_play::open_core;
+use xl_play::{Core, desk_of, next_id_of, open_core};
 use xl_ports::{Shelf, Sink, write_all};
 use xl_rle::Keeping;
-use xl_sessions::desk_of;
 use xl_snapshot::{file_of, save_file};
-use xl_standing::next_id_of;
 
 /// The session that makes the group.
 const SESSION: u8 = 0;

@@ -30,3 +30,4 @@ mod viewing;
 
 pub use running::{Ended, run};
 pub use stopped::Stopped;
+pub use xl_verdict::Rejection;

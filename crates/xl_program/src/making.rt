@@ -9,7 +9,7 @@ ghost use Rattle.spec_saves.specs.Names.{save_faults};
 ghost use Rattle.spec_script.specs.Fits.{FitsFilters};
 ghost use Rattle.spec_text.specs.Text.{digest_of};
 ghost use Rattle.spec_world.specs.declared.SaveEnd.TheVariants as save_end;
-ghost use Rattle.xl_standing.specs.History.{document as last_document};
+ghost use Rattle.xl_play.specs.History.{document as last_document};
 ghost use Rattle.xl_doc.specs.Numbered.{AreNumbered};
 ghost use Rattle.xl_play.specs.Told.{WhetherFailed};
 ghost use Rattle.xl_program.specs.Outcome.{Given, ComesTo, FailsAtShelf, FaultsRose, LoadsFew, ShelfCauseOf, opened};
@@ -24,13 +24,13 @@ use std::alloc::{AllocError, Global};
 use std::sync::Wait;
 use std::thread::Threads;
 use xl_compose::Recompose;
-use xl_core::Core;
 use xl_doc::{Document, NodeId, Pictures, Rect, know_limits};
-use xl_play::{Played, Replies, has_save_fault, open_core};
+use xl_play::{
+    Core, Played, PlayedBeside, Replies, has_save_fault, open_core, play_beside,
+};
 use xl_ports::{Failed, Gate, Shelf, Sink};
 use xl_report::{Made, digest, summary};
 use xl_rle::Greedy;
-use xl_sessions::{PlayedBeside, play_beside};
 use xl_snapshot::{file_of, save_file};
 
 /// How many workers are beside the sessions of what is made.

@@ -19,7 +19,7 @@ use Rattle.spec_tables.specs.Tables.{edits_made, filters_along}
 use Rattle.spec_seats.proofs.More.{picked_one, made_call, caught_up_last}
 use Rattle.spec_tables.proofs.Along.{filters_append}
 use Rattle.spec_seats.proofs.Shown.{digests_one}
-use Rattle.xl_standing.specs.History.{Shows}
+use Rattle.xl_studio.specs.History.{Shows}
 use Rattle.xl_studio.specs.declared.moment.Moment.{Moment}
 use Rattle.xl_studio.specs.declared.moment.Moment.TheVariants.{Made}
 use Rattle.xl_studio.specs.Calling.{called_entry, Known, IsCalled}

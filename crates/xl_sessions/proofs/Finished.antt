@@ -13,7 +13,7 @@ use Rattle.spec_script.specs.Script.{Line}
 use Rattle.spec_seats.specs.Digests.{digests_in}
 use Rattle.spec_seats.specs.Ended.{AreEnded}
 use Rattle.spec_text.specs.Text.{IsTextOf, printed}
-use Rattle.xl_core.specs.Editing.{Editing}
+use Rattle.xl_studio.specs.Editing.{Editing}
 use Rattle.xl_sessions.specs.Outcomes.{FromFirst}
 use Rattle.spec_script.specs.Script.{list_at}
 use Rattle.xl_sessions.specs.Full.{IsNotFull}

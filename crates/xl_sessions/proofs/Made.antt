@@ -12,7 +12,7 @@ use Rattle.spec_tables.proofs.Chests.{some_list}
 use Rattle.xl_ports.specs.State.{ShelfState}
 use Rattle.spec_seats.specs.Made.{IsOf}
 use Rattle.spec_seats.proofs.More.{before_end, with_save, of_grows, of_call, of_save}
-use Rattle.xl_core.specs.Editing.{start_of}
+use Rattle.xl_studio.specs.Editing.{start_of}
 use Rattle.xl_studio.specs.declared.moment.Moment.{Moment}
 use Rattle.xl_studio.specs.declared.moment.Moment.TheVariants.{Made}
 use Rattle.xl_studio.specs.Moments.{entries_in}

@@ -12,7 +12,7 @@ use Rattle.spec_history.specs.History.{Entry, asked, after_entry, latest_of, May
 use Rattle.spec_history.specs.Kept.{IsFreshReply, IsLegal}
 use Rattle.spec_tables.specs.Agrees.{Agrees}
 use Rattle.spec_tables.proofs.Chests.{some_list}
-use Rattle.xl_standing.specs.History.{is_full}
+use Rattle.xl_studio.specs.History.{is_full}
 use Rattle.xl_turn.proofs.Fronts.{prefix_trans}
 use Rattle.xl_studio.specs.declared.moment.Moment.{Moment}
 use Rattle.xl_studio.specs.declared.moment.Moment.TheVariants.{Made}

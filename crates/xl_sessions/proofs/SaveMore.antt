@@ -18,7 +18,7 @@ use Rattle.spec_seats.proofs.Shown.{digests_save}
 use Rattle.spec_world.specs.declared.SaveEnd.{SaveEnd}
 use Rattle.spec_world.specs.declared.SaveEnd.TheVariants.{Done, Fault, Memory}
 use Rattle.spec_world.specs.Events.{end_reply}
-use Rattle.xl_core.specs.Editing.{start_of}
+use Rattle.xl_studio.specs.Editing.{start_of}
 use Rattle.xl_studio.specs.Calling.{Known}
 use Rattle.xl_studio.specs.Moments.{entries_in}
 use Rattle.xl_studio.specs.Saving.{IsSaved, IsWhole, end_behind}

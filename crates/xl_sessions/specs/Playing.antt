@@ -14,7 +14,7 @@ use Rattle.spec_script.specs.Script.{Line, call, save, forget}
 use Rattle.spec_tables.specs.Agrees.{Agrees, AreThere, IsAfter}
 use Rattle.spec_tables.specs.Tables.{expected_tables}
 use Rattle.spec_text.specs.Text.{digest_of}
-use Rattle.xl_standing.specs.History.{Shows}
+use Rattle.xl_studio.specs.History.{Shows}
 use Rattle.xl_studio.specs.Calling.{Known, IsCalled}
 use Rattle.xl_studio.specs.Moments.{entries_in}
 use Rattle.xl_studio.specs.Seats.{history_of}

@@ -33,11 +33,10 @@ use crate::unplayed::Unplayed;
 use std::alloc::{AllocError, Global};
 use std::sync::Wait;
 use std::thread::Threads;
-use xl_core::{Core, Entry};
 use xl_filters::PointFilter;
 use xl_ports::{Gate, Shelf};
 use xl_script::Script;
-use xl_studio::{Seat, Studio};
+use xl_studio::{Core, Entry, Seat, Studio};
 
 /// The core after all sessions of a script, and the text that is printed of them, unless memory ran out.
 #[derive(Drop)]

@@ -3,8 +3,8 @@ ghost use Rattle.std.specs.Prelude.{◌≡◌, ◌^◌, ◌<◌, Some, length, m
 ghost use Rattle.xl_filters.specs.Chests.{states};
 
 use std::alloc::{AllocError, Global};
-use xl_core::Desk;
 use xl_filters::{Chest, PointFilter};
+use xl_studio::Desk;
 
 /// A desk with these filters.
 pub fn desk_of(alloc: Global, boxes: Vec<Box<dyn PointFilter + Send>>) -> Result<Desk, AllocError>

@@ -19,3 +19,4 @@ pub use printing::{each_entry_is_printed, order_words, print_history};
 pub use seating::first_boxes;
 pub use setting::Setting;
 pub use unplayed::Unplayed;
+pub use xl_report::digest;

@@ -22,11 +22,10 @@ use std::marker::Brand;
 use std::sync::Wait;
 use std::sync::ledger::{Blank, Ledger};
 use xl_blend::Steps;
-use xl_core::Desk;
 use xl_filters::PointFilter;
 use xl_ports::{Gate, Shelf};
 use xl_script::Line;
-use xl_studio::Seat;
+use xl_studio::{Desk, Seat};
 
 impl<'a, W: Wait, D: Shelf, G: Gate> Setting<'a, W, D, G> {
     // Makes what the lines of a session say, with a counter of steps that it makes from `blank`.

@@ -1,7 +1,7 @@
 //! What each session and each worker of a run has for itself.
 use crate::unplayed::Unplayed;
-use xl_core::Desk;
 use xl_script::Line;
+use xl_studio::Desk;
 
 /// What a session brings to a run: its lines, and the desk with its filters.
 #[derive(Drop)]

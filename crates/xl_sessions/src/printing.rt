@@ -14,9 +14,9 @@ ghost use Rattle.xl_edit.specs.Replies.{reply_of};
 ghost use Rattle.xl_sessions.specs.Printing.{IsPrinted, line_here, first_digest, lines_with, lines_of_sessions};
 
 use std::alloc::{AllocError, Global};
-use xl_core::{Entry, EntryKind};
 use xl_edit::{Call, Reply};
 use xl_script::{OrderWord, SESSIONS, print_order, print_reply};
+use xl_studio::{Entry, EntryKind};
 
 // Whether a call asks for a tile.
 pub(crate) fn asks_tile(call: &Call) -> bool

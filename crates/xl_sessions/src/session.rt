@@ -9,12 +9,12 @@ ghost use Rattle.spec_history.specs.Machine.{history_full};
 ghost use Rattle.spec_tables.specs.Agrees.{Agrees, AreThere, IsAfter};
 ghost use Rattle.spec_tables.specs.Tables.{expected_tables};
 ghost use Rattle.spec_text.specs.Text.{is_save_memory};
-ghost use Rattle.xl_standing.specs.History.{Shows};
 ghost use Rattle.xl_edit.specs.Calls.{call_of};
 ghost use Rattle.xl_edit.specs.Replies.{reply_of};
 ghost use Rattle.xl_filters.specs.Chests.{states_in};
 ghost use Rattle.xl_script.specs.Lines.{line_of};
 ghost use Rattle.xl_studio.specs.Calling.{IsCalled, HasHeard, IsNoTile};
+ghost use Rattle.xl_studio.specs.History.{Shows};
 ghost use Rattle.xl_studio.specs.Jobs.{job_out};
 ghost use Rattle.xl_studio.specs.Moments.{entries_in};
 ghost use Rattle.xl_studio.specs.Seats.{base_of, opening_shelf, history_of, front_of, made_of, weight_of, known_by};
@@ -34,14 +34,13 @@ use std::alloc::{AllocError, Global};
 use std::sync::Wait;
 use std::sync::ledger::Ledger;
 use xl_blend::Steps;
-use xl_core::Desk;
 use xl_edit::{Call, Reply};
 use xl_filters::PointFilter;
 use xl_ports::{Actor, Gate, Place, Shelf};
 use xl_report::digest;
 use xl_rle::Keeping;
 use xl_script::Line;
-use xl_studio::Seat;
+use xl_studio::{Desk, Seat};
 
 // Why a run with this reply prints nothing, where it prints nothing.
 fn check_printed(reply: &Reply) -> Result<(), Unplayed>

@@ -23,3 +23,6 @@ pub use next_id::next_id_of;
 pub use standing::{MOST_ENTRIES, Standing};
 pub use step::Step;
 pub use tile::{has_stack, has_tile};
+pub use xl_edit::{Call, Reply};
+pub use xl_marks::{Cache, first_cache};
+pub use xl_undo::Trail;

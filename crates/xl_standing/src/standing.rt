@@ -33,17 +33,17 @@ use crate::group::{GroupRefusedOrMemory, MadeGroup, make_group};
 use crate::next_id::next_id_of;
 use crate::step::Step;
 use crate::tile::{has_stack, has_tile, is_tile_marked, look, show};
+use spec_cache::Finished;
 use std::alloc::{AllocError, Global};
 use std::marker::Model;
 use std::mem;
 use std::sync::ledger::Ledger;
 use xl_blend::Steps;
-use xl_cache::{Cache, Finished};
 use xl_compose::{Done, Job, Picture, job};
 use xl_doc::{Document, NodeId, TileAt, know_limits};
 use xl_edit::{Call, Edit, Reply};
 use xl_filters::{Chest, PointFilter, Tables};
-use xl_marks::Change;
+use xl_marks::{Cache, Change};
 use xl_undo::Trail;
 
 /// How many entries a history has at most.

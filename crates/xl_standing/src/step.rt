@@ -4,9 +4,8 @@ ghost use Rattle.xl_standing.specs.Steps.{IsChange, change_of, stepped};
 ghost use Rattle.xl_marks.specs.Change.{IsCacheOf, gone_along};
 
 use std::marker::Model;
-use xl_cache::Cache;
 use xl_doc::{Document, know_limits};
-use xl_marks::Change;
+use xl_marks::{Cache, Change};
 use xl_undo::Record;
 
 /// A group of edits that was made, or undone: the record that leads back (`lead`), and what that does to the pictures

@@ -15,11 +15,11 @@ ghost use Rattle.xl_edit.specs.Replies.{reply_of};
 use std::alloc::{AllocError, Global};
 use std::sync::ledger::Ledger;
 use xl_blend::Steps;
-use xl_cache::Cache;
 use xl_compose::{CleanTiles, Picture, compose, job};
 use xl_doc::{Document, NodeId, TileAt};
 use xl_edit::Reply;
 use xl_grid::grid;
+use xl_marks::Cache;
 
 /// Whether the document has this stack.
 pub fn has_stack(document: &Document, node: NodeId) -> bool

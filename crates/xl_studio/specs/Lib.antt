@@ -14,3 +14,6 @@ pub mod Taking
 pub mod Jobs
 -- a tile that is composed outside the turn, before the call that asks for it
 pub mod Refreshing
+-- of a core
+pub use Rattle.xl_core.specs.Editing
+pub use Rattle.xl_core.specs.History

@@ -14,7 +14,7 @@ use Rattle.spec_script.specs.Fits.{FitsFilters}
 use Rattle.spec_script.specs.Script.{Line}
 use Rattle.xl_audit.specs.Auditing.{start_of}
 use Rattle.xl_doc.specs.Numbered.{AreNumbered}
-use Rattle.xl_standing.proofs.Opened.{small_ids}
+use Rattle.xl_audit.proofs.Opened.{small_ids}
 use Rattle.xl_verdict.specs.Judging.{full_chests, started}
 use Rattle.xl_verdict.proofs.Chests.{full_in}
 

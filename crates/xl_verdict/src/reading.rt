@@ -7,9 +7,8 @@ ghost use Rattle.xl_script.specs.Lines.{lists_of};
 ghost use Rattle.xl_verdict.specs.Reading.{HasCause, ReadsAudit};
 
 use std::alloc::Global;
-use xl_audit::split_source;
+use xl_audit::{MAX_SOURCE_BYTES, split_source};
 use xl_ports::{FailedOrMemory, Source, read_all};
-use xl_printed::MAX_SOURCE_BYTES;
 use xl_script::{BadLine, BadLineOrMemory, Script, parse};
 
 /// How much of a source is read: one byte more than it may have.

@@ -9,7 +9,7 @@ use Rattle.spec_world.specs.Events as events
 use Rattle.spec_world.specs.Events.{Outcome}
 use Rattle.spec_grid.specs.declared.TileAt.{TileAt}
 use Rattle.xl_core.specs.Editing.{Editing, world, IsSubmitted, IsAsBefore}
-use Rattle.xl_standing.specs.History.{History}
+use Rattle.xl_core.specs.History.{History}
 use Rattle.xl_window.specs.declared.refused.WindowRefusedOrMemory.TheVariants.{Refused}
 use Rattle.spec_window.specs.declared.WindowRefused.{WindowRefused}
 use Rattle.xl_window.specs.Viewing.{Viewing, GoesOn, IsAnswered}

@@ -9,7 +9,7 @@ use Rattle.xl_grid.specs.Small.{IsSmall}
 use Rattle.xl_tree.specs.Reads.{node_of}
 use Rattle.xl_doc.specs.Nodes.{nodes_of, IsLeaf, IsGroup}
 use Rattle.xl_doc.specs.Nodes as nodes
-use Rattle.xl_checks.proofs.Seen.{no_node_seen, leaf_seen, group_seen, IsLeafAt, IsGroupAt}
+use Rattle.xl_edit.proofs.Seen.{no_node_seen, leaf_seen, group_seen, IsLeafAt, IsGroupAt}
 use Rattle.xl_damage.proofs.Nodes.{group_not_0, group_stack}
 use Rattle.xl_damage.proofs.Small.{extent_small}
 use Rattle.xl_damage.proofs.cutting.extent.Goals as goal

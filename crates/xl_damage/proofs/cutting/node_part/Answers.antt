@@ -11,7 +11,7 @@ use Rattle.spec_damage.specs.Damage.{moved}
 use Rattle.xl_tree.specs.Reads.{node_of}
 use Rattle.xl_doc.specs.Nodes.{IsLeaf, IsGroup}
 use Rattle.xl_doc.specs.Nodes as nodes
-use Rattle.xl_checks.proofs.Seen.{no_node_seen, leaf_seen, group_seen, IsLeafAt, IsGroupAt}
+use Rattle.xl_edit.proofs.Seen.{no_node_seen, leaf_seen, group_seen, IsLeafAt, IsGroupAt}
 use Rattle.xl_damage.proofs.cutting.node_part.Goals as goal
 
 held : (b : Bool) (cause : EditRefused) → unless b cause ≡ None → b ≡ true
