@@ -25,9 +25,7 @@ use std::sync::Wait;
 use std::thread::Threads;
 use xl_compose::Recompose;
 use xl_doc::{Document, NodeId, Pictures, Rect, know_limits};
-use xl_play::{
-    Core, Played, PlayedBeside, Replies, has_save_fault, open_core, play_beside,
-};
+use xl_play::{Core, Played, PlayedBeside, Replies, has_save_fault, open_core, play_beside};
 use xl_ports::{Failed, Gate, Shelf, Sink};
 use xl_report::{Made, digest, summary};
 use xl_rle::Greedy;
