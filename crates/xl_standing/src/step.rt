@@ -6,13 +6,13 @@ ghost use Rattle.xl_marks.specs.Change.{IsCacheOf, gone_along};
 use std::marker::Model;
 use xl_doc::{Document, know_limits};
 use xl_marks::{Cache, Change};
-use xl_undo::Record;
+use xl_undo::Lead;
 
-/// A group of edits that was made, or undone: the record that leads back (`lead`), and what that does to the pictures
+/// A group of edits that was made, or undone: what leads back over it, and what that does to the pictures
 /// that are kept.
 #[derive(Drop)]
 pub struct Step {
-    lead: Record,
+    lead: Lead,
     change: Change,
 }
 
@@ -39,7 +39,7 @@ impl Step {
         requires change { IsChange after.now before change }
         ensures { result ≡ record { from = after.now; to = before; damage = change.damage } }
     {
-        let lead = Record::new(before, after);
+        let lead = Lead::new(before, after);
         Step { lead, change }
     }
 

@@ -2,6 +2,15 @@
 use Rattle.std.specs.Prelude.{◌≡◌, ℕ}
 use Rattle.spec_document.specs.Document.{Document}
 
+-- the document that is led from, and the one that is led to
+pub record Way : Type 0 where
+  pub from : Document
+  pub to : Document
+
+-- the same way, from its other end
+abbrev pub back_along : Way → Way
+back_along w = record { from = w.to; to = w.from }
+
 -- the document that it leads from, the one that it leads to, and how many tiles were counted when it was made
 pub record Leads : Type 0 where
   pub from : Document

@@ -1,23 +1,20 @@
-//! Undo records.
+//! Undo records that tell how many tiles they keep.
 ghost use Rattle.std.specs.Prelude.{◌≡◌, ◌≤◌};
 ghost use Rattle.spec_undo.specs.Changed.{alone_in, changed_in};
 ghost use Rattle.xl_undo.specs.Leads.{LeadsBack, turned};
 
 use crate::counting::changed_tiles;
+use crate::lead::Lead;
 use std::marker::Model;
-use std::mem;
-use std::snapshot::Snapshot;
 use xl_doc::Document;
 
-/// What leads from one document to another, and back once it has been followed.
+/// What leads from one document to another, and back once it has been followed, with the number of tiles that differ.
 ///
-/// It is a share of the document that it leads to, and so holds a tile of its own only where the other document has
-/// another one.
+/// To count them the tiles that the two documents do not share are unpacked and compared. Where nobody asks, a [`Lead`]
+/// does without.
 #[derive(Drop)]
 pub struct Record {
-    // The document that it leads from: for contracts alone.
-    from: Snapshot<Document>,
-    to: Document,
+    lead: Lead,
     tiles: u32,
 }
 
@@ -30,7 +27,7 @@ impl Model for Record {
 
     ghost coded = { Prim.hlevel (codes, coded_document) };
 
-    ghost view = { λ r. record { from = r.from.value; to = r.to; tiles = r.tiles } };
+    ghost view = { λ r. record { from = r.lead.from; to = r.lead.to; tiles = r.tiles } };
 }
 
 impl Record {
@@ -42,8 +39,7 @@ impl Record {
     {
         let tiles = changed_tiles(&before, after);
         Record {
-            from: Snapshot::of(after),
-            to: before,
+            lead: Lead::new(before, after),
             tiles,
         }
     }
@@ -55,8 +51,7 @@ impl Record {
         ensures to { doc.new ≡ self.old.to }
         ensures back { self.new ≡ turned self.old }
     {
-        mem::swap(doc, &mut self.to);
-        self.from = Snapshot::of(doc);
+        self.lead.revert(doc);
     }
 
     /// How many tiles were found to differ when the record was made: at most the tiles of layers, masks, channels
