@@ -31,6 +31,14 @@ use xl_filters::PointFilter;
 use xl_ports::Shelf;
 
 impl<D: Shelf> Studio<D> {
+    // Makes workers wait before they take a job. A tile does not: who asks for tiles is served by jobs too.
+    fn announce(&self, call: &Call) {
+        match call {
+            Call::Tile(_, _) => {}
+            _ => self.calm.disturb(),
+        }
+    }
+
     /// Makes a call of a session in one hold of the turn. Each call below is this one, for calls of one kind.
     ///
     /// The reply is `HistoryFull` where the history has no room for it, and then there is no entry.
@@ -87,6 +95,7 @@ impl<D: Shelf> Studio<D> {
             (call_of call)) (states_in state desk.old.chest) (states_in state desk.new.chest)
             (call_of call)) }
     {
+        self.announce(&call);
         let mut held = self.lock.enter(rt, &mut seat.seat);
         let reply = held
             .value

@@ -92,6 +92,7 @@ impl<D: Shelf> JobDesk for Studio<D> {
             (entries_in (front_of seat.new)) }
         ensures tally { tally_of seat.new ≡ tally_of seat.old }
     {
+        self.calm.wait(rt);
         let mut held = self.lock.enter(rt, &mut seat.seat);
         let document = Snapshot::of(held.value.last_document());
         let taken = held.value.take(alloc);
@@ -144,6 +145,7 @@ impl<D: Shelf> Studio<D> {
         held.value.shut();
         let seen = held.value.last_version();
         self.lock.leave(held, &mut seat.seat);
+        self.calm.end();
         seat.seen = seen;
     }
 }

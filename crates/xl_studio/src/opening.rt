@@ -14,6 +14,7 @@ use std::alloc::{AllocFailed, Global};
 use xl_core::{Core, Tally};
 use xl_ports::Shelf;
 use xl_turn::TurnLock;
+use xl_wait::Calm;
 
 impl<D: Shelf> Studio<D> {
     /// A studio over a core without entries, and its first seat, which has all the weight. The core comes back where
@@ -35,7 +36,10 @@ impl<D: Shelf> Studio<D> {
         core.know_opening();
         match TurnLock::open(alloc, Shared::new(core)) {
             Ok((lock, seat)) => Ok((
-                Studio { lock },
+                Studio {
+                    lock,
+                    calm: Calm::new(),
+                },
                 Seat {
                     seat,
                     seen: 0,
@@ -118,7 +122,7 @@ impl<D: Shelf> Studio<D> {
         ensures made { IsEachOnce (length result.history.entries) (made_of seat) }
         ensures right { IsRight result.history.base (world result) }
     {
-        let Studio { lock } = self;
+        let Studio { lock, calm: _ } = self;
         let Seat {
             seat,
             seen: _,

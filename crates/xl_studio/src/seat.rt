@@ -5,6 +5,7 @@ use xl_core::Tally;
 use xl_doc::{Document, NodeId, TileAt};
 use xl_ports::Shelf;
 use xl_turn::{Chronicle, TurnLock};
+use xl_wait::Calm;
 
 /// A document under a lock. Sessions enter it in turns, each with a seat of its own.
 #[derive(Drop)]
@@ -13,6 +14,8 @@ where
     Shared<D>: Chronicle<Entry = Moment<D>>,
 {
     pub(crate) lock: TurnLock<Shared<D>>,
+    /// Where workers wait before they take a job, while calls keep coming.
+    pub(crate) calm: Calm,
 }
 
 /// What a session makes its calls with.

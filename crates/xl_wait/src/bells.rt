@@ -5,6 +5,9 @@ use std::sync::Wait;
 /// How many bells there are.
 const BELLS: usize = 16;
 
+/// How long a sleep is at most, in microseconds, whether the bell rings or not.
+const LONGEST: u64 = 1000;
+
 /// A row of bells for threads that wait for numbers: each number has its bell, so that a ring wakes who waits for that
 /// number, and not all. Numbers that are 16 apart share a bell.
 #[derive(Drop)]
@@ -34,7 +37,7 @@ impl Bells {
     /// Sleeps until the bell of the number is rung, for a millisecond at most; not at all where it was rung since
     /// `heard`.
     pub fn wait<W: Wait>(&self, rt: &W, number: u64, heard: u64) {
-        self.bell(number).wait(rt, heard);
+        self.bell(number).wait(rt, heard, LONGEST);
     }
 
     /// Wakes those that sleep for the number.
