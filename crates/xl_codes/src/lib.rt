@@ -1,10 +1,14 @@
 //! The codes of a tile as they stand in a file.
 #![tactic(auto)]
 
-ghost use Rattle.std.specs.Prelude.{◌≤◌, length, IfSome};
+ghost use Rattle.std.specs.Prelude.{◌≤◌, length, IfOk, IfSome};
+ghost use Rattle.std.specs.Arc.{arc_value};
 ghost use Rattle.spec_document.specs.Limits.{AreBytes};
 ghost use Rattle.xl_codes.specs.Codes.{AreCodes, StandTo};
 
+use std::alloc::AllocError;
+use std::sync::Arc;
+use xl_bytes::Part;
 use xl_rle::check_plane;
 
 /// How many bytes more than the plane a spelling has at most that is kept.
@@ -38,15 +42,23 @@ fn end_of_codes(bytes: &[u8], at: usize, n: usize, planes: usize) -> Option<usiz
     Some(end)
 }
 
-/// The codes of so many planes of n bytes, which stand one after another from an offset on.
+/// The codes of so many planes of n bytes, which stand one after another in a file from an offset on.
 ///
 /// `None` where no such planes stand there, or where the spelling of one is longer than a writer's may be.
-pub fn codes_at(bytes: &[u8], at: usize, n: usize, planes: usize) -> Option<&[u8]>
+pub fn codes_at(
+    file: &Arc<Vec<u8>>,
+    at: usize,
+    n: usize,
+    planes: usize,
+) -> Result<Option<Part>, AllocError>
     requires some { 1 ≤ n }
     requires few { n ≤ 4096 }
-    requires inside { at ≤ length bytes.now }
-    ensures { IfSome result (λ codes. AreCodes bytes.now at n planes codes.now) }
+    requires inside { at ≤ length (arc_value file.now).items }
+    ensures { IfOk result (λ found. IfSome found (λ codes. AreCodes (arc_value file.now).items at n
+        planes codes)) }
 {
-    let end = end_of_codes(bytes, at, n, planes)?;
-    Some(&bytes[at..end])
+    match end_of_codes(file.as_slice(), at, n, planes) {
+        None => Ok(None),
+        Some(end) => Ok(Some(Part::of(file, at, end)?)),
+    }
 }

@@ -17,13 +17,14 @@ ghost use Rattle.xl_tiles.specs.Table.{AreTiled};
 use crate::alike::alike_tiles;
 use crate::area::{Area, Sheet, area_of};
 use crate::changes::count_changed;
-use crate::codes::tile_codes;
+use crate::codes::{plain_tile, tile_codes};
 use crate::reading::{point_byte, read_area, row_of, tile_bytes};
 use crate::table::TileTable;
 use crate::tile::{SCRATCH, TileRef};
 use crate::writing::write_area;
 use std::alloc::{AllocError, AllocFailed, Global};
 use std::marker::Model;
+use xl_bytes::Part;
 use xl_grid::{Rect, TileAt, tiles_along};
 
 /// The pixels of a plane, row by row, each of 1 to 4 bytes. They are kept in tiles of 64 by 64, which several planes
@@ -224,13 +225,23 @@ impl Plane {
     }
 
     /// The codes of a tile's planes, if they stand in a file and a writer may copy them.
-    pub fn tile_codes(&self, at: TileAt) -> Option<&[u8]>
+    pub fn tile_codes(&self, at: TileAt) -> Result<Option<Part>, AllocError>
         requires column { at.col < grid.tiles_along self.now.width }
         requires row { at.row < grid.tiles_along self.now.height }
-        ensures { IfSome result (λ codes. AreSpelled AnySpelling codes.now
-            (tile_planes 1 self.now at)) }
+        ensures { IfOk result (λ found. IfSome found (λ codes. AreSpelled AnySpelling codes
+            (tile_planes 1 self.now at))) }
     {
         tile_codes(self.sheet, &self.tiles, at.col as usize, at.row as usize)
+    }
+
+    /// The bytes of a tile, its pixels row by row, if they stand plain.
+    pub fn plain_tile(&self, at: TileAt) -> Result<Option<Part>, AllocError>
+        requires column { at.col < grid.tiles_along self.now.width }
+        requires row { at.row < grid.tiles_along self.now.height }
+        ensures { IfOk result (λ found. IfSome found (λ bytes. bytes
+            ≡ sheet.tile_bytes self.now at)) }
+    {
+        plain_tile(self.sheet, &self.tiles, at.col as usize, at.row as usize)
     }
 
     /// How many tiles it has.

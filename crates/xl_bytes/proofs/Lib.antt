@@ -1,0 +1,4 @@
+-- parts of a list
+pub mod Parts
+-- the bytes of pieces
+pub mod Pieces
