@@ -1,5 +1,5 @@
 pub mod Appended
-pub mod Filled
 pub mod Frame
 pub mod Level
 pub mod SoFar
+pub mod TilesMade

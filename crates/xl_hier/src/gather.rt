@@ -1,9 +1,10 @@
-ghost use Rattle.std.specs.Prelude.{◌≡◌, ℕ, ◌+◌, ◌-◌, ◌*◌, ◌<◌, ◌≤◌, ◌++◌, length, min, slice_index, OnOk, OnErr};
+ghost use Rattle.std.specs.Prelude.{◌≡◌, ℕ, ◌+◌, ◌-◌, ◌*◌, ◌<◌, ◌≤◌, ◌++◌, length, min, slice_index, OnOk};
 ghost use Rattle.spec_grid.specs.Grid as grid;
 ghost use Rattle.spec_hierarchy.specs.Tiles as tiles;
 ghost use Rattle.xl_tiles.specs.declared.tile.TheConstants.{SCRATCH};
 
-use std::alloc::AllocError;
+use std::alloc::{AllocError, Global};
+use xl_bytes::FileBytes;
 use xl_grid::TileAt;
 use xl_tiles::Plane;
 
@@ -19,20 +20,23 @@ fn span(side: u32, at: u32) -> (u32, u32)
     (first, (side - first).min(64))
 }
 
-/// Appends the pixels of a tile, row by row. The scratch is for a tile.
+/// Appends the pixels of a tile, row by row. They are shared where they stand so. The scratch is for a tile.
 pub fn append_tile(
+    alloc: Global,
     plane: &Plane,
     spot: TileAt,
-    out: &mut Vec<u8>,
+    out: &mut FileBytes,
     scratch: &mut [u8],
 ) -> Result<(), AllocError>
     requires column { spot.col < grid.tiles_along plane.now.width }
     requires row { spot.row < grid.tiles_along plane.now.height }
     requires scratch { length scratch.old ≡ SCRATCH }
-    ensures ok { OnOk result (out.new.items ≡ out.old.items ++ tiles.tile_bytes plane.now spot) }
-    ensures err { OnErr result (out.new.items ≡ out.old.items) }
+    ensures { OnOk result (out.new ≡ out.old ++ tiles.tile_bytes plane.now spot) }
 {
-    out.extend_from_slice(plane.tile_bytes(spot, scratch))
+    match plane.plain_tile(spot)? {
+        Some(bytes) => out.append_part(alloc, bytes),
+        None => out.append(alloc, plane.tile_bytes(spot, scratch)),
+    }
 }
 
 // Byte c of each pixel.

@@ -13,7 +13,7 @@ mod written_tile;
 
 pub use laws::written_planes_are_read;
 pub use reading::read_hierarchy;
-pub use writing::write_hierarchy;
+pub use writing::{hierarchy, write_hierarchy};
 pub use xl_fields::ReadRefusedOrMemory;
 pub use xl_rle::{Greedy, Keeping, PlaneCoder};
 pub use xl_tiles::Plane;

@@ -1,25 +1,23 @@
-ghost use Rattle.std.specs.Prelude.{◌≡◌, ◌+◌, ◌*◌, ◌<◌, ◌≤◌, ◌^◌, ◌++◌, [], ◌∷◌, length, take, drop, replicate};
-ghost use Rattle.std.specs.Prelude.{vec_len, OnOk, OnErr};
+ghost use Rattle.std.specs.Prelude.{◌≡◌, ◌+◌, ◌*◌, ◌<◌, ◌≤◌, ◌^◌, ◌++◌, [], ◌∷◌, length};
+ghost use Rattle.std.specs.Prelude.{vec_len, IfOk, OnOk, OnErr};
 ghost use Rattle.spec_grid.specs.Grid as grid;
 ghost use Rattle.spec_hierarchy.specs.BytePlanes.{byte_planes};
 ghost use Rattle.spec_hierarchy.specs.Holds.{HasPlane};
-ghost use Rattle.xl_fields.specs.Behind.{BeginsWith};
+ghost use Rattle.spec_hierarchy.specs.Layout.{words, IsWrittenPlane};
 ghost use Rattle.xl_hier.specs.Appended.{PlaneAppended};
-ghost use Rattle.xl_hier.specs.Filled.{TilesFilled};
+ghost use Rattle.xl_hier.specs.TilesMade.{TilesMade};
 ghost use Rattle.xl_rle.specs.Follows.{FollowsEach};
-ghost use Rattle.spec_hierarchy.specs.Layout.{words};
 
 use crate::written_tile::{MAX_PLANE, write_tile};
 use std::alloc::{AllocError, Global};
-use xl_fields::{put_u32, set_word};
+use xl_bytes::FileBytes;
+use xl_fields::put_u32;
 use xl_grid::TileAt;
 use xl_rle::PlaneCoder;
 use xl_tiles::{Plane, SCRATCH};
 
-// Out of memory, some of the words may stand behind what was there.
 fn append_words(alloc: Global, out: &mut Vec<u8>, values: &[u32]) -> Result<(), AllocError>
-    ensures ok { OnOk result (out.new.items ≡ out.old.items ++ words values.now) }
-    ensures front { BeginsWith out.new.items out.old.items }
+    ensures { OnOk result (out.new.items ≡ out.old.items ++ words values.now) }
 {
     for value in values {
         put_u32(alloc, out, *value)?;
@@ -27,47 +25,55 @@ fn append_words(alloc: Global, out: &mut Vec<u8>, values: &[u32]) -> Result<(), 
     Ok(())
 }
 
-// Appends the hierarchy, and the sides of its level behind it.
-fn append_heads(alloc: Global, plane: &Plane, out: &mut Vec<u8>) -> Result<(), AllocError>
-    requires { vec_len out.old < 2 ^ 31 }
-    ensures ok { OnOk result (out.new.items ≡ out.old.items ++ words
-        (plane.now.width ∷ plane.now.height ∷ plane.now.bpp ∷ (vec_len out.old + 20) ∷ 0
-        ∷ plane.now.width ∷ plane.now.height ∷ [])) }
-    ensures front { BeginsWith out.new.items out.old.items }
+// The hierarchy at an offset, and its level behind it, whose tiles begin at these offsets.
+fn heads(
+    alloc: Global,
+    plane: &Plane,
+    at: u32,
+    begins: &[u32],
+) -> Result<Vec<u8>, AllocError>
+    requires { at < 2 ^ 31 }
+    ensures { IfOk result (λ bytes. bytes.items ≡ words (plane.now.width ∷ plane.now.height
+        ∷ plane.now.bpp ∷ (at + 20) ∷ 0 ∷ plane.now.width ∷ plane.now.height ∷ [])
+        ++ (words begins.now ++ words (0 ∷ []))) }
 {
     let width = plane.width();
     let height = plane.height();
-    let level = out.len() as u32 + 20;
-    append_words(
-        alloc,
-        out,
-        &[width, height, plane.bpp(), level, 0, width, height],
-    )
+    let mut bytes = Vec::with_capacity(alloc, 32)?;
+    let front = [width, height, plane.bpp(), at + 20, 0, width, height];
+    append_words(alloc, &mut bytes, &front)?;
+    append_words(alloc, &mut bytes, begins)?;
+    append_words(alloc, &mut bytes, &[0])?;
+    Ok(bytes)
 }
 
-// Appends the tiles, and sets the pointers to them, whose words begin at the table. The scratch is for a plane of a
-// tile, and for a tile.
+// Tiles one behind another, and where each begins.
+#[derive(Drop)]
+struct Tiles {
+    bytes: FileBytes,
+    begins: Vec<u32>,
+}
+
+// Appends the tiles of a plane to none, the first of which begins at an offset. The scratch is for a plane of a tile,
+// and for a tile.
 fn write_tiles<C: PlaneCoder>(
     alloc: Global,
     plane: &Plane,
     compression: u8,
-    table: usize,
-    out: &mut Vec<u8>,
+    first: usize,
+    tiles: &mut Tiles,
     scratch: &mut [u8],
     coder: &mut C,
 ) -> Result<(), AllocError>
     requires compression { compression ≤ 1 }
-    requires short { table < 2 ^ 31 + 28 }
-    requires table { vec_len out.old ≡ table + 4 * (grid.tiles_along plane.now.height
-        * grid.tiles_along plane.now.width) + 4 }
-    requires zeros { drop table out.old.items ≡ replicate
-        (4 * (grid.tiles_along plane.now.height * grid.tiles_along plane.now.width) + 4) 0 }
+    requires short { first < 2 ^ 31 + 300000 }
+    requires bytes { tiles.old.bytes ≡ [] }
+    requires begins { tiles.old.begins.items ≡ [] }
     requires scratch { length scratch.old ≡ MAX_PLANE + SCRATCH }
-    ensures ok { OnOk result (TilesFilled C.fits compression plane.now table out.old.items
-        out.new.items) }
+    ensures ok { OnOk result (TilesMade C.fits compression plane.now first tiles.new.bytes
+        tiles.new.begins.items) }
     ensures followed { OnOk result (FollowsEach C.follows coder.old
         (byte_planes compression plane.now) coder.new) }
-    ensures front { take table out.new.items ≡ take table out.old.items }
 {
     let (columns, rows) = xl_grid::grid(plane.width(), plane.height());
     for k in 0..columns * rows {
@@ -75,37 +81,62 @@ fn write_tiles<C: PlaneCoder>(
             col: k % columns,
             row: k / columns,
         };
-        let pointer = out.len() as u32;
-        set_word(out, table + 4 * k as usize, pointer);
-        write_tile(alloc, plane, spot, compression, out, scratch, coder)?;
+        let place = first + tiles.bytes.len();
+        tiles.begins.push(place as u32)?;
+        write_tile(alloc, plane, spot, compression, &mut tiles.bytes, scratch, coder)?;
     }
     Ok(())
 }
 
-// Out of memory, a part of the plane may stand behind what was there.
-fn append_plane<C: PlaneCoder>(
+// The tiles of a plane, the first of which begins at an offset.
+fn tiles_of<C: PlaneCoder>(
     alloc: Global,
-    out: &mut Vec<u8>,
+    plane: &Plane,
+    compression: u8,
+    first: usize,
+    coder: &mut C,
+) -> Result<Tiles, AllocError>
+    requires compression { compression ≤ 1 }
+    requires short { first < 2 ^ 31 + 300000 }
+    ensures ok { IfOk result (λ tiles. TilesMade C.fits compression plane.now first tiles.bytes
+        tiles.begins.items) }
+    ensures followed { OnOk result (FollowsEach C.follows coder.old
+        (byte_planes compression plane.now) coder.new) }
+{
+    let mut tiles = Tiles {
+        bytes: FileBytes::new(alloc),
+        begins: Vec::with_capacity(alloc, plane.tile_count() as usize)?,
+    };
+    let mut scratch = vec![in alloc; 0; MAX_PLANE + SCRATCH]?;
+    write_tiles(alloc, plane, compression, first, &mut tiles, &mut scratch, coder)?;
+    Ok(tiles)
+}
+
+/// The bytes of a plane that stands at an offset of a file: its hierarchy, its one level and its tiles, whose pointers
+/// count from the start of the file.
+///
+/// The tiles stand as they are where the compression is 0, and as the coder spells their planes where it is 1; so the
+/// coder followed these planes, in the order in which they stand. Where a tile stands so in a file that was read, it is
+/// shared with that.
+pub fn hierarchy<C: PlaneCoder>(
+    alloc: Global,
+    at: usize,
     plane: &Plane,
     compression: u8,
     coder: &mut C,
-) -> Result<(), AllocError>
-    requires short { vec_len out.old < 2 ^ 31 }
+) -> Result<FileBytes, AllocError>
+    requires short { at < 2 ^ 31 }
     requires compression { compression ≤ 1 }
-    ensures written { OnOk result (PlaneAppended C.fits compression plane.now out.old.items
-        out.new.items) }
-    ensures held { OnOk result (HasPlane out.new.items (length out.old.items) compression
-        plane.now) }
+    ensures written { IfOk result (λ bytes. IsWrittenPlane C.fits compression at plane.now bytes) }
     ensures followed { OnOk result (FollowsEach C.follows coder.old
         (byte_planes compression plane.now) coder.new) }
-    ensures front { BeginsWith out.new.items out.old.items }
 {
-    append_heads(alloc, plane, out)?;
-    let table = out.len();
-    let (columns, rows) = xl_grid::grid(plane.width(), plane.height());
-    out.resize(table + 4 * (rows * columns) as usize + 4, 0)?;
-    let mut scratch = vec![in alloc; 0; MAX_PLANE + SCRATCH]?;
-    write_tiles(alloc, plane, compression, table, out, &mut scratch, coder)
+    let first = at + 32 + 4 * plane.tile_count() as usize;
+    let tiles = tiles_of(alloc, plane, compression, first, coder)?;
+    let mut bytes = FileBytes::new(alloc);
+    bytes.append(alloc, &heads(alloc, plane, at as u32, &tiles.begins)?)?;
+    bytes.append_all(alloc, tiles.bytes)?;
+    Ok(bytes)
 }
 
 /// Appends a plane: its hierarchy, its one level and its tiles, whose pointers count from the start of `out`.
@@ -129,10 +160,8 @@ pub fn write_hierarchy<C: PlaneCoder>(
         (byte_planes compression plane.now) coder.new) }
     ensures err { OnErr result (out.new.items ≡ out.old.items) }
 {
-    let before = out.len();
-    let put = append_plane(alloc, out, plane, compression, coder);
-    if put.is_err() {
-        out.truncate(before);
-    }
-    put
+    // The sides are small, so what stands in front and the plane are below 4 GiB.
+    let _width = plane.width();
+    let bytes = hierarchy(alloc, out.len(), plane, compression, coder)?;
+    bytes.append_to(out)
 }

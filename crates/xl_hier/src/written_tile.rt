@@ -1,4 +1,4 @@
-ghost use Rattle.std.specs.Prelude.{◌≡◌, ◌<◌, ◌≤◌, ◌++◌, ◌+◌, length, IfSome, OnOk};
+ghost use Rattle.std.specs.Prelude.{◌≡◌, ◌<◌, ◌≤◌, ◌++◌, ◌+◌, [], length, IfOk, IfSome, OnOk};
 ghost use Rattle.spec_grid.specs.Grid as grid;
 ghost use Rattle.spec_hierarchy.specs.BytePlanes.{tile_planes};
 ghost use Rattle.spec_hierarchy.specs.Layout.{AreSpelled};
@@ -9,12 +9,16 @@ ghost use Rattle.xl_tiles.specs.declared.tile.TheConstants.{SCRATCH};
 
 use crate::gather::{append_tile, gather, tile_pixels};
 use std::alloc::{AllocError, Global};
+use xl_bytes::{FileBytes, Part};
 use xl_grid::TileAt;
 use xl_rle::PlaneCoder;
 use xl_tiles::{Plane, SCRATCH};
 
 /// A plane of a tile has at most 64 by 64 bytes.
 pub const MAX_PLANE: usize = 4096;
+
+// The spellings of all planes of a tile have at most so many bytes.
+const MAX_SPELLINGS: usize = 16640;
 
 // Codes each of the bytes of a pixel, and appends the spellings.
 fn append_spellings<C: PlaneCoder>(
@@ -43,27 +47,45 @@ fn append_spellings<C: PlaneCoder>(
     Ok(())
 }
 
-// The codes of a tile as they stand in a file, where the coder keeps them.
-fn kept_codes<'a, C: PlaneCoder>(plane: &'a Plane, spot: TileAt, coder: &C) -> Option<&'a [u8]>
+// Appends the spellings that the coder gives to the planes of a tile.
+fn append_coded<C: PlaneCoder>(
+    alloc: Global,
+    plane: &Plane,
+    spot: TileAt,
+    out: &mut FileBytes,
+    scratch: &mut [u8],
+    coder: &mut C,
+) -> Result<(), AllocError>
     requires column { spot.col < grid.tiles_along plane.now.width }
     requires row { spot.row < grid.tiles_along plane.now.height }
-    ensures codes { IfSome result (λ codes. AreSpelled C.fits codes.now
-        (tile_planes 1 plane.now spot)) }
-    ensures followed { IfSome result (λ codes. FollowsEach C.follows coder.now
-        (tile_planes 1 plane.now spot) coder.now) }
+    requires scratch { length scratch.old ≡ MAX_PLANE + SCRATCH }
+    ensures ok { OnOk result (TileAppended C.fits 1 plane.now spot out.old out.new) }
+    ensures followed { OnOk result (FollowsEach C.follows coder.old (tile_planes 1 plane.now spot)
+        coder.new) }
+{
+    let mut spellings = Vec::with_capacity(alloc, MAX_SPELLINGS)?;
+    append_spellings(alloc, plane, spot, &mut spellings, scratch, coder)?;
+    out.append(alloc, &spellings)
+}
+
+// The codes of a tile as they stand in a file, where the coder keeps them.
+fn kept_codes<C: PlaneCoder>(
+    plane: &Plane,
+    spot: TileAt,
+    coder: &C,
+) -> Result<Option<Part>, AllocError>
+    requires column { spot.col < grid.tiles_along plane.now.width }
+    requires row { spot.row < grid.tiles_along plane.now.height }
+    ensures codes { IfOk result (λ found. IfSome found (λ codes. AreSpelled C.fits codes
+        (tile_planes 1 plane.now spot))) }
+    ensures followed { IfOk result (λ found. IfSome found (λ codes. FollowsEach C.follows coder.now
+        (tile_planes 1 plane.now spot) coder.now)) }
 {
     if coder.keeps() {
         plane.tile_codes(spot)
     } else {
-        None
+        Ok(None)
     }
-}
-
-fn append_codes(codes: &[u8], out: &mut Vec<u8>) -> Result<(), AllocError>
-    ensures ok { OnOk result (out.new.items ≡ out.old.items ++ codes.now) }
-    ensures front { BeginsWith out.new.items out.old.items }
-{
-    out.extend_from_slice(codes)
 }
 
 // Appends a spelling for each of the bytes of a pixel: the one that stands in a file, where the coder keeps it.
@@ -71,34 +93,33 @@ fn append_run_length<C: PlaneCoder>(
     alloc: Global,
     plane: &Plane,
     spot: TileAt,
-    out: &mut Vec<u8>,
+    out: &mut FileBytes,
     scratch: &mut [u8],
     coder: &mut C,
 ) -> Result<(), AllocError>
     requires column { spot.col < grid.tiles_along plane.now.width }
     requires row { spot.row < grid.tiles_along plane.now.height }
     requires scratch { length scratch.old ≡ MAX_PLANE + SCRATCH }
-    ensures ok { OnOk result (TileAppended C.fits 1 plane.now spot out.old.items out.new.items) }
+    ensures ok { OnOk result (TileAppended C.fits 1 plane.now spot out.old out.new) }
     ensures followed { OnOk result (FollowsEach C.follows coder.old (tile_planes 1 plane.now spot)
         coder.new) }
-    ensures front { BeginsWith out.new.items out.old.items }
 {
-    if let Some(codes) = kept_codes(plane, spot, coder) {
-        return append_codes(codes, out);
+    match kept_codes(plane, spot, coder)? {
+        Some(codes) => out.append_part(alloc, codes),
+        None => append_coded(alloc, plane, spot, out, scratch, coder),
     }
-    append_spellings(alloc, plane, spot, out, scratch, coder)
 }
 
 /// Appends a tile: its pixels as they are, or spelled, and the coder followed the planes that are spelled. The scratch
 /// is for a plane of it, and for all of it.
 ///
-/// Out of memory, a part of the tile may stand behind what was there.
+/// What stands in a file as it is to be written is shared with it.
 pub fn write_tile<C: PlaneCoder>(
     alloc: Global,
     plane: &Plane,
     spot: TileAt,
     compression: u8,
-    out: &mut Vec<u8>,
+    out: &mut FileBytes,
     scratch: &mut [u8],
     coder: &mut C,
 ) -> Result<(), AllocError>
@@ -106,14 +127,12 @@ pub fn write_tile<C: PlaneCoder>(
     requires row { spot.row < grid.tiles_along plane.now.height }
     requires compression { compression ≤ 1 }
     requires scratch { length scratch.old ≡ MAX_PLANE + SCRATCH }
-    ensures ok { OnOk result (TileAppended C.fits compression plane.now spot out.old.items
-        out.new.items) }
+    ensures ok { OnOk result (TileAppended C.fits compression plane.now spot out.old out.new) }
     ensures followed { OnOk result (FollowsEach C.follows coder.old
         (tile_planes compression plane.now spot) coder.new) }
-    ensures front { BeginsWith out.new.items out.old.items }
 {
     if compression == 0 {
-        append_tile(plane, spot, out, &mut scratch[MAX_PLANE..])
+        append_tile(alloc, plane, spot, out, &mut scratch[MAX_PLANE..])
     } else {
         append_run_length(alloc, plane, spot, out, scratch, coder)
     }

@@ -8,5 +8,5 @@ pub returns : goal.returns
 returns c =
     let s = c.args.sheet in
     let same = tile_is s.width s.height s.bpp c.args.tiles.now c.requires.tiled c.args.col c.args.row c.requires.column c.requires.row in
-    IfOk-weaker c.plain.result (λ found have. IfSome_then found have (λ bytes is. is ∙ (c.tile_in.ensures.value ∙ same)))
+    IfOk-weaker c.plain.result _ _ (λ found have. IfSome_then found have (λ bytes is. is ∙ (c.tile_in.ensures.value ∙ same)))
     c.plain.ensures

@@ -11,5 +11,5 @@ codes_at-requires-clause-inside c =
 
 pub returns : goal.returns
 returns c =
-    rw (← c.self.view_is) (IfOk-weaker c.codes_at.result (λ found have. IfSome_then found have (λ codes are.
+    rw (← c.self.view_is) (IfOk-weaker c.codes_at.result _ _ (λ found have. IfSome_then found have (λ codes are.
     codes_are _ _ _ _ _ _ _ codes c.self.invariant (omega arith) (omega arith) (omega arith) are)) c.codes_at.ensures)
