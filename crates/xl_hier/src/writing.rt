@@ -131,10 +131,13 @@ pub fn hierarchy<C: PlaneCoder>(
     ensures followed { OnOk result (FollowsEach C.follows coder.old
         (byte_planes compression plane.now) coder.new) }
 {
-    let first = at + 32 + 4 * plane.tile_count() as usize;
+    let (columns, rows) = xl_grid::grid(plane.width(), plane.height());
+    let first = at + 32 + 4 * (rows * columns) as usize;
     let tiles = tiles_of(alloc, plane, compression, first, coder)?;
+    let begins = tiles.begins.as_slice();
+    let front = heads(alloc, plane, at as u32, begins)?;
     let mut bytes = FileBytes::new(alloc);
-    bytes.append(alloc, &heads(alloc, plane, at as u32, &tiles.begins)?)?;
+    bytes.append(alloc, front.as_slice())?;
     bytes.append_all(alloc, tiles.bytes)?;
     Ok(bytes)
 }

@@ -44,13 +44,11 @@ put_selection-requires-clause-room g c =
     λ i. map plain_sheet ((c.as_slice.ensures ∙ ap (λ d. d.channels) c.doc.view_is) i)
     ++ selection_sheet (ap (λ d. d.selection) c.doc.view_is i) in
     let all = all_before IsWritableSheet xs ys (subst (AllByRecursion IsWritableSheet) (sym whole) c.requires.sheets) in
-    let end = sheets_end g.C.PlaneCoder.fits c.doc.inside.compression xs c.args.pieces.now.bytes.items
-    c.put_channels.new.pieces.bytes.items _ _ all c.in_ok-put_channels.ensures.pieces in
+    let end = sheets_end g.C.PlaneCoder.fits c.doc.inside.compression xs c.args.pieces.now.bytes
+    c.put_channels.new.pieces.bytes _ _ all c.in_ok-put_channels.ensures.pieces in
     omega (
       arith,
       end,
-      c.put_channels.new.pieces.bytes.ok.0,
-      c.args.pieces.now.bytes.ok.0,
       c.requires.room,
       ap sheet_costs whole,
       sheet_costs-append xs ys,
@@ -61,9 +59,9 @@ returns-clause-pieces g c =
     let fits = g.C.PlaneCoder.fits in
     let xs = map plain_sheet c.as_slice.result.now in
     let ys = selection_sheet c.doc.inside.selection in
-    let old = c.args.pieces.now.bytes.items in
-    let mid = c.put_channels.new.pieces.bytes.items in
-    let new = c.put_selection.new.pieces.bytes.items in
+    let old = c.args.pieces.now.bytes in
+    let mid = c.put_channels.new.pieces.bytes in
+    let new = c.put_selection.new.pieces.bytes in
     let a = c.args.pieces.now.begins.items in
     let b = c.put_channels.new.pieces.begins.items in
     let e = c.put_selection.new.pieces.begins.items in

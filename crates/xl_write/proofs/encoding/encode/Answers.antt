@@ -8,7 +8,7 @@ pub set_words-requires : goal.set_words-requires
 set_words-requires g c =
     let d = c.args.doc.now in
     let old = c.in_ok-begin_file.field-0.items in
-    let count = pointers_count g.C.PlaneCoder.fits d old c.put_all.new.pieces.bytes.items c.put_all.new.pieces.begins.items
+    let count = pointers_count g.C.PlaneCoder.fits d old c.put_all.new.pieces.bytes c.put_all.new.pieces.begins.items
     c.in_ok-put_all.ensures.all in
     let fits = table_fits d old c.len.result c.pointer_count-pointers.result c.in_ok-begin_file.ensures
     (omega (arith, c.len.ensures, c.in_ok-begin_file.field-0.ok.0)) in
@@ -24,12 +24,12 @@ set_words-requires g c =
 
 pub returns-clause-written : goal.returns-clause-written
 returns-clause-written g c =
-    file_finished g.C.PlaneCoder.fits c.args.doc.now c.in_ok-begin_file.field-0.items c.put_all.new.pieces.bytes.items
+    file_finished g.C.PlaneCoder.fits c.args.doc.now c.in_ok-begin_file.field-0.items c.put_all.new.pieces.bytes
     c.set_words.new.out c.as_mut_slice.result.now c.deref.result.now
     c.put_all.new.pieces.begins.items c.put_all.new.pieces.bytes.len c.len.result c.pointer_count-pointers.result
     c.pointer_count-pointers.ensures.value c.in_ok-begin_file.ensures
     (omega (arith, c.len.ensures, c.in_ok-begin_file.field-0.ok.0)) c.in_ok-put_all.ensures.all c.as_mut_slice.ensures.value
-    c.deref.ensures.value (omega (arith, c.put_all.new.pieces.bytes.ok.0))
+    c.deref.ensures.value (omega (arith))
     c.set_words.auto.out c.set_words.ensures
 
 pub returns-clause-held : goal.returns-clause-held

@@ -15,7 +15,7 @@ put_nodes-requires-clause-can g c =
     let d = c.args.doc.now in
     can_walk d c.new-path.result.items c.top.result _ c.requires.document (sym c.new-path.ensures.items)
     (ap (λ d. d.nodes) (sym c.doc.view_is) ∙ ap nodes_of (sym c.top.ensures.value))
-    (omega (arith, c.requires.begin, c.args.pieces.now.bytes.ok.0))
+    (omega (arith, c.requires.begin))
 
 pub put_sheets-requires-clause-sheets : goal.put_sheets-requires-clause-sheets
 put_sheets-requires-clause-sheets g c = sheets_writable c.args.doc.now c.requires.document
@@ -25,12 +25,12 @@ put_sheets-requires-clause-room g c =
     let d = c.args.doc.now in
     let put : PiecesAppended (IsItem g.C.PlaneCoder.fits d.compression) (items d) _ _ _ _ =
     put_moved g.C.PlaneCoder.fits d c.new-path.result.items [] 0
-    (nodes_of c.top.result) d.nodes c.args.pieces.now.bytes.items c.put_nodes.new.pieces.bytes.items _ _
+    (nodes_of c.top.result) d.nodes c.args.pieces.now.bytes c.put_nodes.new.pieces.bytes _ _
     c.new-path.ensures.items
     (ap nodes_of c.top.ensures.value ∙ ap (λ d. d.nodes) c.doc.view_is) c.in_ok-put_nodes.ensures.pieces in
     let end = items_end g.C.PlaneCoder.fits d.compression d.base
-    (items d) c.args.pieces.now.bytes.items c.put_nodes.new.pieces.bytes.items _ _ (items_writable d c.requires.document) put in
-    omega (arith, end, room d c.requires.document, c.requires.begin, c.put_nodes.new.pieces.bytes.ok.0)
+    (items d) c.args.pieces.now.bytes c.put_nodes.new.pieces.bytes _ _ (items_writable d c.requires.document) put in
+    omega (arith, end, room d c.requires.document, c.requires.begin)
 
 pub returns-clause-followed : goal.returns-clause-followed
 returns-clause-followed g c =
