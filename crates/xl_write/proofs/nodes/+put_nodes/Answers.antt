@@ -1,5 +1,4 @@
 use Rattle.std.proofs.Common.{◌≡◌, ◌+◌, ◌++◌, ◌∷◌, [], length, refl, sym, ap, ◌∙◌, subst, arith, ◌<◌}
-use Rattle.std.specs.Prelude.{vec_len}
 use Rattle.std.proofs.lemmas.Result.{on_ok_weaker}
 use Rattle.spec_forest.specs.Forest.{none, leaf, group, size}
 use Rattle.spec_layout.specs.Layout.{IsItem, layer_item}
@@ -19,8 +18,8 @@ put_nodes-requires g t c κs within =
     let new = c.put_layer_at.new.pieces.bytes in
     let under = nodes_of c.in-Leaf.under in
     let l = layer_of c.in-Leaf.node.now in
-    let start : length c.args.pieces.now.bytes ≡ length old = omega (arith) in
-    let end : length new ≡ length c.put_layer_at.new.pieces.bytes = omega (arith) in
+    let start : length c.args.pieces.now.bytes ≡ length old = omega arith in
+    let end : length new ≡ length c.put_layer_at.new.pieces.bytes = omega arith in
     let can : CanWalk d path c.args.siblings.place (leaf c.in-Leaf.id.0 l under) (length old) =
     moved d path path c.args.siblings.place (nodes_of c.args.siblings.nodes) (leaf c.in-Leaf.id.0 l under) _ _ refl
     (ap nodes_of (sym c.in-Leaf.ensures.parts)) start c.requires.can in
@@ -43,8 +42,8 @@ put_nodes-requires-in-Group g t c κs within =
     let children = nodes_of c.in-Group.children in
     let under = nodes_of c.in-Group.under in
     let gr = group_of c.in-Group.node.now in
-    let start : length c.args.pieces.now.bytes ≡ length old = omega (arith) in
-    let end : length new ≡ length c.put_group.new.pieces.bytes = omega (arith) in
+    let start : length c.args.pieces.now.bytes ≡ length old = omega arith in
+    let end : length new ≡ length c.put_group.new.pieces.bytes = omega arith in
     let can : CanWalk d path c.args.siblings.place (group c.in-Group.id.0 gr children under) (length old) =
     moved d path path c.args.siblings.place (nodes_of c.args.siblings.nodes) (group c.in-Group.id.0 gr children under) _ _ refl
     (ap nodes_of (sym c.in-Group.ensures.parts)) start c.requires.can in
@@ -68,9 +67,9 @@ put_nodes-requires-in-Group-2 g t c κs within =
     let children = nodes_of c.in-Group.children in
     let under = nodes_of c.in-Group.under in
     let gr = group_of c.in-Group.node.now in
-    let start : length c.args.pieces.now.bytes ≡ length old = omega (arith) in
+    let start : length c.args.pieces.now.bytes ≡ length old = omega arith in
     let end : length new ≡ length c.put_nodes-in-Group.new.pieces.bytes =
-    omega (arith) in
+    omega arith in
     let back : c.pop.new.self.items ≡ path =
     popped path c.put_nodes-in-Group.new.path.items c.pop.new.self.items c.args.siblings.place c.put_nodes-in-Group.new.path.len
     (c.in_ok-put_nodes-in-Group.ensures.path ∙ c.in_ok-push-in-Group.ensures.items)
