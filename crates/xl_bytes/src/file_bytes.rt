@@ -96,7 +96,11 @@ impl FileBytes {
         ensures ok { OnOk result (self.new ≡ self.old ++ other) }
         ensures err { OnErr result (self.new ≡ self.old) }
     {
-        let FileBytes { mut parts, own, len } = other;
+        let FileBytes {
+            mut parts,
+            own,
+            len,
+        } = other;
         let len = longer(self.len, len)?;
         close(alloc, &mut self.parts, &mut self.own)?;
         self.parts.append(&mut parts)?;

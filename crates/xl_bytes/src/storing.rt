@@ -1,5 +1,5 @@
 //! The pieces of a file: parts, and bytes of its own behind them.
-ghost use Rattle.std.specs.Prelude.{◌≡◌, ◌+◌, ◌-◌, ◌++◌, ◌∷◌, [], length, take, drop, IfOk, OnOk, OnErr, true, false};
+ghost use Rattle.std.specs.Prelude.{◌≡◌, ◌+◌, ◌-◌, ◌++◌, [], length, take, drop, IfOk, OnOk, OnErr, true, false};
 ghost use Rattle.std.specs.List.{concat};
 
 use crate::part::Part;

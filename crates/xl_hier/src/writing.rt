@@ -26,12 +26,7 @@ fn append_words(alloc: Global, out: &mut Vec<u8>, values: &[u32]) -> Result<(), 
 }
 
 // The hierarchy at an offset, and its level behind it, whose tiles begin at these offsets.
-fn heads(
-    alloc: Global,
-    plane: &Plane,
-    at: u32,
-    begins: &[u32],
-) -> Result<Vec<u8>, AllocError>
+fn heads(alloc: Global, plane: &Plane, at: u32, begins: &[u32]) -> Result<Vec<u8>, AllocError>
     requires { at < 2 ^ 31 }
     ensures { IfOk result (λ bytes. bytes.items ≡ words (plane.now.width ∷ plane.now.height
         ∷ plane.now.bpp ∷ (at + 20) ∷ 0 ∷ plane.now.width ∷ plane.now.height ∷ [])
@@ -83,7 +78,15 @@ fn write_tiles<C: PlaneCoder>(
         };
         let place = first + tiles.bytes.len();
         tiles.begins.push(place as u32)?;
-        write_tile(alloc, plane, spot, compression, &mut tiles.bytes, scratch, coder)?;
+        write_tile(
+            alloc,
+            plane,
+            spot,
+            compression,
+            &mut tiles.bytes,
+            scratch,
+            coder,
+        )?;
     }
     Ok(())
 }
@@ -108,7 +111,15 @@ fn tiles_of<C: PlaneCoder>(
         begins: Vec::with_capacity(alloc, plane.tile_count() as usize)?,
     };
     let mut scratch = vec![in alloc; 0; MAX_PLANE + SCRATCH]?;
-    write_tiles(alloc, plane, compression, first, &mut tiles, &mut scratch, coder)?;
+    write_tiles(
+        alloc,
+        plane,
+        compression,
+        first,
+        &mut tiles,
+        &mut scratch,
+        coder,
+    )?;
     Ok(tiles)
 }
 

@@ -1,5 +1,4 @@
-use Rattle.std.proofs.Common.{◌≡◌, ℕ, List, ◌∙◌, ◌+◌, ◌++◌, ap, sym, take, arith}
-use Rattle.std.specs.List.{concat}
+use Rattle.std.proofs.Common.{arith}
 use Rattle.xl_bytes.proofs.Pieces.{bytes_more}
 use Rattle.xl_bytes.proofs.storing.append_parts.Goals as goal
 

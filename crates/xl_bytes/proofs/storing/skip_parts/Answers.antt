@@ -1,5 +1,4 @@
-use Rattle.std.proofs.Common.{◌≡◌, ℕ, List, ap, ◌∙◌, ◌-◌, sym, drop, length, take_all, arith}
-use Rattle.std.specs.List.{concat}
+use Rattle.std.proofs.Common.{ℕ, List, ap, ◌∙◌, ◌-◌, sym, drop, length, arith}
 use Rattle.xl_bytes.proofs.Pieces.{none_skipped, one_skipped, all_skipped}
 use Rattle.xl_bytes.proofs.storing.skip_parts.Goals as goal
 

@@ -1,8 +1,7 @@
-use Rattle.std.proofs.Common.{◌≡◌, ◌+◌, ◌*◌, ◌<◌, ◌≤◌, ◌^◌, ◌++◌, ◌∷◌, [], ℕ, List, ap, sym, ◌∙◌, arith}
+use Rattle.std.proofs.Common.{◌≡◌, ◌+◌, ◌*◌, ◌<◌, ◌≤◌, ◌^◌, ◌++◌, ℕ, List, ap, ◌∙◌, arith}
 use Rattle.std.proofs.lemmas.Nat.{mul-le}
 use Rattle.spec_grid.specs.Grid.{tiles_along}
 use Rattle.spec_grid.specs.declared.TheConstants.{MAX_SIDE}
-use Rattle.spec_hierarchy.specs.Layout.{words}
 use Rattle.xl_hier.proofs.Whole.{laid_out}
 use Rattle.xl_hier.proofs.writing.hierarchy.Goals as goal
 

@@ -6,7 +6,8 @@ use Rattle.xl_save.proofs.pieces.add_file.Goals as goal
 
 pub returns-clause-added : goal.returns-clause-added
 returns-clause-added g c =
-    on_ok_weaker c.add_all.result (adds_more _ _ _ _ _ _ (sym c.pieces.ensures) c.in_ok-add_parts.ensures.added) c.add_all.ensures.added
+    on_ok_weaker c.add_all.result (adds_more _ _ _ _ _ _ (sym c.pieces.ensures) c.in_ok-add_parts.ensures.added)
+    c.add_all.ensures.added
 
 pub returns-clause-quiet : goal.returns-clause-quiet
 returns-clause-quiet g c = quiet_quiet _ _ _ c.add_parts.ensures.quiet c.add_all.ensures.quiet

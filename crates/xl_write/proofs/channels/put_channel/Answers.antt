@@ -1,4 +1,4 @@
-use Rattle.std.proofs.Common.{refl, arith}
+use Rattle.std.proofs.Common.{refl}
 use Rattle.std.proofs.lemmas.Result.{on_ok_weaker}
 use Rattle.xl_write.proofs.SheetWalk.{sheet_appended}
 use Rattle.xl_write.proofs.channels.put_channel.Goals as goal

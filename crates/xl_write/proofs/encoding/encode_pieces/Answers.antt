@@ -34,8 +34,8 @@ returns-clause-written g c =
     let begins : List ℕ = c.put_all.new.pieces.begins.items in
     let all = subst (λ old. AllAppended g.C.PlaneCoder.fits d old bytes begins) appended c.in_ok-put_all.ensures.all in
     IfOk-weaker c.finish.result _ _ (λ file is.
-    file_finished g.C.PlaneCoder.fits d front bytes file begins c.pointer_count-pointers.result c.pointer_count-pointers.ensures.value
-    c.in_ok-front.ensures all
+    file_finished g.C.PlaneCoder.fits d front bytes file begins c.pointer_count-pointers.result
+    c.pointer_count-pointers.ensures.value c.in_ok-front.ensures all
     (subst (λ (first : List ℕ). file ≡ (take (length first - 4 * length begins) first ++ words begins) ++ drop (length first) bytes)
     c.as_mut_slice.ensures.value is)) c.finish.ensures
 

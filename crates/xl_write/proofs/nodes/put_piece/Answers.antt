@@ -1,4 +1,3 @@
-use Rattle.std.proofs.Common.{arith}
 use Rattle.std.proofs.lemmas.Result.{on_ok_weaker}
 use Rattle.xl_write.proofs.Followed.{item_appended}
 use Rattle.xl_write.proofs.nodes.put_piece.Goals as goal

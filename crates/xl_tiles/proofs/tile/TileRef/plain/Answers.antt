@@ -1,5 +1,4 @@
 use Rattle.std.proofs.Common.{◌≡◌, ◌+◌, ◌-◌, ◌*◌, ◌≤◌, ℕ, List, length, sym, ap, ◌∙◌, take, drop, subst, arith}
-use Rattle.std.specs.Arc.{arc_value}
 use Rattle.xl_tiles.specs.Packed.{packed, IsPacked}
 use Rattle.xl_tiles.proofs.PackedTiles.{plain_reads}
 use Rattle.xl_tiles.proofs.tile.TileRef.plain.Goals as goal
