@@ -7,7 +7,7 @@ use crate::storing::{append_pieces, close, longer, put_part, skip_own, skip_part
 use std::alloc::{AllocError, Global};
 use std::marker::Model;
 
-// Bytes of its own are made a part once they are so many, so that no long run of them is moved while it grows.
+// Bytes of its own are made a part before they are more, so that no long run of them is moved while it grows.
 const MANY: usize = 1 << 18;
 
 // A part with fewer bytes is copied.
@@ -59,7 +59,7 @@ impl FileBytes {
         ensures err { OnErr result (self.new ≡ self.old) }
     {
         let len = longer(self.len, bytes.len())?;
-        if self.own.len() >= MANY {
+        if MANY.saturating_sub(bytes.len()) < self.own.len() {
             close(alloc, &mut self.parts, &mut self.own)?;
         }
         self.own.extend_from_slice(bytes)?;
