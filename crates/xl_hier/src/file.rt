@@ -61,6 +61,7 @@ impl TileFile for Arc<Vec<u8>> {
 }
 
 /// A file, and what makes threads. The bands of a large plane in runs are read beside one another.
+#[derive(Drop)]
 pub struct FileBeside<'a, R> {
     pub rt: &'a R,
     pub file: &'a Arc<Vec<u8>>,

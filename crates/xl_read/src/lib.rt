@@ -17,6 +17,6 @@ mod placing;
 mod sums;
 mod words;
 
-pub use file::decode;
+pub use file::{decode, decode_beside};
 pub use header::{FILE_LIMIT, is_side};
 pub use xl_fields::{Kind, ReadRefused, ReadRefusedOrMemory};
