@@ -95,7 +95,7 @@ fn has_numbers(answer: Result<Document, ReadRefusedOrMemory>) -> bool {
 }
 
 // Where a run is refused.
-fn bad_run(answer: Result<Document, ReadRefusedOrMemory>) -> Option<usize> {
+fn bad_run(answer: Result<Document, ReadRefusedOrMemory>) -> Option<u64> {
     match answer {
         Err(
             ReadRefusedOrMemory::Refused(
