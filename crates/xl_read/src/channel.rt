@@ -1,6 +1,7 @@
 ghost use Rattle.std.specs.Prelude.{◌≡◌, ◌+◌, ◌*◌, ◌≤◌, ◌<◌, ◌^◌, ◌||◌, not, is_none, nat_lt, length, IsTrue};
 ghost use Rattle.std.specs.Arc.{arc_value};
 ghost use Rattle.spec_document.specs.Document.{area, all_kept, kept_bytes};
+ghost use Rattle.spec_file.specs.declared.TheConstants.{FILE_LIMIT};
 ghost use Rattle.spec_file.specs.Channels.{with_channel, channel_at};
 ghost use Rattle.xl_read.specs.Yields.{Yields};
 ghost use Rattle.spec_document.specs.declared.TheConstants.{MAX_KEPT_BYTES};
@@ -55,7 +56,7 @@ pub fn channel_at(
     place: usize,
     draft: &mut DocumentDraft,
 ) -> Result<(), ReadRefusedOrMemory>
-    requires file { length file.now ≤ 2 ^ 31 }
+    requires file { length file.now ≤ FILE_LIMIT }
     requires shared { file.now ≡ (arc_value shared.now).items }
     requires at { at < 2 ^ 32 }
     ensures { Yields result (λ _. draft.new) (channel_at file.now at place draft.old) }

@@ -1,6 +1,7 @@
 ghost use Rattle.std.specs.Prelude.{◌≡◌, ◌≤◌, ◌^◌, length, OnOk, IfOk};
 ghost use Rattle.std.specs.Arc.{arc_value};
 ghost use Rattle.spec_forest.specs.Forest.{size};
+ghost use Rattle.spec_file.specs.declared.TheConstants.{FILE_LIMIT};
 ghost use Rattle.spec_file.specs.Layers.{nodes_at};
 ghost use Rattle.spec_file.specs.Channels.{channels_at};
 ghost use Rattle.xl_read.specs.Yields.{Yields};
@@ -25,7 +26,7 @@ pub fn nodes_at(
     at: usize,
     draft: &mut DocumentDraft,
 ) -> Result<usize, ReadRefusedOrMemory>
-    requires file { length file.now ≤ 2 ^ 31 }
+    requires file { length file.now ≤ FILE_LIMIT }
     requires shared { file.now ≡ (arc_value shared.now).items }
     requires place { at ≤ 2 ^ 33 }
     requires empty { size draft.old.nodes ≡ 0 }
@@ -57,7 +58,7 @@ pub fn channels_at(
     at: usize,
     draft: &mut DocumentDraft,
 ) -> Result<(), ReadRefusedOrMemory>
-    requires file { length file.now ≤ 2 ^ 31 }
+    requires file { length file.now ≤ FILE_LIMIT }
     requires shared { file.now ≡ (arc_value shared.now).items }
     requires place { at ≤ 2 ^ 33 }
     ensures { Yields result (λ _. draft.new) (channels_at 66 file.now at draft.old) }
