@@ -1,6 +1,7 @@
 ghost use Rattle.std.specs.Prelude.{◌≡◌, ◌≤◌, ◌<◌, length, Option, Some, IfOk};
 ghost use Rattle.spec_document.specs.Limits.{IsSide};
-ghost use Rattle.spec_file.specs.Header.{begins, version_of, base_of, is_indexed, side_at, header_of, is_side};
+ghost use Rattle.spec_document.specs.Document.{is_indexed};
+ghost use Rattle.spec_file.specs.Header.{begins, version_of, base_of, side_at, header_of, is_side};
 
 use spec_document::Base;
 use spec_file::FILE_LIMIT;
