@@ -25,7 +25,7 @@ fn is_first(draft: &DocumentDraft, selection: bool) -> bool
 
 /// Whether it is the selection, or there is room for one channel more.
 fn has_place(draft: &DocumentDraft, selection: bool) -> bool
-    ensures { result ≡ (selection || nat_lt (length draft.now.channels) 64) }
+    ensures { result ≡ (selection || nat_lt (length draft.now.channels) MAX_CHANNELS) }
 {
     selection || draft.channel_count() < MAX_CHANNELS as usize
 }
@@ -33,7 +33,7 @@ fn has_place(draft: &DocumentDraft, selection: bool) -> bool
 /// Makes a channel the selection, or puts it last.
 fn put(draft: &mut DocumentDraft, selection: bool, channel: Channel)
     requires first { IsTrue (not selection || is_none draft.old.selection) }
-    requires few { IsTrue (selection || nat_lt (length draft.old.channels) 64) }
+    requires few { IsTrue (selection || nat_lt (length draft.old.channels) MAX_CHANNELS) }
     requires area { area draft.old + draft.old.width * draft.old.height ≤ MAX_AREA }
     requires kept { all_kept draft.old + kept_bytes channel.kept ≤ MAX_KEPT_BYTES }
     ensures { draft.new ≡ with_channel draft.old selection channel }

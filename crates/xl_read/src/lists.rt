@@ -9,13 +9,11 @@ ghost use Rattle.xl_read.specs.Yields.{Yields};
 use crate::channel::channel_at;
 use crate::draft::DocumentDraft;
 use crate::layer::node_at;
+use spec_file::CHANNEL_POINTERS;
 use std::alloc::Global;
 use std::sync::Arc;
 use xl_doc::MAX_NODES;
 use xl_fields::{Kind, ReadRefusedOrMemory, refuse, u32_at};
-
-/// How many channel pointers are looked at: of 64 channels and the selection, and the zero behind them.
-const CHANNEL_POINTERS: usize = 66;
 
 /// Puts in the layers whose pointers stand from an offset on. Answers the offset behind the zero that ends them.
 #[tactic(auto, using(crate::proofs::Pointers::nodes_next, crate::proofs::Pointers::nodes_fault, crate::proofs::Pointers::nodes_end, crate::proofs::Pointers::nodes_cut, crate::proofs::Pointers::nodes_many))]
@@ -61,7 +59,7 @@ pub fn channels_at(
     requires file { length file.now ≤ FILE_LIMIT }
     requires shared { file.now ≡ (arc_value shared.now).items }
     requires place { at ≤ 2 ^ 33 }
-    ensures { Yields result (λ _. draft.new) (channels_at 66 file.now at draft.old) }
+    ensures { Yields result (λ _. draft.new) (channels_at CHANNEL_POINTERS file.now at draft.old) }
 {
     for i in 0..CHANNEL_POINTERS {
         let place = at + 4 * i;
