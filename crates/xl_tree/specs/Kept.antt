@@ -7,7 +7,7 @@ use Rattle.xl_tree.specs.declared.entries.NodeEntry.{NodeEntry}
 use Rattle.xl_tree.specs.declared.index.Index.{Index}
 use Rattle.xl_tree.specs.Flat.{flat, forest_of}
 use Rattle.xl_tree.specs.Ids.{AreOwn}
-use Rattle.xl_tree.specs.Index.{HasRoom, IsIndex}
+use Rattle.xl_tree.specs.Index.{IsIndex}
 use Rattle.spec_forest.specs.declared.TheConstants.{MAX_NODES, MAX_DEPTH}
 
 -- these are the entries of siblings at a level, in preorder, with all below them, within the limits
@@ -22,4 +22,3 @@ pub record IsKept {N Z : Type 0} (entries : Vec (NodeEntry N) Z) (index : Index)
   pub own : AreOwn (ids (forest_of entries.items))
   pub room : MAX_NODES ≤ vec_capacity entries
   pub indexed : IsIndex index entries.items
-  pub index_room : HasRoom index
