@@ -63,7 +63,7 @@ pub fn save<D: Shelf>(bytes: &[u8], shelf: &mut D) -> Result<(), Failed>
 ///
 /// `Failed` where one of the calls failed, at which it stops. Then a read gives the old file or the new one, and a
 /// draft may be open. A later save opens a draft of its own.
-pub fn save_pieces<D: Shelf>(file: &FileBytes, shelf: &mut D) -> Result<(), Failed>
+pub fn save_parts<D: Shelf>(file: &FileBytes, shelf: &mut D) -> Result<(), Failed>
     requires { IsSome (D.shelf_state shelf.old).selected }
     ensures moments { IfSome (D.shelf_state shelf.old).selected
         (λ name. Between (D.shelf_state shelf.old).disk (D.shelf_state shelf.new).disk
@@ -77,6 +77,6 @@ pub fn save_pieces<D: Shelf>(file: &FileBytes, shelf: &mut D) -> Result<(), Fail
     ensures cause { HasCause (D.shelf_state shelf.old).saving (D.shelf_state shelf.new).saving
         result }
 {
-    let (parts, own) = file.pieces();
+    let (parts, own) = file.parts();
     replace(parts, own, shelf)
 }

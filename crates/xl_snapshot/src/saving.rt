@@ -16,8 +16,8 @@ use xl_compose::Recompose;
 use xl_doc::Document;
 use xl_ports::{Failed, Shelf};
 use xl_rle::PlaneCoder;
-use xl_save::{save, save_pieces};
-use xl_write::{encode, encode_pieces};
+use xl_save::{save, save_parts};
+use xl_write::{encode, encode_parts};
 
 /// The file of a document, whose planes this coder codes.
 pub fn file_of<C: PlaneCoder>(
@@ -73,7 +73,7 @@ fn file_in_pieces<C: PlaneCoder>(
         coder.new) }
 {
     let mut pictures = Recompose::new();
-    match encode_pieces(alloc, document, coder, &mut pictures) {
+    match encode_parts(alloc, document, coder, &mut pictures) {
         Ok(file) => Ok(file),
         Err(_) => Err(AllocError),
     }
@@ -91,7 +91,7 @@ fn save_in_pieces<D: Shelf>(file: &FileBytes, shelf: &mut D) -> Result<(), Faile
         → IsSavedOn (D.shelf_state shelf.old) d save_end.Fault
         (D.shelf_state shelf.new)) }
 {
-    save_pieces(file, shelf)
+    save_parts(file, shelf)
 }
 
 /// Saves a document on a shelf, and answers how that ended. Without memory for the file the shelf is not touched.
