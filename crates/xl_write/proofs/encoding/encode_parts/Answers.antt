@@ -5,7 +5,7 @@ use Rattle.spec_layout.proofs.AnyCoder.{any_coder}
 use Rattle.xl_layout.proofs.Short.{held, read}
 use Rattle.xl_write.specs.Appended.{AllAppended}
 use Rattle.xl_write.proofs.Whole.{begins_at, words_fit, file_finished}
-use Rattle.xl_write.proofs.encoding.encode_pieces.Goals as goal
+use Rattle.xl_write.proofs.encoding.encode_parts.Goals as goal
 
 pub put_all-requires-clause-begin : goal.put_all-requires-clause-begin
 put_all-requires-clause-begin g c =
@@ -19,9 +19,9 @@ finish-requires g c =
     let front : List ℕ = c.in_ok-front.front.items in
     let appended : c.append.new.self ≡ front = c.in_ok-append.ensures.ok ∙ (λ i. c.new.ensures i ++ c.as_slice.ensures.value i) in
     let d = c.args.doc.now in
-    let all = subst (λ old. AllAppended g.C.PlaneCoder.fits d old c.put_all.new.pieces.bytes c.put_all.new.pieces.begins.items)
+    let all = subst (λ old. AllAppended g.C.PlaneCoder.fits d old c.put_all.new.unfinished.bytes c.put_all.new.unfinished.begins.items)
     appended c.in_ok-put_all.ensures.all in
-    let fit = words_fit g.C.PlaneCoder.fits d front c.put_all.new.pieces.bytes c.put_all.new.pieces.begins.items
+    let fit = words_fit g.C.PlaneCoder.fits d front c.put_all.new.unfinished.bytes c.put_all.new.unfinished.begins.items
     c.pointer_count-pointers.result c.pointer_count-pointers.ensures.value c.in_ok-front.ensures all in
     omega (arith, fit.0, fit.1, ap length c.as_mut_slice.ensures.value)
 
@@ -30,8 +30,8 @@ returns-clause-written g c =
     let front : List ℕ = c.in_ok-front.front.items in
     let appended : c.append.new.self ≡ front = c.in_ok-append.ensures.ok ∙ (λ i. c.new.ensures i ++ c.as_slice.ensures.value i) in
     let d = c.args.doc.now in
-    let bytes : List ℕ = c.put_all.new.pieces.bytes in
-    let begins : List ℕ = c.put_all.new.pieces.begins.items in
+    let bytes : List ℕ = c.put_all.new.unfinished.bytes in
+    let begins : List ℕ = c.put_all.new.unfinished.begins.items in
     let all = subst (λ old. AllAppended g.C.PlaneCoder.fits d old bytes begins) appended c.in_ok-put_all.ensures.all in
     IfOk-weaker c.finish.result _ _ (λ file is.
     file_finished g.C.PlaneCoder.fits d front bytes file begins c.pointer_count-pointers.result
