@@ -10,7 +10,7 @@ use Rattle.spec_document.specs.Plane.{Plane}
 use Rattle.spec_hierarchy.specs.BytePlanes.{tile_planes, byte_planes}
 use Rattle.xl_rle.specs.Follows.{FollowsEach}
 use Rattle.xl_rle.proofs.Following.{follows-append}
-use Rattle.xl_hier.proofs.TilesRead.{length_of_tiles}
+use Rattle.xl_hier.proofs.BandsRead.{length_of_tiles}
 
 module _ {S : Type 0} (follows : S → List ℕ → S → Type 0) where
   -- the planes of the first k tiles

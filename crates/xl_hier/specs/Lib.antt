@@ -1,4 +1,5 @@
 pub mod Appended
+pub mod Bands
 pub mod Frame
 pub mod Level
 pub mod SoFar

@@ -2,6 +2,8 @@
 #![tactic(auto)]
 
 mod band;
+mod beside;
+mod file;
 mod frame;
 mod gather;
 mod laws;
@@ -11,6 +13,8 @@ mod tile;
 mod writing;
 mod written_tile;
 
+pub use file::{FileBeside, TileFile};
+pub use frame::Frame;
 pub use laws::written_planes_are_read;
 pub use reading::read_hierarchy;
 pub use writing::{hierarchy, write_hierarchy};

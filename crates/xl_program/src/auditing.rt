@@ -16,6 +16,7 @@ use crate::editing::filter_counts;
 use crate::loading::read_document;
 use crate::stopped::Stopped;
 use std::alloc::{AllocError, Global};
+use std::thread::Threads;
 use xl_filters::PointFilter;
 use xl_ports::{Shelf, Sink, Source, write_all};
 use xl_verdict::{Audit, Unread, Verdict, find_verdict, read_audit, rejection_of, verdict_line};
@@ -24,7 +25,8 @@ use xl_verdict::{Audit, Unread, Verdict, find_verdict, read_audit, rejection_of,
 /// the verdict. Both stand in the source, behind a head that says how long the script is.
 ///
 /// The source is read before the file, and the line is made before its first byte is written. Nothing is saved.
-pub fn audit<S: Source, K: Sink, D: Shelf>(
+pub fn audit<R: Threads + Sync, S: Source, K: Sink, D: Shelf>(
+    rt: &R,
     alloc: Global,
     name: &str,
     source: &mut S,
@@ -55,7 +57,7 @@ pub fn audit<S: Source, K: Sink, D: Shelf>(
         Ok(given) => given,
         Err(stopped) => return Err(stopped),
     };
-    let document = match read_document(alloc, name, shelf) {
+    let document = match read_document(rt, alloc, name, shelf) {
         Ok(document) => document,
         Err(stopped) => return Err(stopped),
     };

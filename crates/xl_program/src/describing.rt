@@ -7,11 +7,13 @@ ghost use Rattle.xl_ports.specs.Disk.{read_at};
 use crate::loading::read_document;
 use crate::stopped::Stopped;
 use std::alloc::Global;
+use std::thread::Threads;
 use xl_ports::{Shelf, Sink, write_all};
 use xl_report::info;
 
 /// Writes the document of a file as a line of JSON. The line is made before its first byte is written.
-pub fn describe<K: Sink, D: Shelf>(
+pub fn describe<R: Threads + Sync, K: Sink, D: Shelf>(
+    rt: &R,
     alloc: Global,
     name: &str,
     sink: &mut K,
@@ -29,7 +31,7 @@ pub fn describe<K: Sink, D: Shelf>(
         ((D.shelf_state shelf.new).selected ≡ Some name.now) }
     ensures named { OnOk result ((D.shelf_state shelf.new).selected ≡ Some name.now) }
 {
-    let document = read_document(alloc, name, shelf)?;
+    let document = read_document(rt, alloc, name, shelf)?;
     let Ok(line) = info(alloc, &document) else {
         return Err(Stopped::Memory);
     };

@@ -64,7 +64,7 @@ pub fn edit<R: Threads + Wait + Sync, S: Source, K: Sink, D: Shelf, G: Gate>(
             shelf,
         },
     };
-    let document = match read_document(alloc, name, &mut shelf) {
+    let document = match read_document(host.rt, alloc, name, &mut shelf) {
         Ok(document) => document,
         Err(stopped) => return CommandEnd {
             result: Err(stopped),

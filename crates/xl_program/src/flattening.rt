@@ -14,6 +14,7 @@ use crate::stopped::Stopped;
 use std::alloc::{AllocError, Global};
 use std::marker::Brand;
 use std::sync::ledger::{Blank, Ledger};
+use std::thread::Threads;
 use xl_blend::Steps;
 use xl_doc::Document;
 use xl_edit::{Call, Group};
@@ -30,7 +31,8 @@ const SESSION: u8 = 0;
 /// of its version.
 ///
 /// The file is made before the save begins. The shelf comes back always.
-pub fn flatten<K: Sink, D: Shelf>(
+pub fn flatten<R: Threads + Sync, K: Sink, D: Shelf>(
+    rt: &R,
     alloc: Global,
     name: &str,
     sink: &mut K,
@@ -48,7 +50,7 @@ pub fn flatten<K: Sink, D: Shelf>(
         ((D.shelf_state result.shelf).selected ≡ Some name.now) }
     ensures named { OnOk result.result ((D.shelf_state result.shelf).selected ≡ Some name.now) }
 {
-    let document = match read_document(alloc, name, &mut shelf) {
+    let document = match read_document(rt, alloc, name, &mut shelf) {
         Ok(document) => document,
         Err(stopped) => return CommandEnd {
             result: Err(stopped),

@@ -9,10 +9,11 @@ ghost use Rattle.xl_ports.specs.Disk.{read_at};
 use crate::stopped::Stopped;
 use std::alloc::Global;
 use std::sync::Arc;
+use std::thread::Threads;
 use xl_doc::Document;
 use xl_fields::ReadRefusedOrMemory;
 use xl_ports::{Failed, FailedOrMemory, Shelf, load_all};
-use xl_read::{FILE_LIMIT, decode};
+use xl_read::{FILE_LIMIT, decode_beside};
 
 /// A document, and how many bytes its file has.
 #[derive(Drop)]
@@ -21,8 +22,9 @@ pub struct Loaded {
     pub length: usize,
 }
 
-/// The document of a file.
-pub fn read_document<D: Shelf>(
+/// The document of a file, some of whose tiles are read beside one another where threads can be made.
+pub fn read_document<R: Threads + Sync, D: Shelf>(
+    rt: &R,
     alloc: Global,
     name: &str,
     shelf: &mut D,
@@ -40,12 +42,17 @@ pub fn read_document<D: Shelf>(
     ensures selected { ((D.shelf_state shelf.new).selected ≡ (D.shelf_state shelf.old).selected) ⊎
         ((D.shelf_state shelf.new).selected ≡ Some name.now) }
 {
-    let loaded = load_document(alloc, name, shelf)?;
+    let loaded = load_document(rt, alloc, name, shelf)?;
     Ok(loaded.document)
 }
 
 /// The document of a file, and the file's length.
-pub fn load_document<D: Shelf>(alloc: Global, name: &str, shelf: &mut D) -> Result<Loaded, Stopped>
+pub fn load_document<R: Threads + Sync, D: Shelf>(
+    rt: &R,
+    alloc: Global,
+    name: &str,
+    shelf: &mut D,
+) -> Result<Loaded, Stopped>
     ensures loads { LoadsMeasured (read_at (D.shelf_state shelf.old).disk name.now) result }
     ensures limits { IfOk result (λ loaded. IsDocument loaded.document) }
     ensures numbered { IfOk result (λ loaded. AreNumbered loaded.document.nodes) }
@@ -73,7 +80,7 @@ pub fn load_document<D: Shelf>(alloc: Global, name: &str, shelf: &mut D) -> Resu
     let Ok(file) = Arc::new(alloc, bytes) else {
         return Err(Stopped::Memory);
     };
-    match decode(alloc, &file) {
+    match decode_beside(rt, alloc, &file) {
         Ok(document) => Ok(Loaded { document, length }),
         Err(ReadRefusedOrMemory::Refused(refused)) => Err(Stopped::Refused(refused)),
         Err(ReadRefusedOrMemory::Memory) => Err(Stopped::Memory),

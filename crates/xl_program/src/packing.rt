@@ -7,6 +7,7 @@ ghost use Rattle.xl_ports.specs.Disk.{read_at};
 use crate::loading::load_document;
 use crate::stopped::Stopped;
 use std::alloc::Global;
+use std::thread::Threads;
 use xl_pack::save_smallest;
 use xl_ports::{Shelf, Sink, write_all};
 
@@ -14,7 +15,8 @@ use xl_ports::{Shelf, Sink, write_all};
 /// and after with the number of planes; before that, where it is asked for, a line for the plan of each plane.
 ///
 /// The file and the text are made before the save begins.
-pub fn pack<K: Sink, D: Shelf>(
+pub fn pack<R: Threads + Sync, K: Sink, D: Shelf>(
+    rt: &R,
     alloc: Global,
     name: &str,
     with_plans: bool,
@@ -33,7 +35,7 @@ pub fn pack<K: Sink, D: Shelf>(
         ((D.shelf_state shelf.new).selected ≡ Some name.now) }
     ensures named { OnOk result ((D.shelf_state shelf.new).selected ≡ Some name.now) }
 {
-    let loaded = load_document(alloc, name, shelf)?;
+    let loaded = load_document(rt, alloc, name, shelf)?;
     let Ok(packed) = xl_pack::pack(alloc, loaded.document, loaded.length, with_plans) else {
         return Err(Stopped::Memory);
     };

@@ -55,10 +55,11 @@ pub struct Ended<D> {
 /// ended.
 ///
 /// `edit` and `make` play the sessions of their script beside each other, in threads where these can be made, and
-/// beside workers: two, or as many as the words of an edit name. An edit by session 0 alone with 0 workers takes no
-/// thread. `gate` is passed by sessions and workers on their way. `view` plays a script of session 0 alone, without a
-/// thread or the gate; `pack` and `flatten` make one save. `audit` judges a printed run of an `edit` with these
-/// filters, and saves nothing.
+/// beside workers: two, or as many as the words of an edit name. An edit by session 0 alone with 0 workers is played
+/// without a thread. `gate` is passed by sessions and workers on their way. `view` plays a script of session 0 alone,
+/// without a thread or the gate; `pack` and `flatten` make one save. `audit` judges a printed run of an `edit` with
+/// these filters, and saves nothing. Each command that reads a file walks the tiles of its large planes in threads,
+/// where these can be made.
 ///
 /// The statuses: 0 done, 2 the words are no command, 3 the head or a line of the script is refused, 4 the file holds no
 /// document, 5 the source failed, 6 the file could not be read, or the save of `pack` and `flatten` or the first save

@@ -21,6 +21,7 @@ use crate::ended::CommandEnd;
 use crate::loading::read_document;
 use crate::stopped::Stopped;
 use std::alloc::{AllocError, Global};
+use std::thread::Threads;
 use xl_doc::Document;
 use xl_filters::PointFilter;
 use xl_play::{Viewing, open_core};
@@ -33,7 +34,8 @@ use xl_script::{BadLineOrMemory, Script, parse_viewed};
 ///
 /// The script is read before the file, and all the text is made before its first byte is written. Nothing is saved. The
 /// shelf comes back always.
-pub fn view<S: Source, K: Sink, D: Shelf>(
+pub fn view<R: Threads + Sync, S: Source, K: Sink, D: Shelf>(
+    rt: &R,
     view: &Viewing,
     name: &str,
     source: &mut S,
@@ -67,7 +69,7 @@ pub fn view<S: Source, K: Sink, D: Shelf>(
             shelf,
         },
     };
-    let document = match read_document(alloc, name, &mut shelf) {
+    let document = match read_document(rt, alloc, name, &mut shelf) {
         Ok(document) => document,
         Err(stopped) => return CommandEnd {
             result: Err(stopped),

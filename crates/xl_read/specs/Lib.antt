@@ -1,3 +1,4 @@
+pub mod Decoded
 pub mod Listing
 pub mod Draft
 pub mod Parts

@@ -1,5 +1,4 @@
 ghost use Rattle.std.specs.Prelude.{◌≡◌, ◌+◌, ◌*◌, ◌≤◌, ◌<◌, ◌^◌, ◌||◌, not, is_none, nat_lt, length, IsTrue};
-ghost use Rattle.std.specs.Arc.{arc_value};
 ghost use Rattle.spec_document.specs.Document.{area, all_kept, kept_bytes};
 ghost use Rattle.spec_file.specs.declared.TheConstants.{FILE_LIMIT};
 ghost use Rattle.spec_file.specs.Channels.{with_channel, channel_at};
@@ -12,9 +11,9 @@ use crate::owners::OfChannel;
 use crate::words::{Shape, plane_at, pointer_at, same_word_at};
 use spec_document::MAX_AREA;
 use std::alloc::Global;
-use std::sync::Arc;
 use xl_doc::{Bytes, Channel, MAX_CHANNELS};
 use xl_fields::{Kind, ReadRefusedOrMemory, refuse, string_at};
+use xl_hier::TileFile;
 
 /// Whether it is no second selection.
 fn is_first(draft: &DocumentDraft, selection: bool) -> bool
@@ -48,16 +47,17 @@ fn put(draft: &mut DocumentDraft, selection: bool, channel: Channel)
 /// Reads the channel at the offset `at`, and makes it the selection or puts it last; or its first fault. At `place`
 /// stands the pointer to it.
 #[tactic(auto, unfolding(spec_file::specs::Channels::channel_at))]
-pub fn channel_at(
+pub fn channel_at<F: TileFile>(
     alloc: Global,
     file: &[u8],
-    shared: &Arc<Vec<u8>>,
+    shared: &F,
     at: usize,
     place: usize,
     draft: &mut DocumentDraft,
 ) -> Result<(), ReadRefusedOrMemory>
     requires file { length file.now ≤ FILE_LIMIT }
-    requires shared { file.now ≡ (arc_value shared.now).items }
+    requires shared { file.now ≡ F.bytes shared.now }
+    requires can { F.can_read shared.now }
     requires at { at < 2 ^ 32 }
     ensures { Yields result (λ _. draft.new) (channel_at file.now at place draft.old) }
 {

@@ -10,6 +10,7 @@ ghost use Rattle.spec_file.specs.Reading.{blank, reading};
 ghost use Rattle.spec_props.specs.Meaning.{kept_of};
 ghost use Rattle.xl_doc.specs.Numbered.{AreNumbered};
 ghost use Rattle.xl_fields.specs.Gives.{Gives};
+ghost use Rattle.xl_read.specs.Decoded.{IsDecoded};
 ghost use Rattle.xl_read.specs.Yields.{OnRefused};
 ghost use Rattle.spec_document.specs.declared.TheConstants.{MAX_KEPT_BYTES};
 
@@ -20,8 +21,10 @@ use crate::lists::{channels_at, nodes_at};
 use crate::owners::OfImage;
 use std::alloc::{AllocError, Global};
 use std::sync::Arc;
+use std::thread::Threads;
 use xl_doc::{ColourMap, Document, know_bytes};
 use xl_fields::{Kind, ReadRefusedOrMemory, refuse};
+use xl_hier::{FileBeside, TileFile};
 
 /// The offset of the properties of the image.
 const PROPERTIES: usize = 26;
@@ -49,13 +52,14 @@ fn blank(
 
 /// What reading a file in order gives, or its first fault.
 #[tactic(auto, unfolding(spec_file::specs::Reading::reading))]
-fn read(
+fn read<F: TileFile>(
     alloc: Global,
     bytes: &[u8],
-    shared: &Arc<Vec<u8>>,
+    shared: &F,
 ) -> Result<DocumentDraft, ReadRefusedOrMemory>
     requires length { length bytes.now ≤ FILE_LIMIT }
-    requires shared { bytes.now ≡ (arc_value shared.now).items }
+    requires shared { bytes.now ≡ F.bytes shared.now }
+    requires can { F.can_read shared.now }
     ensures { Gives result (reading bytes.now) }
 {
     let header = header_at(bytes)?;
@@ -72,17 +76,29 @@ fn read(
 }
 
 /// The document that reading a file in order gives, or its first fault.
-fn whole(
+fn whole<F: TileFile>(
     alloc: Global,
     bytes: &[u8],
-    shared: &Arc<Vec<u8>>,
+    shared: &F,
 ) -> Result<Document, ReadRefusedOrMemory>
     requires length { length bytes.now ≤ FILE_LIMIT }
-    requires shared { bytes.now ≡ (arc_value shared.now).items }
+    requires shared { bytes.now ≡ F.bytes shared.now }
+    requires can { F.can_read shared.now }
     ensures { Gives result (reading bytes.now) }
 {
     let draft = read(alloc, bytes, shared)?;
     Ok(draft.finish())
+}
+
+// The document that a file holds, or its first fault in the order of reading.
+fn decode_file<F: TileFile>(alloc: Global, file: &F) -> Result<Document, ReadRefusedOrMemory>
+    requires length { length (F.bytes file.now) ≤ FILE_LIMIT }
+    requires can { F.can_read file.now }
+    ensures { IsDecoded (F.bytes file.now) result }
+{
+    let bytes = file.shared().as_slice();
+    know_bytes(bytes);
+    whole(alloc, bytes, file)
 }
 
 /// The document that a file holds, or its first fault in the order of reading. Its tiles share the file's bytes.
@@ -97,7 +113,25 @@ pub fn decode(alloc: Global, file: &Arc<Vec<u8>>) -> Result<Document, ReadRefuse
     ensures limits { IfOk result (λ document. IsDocument document) }
     ensures numbered { IfOk result (λ document. AreNumbered document.nodes) }
 {
-    let bytes = file.as_slice();
-    know_bytes(bytes);
-    whole(alloc, bytes, file)
+    decode_file(alloc, file)
+}
+
+/// The document that a file holds, or its first fault in the order of reading, as `decode` answers it. The tiles of
+/// large planes in runs are read beside one another, each row of them in a thread where one can be made.
+pub fn decode_beside<R: Threads + Sync>(
+    rt: &R,
+    alloc: Global,
+    file: &Arc<Vec<u8>>,
+) -> Result<Document, ReadRefusedOrMemory>
+    requires { length (arc_value file.now).items ≤ FILE_LIMIT }
+    ensures exact { Gives result (reading (arc_value file.now).items) }
+    ensures held { IfOk result (λ document. Holds (arc_value file.now).items document) }
+    ensures only { IfOk result (λ document. (other : Plain) → Holds (arc_value file.now).items other
+        → other ≡ document) }
+    ensures refused { OnRefused result ((document : Plain)
+        → ¬ (Holds (arc_value file.now).items document)) }
+    ensures limits { IfOk result (λ document. IsDocument document) }
+    ensures numbered { IfOk result (λ document. AreNumbered document.nodes) }
+{
+    decode_file(alloc, &FileBeside { rt, file })
 }

@@ -17,7 +17,7 @@ mod placing;
 mod sums;
 mod words;
 
-pub use file::decode;
+pub use file::{decode, decode_beside};
 pub use header::is_side;
 pub use spec_file::FILE_LIMIT;
 pub use xl_fields::{Kind, ReadRefused, ReadRefusedOrMemory};

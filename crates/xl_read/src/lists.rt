@@ -1,5 +1,4 @@
 ghost use Rattle.std.specs.Prelude.{◌≡◌, ◌≤◌, ◌^◌, length, OnOk, IfOk};
-ghost use Rattle.std.specs.Arc.{arc_value};
 ghost use Rattle.spec_forest.specs.Forest.{size};
 ghost use Rattle.spec_file.specs.declared.TheConstants.{FILE_LIMIT};
 ghost use Rattle.spec_file.specs.Layers.{nodes_at};
@@ -11,21 +10,22 @@ use crate::draft::DocumentDraft;
 use crate::layer::node_at;
 use spec_file::CHANNEL_POINTERS;
 use std::alloc::Global;
-use std::sync::Arc;
 use xl_doc::MAX_NODES;
 use xl_fields::{Kind, ReadRefusedOrMemory, refuse, u32_at};
+use xl_hier::TileFile;
 
 /// Puts in the layers whose pointers stand from an offset on. Answers the offset behind the zero that ends them.
 #[tactic(auto, using(crate::proofs::Pointers::nodes_next, crate::proofs::Pointers::nodes_fault, crate::proofs::Pointers::nodes_end, crate::proofs::Pointers::nodes_cut, crate::proofs::Pointers::nodes_many))]
-pub fn nodes_at(
+pub fn nodes_at<F: TileFile>(
     alloc: Global,
     file: &[u8],
-    shared: &Arc<Vec<u8>>,
+    shared: &F,
     at: usize,
     draft: &mut DocumentDraft,
 ) -> Result<usize, ReadRefusedOrMemory>
     requires file { length file.now ≤ FILE_LIMIT }
-    requires shared { file.now ≡ (arc_value shared.now).items }
+    requires shared { file.now ≡ F.bytes shared.now }
+    requires can { F.can_read shared.now }
     requires place { at ≤ 2 ^ 33 }
     requires empty { size draft.old.nodes ≡ 0 }
     ensures read { Yields result (λ next. record { document = draft.new; next = next })
@@ -49,15 +49,16 @@ pub fn nodes_at(
 
 /// Puts in the channels whose pointers stand from an offset on.
 #[tactic(auto, using(crate::proofs::Pointers::channels_next, crate::proofs::Pointers::channels_fault, crate::proofs::Pointers::channels_end, crate::proofs::Pointers::channels_cut, crate::proofs::Pointers::channels_many))]
-pub fn channels_at(
+pub fn channels_at<F: TileFile>(
     alloc: Global,
     file: &[u8],
-    shared: &Arc<Vec<u8>>,
+    shared: &F,
     at: usize,
     draft: &mut DocumentDraft,
 ) -> Result<(), ReadRefusedOrMemory>
     requires file { length file.now ≤ FILE_LIMIT }
-    requires shared { file.now ≡ (arc_value shared.now).items }
+    requires shared { file.now ≡ F.bytes shared.now }
+    requires can { F.can_read shared.now }
     requires place { at ≤ 2 ^ 33 }
     ensures { Yields result (λ _. draft.new) (channels_at CHANNEL_POINTERS file.now at draft.old) }
 {

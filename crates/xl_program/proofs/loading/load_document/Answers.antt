@@ -14,16 +14,16 @@ of_name : (s : Option (List ℕ)) (name : List ℕ) (c d : List ℕ → Option C
 of_name s name c d bytes e f front =
     subst (λ (o : Option Content). IfSome o (λ x. GivesFront x (2 ^ 31) bytes)) (same_content s (Some name) c d e f) front
 
-pub returns-in-Ok-decode-clause-loads : goal.returns-in-Ok-decode-clause-loads
-returns-in-Ok-decode-clause-loads g c =
+pub returns-in-Ok-decode_beside-clause-loads : goal.returns-in-Ok-decode_beside-clause-loads
+returns-in-Ok-decode_beside-clause-loads g c =
     let selected = c.in-Ok.ensures in
     let loaded = c.in-Ok-load_all.ensures in
     let bytes : List ℕ = c.in-Ok-load_all.bytes.items in
     let front = of_name _ _ _ _ bytes selected.selected selected.contents loaded.front in
     let file = ap (λ v. v.items) c.in-Ok-new.ensures.ok in
-    let holds = subst (λ (l : List ℕ). Holds l c.in-Ok-decode.document) file c.in-Ok-decode.ensures.held in (
-      front_holds _ bytes c.in-Ok-decode.document front holds,
-      front_length _ bytes c.len-length.result c.in-Ok-decode.document front holds
+    let holds = subst (λ (l : List ℕ). Holds l c.in-Ok-decode_beside.document) file c.in-Ok-decode_beside.ensures.held in (
+      front_holds _ bytes c.in-Ok-decode_beside.document front holds,
+      front_length _ bytes c.len-length.result c.in-Ok-decode_beside.document front holds
           (omega (arith, c.len-length.ensures, c.in-Ok-load_all.bytes.ok.0)),
     )
 
@@ -58,8 +58,8 @@ returns-in_default-clause-untouched g c =
     c.select.ensures.contents c.select.ensures.quiet c.select.ensures.saving c.load_all.ensures.contents c.load_all.ensures.quiet
     c.load_all.ensures.saving
 
-pub returns-in-Ok-decode-clause-untouched : goal.returns-in-Ok-decode-clause-untouched
-returns-in-Ok-decode-clause-untouched g c =
+pub returns-in-Ok-decode_beside-clause-untouched : goal.returns-in-Ok-decode_beside-clause-untouched
+returns-in-Ok-decode_beside-clause-untouched g c =
     two_quiet g.D.Shelf.shelf_state c.args.shelf.now
     c.select.new.self c.load_all.new.shelf
     c.select.ensures.contents c.select.ensures.quiet c.select.ensures.saving c.load_all.ensures.contents c.load_all.ensures.quiet
@@ -88,8 +88,8 @@ returns-in-Err-Memory-clause-few_loads g c = omega (arith, c.select.ensures.load
 pub returns-in_default-clause-few_loads : goal.returns-in_default-clause-few_loads
 returns-in_default-clause-few_loads g c = omega (arith, c.select.ensures.loads, c.load_all.ensures.loads)
 
-pub returns-in-Ok-decode-clause-few_loads : goal.returns-in-Ok-decode-clause-few_loads
-returns-in-Ok-decode-clause-few_loads g c = omega (arith, c.select.ensures.loads, c.load_all.ensures.loads)
+pub returns-in-Ok-decode_beside-clause-few_loads : goal.returns-in-Ok-decode_beside-clause-few_loads
+returns-in-Ok-decode_beside-clause-few_loads g c = omega (arith, c.select.ensures.loads, c.load_all.ensures.loads)
 
 pub returns-in-Err-Refused-clause-few_loads : goal.returns-in-Err-Refused-clause-few_loads
 returns-in-Err-Refused-clause-few_loads g c = omega (arith, c.select.ensures.loads, c.load_all.ensures.loads)

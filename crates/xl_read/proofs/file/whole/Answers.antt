@@ -4,6 +4,6 @@ use Rattle.xl_read.proofs.Decoded.{read_limits}
 use Rattle.xl_read.proofs.file.whole.Goals as goal
 
 pub finish-requires : goal.finish-requires
-finish-requires c =
+finish-requires g c =
     read_limits c.args.bytes.now c.read.result c.in_ok-draft.draft
     (are_bytes c.args.bytes.now (λ i. omega (arith, c.type_inv.bytes i))) c.read.ensures c.in_ok-draft.was
