@@ -14,13 +14,13 @@ ghost use Rattle.xl_tiles.specs.Sized.{IsSized};
 ghost use Rattle.xl_tiles.specs.Written.{IsWithin, with_tile, written};
 ghost use Rattle.xl_tiles.specs.Table.{AreTiled};
 
-use crate::uniform::uniform_tiles;
 use crate::area::{Area, Sheet, area_of};
 use crate::changes::count_changed;
 use crate::codes::{plain_tile, tile_codes};
 use crate::reading::{point_byte, read_area, row_of, tile_bytes};
 use crate::table::TileTable;
 use crate::tile::{SCRATCH, TileRef};
+use crate::uniform::uniform_tiles;
 use crate::writing::write_area;
 use std::alloc::{AllocError, AllocFailed, Global};
 use std::marker::Model;
