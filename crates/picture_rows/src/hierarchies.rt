@@ -1,4 +1,6 @@
 //! A plane in the bytes of a file.
+ghost use Rattle.std.specs.Prelude.{◌≤◌};
+
 use std::alloc::{AllocError, Global};
 use std::test::Fail;
 use xl_hier::{Greedy, Plane, write_hierarchy};
@@ -12,7 +14,9 @@ const IN_RUNS: [u8; 41] = [
 ];
 
 // A plane of two pixels behind two bytes.
-fn bytes_of(alloc: Global, compression: u8) -> Result<Vec<u8>, AllocError> {
+fn bytes_of(alloc: Global, compression: u8) -> Result<Vec<u8>, AllocError>
+    requires { compression ≤ 1 }
+{
     let plane = Plane::of_pixels(alloc, 2, 1, 1, &[7, 9])?;
     let mut out = [1, 2].to_vec(alloc)?;
     write_hierarchy(alloc, &mut out, &plane, compression, &mut Greedy)?;
@@ -28,9 +32,10 @@ fn a_plane_in_runs_has_these_bytes(rt: HostRuntime) -> Result<(), Fail> {
 
 #[test]
 fn a_plain_plane_has_its_pixels(rt: HostRuntime) -> Result<(), Fail> {
-    let out = bytes_of(rt.alloc(), 0)?;
-    assert_eq!(rt; out.len(), 40);
-    assert_eq!(rt; &out[..38], &IN_RUNS[..38]);
-    assert_eq!(rt; &out[38..], [7, 9].as_slice());
+    let alloc = rt.alloc();
+    let out = bytes_of(alloc, 0)?;
+    let mut plain = IN_RUNS[..38].to_vec(alloc)?;
+    plain.extend_from_slice(&[7, 9])?;
+    assert_eq!(rt; out.as_slice(), plain.as_slice());
     Ok(())
 }
