@@ -58,13 +58,13 @@ checked() {
     [ "$wanted" = "$got" ] || { echo "$1: the picture is not that of the reference reader"; exit 1; }
 }
 
-# by_one NAME WORDS..: the same of the program on one processor
+# by_one NAME WORDS..: the same of the program on one processor, named by the first of the words
 by_one() {
     file=$1
     shift
     if command -v taskset > /dev/null 2>&1; then
         first=$(taskset -cp $$ | sed 's/.*: *//; s/[,-].*//')
-        best "$file" "xcfedit, 1 processor" taskset -c "$first" "$bin" "$@"
+        best "$file" "$1, 1 processor" taskset -c "$first" "$bin" "$@"
     fi
 }
 
@@ -100,6 +100,10 @@ done
 made flat.xcf make_flat.py
 best flat.xcf xcfedit "$bin" render "$folder/flat.xcf"
 by_one flat.xcf render "$folder/flat.xcf"
+
+# the ten layers read and told as JSON: what reading a file costs
+best layers.xcf "xcfedit info" "$bin" info "$folder/layers.xcf"
+by_one layers.xcf info "$folder/layers.xcf"
 
 # saved NAME WORKERS LINE: a copy of the file, loaded and saved again
 saved() {

@@ -1,9 +1,9 @@
 //! What an edit of each kind can change.
 ghost use Rattle.std.specs.Prelude.{◌≡◌, None, IfOk};
-ghost use Rattle.spec_document.specs.Document.{Document as Plain};
+ghost use Rattle.spec_document.specs.Document.{Document as Plain, is_indexed};
 ghost use Rattle.spec_edit.specs.declared.EditRefused.TheVariants.{NotIndexed};
 ghost use Rattle.spec_edit.specs.Edit.{IsEdit};
-ghost use Rattle.spec_edit.specs.Refusal.{is_indexed, no_node, refusal, unless};
+ghost use Rattle.spec_edit.specs.Refusal.{no_node, refusal, unless};
 ghost use Rattle.xl_doc.specs.Numbered.{AreNumbered};
 ghost use Rattle.xl_edit.specs.Edits.{edit_of};
 

@@ -6,6 +6,8 @@ mod blank;
 #[cfg(test)]
 mod filters;
 #[cfg(test)]
+mod hierarchies;
+#[cfg(test)]
 mod jobs;
 #[cfg(test)]
 mod kept;

@@ -2,6 +2,7 @@
 use Rattle.std.specs.Prelude.{◌≡◌, ℕ, true, ◌+◌, ◌<◌, ◌≤◌, ◌==◌, nat_le, List, length, take, drop, slice_index}
 use Rattle.std.specs.Prelude.{position, unwrap_or, Ok, Err, if◌then◌else◌, ℤ}
 use Rattle.std.specs.Int.{w32, from_be_bytes, cast_signed}
+use Rattle.spec_fields.specs.declared.TheConstants.{MAX_NAME_IN_FILE}
 use Rattle.spec_fields.specs.declared.Kind.TheVariants.{Truncated, BadString}
 use Rattle.spec_fields.specs.Reading.{Read, ◌>>=◌, fault, wants}
 
@@ -50,7 +51,7 @@ until_zero bytes = take (zero_place bytes) bytes
 pub record HasName (file : List ℕ) (at : ℕ) (text : Text) : Type 0 where
   pub n : ℕ
   pub has : HasWord file at n
-  pub short : n ≤ 4097
+  pub short : n ≤ MAX_NAME_IN_FILE
   pub fits : at + 4 + n ≤ length file
   pub ends : 0 < n → slice_index file (at + 3 + n) ≡ 0
   pub name : text.name ≡ until_zero (bytes_at file (at + 4) n)
@@ -59,7 +60,7 @@ pub record HasName (file : List ℕ) (at : ℕ) (text : Text) : Type 0 where
 unfoldable pub name_at : (file : List ℕ) (at : ℕ) → Read Text
 name_at file at = do
   n ← word_at file at
-  _ ← wants (nat_le n 4097) (fault BadString at)
+  _ ← wants (nat_le n MAX_NAME_IN_FILE) (fault BadString at)
   _ ← wants (nat_le (at + 4 + n) (length file)) (fault Truncated (at + 4))
   _ ← wants (if n == 0 then true else slice_index file (at + 3 + n) == 0) (fault BadString at)
   Ok (record { name = until_zero (bytes_at file (at + 4) n); next = at + 4 + n })

@@ -6,6 +6,9 @@ ghost use Rattle.spec_fields.specs.Field.{HasWord, word_at, HasName, name_at, Te
 
 use thiserror::Error;
 
+/// How many bytes a name has in a file at most, with the zero behind it.
+pub const MAX_NAME_IN_FILE: usize = 4097;
+
 /// Why a file is refused. The number of a kind is its place here, from 1; section 3 of docs/FORMAT.md says when it
 /// comes.
 #[derive(Clone, Copy, Debug, PartialEq, Eq)]

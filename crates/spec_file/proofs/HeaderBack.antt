@@ -7,14 +7,14 @@ use Rattle.std.proofs.lemmas.Bool.{leb-true, ltb-true, eqb-true, eq-eqb}
 use Rattle.std.proofs.lemmas.List.{take_all, length-take}
 use Rattle.spec_document.specs.declared.Base.{Base}
 use Rattle.spec_document.specs.declared.Base.TheVariants.{Rgb, Grey, Indexed}
-use Rattle.spec_document.specs.Document.{base_code}
+use Rattle.spec_document.specs.Document.{base_code, is_indexed}
 use Rattle.spec_document.specs.Limits.{IsSide}
 use Rattle.spec_fields.specs.declared.Kind.TheVariants.{NotXcf, Version, Truncated, BadSize, BaseType, OldColourMap, TooLarge}
 use Rattle.spec_fields.specs.Reading.{fault}
 use Rattle.spec_fields.specs.Field.{bytes_at, HasWord, HasBytes}
 use Rattle.spec_fields.proofs.Back.{bind_back, wants_back}
 use Rattle.spec_fields.proofs.FieldsBack.{word_first, given_back}
-use Rattle.spec_file.specs.Header.{magic, begins, version_of, base_of, is_indexed, is_side, Header, side_at, header_of}
+use Rattle.spec_file.specs.Header.{magic, begins, version_of, base_of, is_side, Header, side_at, header_of}
 use Rattle.spec_file.specs.Holds.{HasHeader}
 use Rattle.spec_grid.specs.declared.TheConstants.{MAX_SIDE}
 

@@ -6,11 +6,10 @@ use Rattle.spec_forest.specs.Forest.{size, levels, ids}
 use Rattle.spec_document.specs.declared.Base.{Base}
 use Rattle.spec_document.specs.declared.Base.TheVariants.{Rgb, Grey, Indexed}
 use Rattle.spec_document.specs.declared.Owner.TheVariants.{Image}
-use Rattle.spec_document.specs.Document.{Document}
+use Rattle.spec_document.specs.Document.{Document, is_indexed}
 use Rattle.spec_document.specs.Limits.{AreBytes, AreColours, AreKept, AreIds, AreNodes, IsSide, IsColour, IsDocument}
 use Rattle.spec_props.specs.Meaning.{colours_of}
 use Rattle.spec_props.proofs.Within.{stand, compression_within, colours_within, kept_within}
-use Rattle.spec_file.specs.Header.{is_indexed}
 use Rattle.spec_file.specs.Reading.{blank}
 use Rattle.spec_file.specs.Holds.{Holds}
 use Rattle.spec_file.proofs.ForestGrows.{AreUpTo, none_up_to}

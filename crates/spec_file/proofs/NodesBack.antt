@@ -7,7 +7,7 @@ use Rattle.spec_forest.specs.Forest.{none, leaf, group, size}
 use Rattle.spec_forest.specs.Changes.{put_last}
 use Rattle.spec_document.specs.declared.Owner.TheVariants as owners
 use Rattle.spec_document.specs.Document.{Document, Nodes, Channel, base_code, base_of_kind, bytes_of_kind, mask_area}
-use Rattle.spec_document.specs.Document.{channel_kept, area, all_kept, kept_bytes}
+use Rattle.spec_document.specs.Document.{channel_kept, area, all_kept, kept_bytes, is_indexed}
 use Rattle.spec_document.specs.Limits.{AreBytes}
 use Rattle.spec_fields.specs.declared.Kind.TheVariants.{BadSize, LayerType, MaskSize, GroupMask, GroupInIndexed}
 use Rattle.spec_fields.specs.declared.Kind.TheVariants.{BadPath, BadHierarchy, TooLarge, TooMany}
@@ -20,7 +20,7 @@ use Rattle.spec_props.specs.Reading.{properties_at}
 use Rattle.spec_props.proofs.ListedBack.{properties_have}
 use Rattle.spec_hierarchy.specs.Reading.{same_word_at, pointer_at, hierarchy_at}
 use Rattle.spec_hierarchy.proofs.PlanesBack.{same_word_has, pointer_has, plane_has}
-use Rattle.spec_file.specs.Header.{is_indexed, is_side}
+use Rattle.spec_file.specs.Header.{is_side}
 use Rattle.spec_file.specs.Placing.{path_to, place_of, passes}
 use Rattle.spec_file.specs.Layers.{Head, Upto, hierarchy_place, mask_place, head_at, placed, path_of, group_of}
 use Rattle.spec_file.specs.Layers.{group_in, mask_at, layer_of, layer_in, node_at, nodes_at}

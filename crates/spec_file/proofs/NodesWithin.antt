@@ -7,12 +7,11 @@ use Rattle.spec_forest.specs.Changes.{above, put_last}
 use Rattle.spec_document.specs.declared.Base.{Base}
 use Rattle.spec_document.specs.declared.Base.TheVariants.{Rgb, Grey, Indexed}
 use Rattle.spec_document.specs.declared.Owner.TheVariants as owners
-use Rattle.spec_document.specs.Document.{Document, Nodes, Channel}
+use Rattle.spec_document.specs.Document.{Document, Nodes, Channel, is_indexed}
 use Rattle.spec_document.specs.Limits.{AreBytes, IsSide, IsLayer, IsGroup, IsChannelIfAny, MayHaveGroups, AreNodes}
 use Rattle.spec_document.specs.Limits as limits
 use Rattle.spec_document.proofs.NodesChanged.{are-above}
 use Rattle.spec_props.proofs.Within.{stand, opacity_within, x_within, y_within, kept_within}
-use Rattle.spec_file.specs.Header.{is_indexed}
 use Rattle.spec_file.specs.Placing.{path_to}
 use Rattle.spec_file.specs.Layers.{Head, group_of, layer_of}
 use Rattle.spec_file.specs.Holds.{HasHead, HasMaskIfAny, Places, AddsGroup, AddsLayer, AddNodes}

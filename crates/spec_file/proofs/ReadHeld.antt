@@ -2,7 +2,7 @@
 use Rattle.std.proofs.Common.{◌≡◌, ℕ, ◌+◌, ◌*◌, ◌^◌, ◌≤◌, Bool, true, false, ◌&&◌, not, List, length, refl, ap, subst, arith}
 use Rattle.std.specs.Prelude.{Ok}
 use Rattle.spec_document.specs.declared.Owner.TheVariants.{Image}
-use Rattle.spec_document.specs.Document.{Document, kept_bytes}
+use Rattle.spec_document.specs.Document.{Document, kept_bytes, is_indexed}
 use Rattle.spec_document.specs.Limits.{AreBytes}
 use Rattle.spec_fields.specs.declared.Kind.TheVariants.{NoColourMap}
 use Rattle.spec_fields.specs.Reading.{fault}
@@ -11,7 +11,7 @@ use Rattle.spec_fields.proofs.FieldsBack.{unless_back}
 use Rattle.spec_props.specs.Meaning.{has_colours, kept_of}
 use Rattle.spec_props.specs.Reading.{properties_at}
 use Rattle.spec_props.proofs.ListedBack.{properties_have}
-use Rattle.spec_file.specs.Header.{header_of, is_indexed}
+use Rattle.spec_file.specs.Header.{header_of}
 use Rattle.spec_file.specs.Placing.{passes}
 use Rattle.spec_file.specs.Layers.{nodes_at}
 use Rattle.spec_file.specs.Reading.{blank, reading}

@@ -1,9 +1,9 @@
 -- The limits that a call keeps by its type, and those of a history.
-use Rattle.std.specs.Prelude.{ℕ, ◌^◌, ◌≤◌, List, length}
+use Rattle.std.specs.Prelude.{ℕ, ◌≤◌, List, length}
 use Rattle.std.specs.List.{AllByRecursion}
 use Rattle.spec_edit.specs.Edit.{Edit, IsEdit}
 use Rattle.spec_history.specs.Machine.{Call, edit, undo, redo, tile, peek, top}
-use Rattle.spec_history.specs.declared.TheConstants.{MAX_EDITS}
+use Rattle.spec_history.specs.declared.TheConstants.{MAX_EDITS, MOST_ENTRIES}
 
 -- edits in a group
 abbrev pub most_edits : ℕ
@@ -11,9 +11,9 @@ most_edits = MAX_EDITS
 
 -- entries in a history
 abbrev pub most_entries : ℕ
-most_entries = 2 ^ 20
+most_entries = MOST_ENTRIES
 
--- a group has 1 to 1024 edits, each within its type
+-- a group has 1 to MAX_EDITS edits, each within its type
 pub record IsGroupOfEdits (edits : List Edit) : Type 0 where
   pub some : 1 ≤ length edits
   pub few : length edits ≤ most_edits

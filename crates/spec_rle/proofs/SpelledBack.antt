@@ -1,5 +1,5 @@
 -- A spelling that was read stands in the file.
-use Rattle.std.proofs.Common.{◌≡◌, ℕ, zero, suc, ◌+◌, ◌-◌, ◌*◌, ◌/◌, ◌%◌, ◌<◌, ◌≤◌, ◌^◌, Bool, true, false, cond, List}
+use Rattle.std.proofs.Common.{◌≡◌, ℕ, zero, suc, ◌+◌, ◌-◌, ◌*◌, ◌/◌, ◌%◌, ◌<◌, ◌≤◌, Bool, true, false, cond, List}
 use Rattle.std.proofs.Common.{[], ◌∷◌, ◌++◌, length, take, drop, slice_index, nat_lt, nat_eq, refl, sym, ◌∙◌, ap}
 use Rattle.std.proofs.Common.{subst, arith, length-append, drop-cons}
 use Rattle.std.specs.Prelude.{Ok, nat_le, flat_map}
@@ -13,6 +13,7 @@ use Rattle.spec_fields.proofs.Steps.{chosen_true, chosen_false}
 use Rattle.spec_fields.proofs.Back.{bind_back, wants_back}
 use Rattle.spec_fields.proofs.All.{all_append, all_replicate}
 use Rattle.spec_fields.proofs.FieldsBack.{length-bytes_at, has_bytes, has_both, byte_below, bytes_below}
+use Rattle.spec_rle.specs.declared.TheConstants.{MAX_LONG}
 use Rattle.spec_rle.specs.Codes.{Code, short_run, long_run, long_literal, short_literal, IsCode, code_bytes}
 use Rattle.spec_rle.specs.Codes.{code_pixels, EndsWithBytes, Spells}
 use Rattle.spec_rle.specs.Reading.{Head, head_of, body_length, body_pixels, Part, code_at, codes_at, plane_at}
@@ -76,7 +77,7 @@ has_long file at first bytes all is h =
     (subst (λ place. HasBytes file place bytes) three h)))
 
 long_below : (file : List ℕ) (at : ℕ) → AllByRecursion (λ b. b < 256) file
-    → 256 * slice_index file (at + 1) + slice_index file (at + 2) < 2 ^ 16
+    → 256 * slice_index file (at + 1) + slice_index file (at + 2) ≤ MAX_LONG
 long_below file at all = omega (arith, byte_below file (at + 1) all, byte_below file (at + 2) all)
 
 module _ (file : List ℕ) (at codes room : ℕ) (part : Part) (all : AllByRecursion (λ b. b < 256) file) where

@@ -16,6 +16,12 @@ pub const LONG_RUN: u8 = 127;
 /// The first byte of literal bytes in the long form.
 pub const LONG_LITERAL: u8 = 128;
 
+/// The most bytes of a plane that a code in the short form gives.
+pub const MAX_SHORT: u32 = 127;
+
+/// The most bytes of a plane that a code in the long form gives.
+pub const MAX_LONG: u32 = 65535;
+
 /// A spelling spells one plane of a length.
 pub fn spells_one_plane()
     ensures { (bytes a b : List ℕ) → Spells bytes a → Spells bytes b → a ≡ b }

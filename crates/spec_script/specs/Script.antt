@@ -10,6 +10,7 @@ use Rattle.spec_edit.specs.Effect.{changed_at}
 use Rattle.spec_history.specs.Machine as machine
 use Rattle.spec_history.specs.Machine.{Call}
 use Rattle.spec_history.specs.Calls.{most_edits}
+use Rattle.spec_script.specs.declared.TheConstants.{MAX_SCRIPT_BYTES, MAX_CALLS}
 use Rattle.spec_script.specs.Words.{◌>>=◌, lines_of, words_of}
 use Rattle.spec_script.specs.Commands.{Command, Asked, an_edit, begins, ends, a_call, saves, forgets, command_of}
 
@@ -19,7 +20,7 @@ list_at lists session = unwrap_or (slice_get lists session) []
 
 -- calls in a script
 abbrev pub most_calls : ℕ
-most_calls = 2 ^ 19
+most_calls = MAX_CALLS
 
 -- what a session does, line by line
 pub data Line : Type 0 where
@@ -164,7 +165,7 @@ start chests = record { sessions = map (λ s. blank (unwrap_or (slice_get chests
 abbrev pub script : (text : List ℕ) → (chests : List ℕ) → Result (List (List Line)) ℕ
 script text chests =
     let parsed = closed (take_lines 1 (lines_of text) (start chests)) in
-    if nat_le (length text) (2 ^ 24) then parsed else Err (line_of_byte text (2 ^ 24))
+    if nat_le (length text) MAX_SCRIPT_BYTES then parsed else Err (line_of_byte text MAX_SCRIPT_BYTES)
 
 abbrev pub is_call : Line → Bool
 is_call (call c) = true

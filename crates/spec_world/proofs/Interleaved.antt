@@ -23,7 +23,7 @@ at c r = record { col = c; row = r }
 abbrev s : (has is_marked : Bool) (good_to marked_at : ℕ) → Short
 s has is_marked good_to marked_at = record { has = has; marked = is_marked; good_to = good_to; marked_at = marked_at }
 
--- pixels that are all alike
+-- a uniform plane
 abbrev flat : (width height : ℕ) → (pixel : List ℕ) → Plane
 flat w h pixel = record { width = w; height = h; bpp = 4; bytes = flat_map (λ p. p) (replicate (w * h) pixel) }
 

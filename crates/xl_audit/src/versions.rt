@@ -6,14 +6,12 @@ ghost use Rattle.xl_audit.specs.Versions.{version_named, is_wanted, WantsMore, W
 ghost use Rattle.spec_audit.specs.Walk.{printed_at};
 
 use crate::calls::{SessionCalls, call_at};
+use spec_history::MOST_ENTRIES;
 use std::alloc::{AllocError, Global};
 use xl_doc::Document;
 use xl_edit::{Call, Reply};
 use xl_printed::Output;
 use xl_script::OrderWord;
-
-/// No history has more entries, and none has a later version.
-const MOST_ENTRIES: u32 = 1 << 20;
 
 // The version that the printed reply to a peek shows, where the word is that of a peek.
 fn version_named(calls: &[SessionCalls], output: &Output, word: OrderWord) -> Option<u32>
@@ -35,10 +33,10 @@ fn want(wanted: &mut Vec<bool>, version: u32) -> Result<(), AllocError>
         ≡ true) }
     ensures others { OnOk result (WantsMore wanted.old.items wanted.new.items) }
 {
-    if version > MOST_ENTRIES {
+    let place = version as usize;
+    if place > MOST_ENTRIES {
         return Ok(());
     }
-    let place = version as usize;
     if place >= wanted.len() {
         wanted.resize(place + 1, false)?;
     }

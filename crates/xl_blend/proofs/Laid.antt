@@ -1,6 +1,6 @@
 -- One pixel over another, where one of them is opaque or clear.
 use Rattle.std.proofs.Common.{◌≡◌, ℕ, ◌+◌, ◌-◌, ◌*◌, ◌≤◌, ◌<◌, Bool, true, false, cond, nat_eq, min, max}
-use Rattle.std.proofs.Common.{refl, sym, ◌∙◌, ap, arith}
+use Rattle.std.proofs.Common.{refl, sym, ◌∙◌, ap, arith, ◌≢◌, List}
 use Rattle.std.proofs.lemmas.Bool.{eqb-true, eqb-false}
 use Rattle.std.proofs.lemmas.Nat.{div-mul-add}
 use Rattle.spec_blend.specs.declared.Mode.{Mode}
@@ -10,7 +10,7 @@ use Rattle.spec_blend.specs.Blend.{mul, blend}
 use Rattle.spec_blend.specs.Over.{over_normal, over_blended, clear, mean, IsPixel}
 use Rattle.spec_blend.proofs.OverLemmas.{mul-le_left}
 use Rattle.xl_blend.specs.Shown.{shown}
-use Rattle.xl_blend.specs.Rows.{over_opaque}
+use Rattle.xl_blend.specs.Rows.{over_opaque, over_rows, blended_rows}
 use Rattle.xl_blend.specs.Words.{alpha_over, weight}
 
 -- an opaque pixel below stays opaque
@@ -224,3 +224,9 @@ pub weight-is_byte : (below above : Pixel) (whole : ℕ) → below.a ≤ 255 →
 weight-is_byte below above whole small is =
     let part : min above.a below.a ≤ 255 = omega (arith, small) in
     omega (arith, is, small, mul-le_left (255 - below.a) (min above.a below.a) part)
+
+-- a mode that is not the normal one lays by the rule of all the others
+pub other_rows : (mode : Mode) (below above : List Pixel) → mode ≢ Normal
+    → blended_rows mode below above ≡ over_rows mode below above
+other_rows Normal below above other = absurd (other refl)
+other_rows mode below above other = refl

@@ -1,15 +1,14 @@
 //! Pieces of rows in the modes other than the normal one.
-ghost use Rattle.std.specs.Prelude.{◌≡◌, ℕ, ◌<◌, ◌≤◌, length, slice_index, slice_index_or};
+ghost use Rattle.std.specs.Prelude.{◌≡◌, ◌≢◌, ℕ, ◌<◌, ◌≤◌, length, slice_index, slice_index_or};
 ghost use Rattle.spec_blend.specs.Over.{clear};
-ghost use Rattle.xl_blend.specs.Rows.{blended_rows};
-ghost use Rattle.xl_blend.specs.Uniform.{IsUniform};
+ghost use Rattle.xl_blend.specs.Rows.{blended_rows, over_rows};
 ghost use Rattle.xl_blend.specs.Words.{reciprocal_of, weight};
 
 use crate::alphas::{is_clear, is_opaque, reciprocals_of, weights_of};
 use crate::normal_rows::PIECE;
 use crate::opaque_rows::lay_over_opaque;
-use crate::pixels::{blend_by, over_blended};
-use crate::uniform_rows::{are_uniform, fill};
+use crate::pixels::blend_by;
+use crate::uniform_rows::{are_uniform, lay_uniform};
 use spec_blend::{Mode, Pixel};
 
 /// Pixels over others, by what weighs their colours and the reciprocals of that.
@@ -82,24 +81,12 @@ fn lay_over_any(mode: Mode, below: &mut [Pixel], above: &[Pixel])
     lay_by_each(mode, below, above, weights, reciprocals);
 }
 
-/// Pixels over others, where those of each row are one throughout.
-#[inline(never)]
-fn lay_uniform(mode: Mode, below: &mut [Pixel], above: &[Pixel])
-    requires some { 0 < length below.old }
-    requires lengths { length below.old ≡ length above.now }
-    requires below { IsUniform below.old }
-    requires above { IsUniform above.now }
-    ensures { below.new ≡ blended_rows mode below.old above.now }
-{
-    let pixel = over_blended(mode, below[0], above[0]);
-    fill(below, pixel);
-}
-
 /// A piece of a row over another in a mode that is not the normal one.
 pub fn lay_blended(mode: Mode, below: &mut [Pixel], above: &[Pixel])
+    requires other { mode ≢ Mode.Normal }
     requires lengths { length below.old ≡ length above.now }
     requires piece { length below.old ≤ PIECE }
-    ensures { below.new ≡ blended_rows mode below.old above.now }
+    ensures { below.new ≡ over_rows mode below.old above.now }
 {
     if is_clear(above) {
         return;

@@ -3,13 +3,12 @@ ghost use Rattle.std.specs.Prelude.{◌≡◌, ℕ, ◌<◌, ◌≤◌, length, 
 ghost use Rattle.spec_blend.specs.Over.{clear};
 ghost use Rattle.xl_blend.specs.Rows.{over_rows};
 ghost use Rattle.xl_blend.specs.Shown.{shown};
-ghost use Rattle.xl_blend.specs.Uniform.{IsUniform};
 ghost use Rattle.xl_blend.specs.Words.{alpha_over, reciprocal_of};
 
 use crate::alphas::{is_clear, is_opaque, reciprocals_of, wholes_of};
-use crate::normal::{over_by, over_normal, shown_of};
+use crate::normal::{over_by, shown_of};
 use crate::opaque_rows::lay_over_opaque;
-use crate::uniform_rows::{are_uniform, fill};
+use crate::uniform_rows::{are_uniform, lay_uniform};
 use spec_blend::{Mode, Pixel};
 
 /// The most pixels of a piece.
@@ -56,19 +55,6 @@ fn lay_over_any(below: &mut [Pixel], above: &[Pixel])
     lay_by(below, above, wholes, reciprocals);
 }
 
-/// Pixels over others, where those of each row are one throughout.
-#[inline(never)]
-fn lay_uniform(below: &mut [Pixel], above: &[Pixel])
-    requires some { 0 < length below.old }
-    requires lengths { length below.old ≡ length above.now }
-    requires below { IsUniform below.old }
-    requires above { IsUniform above.now }
-    ensures { below.new ≡ over_rows Mode.Normal below.old above.now }
-{
-    let pixel = over_normal(below[0], above[0]);
-    fill(below, pixel);
-}
-
 /// A piece of a row over another in the normal mode.
 pub fn lay_normal(below: &mut [Pixel], above: &[Pixel])
     requires lengths { length below.old ≡ length above.now }
@@ -80,7 +66,7 @@ pub fn lay_normal(below: &mut [Pixel], above: &[Pixel])
     } else if is_clear(above) {
         show(below);
     } else if are_uniform(below, above) {
-        lay_uniform(below, above);
+        lay_uniform(Mode::Normal, below, above);
     } else if is_opaque(below) {
         lay_over_opaque(Mode::Normal, below, above);
     } else if is_clear(below) {

@@ -3,10 +3,12 @@ ghost use Rattle.std.specs.Prelude.{◌≡◌, ℕ, ◌≤◌, ◌<◌, length, 
 ghost use Rattle.std.specs.Bool.{OnTrue, OnFalse};
 ghost use Rattle.spec_blend.specs.declared.Pixel.{Pixel};
 ghost use Rattle.spec_blend.specs.Over.{clear};
+ghost use Rattle.xl_blend.specs.Rows.{over_rows};
 ghost use Rattle.xl_blend.specs.Uniform.{IsFirstAt, IsUniform};
 
+use crate::pixels::over_pixel;
 use crate::words::{of_word, word};
-use spec_blend::Pixel;
+use spec_blend::{Mode, Pixel};
 
 /// The pixels of each row that are compared before the comparison may stop.
 const BLOCK: usize = 32;
@@ -83,11 +85,24 @@ pub fn are_uniform(below: &[Pixel], above: &[Pixel]) -> bool
 }
 
 /// Each pixel becomes this one, which is put together from its word, so that the loop is compiled to vectors.
-pub fn fill(row: &mut [Pixel], pixel: Pixel)
+fn fill(row: &mut [Pixel], pixel: Pixel)
     ensures { row.new ≡ map (λ (_ : Pixel). pixel) row.old }
 {
     let word = word(pixel);
     for place in row {
         *place = of_word(word);
     }
+}
+
+/// A row over another, where the pixels of each are one throughout.
+#[inline(never)]
+pub fn lay_uniform(mode: Mode, below: &mut [Pixel], above: &[Pixel])
+    requires some { 0 < length below.old }
+    requires lengths { length below.old ≡ length above.now }
+    requires below { IsUniform below.old }
+    requires above { IsUniform above.now }
+    ensures { below.new ≡ over_rows mode below.old above.now }
+{
+    let pixel = over_pixel(mode, below[0], above[0]);
+    fill(below, pixel);
 }

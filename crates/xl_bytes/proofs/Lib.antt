@@ -1,4 +1,4 @@
--- parts of a list
+-- the bytes of parts
 pub mod Parts
--- the bytes of pieces
-pub mod Pieces
+-- slices of a list
+pub mod Slices

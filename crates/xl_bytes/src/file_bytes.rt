@@ -3,19 +3,22 @@ ghost use Rattle.std.specs.Prelude.{◌≡◌, ◌++◌, [], length, drop, IfOk,
 ghost use Rattle.std.specs.List.{concat};
 
 use crate::part::Part;
-use crate::storing::{append_pieces, close, longer, put_part, skip_own, skip_parts};
+use crate::storing::{append_bytes, close, longer, put_part, skip_own, skip_parts};
 use std::alloc::{AllocError, Global};
 use std::marker::Model;
 
-// Bytes of its own are made a part before they are more, so that no long run of them is moved while it grows.
-const MANY: usize = 1 << 18;
+// Bytes of its own are made a part before an append would make them more, so that no long run of them is moved while it
+// grows.
+const MOST_OWN_BYTES: usize = 1 << 18;
 
 // A part with fewer bytes is copied.
-const FEW: usize = 512;
+const LEAST_SHARED_BYTES: usize = 512;
 
-/// The bytes of a file, one behind another: parts of bytes that others hold too, and bytes of its own.
+/// The bytes of a file, one behind another: parts of bytes that others may hold too, and bytes of its own behind the
+/// last of them.
 ///
-/// Parts that stand one behind another in the same bytes are one part. Without memory for a call nothing changes.
+/// A part that is appended where it goes on with the last one, in the same bytes, makes that longer; the first part of
+/// another file stays by itself. Without memory for a call nothing changes.
 #[derive(Drop)]
 pub struct FileBytes {
     parts: Vec<Part>,
@@ -59,7 +62,7 @@ impl FileBytes {
         ensures err { OnErr result (self.new ≡ self.old) }
     {
         let len = longer(self.len, bytes.len())?;
-        if MANY.saturating_sub(bytes.len()) < self.own.len() {
+        if MOST_OWN_BYTES.saturating_sub(bytes.len()) < self.own.len() {
             close(alloc, &mut self.parts, &mut self.own)?;
         }
         self.own.extend_from_slice(bytes)?;
@@ -84,14 +87,14 @@ impl FileBytes {
         ensures ok { OnOk result (self.new ≡ self.old ++ part) }
         ensures err { OnErr result (self.new ≡ self.old) }
     {
-        if part.len() < FEW {
+        if part.len() < LEAST_SHARED_BYTES {
             self.append(alloc, part.as_slice())
         } else {
             self.share_part(alloc, part)
         }
     }
 
-    // Appends the pieces of another as they are.
+    // Appends the parts of another as they are, and takes over the bytes behind them.
     fn share_all(&mut self, alloc: Global, other: FileBytes) -> Result<(), AllocError>
         ensures ok { OnOk result (self.new ≡ self.old ++ other) }
         ensures err { OnErr result (self.new ≡ self.old) }
@@ -130,8 +133,8 @@ impl FileBytes {
         self.len = self.len.saturating_sub(n);
     }
 
-    /// The pieces in which they stand: parts, and bytes of its own behind these.
-    pub fn pieces(&self) -> (&[Part], &[u8])
+    /// What they stand in: its parts, and its own bytes behind the last of them.
+    pub fn parts(&self) -> (&[Part], &[u8])
         ensures { concat result.0.now ++ result.1.now ≡ self.now }
     {
         (self.parts.as_slice(), self.own.as_slice())
@@ -144,7 +147,7 @@ impl FileBytes {
     {
         let before = out.len();
         out.reserve_exact(self.len)?;
-        let put = append_pieces(self.parts.as_slice(), self.own.as_slice(), out);
+        let put = append_bytes(self.parts.as_slice(), self.own.as_slice(), out);
         if put.is_err() {
             out.truncate(before);
         }
@@ -152,7 +155,7 @@ impl FileBytes {
     }
 
     /// A copy of all bytes in one run of memory.
-    pub fn joined(&self, alloc: Global) -> Result<Vec<u8>, AllocError>
+    pub fn join(&self, alloc: Global) -> Result<Vec<u8>, AllocError>
         ensures { IfOk result (λ bytes. bytes.items ≡ self.now) }
     {
         let mut bytes = Vec::new(alloc);

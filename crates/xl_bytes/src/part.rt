@@ -42,7 +42,7 @@ fn are_equal(one: &[u8], other: &[u8]) -> bool
 }
 
 impl Part {
-    /// The bytes from a place to an end.
+    /// The bytes from a place to an end. It fails where no more handles can be counted.
     pub fn of(bytes: &Arc<Vec<u8>>, from: usize, end: usize) -> Result<Part, AllocError>
         requires begin { from ≤ end }
         requires inside { end ≤ length (arc_value bytes.now).items }
@@ -75,6 +75,7 @@ impl Part {
         self.len
     }
 
+    /// Its bytes, as they stand.
     pub fn as_slice(&self) -> &[u8]
         ensures { result.now ≡ self.now }
     {
@@ -82,7 +83,7 @@ impl Part {
     }
 
     /// Leaves out the first bytes.
-    pub fn skip(&mut self, n: usize)
+    pub(crate) fn skip(&mut self, n: usize)
         requires { n ≤ length self.old }
         ensures { self.new ≡ drop n self.old }
     {
@@ -91,7 +92,7 @@ impl Part {
     }
 
     /// Whether these bytes stand behind its own in the bytes that it is a part of. Then it has them too.
-    pub fn take_next(&mut self, next: &[u8]) -> bool
+    pub(crate) fn take_next(&mut self, next: &[u8]) -> bool
         ensures joined { result ≡ true → self.new ≡ self.old ++ next.now }
         ensures apart { result ≡ false → self.new ≡ self.old }
     {

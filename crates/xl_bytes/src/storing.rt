@@ -1,4 +1,4 @@
-//! The pieces of a file: parts, and bytes of its own behind them.
+//! What the bytes of a file stand in: parts, and bytes of its own behind the last of them.
 ghost use Rattle.std.specs.Prelude.{◌≡◌, ◌+◌, ◌-◌, ◌++◌, [], length, take, drop, IfOk, OnOk, OnErr, true, false};
 ghost use Rattle.std.specs.List.{concat};
 
@@ -85,7 +85,7 @@ fn append_parts(parts: &[Part], out: &mut Vec<u8>) -> Result<(), AllocError>
 }
 
 /// Appends the bytes of the parts, and those behind them. Out of memory, some may stand behind what was there.
-pub fn append_pieces(parts: &[Part], own: &[u8], out: &mut Vec<u8>) -> Result<(), AllocError>
+pub fn append_bytes(parts: &[Part], own: &[u8], out: &mut Vec<u8>) -> Result<(), AllocError>
     ensures ok { OnOk result (out.new.items ≡ out.old.items ++ (concat parts.now ++ own.now)) }
     ensures front { take (length out.old.items) out.new.items ≡ out.old.items }
 {

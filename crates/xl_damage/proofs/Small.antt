@@ -1,14 +1,15 @@
 -- The extents of nodes, and the rectangles of layers, are far from the ends of their types.
-use Rattle.std.proofs.Common.{◌≡◌, ℕ, ◌≤◌, ◌^◌, Bool, true, false, cond, eqb, refl, arith}
+use Rattle.std.proofs.Common.{◌≡◌, ℕ, ◌≤◌, ◌^◌, Bool, true, false, refl, arith}
 use Rattle.std.specs.Prelude.{ℤ, pos, negsuc, ◌≤ℤ◌, ◌+ℤ◌, ◌-ℤ◌, ◌&&◌, not, int_le}
 use Rattle.std.specs.Int.{int_min, int_max}
 use Rattle.std.proofs.lemmas.Int.{ints, int_max_is, int_min_is}
-use Rattle.spec_forest.specs.Forest.{none, leaf, group, Found, nothing, a_leaf, a_group, or_else, find}
+use Rattle.spec_forest.specs.Forest.{none, leaf, group, Found, nothing, a_leaf, a_group, find}
 use Rattle.spec_grid.specs.declared.Rect.{Rect}
 use Rattle.spec_grid.specs.Rect.{part_above_0, no_rect, sheet, meet, right, bottom, is_empty, lies_on}
 use Rattle.spec_document.specs.declared.Base.{Base}
 use Rattle.spec_document.specs.Document.{Document, Nodes, Layer, Group, layer_rect}
 use Rattle.spec_document.specs.Limits.{IsDocument, AreNodes, IsLayer, IsOffset}
+use Rattle.spec_document.proofs.FoundLayers.{IsFound, found_layer}
 use Rattle.spec_picture.specs.Picture.{hull_of, rect_found, extent}
 use Rattle.xl_grid.specs.Small.{IsNear, IsSmall}
 use Rattle.xl_doc.specs.Extents.{last_end, IsReach}
@@ -33,23 +34,10 @@ nodes_reach base none h = no_reach
 nodes_reach base (leaf i l u) h = hull_reach (layer_rect l) (hull_of u) (layer_reach base l h.0) (nodes_reach base u h.1)
 nodes_reach base (group i g c u) h = hull_reach (hull_of c) (hull_of u) (nodes_reach base c h.1.0) (nodes_reach base u h.1.1)
 
-or_reach : (a b : Found Layer Group) → IsReach (rect_found a) → IsReach (rect_found b) → IsReach (rect_found (or_else a b))
-or_reach nothing b p q = q
-or_reach (a_leaf l) b p q = p
-or_reach (a_group g c) b p q = p
-
-cond_reach : (test : Bool) (a b : Found Layer Group) → IsReach (rect_found a) → IsReach (rect_found b)
-    → IsReach (rect_found (cond test a b))
-cond_reach true a b p q = p
-cond_reach false a b p q = q
-
-found_reach : (base : Base) (id : ℕ) (f : Nodes) → AreNodes base f → IsReach (rect_found (find id f))
-found_reach base id none h = no_reach
-found_reach base id (leaf i l u) h =
-    cond_reach (eqb id i) (a_leaf l) (find id u) (layer_reach base l h.0) (found_reach base id u h.1)
-found_reach base id (group i g c u) h =
-    cond_reach (eqb id i) (a_group g c) (or_else (find id c) (find id u)) (nodes_reach base c h.1.0)
-    (or_reach (find id c) (find id u) (found_reach base id c h.1.0) (found_reach base id u h.1.1))
+found_reach : (base : Base) (found : Found Layer Group) → IsFound base found → IsReach (rect_found found)
+found_reach base nothing h = no_reach
+found_reach base (a_leaf l) h = layer_reach base l h
+found_reach base (a_group g c) h = nodes_reach base c h
 
 max_near : (a : ℤ) → IsOffset a → IsNear (int_max a (pos 0))
 max_near a h = (omega (arith, ints, int_max_is a (pos 0), h.0), omega (arith, ints, int_max_is a (pos 0), h.1))
@@ -70,7 +58,8 @@ cut_small w h r wide high reach = record {
 
 pub extent_small : (d : Document) (id : ℕ) → IsDocument d → IsSmall (extent d id)
 extent_small d id h =
-    cut_small d.width d.height (rect_found (find id d.nodes)) h.width.1 h.height.1 (found_reach d.base id d.nodes h.nodes)
+    cut_small d.width d.height (rect_found (find id d.nodes)) h.width.1 h.height.1
+    (found_reach d.base (find id d.nodes) (found_layer d.base id d.nodes h.nodes))
 
 -- ---- a rectangle of a layer
 

@@ -4,3 +4,4 @@ pub mod SelectedRows
 pub mod Sample
 pub mod Blank
 pub mod NextId
+pub mod RedAndAlpha

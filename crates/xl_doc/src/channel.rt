@@ -58,7 +58,7 @@ pub(crate) fn shared_if_any(
     }
 }
 
-/// At most 64 channels, the first one first, in room that is taken when the list is made.
+/// At most `MAX_CHANNELS` channels, the first one first, in room that is taken when the list is made.
 #[derive(Drop)]
 pub struct Channels {
     list: Vec<Channel>,
@@ -67,16 +67,17 @@ pub struct Channels {
 impl Model for Channels {
     ghost use Rattle.std.specs.Prelude.{◌≤◌, List, length, vec_capacity};
     ghost use Rattle.spec_document.specs.Document as doc;
+    ghost use Rattle.spec_document.specs.declared.TheConstants.{MAX_CHANNELS};
 
     ghost Value = { List doc.Channel };
 
     ghost view = { λ c. c.list.items };
 
-    ghost invariant = { λ c. (64 ≤ vec_capacity c.list) × (length c.list.items ≤ 64) };
+    ghost invariant = { λ c. (MAX_CHANNELS ≤ vec_capacity c.list) × (length c.list.items ≤ MAX_CHANNELS) };
 }
 
 impl Channels {
-    /// No channels, with room for 64.
+    /// No channels, with room for the most.
     pub fn new(alloc: Global) -> Result<Channels, AllocError>
         ensures { IfOk result (λ c. c ≡ []) }
     {
@@ -95,20 +96,20 @@ impl Channels {
     /// How many channels there are.
     pub fn len(&self) -> usize
         ensures value { result ≡ length self.now }
-        ensures few { result ≤ 64 }
+        ensures few { result ≤ MAX_CHANNELS }
     {
         self.list.len()
     }
 
-    /// How many channels there are, which is at most 64.
+    /// How many channels there are, which is at most `MAX_CHANNELS`.
     pub(crate) fn count(&self) -> u64
         ensures value { result ≡ length self.now }
-        ensures few { result ≤ 64 }
+        ensures few { result ≤ MAX_CHANNELS }
     {
         self.list.len() as u64
     }
 
-    /// The same channels, with room for 64. Their planes are shared.
+    /// The same channels, with room for the most. Their planes are shared.
     pub fn share(&self, alloc: Global) -> Result<Channels, AllocError>
         ensures { IfOk result (λ other. other ≡ self.now) }
     {
@@ -121,7 +122,7 @@ impl Channels {
 
     /// Puts a channel last.
     pub fn push(&mut self, channel: Channel)
-        requires { length self.old < 64 }
+        requires { length self.old < MAX_CHANNELS }
         ensures { self.new ≡ self.old ++ channel ∷ [] }
     {
         self.list.push(channel).unwrap();
@@ -139,7 +140,7 @@ impl Channels {
 
     /// Puts a channel at an index. Those from there on move up by one.
     pub fn insert(&mut self, index: u32, channel: Channel)
-        requires room { length self.old < 64 }
+        requires room { length self.old < MAX_CHANNELS }
         requires index { index ≤ length self.old }
         ensures { self.new ≡ insert self.old index channel }
     {

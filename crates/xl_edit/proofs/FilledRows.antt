@@ -6,16 +6,16 @@ use Rattle.spec_grid.specs.declared.Rect.{Rect}
 use Rattle.spec_grid.specs.Rect.{part_above_0}
 use Rattle.spec_document.specs.Plane.{Plane, byte_at}
 use Rattle.spec_document.specs.Document.{Document}
-use Rattle.xl_tiles.specs.Alike.{AreAlike}
+use Rattle.xl_tiles.specs.Repeated.{IsRepeated}
 use Rattle.xl_edit.specs.declared.places.Site.{Site}
 use Rattle.spec_edit.specs.Effect.{mixed}
 use Rattle.xl_edit.specs.Filling.{AreRows, HasRows, byte_in, in_rows, weight_at}
 use Rattle.xl_edit.proofs.Weights.{no_selection, pixel_fits}
 
--- rows of pixels that are all alike
-pub alike_are_rows : (w h : ℕ) (pixel row all : List ℕ) → AreAlike pixel w row → AreAlike row h all
+-- uniform rows
+pub uniform_are_rows : (w h : ℕ) (pixel row all : List ℕ) → IsRepeated pixel w row → IsRepeated row h all
     → AreRows w h (length pixel) (λ x y c. slice_index pixel c) all
-alike_are_rows w h pixel row all across down = record {
+uniform_are_rows w h pixel row all across down = record {
   size = down.size ∙ ap (λ n. h * n) across.size;
   each = λ column y c hx hy hc.
       let start : y * (w * length pixel) + (column * length pixel + c) ≡ y * length row + (column * length pixel + c) =
@@ -33,11 +33,11 @@ given_are_rows w h n bytes full = record { size = full ∙ omega arith; each = �
 pub given_rows : (w h n : ℕ) (bytes : List ℕ) → length bytes ≡ w * h * n → HasRows w h n (w * n) bytes
 given_rows w h n bytes full row hy = omega (arith, full, pixel_fits row h (w * n) hy)
 
--- one row of pixels that are alike, again and again
-pub one_row : (w h n : ℕ) (pixel row : List ℕ) → length pixel ≡ n → AreAlike pixel w row → HasRows w h n 0 row
+-- one uniform row, again and again
+pub one_row : (w h n : ℕ) (pixel row : List ℕ) → length pixel ≡ n → IsRepeated pixel w row → HasRows w h n 0 row
 one_row w h n pixel row size across y hy = omega (arith, across.size, ap (λ m. w * m) size)
 
-pub one_row_is : (w n : ℕ) (pixel row : List ℕ) → length pixel ≡ n → AreAlike pixel w row → (column y c : ℕ) → column < w → c < n
+pub one_row_is : (w n : ℕ) (pixel row : List ℕ) → length pixel ≡ n → IsRepeated pixel w row → (column y c : ℕ) → column < w → c < n
     → in_rows 0 n row column y c ≡ slice_index pixel c
 one_row_is w n pixel row size across column y c hx hc =
     let start : y * 0 + (column * n + c) ≡ column * length pixel + c = omega (arith, ap (λ m. column * m) size) in

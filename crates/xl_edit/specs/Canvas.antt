@@ -1,4 +1,4 @@
--- Bytes that are all alike.
+-- Bytes of one value.
 use Rattle.std.specs.Prelude.{◌≡◌, ℕ, ◌<◌, List, length, slice_index}
 
 -- so many bytes of one value

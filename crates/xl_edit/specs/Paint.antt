@@ -2,8 +2,8 @@
 use Rattle.std.specs.Prelude.{◌≡◌, ℕ, ◌+◌, ◌*◌, false, List, length, slice_index, Option, Some, None, option_map}
 use Rattle.spec_grid.specs.declared.Rect.{Rect}
 use Rattle.spec_document.specs.Plane.{Plane, byte_at}
-use Rattle.spec_document.specs.Document.{Document, Layer, Channel}
-use Rattle.spec_edit.specs.Refusal.{node, is_indexed}
+use Rattle.spec_document.specs.Document.{Document, Layer, Channel, is_indexed}
+use Rattle.spec_edit.specs.Refusal.{node}
 use Rattle.spec_edit.specs.Effect.{paint, through, listed, from_edge, plane_found, with_plane}
 use Rattle.xl_doc.specs.Sheet.{Sheet}
 use Rattle.xl_tiles.specs.Written.{IsWithin, written}

@@ -43,7 +43,7 @@ fn own_selection(alloc: Global, doc: &Document) -> Result<Channel, AllocError>
     }
 }
 
-// Writes bytes that are all alike into a rectangle of a channel.
+// Writes bytes of one value into a rectangle of a channel.
 fn write_channel(
     alloc: Global,
     channel: &mut Channel,
@@ -58,7 +58,7 @@ fn write_channel(
     channel.plane.write_rect(alloc, rect, bytes)
 }
 
-// The bytes of a rectangle of the canvas that are all alike.
+// So many bytes of one value as a rectangle of the canvas has.
 fn flat_bytes(alloc: Global, doc: &Document, rect: Rect, value: u8) -> Result<Vec<u8>, AllocError>
     requires { IsWithin doc.now.width doc.now.height rect }
     ensures { IfOk result (λ bytes. AreFlat (rect.w * rect.h) value bytes.items) }

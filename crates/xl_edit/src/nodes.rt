@@ -3,7 +3,6 @@ ghost use Rattle.std.specs.Prelude.{◌≡◌, ℕ, ◌<◌, ◌≤◌, List, No
 ghost use Rattle.std.specs.List.{IsDistinct};
 ghost use Rattle.spec_forest.specs.Forest.{ids, find, levels, size};
 ghost use Rattle.spec_forest.specs.Changes.{put_into, without};
-ghost use Rattle.spec_document.specs.declared.TheConstants.{MAX_DEPTH};
 ghost use Rattle.spec_document.specs.Limits.{AreBytes, IsSide};
 ghost use Rattle.spec_edit.specs.Edit as edits;
 ghost use Rattle.spec_edit.specs.Refusal.{no_node_found, too_deep};
@@ -12,7 +11,7 @@ ghost use Rattle.xl_edit.specs.Applied.{at, Applies, Makes};
 ghost use Rattle.xl_edit.specs.Built.{HasNext};
 ghost use Rattle.xl_edit.specs.Kept.{KeepsLimits};
 ghost use Rattle.xl_edit.specs.Nodes.{one_node};
-ghost use Rattle.spec_forest.specs.declared.TheConstants.{MAX_NODES};
+ghost use Rattle.spec_forest.specs.declared.TheConstants.{MAX_NODES, MAX_DEPTH};
 ghost use Rattle.xl_tree.specs.Ids.{IsNew};
 ghost use Rattle.xl_tree.specs.Refusals.{put_refusal};
 

@@ -4,7 +4,7 @@ ghost use Rattle.xl_fields.specs.Gives.{SpanOf};
 
 use crate::refusal::refuse;
 use crate::word::u32_at;
-use spec_fields::{Kind, ReadRefused};
+use spec_fields::{Kind, MAX_NAME_IN_FILE, ReadRefused};
 use std::alloc::AllocError;
 
 /// Where a name stands in the file, without its zero byte, and the offset after the field.
@@ -33,8 +33,8 @@ fn until_zero_len(text: &[u8]) -> usize
 
 /// The name at an offset: a word n, and then n bytes, the last of them zero.
 ///
-/// BadString at the length word, where it is above 4097 or the last byte is not zero. Truncated at the length word,
-/// or at the first byte behind it, where the field begins that does not fit.
+/// BadString at the length word, where it is above `MAX_NAME_IN_FILE` or the last byte is not zero. Truncated at
+/// the length word, or at the first byte behind it, where the field begins that does not fit.
 #[tactic(auto, unfolding(spec_fields::specs::Field::name_at))]
 pub fn string_at(bytes: &[u8], at: usize) -> Result<Span, ReadRefused>
     ensures read { SpanOf bytes.now result (name_at bytes.now at) }
@@ -43,7 +43,7 @@ pub fn string_at(bytes: &[u8], at: usize) -> Result<Span, ReadRefused>
     ensures inside { IfOk result (λ s. (s.start + s.len ≤ s.next) × (s.next ≤ length bytes.now)) }
 {
     let n = u32_at(bytes, at)? as usize;
-    if n > 4097 {
+    if n > MAX_NAME_IN_FILE {
         return Err(refuse(Kind::BadString, at));
     }
     if bytes.len() - at - 4 < n {

@@ -16,6 +16,14 @@ use xl_grid::TileAt;
 use xl_rle::PlaneCoder;
 use xl_tiles::{Plane, SCRATCH};
 
+// The bytes in front of a plane's tiles but for the pointers to them: five words of the hierarchy, two of the level,
+// and the zero behind the pointers.
+const HEADS: usize = 4 * (5 + 2 + 1);
+
+// The first tile of a plane stands below this: a plane begins below 2^31, and in front of its tiles stand the heads and
+// a pointer to each of at most 256 times 256 tiles.
+const FIRST_TILE_BELOW: usize = (1 << 31) + HEADS + 4 * (256 * 256);
+
 fn append_words(alloc: Global, out: &mut Vec<u8>, values: &[u32]) -> Result<(), AllocError>
     ensures { OnOk result (out.new.items ≡ out.old.items ++ words values.now) }
 {
@@ -34,7 +42,7 @@ fn heads(alloc: Global, plane: &Plane, at: u32, begins: &[u32]) -> Result<Vec<u8
 {
     let width = plane.width();
     let height = plane.height();
-    let mut bytes = Vec::with_capacity(alloc, 32)?;
+    let mut bytes = Vec::with_capacity(alloc, HEADS)?;
     let front = [width, height, plane.bpp(), at + 20, 0, width, height];
     append_words(alloc, &mut bytes, &front)?;
     append_words(alloc, &mut bytes, begins)?;
@@ -49,8 +57,8 @@ struct Tiles {
     begins: Vec<u32>,
 }
 
-// Appends the tiles of a plane to none, the first of which begins at an offset. The scratch is for a plane of a tile,
-// and for a tile.
+// Fills `tiles`, which is empty, with the tiles of a plane, the first of which begins at the offset `first`. The
+// scratch has room for a plane of a tile, and behind that for a tile.
 fn write_tiles<C: PlaneCoder>(
     alloc: Global,
     plane: &Plane,
@@ -61,7 +69,7 @@ fn write_tiles<C: PlaneCoder>(
     coder: &mut C,
 ) -> Result<(), AllocError>
     requires compression { compression ≤ 1 }
-    requires short { first < 2 ^ 31 + 300000 }
+    requires short { first < FIRST_TILE_BELOW }
     requires bytes { tiles.old.bytes ≡ [] }
     requires begins { tiles.old.begins.items ≡ [] }
     requires scratch { length scratch.old ≡ MAX_PLANE + SCRATCH }
@@ -100,7 +108,7 @@ fn tiles_of<C: PlaneCoder>(
     coder: &mut C,
 ) -> Result<Tiles, AllocError>
     requires compression { compression ≤ 1 }
-    requires short { first < 2 ^ 31 + 300000 }
+    requires short { first < FIRST_TILE_BELOW }
     ensures ok { IfOk result (λ tiles. TilesMade C.fits compression plane.now first tiles.bytes
         tiles.begins.items) }
     ensures followed { OnOk result (FollowsEach C.follows coder.old
@@ -127,8 +135,8 @@ fn tiles_of<C: PlaneCoder>(
 /// count from the start of the file.
 ///
 /// The tiles stand as they are where the compression is 0, and as the coder spells their planes where it is 1; so the
-/// coder followed these planes, in the order in which they stand. Where a tile stands so in a file that was read, it is
-/// shared with that.
+/// coder followed these planes, in the order in which they stand. A tile that stands in the file that was read just as
+/// it is to be written is shared with that file, and a plain tile that was edited with the plane.
 pub fn hierarchy<C: PlaneCoder>(
     alloc: Global,
     at: usize,
@@ -143,7 +151,7 @@ pub fn hierarchy<C: PlaneCoder>(
         (byte_planes compression plane.now) coder.new) }
 {
     let (columns, rows) = xl_grid::grid(plane.width(), plane.height());
-    let first = at + 32 + 4 * (rows * columns) as usize;
+    let first = at + HEADS + 4 * (rows * columns) as usize;
     let tiles = tiles_of(alloc, plane, compression, first, coder)?;
     let begins = tiles.begins.as_slice();
     let front = heads(alloc, plane, at as u32, begins)?;

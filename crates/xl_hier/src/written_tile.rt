@@ -17,8 +17,9 @@ use xl_tiles::{Plane, SCRATCH};
 /// A plane of a tile has at most 64 by 64 bytes.
 pub const MAX_PLANE: usize = 4096;
 
-// The spellings of all planes of a tile have at most so many bytes.
-const MAX_SPELLINGS: usize = 16640;
+// The spellings of all planes of a tile have at most so many bytes: a pixel has at most four, and a spelling at most 64
+// more than its plane.
+const MAX_SPELLINGS: usize = 4 * (MAX_PLANE + 64);
 
 // Codes each of the bytes of a pixel, and appends the spellings.
 fn append_spellings<C: PlaneCoder>(
@@ -110,10 +111,11 @@ fn append_run_length<C: PlaneCoder>(
     }
 }
 
-/// Appends a tile: its pixels as they are, or spelled, and the coder followed the planes that are spelled. The scratch
-/// is for a plane of it, and for all of it.
+/// Appends a tile: its pixels as they are where the compression is 0, and else the spellings of its planes, which the
+/// coder followed. The scratch has room for a plane of the tile, and behind that for the tile.
 ///
-/// What stands in a file as it is to be written is shared with it.
+/// A tile that stands in the file that was read just as it is to be written is shared with that file, and a plain tile
+/// that was edited with the plane.
 pub fn write_tile<C: PlaneCoder>(
     alloc: Global,
     plane: &Plane,

@@ -106,6 +106,40 @@ fn the_line_of_a_script_is_named(rt: HostRuntime) -> Result<(), Fail> {
     Ok(())
 }
 
+// The limits that a script breaks only where it is long, and what is said of each.
+const LIMITS: [(Cause, &'static str); 3] = [
+    (
+        Cause::TooLong,
+        "script line 7: the script has more than 16777216 bytes",
+    ),
+    (
+        Cause::FullGroup,
+        "script line 7: a group of more than 1024 edits",
+    ),
+    (Cause::TooManyCalls, "script line 7: more than 524288 calls"),
+];
+
+// What is said of each, where it is not what stands beside it.
+fn limit_said_otherwise(alloc: Global) -> Result<Option<String>, AllocError> {
+    for (cause, sentence) in &LIMITS {
+        let bad = BadLine {
+            line: 7,
+            cause: *cause,
+        };
+        let said = of_edit(alloc, 3, Stopped::BadLine(bad))?;
+        if said.as_str() != *sentence {
+            return Ok(Some(said));
+        }
+    }
+    Ok(None)
+}
+
+#[test]
+fn the_limits_of_a_script_are_named(rt: HostRuntime) -> Result<(), Fail> {
+    assert_eq!(rt; limit_said_otherwise(rt.alloc())?, None);
+    Ok(())
+}
+
 #[test]
 fn a_script_that_is_viewed_has_fewer_lines(rt: HostRuntime) -> Result<(), Fail> {
     let alloc = rt.alloc();

@@ -8,12 +8,13 @@ ghost use Rattle.xl_ports.specs.Faults.{HasCause};
 ghost use Rattle.xl_save.specs.Save.{SavesOnly, HasSaved};
 
 use xl_ports::{Failed, Shelf};
-use xl_save::save;
+use xl_save::save_parts;
+use xl_smallest::FileBytes;
 
 /// Saves a file of a document, the smallest one, in the place of the selected one.
 ///
 /// At each moment a crash leaves what it might have left before, or the file; after Ok the file alone.
-pub fn save_smallest<D: Shelf>(file: &[u8], shelf: &mut D) -> Result<(), Failed>
+pub fn save_smallest<D: Shelf>(file: &FileBytes, shelf: &mut D) -> Result<(), Failed>
     requires { IsSome (D.shelf_state shelf.old).selected }
     ensures moments { IfSome (D.shelf_state shelf.old).selected
         (λ name. Between (D.shelf_state shelf.old).disk (D.shelf_state shelf.new).disk
@@ -33,5 +34,5 @@ pub fn save_smallest<D: Shelf>(file: &[u8], shelf: &mut D) -> Result<(), Failed>
     ensures cause { HasCause (D.shelf_state shelf.old).saving (D.shelf_state shelf.new).saving
         result }
 {
-    save(file, shelf)
+    save_parts(file, shelf)
 }

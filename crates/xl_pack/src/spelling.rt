@@ -7,12 +7,12 @@ use std::alloc::{AllocError, Global};
 use xl_compose::Recompose;
 use xl_doc::Document;
 use xl_small::{Small, Telling};
-use xl_smallest::encode_smallest;
+use xl_smallest::{FileBytes, encode_smallest};
 
 /// A file, how many planes are spelled in it, and the lines of their plans.
 #[derive(Drop)]
 pub struct Spelled {
-    pub file: Vec<u8>,
+    pub file: FileBytes,
     pub planes: u64,
     pub lines: Vec<u8>,
 }
@@ -20,7 +20,7 @@ pub struct Spelled {
 // Without the lines.
 fn spell_and_count(alloc: Global, document: &Document) -> Result<Spelled, AllocError>
     requires { IsDocument document.now }
-    ensures { IfOk result (λ s. IsSpelled document.now false s.file.items s.lines.items s.planes) }
+    ensures { IfOk result (λ s. IsSpelled document.now false s.file s.lines.items s.planes) }
 {
     let mut coder = Small::new();
     let file = encode_smallest(alloc, document, &mut coder, &mut Recompose::new())?;
@@ -35,7 +35,7 @@ fn spell_and_count(alloc: Global, document: &Document) -> Result<Spelled, AllocE
 // With the lines.
 fn spell_and_tell(alloc: Global, document: &Document) -> Result<Spelled, AllocError>
     requires { IsDocument document.now }
-    ensures { IfOk result (λ s. IsSpelled document.now true s.file.items s.lines.items s.planes) }
+    ensures { IfOk result (λ s. IsSpelled document.now true s.file s.lines.items s.planes) }
 {
     let mut coder = Telling::new(alloc);
     let file = encode_smallest(alloc, document, &mut coder, &mut Recompose::new())?;
@@ -49,7 +49,7 @@ fn spell_and_tell(alloc: Global, document: &Document) -> Result<Spelled, AllocEr
 /// The smallest file of a document, with the lines where they are asked for.
 pub fn spell(alloc: Global, document: &Document, with_plans: bool) -> Result<Spelled, AllocError>
     requires { IsDocument document.now }
-    ensures { IfOk result (λ s. IsSpelled document.now with_plans s.file.items s.lines.items
+    ensures { IfOk result (λ s. IsSpelled document.now with_plans s.file s.lines.items
         s.planes) }
 {
     if with_plans {

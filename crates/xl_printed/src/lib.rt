@@ -16,4 +16,5 @@ pub use output::{Output, read_output};
 pub use printed::{Printed, SessionReplies};
 pub use replies::read_reply;
 pub use shape::read_shaped;
-pub use source::{MAX_SOURCE_BYTES, split_source};
+pub use source::split_source;
+pub use spec_audit::MAX_SOURCE_BYTES;

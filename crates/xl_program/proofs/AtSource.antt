@@ -17,6 +17,12 @@ pub past_source : {A : Type 0} (Then : Type 0) (result : Result A Stopped) → I
 past_source Then (Ok x) never = tt
 past_source Then (Err stopped) never = λ stops. absurd (never stops)
 
+-- no stop is one before the shelf whose status is not
+later : {Then : Type 0} {status last other : ℕ} → status ≡ last → StopsBeforeShelf last → status ≡ other
+    → (StopsBeforeShelf other → false ≡ true)
+    → Then
+later same before is late = let bad : false ≡ true = late (subst StopsBeforeShelf (sym same ∙ is) before) in cc
+
 module _ (given : Given) (content : List ℕ → Option Content) where
   -- only a command that reads the source stops at it
   reads_head : (command : Asked) → StopsFor given content command (Err BadHead) → ReadsSource (Some command)
@@ -52,20 +58,20 @@ module _ (given : Given) (content : List ℕ → Option Content) where
   at_source held faults Then command (BadLine bad) status last mid new same before stops told kept =
       kept (reads_line command bad stops) tt
   at_source held faults Then command ShelfFault status last mid new same before stops told kept =
-      let bad : false ≡ true = subst StopsBeforeShelf (sym same ∙ told.0) before in cc
+      later same before told.0 (λ bad. bad)
   at_source held faults Then command (Refused why) status last mid new same before stops (inl told) kept =
-      let bad : false ≡ true = subst StopsBeforeShelf (sym same ∙ told.0) before in cc
+      later same before told.0 (λ bad. bad)
   at_source held faults Then command (Refused why) status last mid new same before stops (inr told) kept =
-      let bad : false ≡ true = subst StopsBeforeShelf (sym same ∙ told.0) before in cc
+      later same before told.0 (λ bad. bad)
   at_source held faults Then command (NotFlattened why) status last mid new same before stops (inl told) kept =
-      let bad : false ≡ true = subst StopsBeforeShelf (sym same ∙ told.0) before in cc
+      later same before told.0 (λ bad. bad)
   at_source held faults Then command (NotFlattened why) status last mid new same before stops (inr told) kept =
-      let bad : false ≡ true = subst StopsBeforeShelf (sym same ∙ told.0) before in cc
+      later same before told.0 (λ bad. bad)
   at_source held faults Then command SaveFault status last mid new same before stops told kept =
-      let bad : false ≡ true = subst StopsBeforeShelf (sym same ∙ told.0) before in cc
+      later same before told.0 (λ bad. bad)
   at_source held faults Then command (Rejected why) status last mid new same before stops told kept =
-      let bad : false ≡ true = subst StopsBeforeShelf (sym same ∙ told.0) before in cc
+      later same before told.0 (λ bad. bad)
   at_source held faults Then command SinkFault status last mid new same before stops told kept =
-      let bad : false ≡ true = subst StopsBeforeShelf (sym same ∙ told.0) before in cc
+      later same before told.0 (λ bad. bad)
   at_source held faults Then command Memory status last mid new same before stops told kept =
-      let bad : false ≡ true = subst StopsBeforeShelf (sym same ∙ told.0) before in cc
+      later same before told.0 (λ bad. bad)

@@ -144,17 +144,16 @@ module _ {D : Type 0} (state : D → ShelfState) where
       ap (λ (o : Option D). unwrap_or o mid) (sym last ∙ (then ∙ first))
 
   pub saved_there : {K : Type 0} (held : K → Option (List ℕ)) (faults : K → ℕ) (mid back new : D) (base d : Document)
-      (file bytes : List ℕ) (old told : K) (result : Result (Unit {0}) Stopped)
-      → ((d : Document) → Written bytes d
+      (file : List ℕ) (old told : K) (result : Result (Unit {0}) Stopped)
+      → ((d : Document) → Written file d
       → SavesAndTells held faults d (state back) (state new) old told result)
-      → back ≡ mid → bytes ≡ file → Written file (made_flat base) → base ≡ d
+      → back ≡ mid → Written file (made_flat base) → base ≡ d
       → SavesAndTells held faults (made_flat d) (state mid) (state new) old
       told result
-  saved_there held faults mid back new base d file bytes old told result saves same is written base_is =
+  saved_there held faults mid back new base d file old told result saves same written base_is =
       subst (λ (k : D). SavesAndTells held faults (made_flat d) (state k)
       (state new) old told result) same
-      (saves (made_flat d) (subst (λ (b : List ℕ). Written b (made_flat d)) (sym is)
-      (subst (λ (x : Document). Written file (made_flat x)) base_is written)))
+      (saves (made_flat d) (subst (λ (x : Document). Written file (made_flat x)) base_is written))
 
 -- ---- why it stops
 

@@ -4,7 +4,6 @@ use Rattle.std.specs.Prelude.{Option, IfSome, Result, Ok, Err, is_err}
 use Rattle.spec_command.specs.Arguments.{pack}
 use Rattle.spec_document.specs.Document.{Document}
 use Rattle.spec_document.specs.Limits.{IsDocument}
-use Rattle.spec_shortest.specs.Files.{IsSmallestFile}
 use Rattle.spec_shortest.specs.Lines.{IsPackText}
 use Rattle.xl_pack.specs.Saving.{HasSmallest, MayHaveSmallest}
 use Rattle.xl_ports.proofs.Moments.{one_then}
@@ -94,15 +93,11 @@ module _ {before mid : ShelfState} {name : List ℕ} {d : Document} {size : ℕ}
       → FaultsRose before after (pack name with_plans)
   save_rose with_plans rose = inr (subst (λ (n : ℕ). Rose n after.saving) read.untouched.saving rose)
 
--- the same text of the same file
-pub text_moved : (d : Document) (with_plans : Bool) (before : ℕ) (file bytes text out : List ℕ) → bytes ≡ file → out ≡ text
-    → IsPackText d with_plans before (length file) text → IsPackText d with_plans before (length bytes) out
-text_moved d with_plans before file bytes text out same told is =
-    subst (λ (xs : List ℕ). IsPackText d with_plans before (length xs) out) (sym same)
-    (subst (λ (xs : List ℕ). IsPackText d with_plans before (length file) xs) (sym told) is)
-
-pub smallest_moved : (d : Document) (file bytes : List ℕ) → bytes ≡ file → IsSmallestFile file d → IsSmallestFile bytes d
-smallest_moved d file bytes same is = subst (λ (xs : List ℕ). IsSmallestFile xs d) (sym same) is
+-- the text that is written
+pub text_moved : (d : Document) (with_plans : Bool) (before : ℕ) (file text out : List ℕ) → out ≡ text
+    → IsPackText d with_plans before (length file) text → IsPackText d with_plans before (length file) out
+text_moved d with_plans before file text out told is =
+    subst (λ (xs : List ℕ). IsPackText d with_plans before (length file) xs) (sym told) is
 
 module _ {A E : Type 0} (old new : ℕ) where
   pub rose_at : (r : Result A E) → is_err r ≡ true → HasCause old new r → Rose old new

@@ -1,5 +1,5 @@
 -- What a script that is viewed comes to.
-use Rattle.std.proofs.Common.{◌≡◌, inl, inr, ◌⊎◌, ℕ, ◌+◌, ◌^◌, ◌≤◌, false, List, [], ◌++◌, ◌∙◌, length, ap, sym, subst, refl}
+use Rattle.std.proofs.Common.{◌≡◌, inl, inr, ◌⊎◌, ℕ, ◌+◌, ◌≤◌, false, List, [], ◌++◌, ◌∙◌, length, ap, sym, subst, refl}
 use Rattle.std.proofs.Common.{arith, length-append, append-nil}
 use Rattle.std.specs.Prelude.{Vec, Option, Some, None, IfSome, IfOk, Result, Ok, Err, String, string_bytes, nat_le}
 use Rattle.std.specs.declared.alloc.AllocError.{AllocError}
@@ -9,6 +9,7 @@ use Rattle.spec_command.specs.Arguments.{view}
 use Rattle.spec_document.specs.Document.{Document}
 use Rattle.spec_document.specs.Limits.{IsDocument}
 use Rattle.spec_filters.specs.declared.FilterState.{FilterState}
+use Rattle.spec_script.specs.declared.TheConstants.{MAX_SCRIPT_BYTES}
 use Rattle.spec_script.specs.Script.{Line, list_at, line_of_byte}
 use Rattle.spec_view.specs.Script.{view_script}
 use Rattle.spec_view.specs.Text.{Views}
@@ -152,12 +153,13 @@ unread_view given left Memory reads = tt
 abbrev refused_at : (number : ℕ) → Result (List Line) ℕ
 refused_at number = Err number
 
-view_too_long : (text : List ℕ) (filters : ℕ) → 2 ^ 24 + 1 ≤ length text → view_script text filters ≡ Err (line_of_byte text (2 ^ 24))
+view_too_long : (text : List ℕ) (filters : ℕ) → MAX_SCRIPT_BYTES + 1 ≤ length text
+    → view_script text filters ≡ Err (line_of_byte text MAX_SCRIPT_BYTES)
 view_too_long text filters long =
-    let test : nat_le (length text) (2 ^ 24) ≡ false = grind (arith, nat_tests) in
+    let test : nat_le (length text) MAX_SCRIPT_BYTES ≡ false = grind (arith, nat_tests) in
     rw test refl
 
-view_front : (front more : List ℕ) (filters : ℕ) → (length front ≡ 2 ^ 24 + 1) ⊎ (more ≡ [])
+view_front : (front more : List ℕ) (filters : ℕ) → (length front ≡ MAX_SCRIPT_BYTES + 1) ⊎ (more ≡ [])
     → view_script front filters ≡ view_script (front ++ more) filters
 view_front front more filters (inl full) =
     view_too_long front filters (omega arith)
@@ -168,7 +170,7 @@ view_front front more filters (inr ended) = rw (ended, append-nil front) refl
 -- what is read of a source tells what all that it had left comes to
 pub view_read : (before after : Option (List ℕ)) (front text : List ℕ) (filters : ℕ) (r : Result (List Line) ℕ)
     → before ≡ led_by front after
-    → (length front ≡ 2 ^ 24 + 1) ⊎ IsEnded after → text ≡ front → view_script text filters ≡ r
+    → (length front ≡ MAX_SCRIPT_BYTES + 1) ⊎ IsEnded after → text ≡ front → view_script text filters ≡ r
     → IfSome before (λ all. view_script all filters ≡ r)
 view_read before None front text filters r led how same reads = rw led tt
 view_read before (Some more) front text filters r led how same reads =
@@ -177,7 +179,7 @@ view_read before (Some more) front text filters r led how same reads =
 -- the same with the number of filters as it was counted
 pub view_reads : (before after : Option (List ℕ)) (front text : List ℕ) (count filters : ℕ) (r : Result (List Line) ℕ)
     → before ≡ led_by front after
-    → (length front ≡ 2 ^ 24 + 1) ⊎ IsEnded after → text ≡ front → count ≡ filters → view_script text count ≡ r
+    → (length front ≡ MAX_SCRIPT_BYTES + 1) ⊎ IsEnded after → text ≡ front → count ≡ filters → view_script text count ≡ r
     → IfSome before (λ all. view_script all filters ≡ r)
 view_reads before after front text count filters r led how same counted reads =
     subst (λ (n : ℕ). IfSome before (λ all. view_script all n ≡ r)) counted (view_read before after front text count r led how same reads)

@@ -3,7 +3,7 @@ use Rattle.std.specs.Prelude.{◌≡◌, ◌⊎◌, ◌==◌, ◌+◌, ◌^◌, 
 use Rattle.std.specs.Prelude.{Result, Ok, Err, Vec}
 use Rattle.std.specs.declared.alloc.Global.{Global}
 use Rattle.std.specs.List.{list_any}
-use Rattle.spec_audit.specs.Source.{most_script, most_source}
+use Rattle.spec_audit.specs.declared.TheConstants.{MAX_SOURCE_BYTES}
 use Rattle.spec_command.specs.Arguments.{Asked, edit, render, info, make, pack, flatten, view, audit, name_of}
 use Rattle.spec_command.specs.Ends.{Stop, source_fault, bad_head, bad_line, shelf_fault, refused, flat_refused, stop_line, stop_status}
 use Rattle.spec_document.specs.Document.{Document}
@@ -12,6 +12,7 @@ use Rattle.spec_report.specs.Json as json
 use Rattle.spec_report.specs.Pam.{pam}
 use Rattle.spec_filters.specs.declared.FilterState.{FilterState}
 use Rattle.spec_generated.specs.Generated.{document, script as made_script}
+use Rattle.spec_script.specs.declared.TheConstants.{MAX_SCRIPT_BYTES}
 use Rattle.spec_script.specs.Script.{Line, list_at, script}
 use Rattle.spec_history.specs.History.{Entry}
 use Rattle.spec_history.specs.Kept.{IsLegal}
@@ -297,11 +298,11 @@ InGrammar given (Some (audit name)) = IsAuditScript given.left given.chests
 
 -- how often a source is read for a script at most: as often as a script may have bytes, and once more
 abbrev pub most_reads : ℕ
-most_reads = most_script + 1
+most_reads = MAX_SCRIPT_BYTES + 1
 
 -- and for an audit, with the script and the output
 abbrev pub most_audit_reads : ℕ
-most_audit_reads = most_source + 1
+most_audit_reads = MAX_SOURCE_BYTES + 1
 
 module _ {S : Type 0} (left : S → Option (List ℕ)) (faults reads : S → ℕ) where
   -- the source was left as it was, and not read

@@ -22,7 +22,7 @@ use xl_flat::{FlatRefusedOrMemory, flatten as flat_group};
 use xl_play::{Core, desk_of, next_id_of, open_core};
 use xl_ports::{Shelf, Sink, write_all};
 use xl_rle::Keeping;
-use xl_snapshot::{file_of, save_file};
+use xl_snapshot::{FileBytes, file_of, save_file};
 
 /// The session that makes the group.
 const SESSION: u8 = 0;
@@ -105,13 +105,13 @@ fn flat_file<L: Ledger, D: Shelf>(
     core: &mut Core<D>,
     group: Group,
     blank: Blank,
-) -> Result<Vec<u8>, AllocError>
+) -> Result<FileBytes, AllocError>
     requires name { blank.name ≡ L.name }
     requires parts { blank.parts ≡ L.parts }
     requires some { 0 < blank.parts }
     requires fresh { core.old.history.entries ≡ [] }
     requires group { IsFlatGroup core.old.history.base group }
-    ensures file { IfOk result (λ file. Written file.items (made_flat core.old.history.base)) }
+    ensures file { IfOk result (λ file. Written file (made_flat core.old.history.base)) }
     ensures shelf { core.new.shelf ≡ core.old.shelf }
 {
     let mut desk = desk_of(alloc, Vec::new(alloc))?;
@@ -129,7 +129,11 @@ fn flat_file<L: Ledger, D: Shelf>(
 }
 
 // Saves a file, and writes the line that tells of it.
-fn save_flat<K: Sink, D: Shelf>(file: &[u8], sink: &mut K, shelf: &mut D) -> Result<(), Stopped>
+fn save_flat<K: Sink, D: Shelf>(
+    file: &FileBytes,
+    sink: &mut K,
+    shelf: &mut D,
+) -> Result<(), Stopped>
     requires { IsSome (D.shelf_state shelf.old).selected }
     ensures saved { (d : Plain) → Written file.now d → SavesAndTells K.held K.faults d
         (D.shelf_state shelf.old)

@@ -29,7 +29,7 @@ use xl_play::{Core, Played, PlayedBeside, Replies, has_save_fault, open_core, pl
 use xl_ports::{Failed, Gate, Shelf, Sink};
 use xl_report::{Made, digest, summary};
 use xl_rle::Greedy;
-use xl_snapshot::{file_of, save_file};
+use xl_snapshot::{FileBytes, file_of, save_file};
 
 /// How many workers are beside the sessions of what is made.
 const WORKERS: u8 = 2;
@@ -79,10 +79,10 @@ pub fn make<R: Threads + Wait + Sync, K: Sink, D: Shelf, G: Gate>(
 }
 
 // What is made from a seed, and the file of its document.
-fn made_with_file(alloc: Global, seed: u32) -> Result<(Made, Vec<u8>), AllocError>
+fn made_with_file(alloc: Global, seed: u32) -> Result<(Made, FileBytes), AllocError>
     ensures document { IfOk result (λ made. made.0.document ≡ document seed) }
     ensures script { IfOk result (λ made. lists_of made.0.script ≡ script seed) }
-    ensures file { IfOk result (λ made. Written made.1.items (document seed)) }
+    ensures file { IfOk result (λ made. Written made.1 (document seed)) }
     ensures limits { IfOk result (λ made. IsDocument made.0.document) }
 {
     let made = xl_report::make(alloc, seed)?;
@@ -92,7 +92,7 @@ fn made_with_file(alloc: Global, seed: u32) -> Result<(Made, Vec<u8>), AllocErro
 }
 
 // Saves the file of a document that is made, before its script is played.
-fn save_first<D: Shelf>(name: &str, file: &[u8], shelf: &mut D) -> Result<(), Failed>
+fn save_first<D: Shelf>(name: &str, file: &FileBytes, shelf: &mut D) -> Result<(), Failed>
     ensures saved { OnOk result ((seed : ℕ) → Written file.now (document seed) → IsSavedOn
         (opened (D.shelf_state shelf.old) (D.shelf_state shelf.new) name.now)
         (document seed) save_end.Done

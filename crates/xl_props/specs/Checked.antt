@@ -7,7 +7,7 @@ use Rattle.spec_props.specs.Meaning.{Property}
 use Rattle.spec_props.specs.Rules.{rule_of}
 use Rattle.spec_props.specs.Reading.{is_colour_map}
 use Rattle.spec_props.specs.Holds.{IsColourMap}
-use Rattle.spec_document.specs.declared.TheConstants.{MAX_COLOURS}
+use Rattle.spec_document.specs.declared.TheConstants.{MAX_COLOURS, MAX_PAYLOAD}
 
 -- a colour map at an offset of a file has this length
 abbrev pub IsMapLength : (file : List ℕ) → (at n : ℕ) → Type 0
@@ -17,7 +17,7 @@ pub record IsChecked (owner : Owner) (p : Property) : Type 0 where
   pub kind : p.kind < 2 ^ 32
   pub not_end : p.kind ≢ 0
   pub bytes : AreBytes p.payload
-  pub short : length p.payload ≤ 2 ^ 24
+  pub short : length p.payload ≤ MAX_PAYLOAD
   pub colours : is_colour_map owner p.kind ≡ true → IsColourMap p
   -- wherever it stands
   pub rules : rule_of owner (record p { at = 0 }) ≡ None

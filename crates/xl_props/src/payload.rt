@@ -1,4 +1,4 @@
-ghost use Rattle.std.specs.Prelude.{◌≡◌, ◌+◌, ◌^◌, ◌≤◌, length, true, IfOk};
+ghost use Rattle.std.specs.Prelude.{◌≡◌, ◌+◌, ◌≤◌, length, true, IfOk};
 ghost use Rattle.spec_document.specs.Limits.{is_unit};
 ghost use Rattle.spec_props.specs.Unit.{true_length};
 ghost use Rattle.spec_props.specs.Reading.{is_colour_map, payload_length_at};
@@ -6,7 +6,7 @@ ghost use Rattle.xl_props.specs.Checked.{IsMapLength};
 
 use crate::unit::unit_len;
 use spec_document::numbers::{COLOUR_MAP, USER_UNIT};
-use spec_document::{MAX_COLOURS, Owner};
+use spec_document::{MAX_COLOURS, MAX_PAYLOAD, Owner};
 use xl_fields::{Kind, ReadRefused, refuse, u32_at};
 
 fn is_map(owner: Owner, kind: u32) -> bool
@@ -30,9 +30,9 @@ fn is_user_unit(owner: Owner, kind: u32) -> bool
 /// How many bytes a payload at an offset has, where `n` is its length word.
 fn true_len(bytes: &[u8], owner: Owner, kind: u32, at: usize, n: usize) -> usize
     requires place { at ≤ length bytes.now }
-    requires length_word { n ≤ 2 ^ 24 }
+    requires length_word { n ≤ MAX_PAYLOAD }
     ensures read { result ≡ true_length bytes.now owner kind at n }
-    ensures few { result ≤ 2 ^ 24 }
+    ensures few { result ≤ MAX_PAYLOAD }
 {
     if is_user_unit(owner, kind) {
         unit_len(bytes, at, n)
@@ -47,7 +47,7 @@ pub fn payload_len(bytes: &[u8], owner: Owner, kind: u32, at: usize) -> Result<u
     requires place { at + 4 ≤ length bytes.now }
     ensures read { result ≡ payload_length_at bytes.now owner kind at }
     ensures fits { IfOk result (λ n. at + 8 + n ≤ length bytes.now) }
-    ensures few { IfOk result (λ n. n ≤ 2 ^ 24) }
+    ensures few { IfOk result (λ n. n ≤ MAX_PAYLOAD) }
     ensures colours { IfOk result (λ n. is_colour_map owner kind ≡ true
         → IsMapLength bytes.now (at + 8) n) }
 {
@@ -62,7 +62,7 @@ pub fn payload_len(bytes: &[u8], owner: Owner, kind: u32, at: usize) -> Result<u
         }
         return Ok(4 + 3 * count as usize);
     }
-    if n > 1 << 24 {
+    if n > MAX_PAYLOAD {
         return Err(refuse(Kind::BadProperty, at + 4));
     }
     let len = true_len(bytes, owner, kind, at + 8, n as usize);

@@ -1,4 +1,5 @@
-ghost use Rattle.std.specs.Prelude.{◌≡◌, ◌+◌, ◌*◌, ◌^◌, ◌≤◌, length, IfOk};
+ghost use Rattle.std.specs.Prelude.{◌≡◌, ◌+◌, ◌*◌, ◌≤◌, length, IfOk};
+ghost use Rattle.spec_document.specs.declared.TheConstants.{MAX_PAYLOAD};
 ghost use Rattle.spec_props.specs.Unit.{names_end, named_end, unit_length};
 
 use xl_fields::{Kind, ReadRefused, refuse, string_at};
@@ -34,9 +35,9 @@ fn end_by_names(bytes: &[u8], at: usize, n: usize) -> Result<usize, ReadRefused>
 /// How many bytes a unit at an offset has, where `n` is its length word.
 pub fn unit_len(bytes: &[u8], at: usize, n: usize) -> usize
     requires place { at ≤ length bytes.now }
-    requires length_word { n ≤ 2 ^ 24 }
+    requires length_word { n ≤ MAX_PAYLOAD }
     ensures read { result ≡ unit_length bytes.now at n }
-    ensures few { result ≤ 2 ^ 24 }
+    ensures few { result ≤ MAX_PAYLOAD }
 {
     match end_by_names(bytes, at, n) {
         Ok(end) => end - at,

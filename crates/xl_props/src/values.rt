@@ -1,7 +1,7 @@
-ghost use Rattle.std.specs.Prelude.{◌≡◌, ◌+◌, ◌*◌, ◌^◌, ◌≤◌, length, take, drop, IfOk};
+ghost use Rattle.std.specs.Prelude.{◌≡◌, ◌+◌, ◌*◌, ◌≤◌, length, take, drop, IfOk};
 ghost use Rattle.spec_props.specs.Meaning.{is_set, payload_word, colour_number, colours_in, path_words};
 ghost use Rattle.xl_props.specs.Props.{property, opacity_in, mode_in, offsets_in};
-ghost use Rattle.spec_document.specs.declared.TheConstants.{MAX_COLOURS};
+ghost use Rattle.spec_document.specs.declared.TheConstants.{MAX_COLOURS, MAX_PAYLOAD};
 
 use crate::colour_list::ColourMap;
 use crate::path_list::Path;
@@ -71,7 +71,7 @@ pub fn colours_of(alloc: Global, payload: &[u8]) -> Result<ColourMap, AllocError
 /// The item path in a payload: a word for each place.
 #[tactic(auto, using(crate::proofs::Counted::counted_more))]
 pub fn path_of(alloc: Global, payload: &[u8]) -> Result<Path, AllocError>
-    requires { length payload.now ≤ 2 ^ 24 }
+    requires { length payload.now ≤ MAX_PAYLOAD }
     ensures { IfOk result (λ path. path ≡ path_words (property 0 0 payload.now)) }
 {
     let mut path = Path::new(alloc);

@@ -15,6 +15,7 @@ use Rattle.spec_hierarchy.specs.Reading.{same_word_at, pointer_at, hierarchy_at}
 use Rattle.spec_file.specs.Placing.{place_of, passes}
 use Rattle.spec_file.specs.Channels.{with_channel, channel_at}
 use Rattle.spec_document.specs.declared.numbers.TheConstants.{SELECTION}
+use Rattle.spec_document.specs.declared.TheConstants.{MAX_CHANNELS}
 
 pub channel_placed : (file : List ℕ) (at place : ℕ) (d new : Document) (text : Text) (ps : Properties) (hierarchy : ℕ)
     (plane : Plane)
@@ -22,7 +23,8 @@ pub channel_placed : (file : List ℕ) (at place : ℕ) (d new : Document) (text
     → name_at file (at + 8) ≡ Ok text
     → properties_at file owners.Channel text.next ≡ Ok ps → unless (passes owners.Channel (all_kept d) ps.list) ≡ Ok tt
     → pointer_at file (ps.end + 8) BadHierarchy ≡ Ok hierarchy
-    → (not (is_selection ps.list) || is_none d.selection) ≡ true → (is_selection ps.list || nat_lt (length d.channels) 64) ≡ true
+    → (not (is_selection ps.list) || is_none d.selection) ≡ true
+    → (is_selection ps.list || nat_lt (length d.channels) MAX_CHANNELS) ≡ true
     → area d + d.width * d.height ≤ 2 ^ 28
     → hierarchy_at file hierarchy d.width d.height 1 d.compression ≡ Ok plane
     → new ≡ with_channel d (is_selection ps.list)
@@ -38,7 +40,7 @@ channel_placed file at place d new text ps hierarchy plane wide high name_is pro
     ∙ (onward (unless (passes owners.Channel (all_kept d) ps.list)) tt _ within
     ∙ (onward (pointer_at file (ps.end + 8) BadHierarchy) hierarchy _ pointer_is
     ∙ (pass (not (is_selection ps.list) || is_none d.selection) (fault TwoSelections (place_of SELECTION ps.list)) _ first
-    ∙ (pass (is_selection ps.list || nat_lt (length d.channels) 64) (fault TooMany place) _ few
+    ∙ (pass (is_selection ps.list || nat_lt (length d.channels) MAX_CHANNELS) (fault TooMany place) _ few
     ∙ (pass (nat_le (area d + d.width * d.height) (2 ^ 28)) (fault TooLarge at) _
     (le-leb (area d + d.width * d.height) (2 ^ 28) room)
     ∙ (onward (hierarchy_at file hierarchy d.width d.height 1 d.compression) plane _ plane_is

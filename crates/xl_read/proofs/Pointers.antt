@@ -11,6 +11,7 @@ use Rattle.spec_fields.specs.Field.{word_at}
 use Rattle.spec_fields.proofs.Steps.{onward, chosen_false}
 use Rattle.spec_file.specs.Layers.{Upto, node_at, nodes_at}
 use Rattle.spec_file.specs.Channels.{channel_at, channels_at}
+use Rattle.spec_file.specs.declared.TheConstants.{CHANNEL_POINTERS}
 use Rattle.spec_forest.specs.declared.TheConstants.{MAX_NODES}
 
 -- what was read fails
@@ -110,39 +111,42 @@ module _ (file : List ℕ) (start : ℕ) (first : Document) (i : ℕ) (d : Docum
 
 -- after i channel pointers
 pub record ChannelsLeft (file : List ℕ) (start : ℕ) (first : Document) (i : ℕ) (d : Document) : Type 0 where
-  pub same : channels_at 66 file start first ≡ channels_at (66 - i) file (start + 4 * i) d
+  pub same : channels_at CHANNEL_POINTERS file start first ≡ channels_at (CHANNEL_POINTERS - i) file (start + 4 * i) d
 
 module _ (file : List ℕ) (start : ℕ) (first : Document) (i : ℕ) (d : Document) (left : ChannelsLeft file start first i d) where
-  channels_here : i < 66 → channels_at 66 file start first ≡ channels_at (suc (66 - (i + 1))) file (start + 4 * i) d
+  channels_here : i < CHANNEL_POINTERS → channels_at CHANNEL_POINTERS file start first
+      ≡ channels_at (suc (CHANNEL_POINTERS - (i + 1))) file (start + 4 * i) d
   channels_here low =
-      let room : 66 - i ≡ suc (66 - (i + 1)) = omega arith in
+      let room : CHANNEL_POINTERS - i ≡ suc (CHANNEL_POINTERS - (i + 1)) = omega arith in
       left.same ∙ ap (λ n. channels_at n file (start + 4 * i) d) room
 
-  pub channels_next : (pointer : ℕ) (new : Document) → i < 66 → word_at file (start + 4 * i) ≡ Ok pointer → pointer ≢ 0
+  pub channels_next : (pointer : ℕ) (new : Document) → i < CHANNEL_POINTERS → word_at file (start + 4 * i) ≡ Ok pointer
+      → pointer ≢ 0
       → channel_at file pointer (start + 4 * i) d ≡ Ok new → ChannelsLeft file start first (i + 1) new
   channels_next pointer new low word some channel =
       let place : start + 4 * i + 4 ≡ start + 4 * (i + 1) = omega arith in
       record {
-        same = channels_here low ∙ (channel_more file (66 - (i + 1)) (start + 4 * i) pointer d word some
+        same = channels_here low ∙ (channel_more file (CHANNEL_POINTERS - (i + 1)) (start + 4 * i) pointer d word some
             ∙ (onward (channel_at file pointer (start + 4 * i) d) new _ channel
-            ∙ ap (λ n. channels_at (66 - (i + 1)) file n new) place));
+            ∙ ap (λ n. channels_at (CHANNEL_POINTERS - (i + 1)) file n new) place));
       }
 
-  pub channels_fault : (pointer : ℕ) (refused : ReadRefused) → i < 66 → word_at file (start + 4 * i) ≡ Ok pointer → pointer ≢ 0
-      → channel_at file pointer (start + 4 * i) d ≡ Err refused → channels_at 66 file start first ≡ Err refused
+  pub channels_fault : (pointer : ℕ) (refused : ReadRefused) → i < CHANNEL_POINTERS → word_at file (start + 4 * i) ≡ Ok pointer
+      → pointer ≢ 0
+      → channel_at file pointer (start + 4 * i) d ≡ Err refused → channels_at CHANNEL_POINTERS file start first ≡ Err refused
   channels_fault pointer refused low word some channel =
-      channels_here low ∙ (channel_more file (66 - (i + 1)) (start + 4 * i) pointer d word some
+      channels_here low ∙ (channel_more file (CHANNEL_POINTERS - (i + 1)) (start + 4 * i) pointer d word some
       ∙ failed (channel_at file pointer (start + 4 * i) d) refused _ channel)
 
-  pub channels_end : i < 66 → word_at file (start + 4 * i) ≡ Ok 0 → channels_at 66 file start first ≡ Ok d
-  channels_end low word = channels_here low ∙ channel_end file (66 - (i + 1)) (start + 4 * i) d word
+  pub channels_end : i < CHANNEL_POINTERS → word_at file (start + 4 * i) ≡ Ok 0 → channels_at CHANNEL_POINTERS file start first ≡ Ok d
+  channels_end low word = channels_here low ∙ channel_end file (CHANNEL_POINTERS - (i + 1)) (start + 4 * i) d word
 
-  pub channels_cut : (refused : ReadRefused) → i < 66 → word_at file (start + 4 * i) ≡ Err refused
-      → channels_at 66 file start first ≡ Err refused
-  channels_cut refused low word = channels_here low ∙ channel_cut file (66 - (i + 1)) (start + 4 * i) d refused word
+  pub channels_cut : (refused : ReadRefused) → i < CHANNEL_POINTERS → word_at file (start + 4 * i) ≡ Err refused
+      → channels_at CHANNEL_POINTERS file start first ≡ Err refused
+  channels_cut refused low word = channels_here low ∙ channel_cut file (CHANNEL_POINTERS - (i + 1)) (start + 4 * i) d refused word
 
-  pub channels_many : i ≡ 66 → channels_at 66 file start first ≡ Err (fault TooMany (start + 4 * i))
+  pub channels_many : i ≡ CHANNEL_POINTERS → channels_at CHANNEL_POINTERS file start first ≡ Err (fault TooMany (start + 4 * i))
   unfolding channels_at
   channels_many all =
-      let room : 66 - i ≡ 0 = omega arith in
+      let room : CHANNEL_POINTERS - i ≡ 0 = omega arith in
       left.same ∙ ap (λ n. channels_at n file (start + 4 * i) d) room

@@ -1,5 +1,5 @@
 -- The list of properties that a file has at an offset, and what code keeps of it.
-use Rattle.std.specs.Prelude.{◌≡◌, ℕ, ◌+◌, ◌-◌, ◌^◌, ◌<◌, nat_le, if◌then◌else◌, List, [], ◌∷◌, length, take, Option}
+use Rattle.std.specs.Prelude.{◌≡◌, ℕ, ◌+◌, ◌-◌, ◌<◌, nat_le, if◌then◌else◌, List, [], ◌∷◌, length, take, Option}
 use Rattle.std.specs.Prelude.{Some, None, Ok, Err}
 use Rattle.spec_document.specs.declared.Owner.{Owner}
 use Rattle.spec_document.specs.Document.{Kept}
@@ -11,6 +11,7 @@ use Rattle.xl_props.specs.declared.answer.Props.{Props}
 use Rattle.xl_props.specs.Known.{IsKnown}
 use Rattle.xl_props.specs.Props.{props_of}
 use Rattle.spec_document.specs.declared.TheConstants.{MAX_KEPT_BYTES}
+use Rattle.spec_file.specs.declared.TheConstants.{FILE_LIMIT}
 
 -- what was read, or an empty list where nothing was
 abbrev pub list_or_none : Read Properties → Properties
@@ -25,7 +26,7 @@ listed file owner at = list_or_none (properties_at file owner at)
 pub record Keeps (owner : Owner) (ps : Properties) (props : Props) : Type 0 where
   pub says : props_of owner ps ≡ props
   pub known : IsKnown owner props.known
-  pub early : props.places.end < 2 ^ 31
+  pub early : props.places.end < FILE_LIMIT
 
 -- the place that the last word of an item path counts from
 abbrev pub parent_of : Option (List ℕ) → List ℕ

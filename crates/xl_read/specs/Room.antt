@@ -6,8 +6,8 @@ use Rattle.spec_document.specs.Document.{Document, Channel, mask_area, channel_k
 use Rattle.spec_file.specs.Layers.{Head}
 use Rattle.spec_file.specs.Placing.{path_to}
 use Rattle.xl_read.specs.Head.{head_kept}
-use Rattle.spec_forest.specs.declared.TheConstants.{MAX_NODES}
-use Rattle.spec_document.specs.declared.TheConstants.{MAX_DEPTH, MAX_AREA, MAX_KEPT_BYTES}
+use Rattle.spec_forest.specs.declared.TheConstants.{MAX_NODES, MAX_DEPTH}
+use Rattle.spec_document.specs.declared.TheConstants.{MAX_AREA, MAX_KEPT_BYTES}
 
 -- a mask has these sides
 abbrev pub HasSides : (width height : ℕ) → Option Channel → Type 0

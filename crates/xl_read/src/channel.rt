@@ -1,5 +1,6 @@
 ghost use Rattle.std.specs.Prelude.{◌≡◌, ◌+◌, ◌*◌, ◌≤◌, ◌<◌, ◌^◌, ◌||◌, not, is_none, nat_lt, length, IsTrue};
 ghost use Rattle.spec_document.specs.Document.{area, all_kept, kept_bytes};
+ghost use Rattle.spec_file.specs.declared.TheConstants.{FILE_LIMIT};
 ghost use Rattle.spec_file.specs.Channels.{with_channel, channel_at};
 ghost use Rattle.xl_read.specs.Yields.{Yields};
 ghost use Rattle.spec_document.specs.declared.TheConstants.{MAX_KEPT_BYTES};
@@ -23,7 +24,7 @@ fn is_first(draft: &DocumentDraft, selection: bool) -> bool
 
 /// Whether it is the selection, or there is room for one channel more.
 fn has_place(draft: &DocumentDraft, selection: bool) -> bool
-    ensures { result ≡ (selection || nat_lt (length draft.now.channels) 64) }
+    ensures { result ≡ (selection || nat_lt (length draft.now.channels) MAX_CHANNELS) }
 {
     selection || draft.channel_count() < MAX_CHANNELS as usize
 }
@@ -31,7 +32,7 @@ fn has_place(draft: &DocumentDraft, selection: bool) -> bool
 /// Makes a channel the selection, or puts it last.
 fn put(draft: &mut DocumentDraft, selection: bool, channel: Channel)
     requires first { IsTrue (not selection || is_none draft.old.selection) }
-    requires few { IsTrue (selection || nat_lt (length draft.old.channels) 64) }
+    requires few { IsTrue (selection || nat_lt (length draft.old.channels) MAX_CHANNELS) }
     requires area { area draft.old + draft.old.width * draft.old.height ≤ MAX_AREA }
     requires kept { all_kept draft.old + kept_bytes channel.kept ≤ MAX_KEPT_BYTES }
     ensures { draft.new ≡ with_channel draft.old selection channel }
@@ -54,7 +55,7 @@ pub fn channel_at<F: TileFile>(
     place: usize,
     draft: &mut DocumentDraft,
 ) -> Result<(), ReadRefusedOrMemory>
-    requires file { length file.now ≤ 2 ^ 31 }
+    requires file { length file.now ≤ FILE_LIMIT }
     requires shared { file.now ≡ F.bytes shared.now }
     requires can { F.can_read shared.now }
     requires at { at < 2 ^ 32 }

@@ -1,9 +1,10 @@
-ghost use Rattle.std.specs.Prelude.{◌≡◌, ◌≤◌, ◌^◌, length, IfOk};
+ghost use Rattle.std.specs.Prelude.{◌≡◌, ◌≤◌, length, IfOk};
 ghost use Rattle.std.specs.Arc.{arc_value};
 ghost use Rattle.spec_document.specs.Document.{Document as Plain};
 ghost use Rattle.spec_document.specs.declared.Owner.TheVariants as owners;
 ghost use Rattle.spec_document.specs.Document.{kept_bytes};
 ghost use Rattle.spec_document.specs.Limits.{IsSide, IsDocument};
+ghost use Rattle.spec_file.specs.declared.TheConstants.{FILE_LIMIT};
 ghost use Rattle.spec_file.specs.Holds.{Holds};
 ghost use Rattle.spec_file.specs.Reading.{blank, reading};
 ghost use Rattle.spec_props.specs.Meaning.{kept_of};
@@ -56,7 +57,7 @@ fn read<F: TileFile>(
     bytes: &[u8],
     shared: &F,
 ) -> Result<DocumentDraft, ReadRefusedOrMemory>
-    requires length { length bytes.now ≤ 2 ^ 31 }
+    requires length { length bytes.now ≤ FILE_LIMIT }
     requires shared { bytes.now ≡ F.bytes shared.now }
     requires can { F.can_read shared.now }
     ensures { Gives result (reading bytes.now) }
@@ -80,7 +81,7 @@ fn whole<F: TileFile>(
     bytes: &[u8],
     shared: &F,
 ) -> Result<Document, ReadRefusedOrMemory>
-    requires length { length bytes.now ≤ 2 ^ 31 }
+    requires length { length bytes.now ≤ FILE_LIMIT }
     requires shared { bytes.now ≡ F.bytes shared.now }
     requires can { F.can_read shared.now }
     ensures { Gives result (reading bytes.now) }
@@ -91,7 +92,7 @@ fn whole<F: TileFile>(
 
 // The document that a file holds, or its first fault in the order of reading.
 fn decode_file<F: TileFile>(alloc: Global, file: &F) -> Result<Document, ReadRefusedOrMemory>
-    requires length { length (F.bytes file.now) ≤ 2 ^ 31 }
+    requires length { length (F.bytes file.now) ≤ FILE_LIMIT }
     requires can { F.can_read file.now }
     ensures { IsDecoded (F.bytes file.now) result }
 {
@@ -102,7 +103,7 @@ fn decode_file<F: TileFile>(alloc: Global, file: &F) -> Result<Document, ReadRef
 
 /// The document that a file holds, or its first fault in the order of reading. Its tiles share the file's bytes.
 pub fn decode(alloc: Global, file: &Arc<Vec<u8>>) -> Result<Document, ReadRefusedOrMemory>
-    requires { length (arc_value file.now).items ≤ 2 ^ 31 }
+    requires { length (arc_value file.now).items ≤ FILE_LIMIT }
     ensures exact { Gives result (reading (arc_value file.now).items) }
     ensures held { IfOk result (λ document. Holds (arc_value file.now).items document) }
     ensures only { IfOk result (λ document. (other : Plain) → Holds (arc_value file.now).items other
@@ -122,7 +123,7 @@ pub fn decode_beside<R: Threads + Sync>(
     alloc: Global,
     file: &Arc<Vec<u8>>,
 ) -> Result<Document, ReadRefusedOrMemory>
-    requires { length (arc_value file.now).items ≤ 2 ^ 31 }
+    requires { length (arc_value file.now).items ≤ FILE_LIMIT }
     ensures exact { Gives result (reading (arc_value file.now).items) }
     ensures held { IfOk result (λ document. Holds (arc_value file.now).items document) }
     ensures only { IfOk result (λ document. (other : Plain) → Holds (arc_value file.now).items other

@@ -1,14 +1,13 @@
-ghost use Rattle.std.specs.Prelude.{◌≡◌, ◌≤◌, ◌<◌, ◌^◌, length, Option, Some, IfOk};
+ghost use Rattle.std.specs.Prelude.{◌≡◌, ◌≤◌, ◌<◌, length, Option, Some, IfOk};
 ghost use Rattle.spec_document.specs.Limits.{IsSide};
-ghost use Rattle.spec_file.specs.Header.{begins, version_of, base_of, is_indexed, side_at, header_of, is_side};
+ghost use Rattle.spec_document.specs.Document.{is_indexed};
+ghost use Rattle.spec_file.specs.Header.{begins, version_of, base_of, side_at, header_of, is_side};
 
 use spec_document::Base;
+use spec_file::FILE_LIMIT;
 use std::marker::Model;
 use xl_doc::MAX_SIDE;
 use xl_fields::{Kind, ReadRefused, refuse, u32_at};
-
-/// A file has fewer bytes than this.
-pub const FILE_LIMIT: usize = 1 << 31;
 
 /// How many bytes the magic and the version take.
 const VERSION_END: usize = 14;
@@ -96,15 +95,15 @@ fn side_at(bytes: &[u8], at: usize) -> Result<u32, ReadRefused>
 
 /// The head of a file, or its first fault.
 ///
-/// TooLarge for a file of 2^31 bytes or more, then NotXcf, Version, BadSize of a side, BaseType, and OldColourMap for
-/// an indexed image of version 0; Truncated at the first field that is not there.
+/// TooLarge for a file of `FILE_LIMIT` bytes or more, then NotXcf, Version, BadSize of a side, BaseType, and
+/// OldColourMap for an indexed image of version 0; Truncated at the first field that is not there.
 #[tactic(auto, unfolding(spec_file::specs::Header::header_of))]
 pub fn header_at(bytes: &[u8]) -> Result<Header, ReadRefused>
-    requires { length bytes.now ≤ 2 ^ 31 }
+    requires { length bytes.now ≤ FILE_LIMIT }
     ensures read { result ≡ header_of bytes.now }
     ensures width { IfOk result (λ h. IsSide h.width) }
     ensures height { IfOk result (λ h. IsSide h.height) }
-    ensures short { IfOk result (λ h. length bytes.now < 2 ^ 31) }
+    ensures short { IfOk result (λ h. length bytes.now < FILE_LIMIT) }
 {
     if bytes.len() >= FILE_LIMIT {
         return Err(refuse(Kind::TooLarge, FILE_LIMIT - 1));

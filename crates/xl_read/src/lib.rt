@@ -18,5 +18,6 @@ mod sums;
 mod words;
 
 pub use file::{decode, decode_beside};
-pub use header::{FILE_LIMIT, is_side};
+pub use header::is_side;
+pub use spec_file::FILE_LIMIT;
 pub use xl_fields::{Kind, ReadRefused, ReadRefusedOrMemory};

@@ -1,5 +1,6 @@
 ghost use Rattle.std.specs.Prelude.{◌≡◌, ◌<◌, ◌≤◌, ◌+◌, ◌^◌, length, IfOk};
 ghost use Rattle.spec_document.specs.Document.{kept_bytes};
+ghost use Rattle.spec_file.specs.declared.TheConstants.{FILE_LIMIT};
 ghost use Rattle.spec_file.specs.Placing.{passes};
 ghost use Rattle.spec_fields.specs.Reading.{unless};
 ghost use Rattle.spec_props.specs.Meaning.{kept_of};
@@ -53,7 +54,7 @@ impl<'a, O: Owned> Listing<'a, O> {
         file: &'a [u8],
         at: usize,
     ) -> Result<Listing<'a, O>, ReadRefusedOrMemory>
-        requires short { length file.now ≤ 2 ^ 31 }
+        requires short { length file.now ≤ FILE_LIMIT }
         requires place { at ≤ 2 ^ 33 }
         ensures read { Gives result (properties_at file.now O.owner at) }
         ensures within { IfOk result (λ ps. ps.end + 8 ≤ length file.now) }
@@ -70,7 +71,7 @@ impl<'a, O: Owned> Listing<'a, O> {
     /// The offset of the end's type word.
     pub fn end(&self) -> usize
         ensures value { result ≡ self.now.end }
-        ensures small { result < 2 ^ 31 }
+        ensures small { result < FILE_LIMIT }
     {
         self.props.places.end
     }

@@ -1,5 +1,6 @@
 ghost use Rattle.std.specs.Prelude.{◌≡◌, ◌≤◌, ◌^◌, length, OnOk, IfOk};
 ghost use Rattle.spec_forest.specs.Forest.{size};
+ghost use Rattle.spec_file.specs.declared.TheConstants.{FILE_LIMIT};
 ghost use Rattle.spec_file.specs.Layers.{nodes_at};
 ghost use Rattle.spec_file.specs.Channels.{channels_at};
 ghost use Rattle.xl_read.specs.Yields.{Yields};
@@ -7,13 +8,11 @@ ghost use Rattle.xl_read.specs.Yields.{Yields};
 use crate::channel::channel_at;
 use crate::draft::DocumentDraft;
 use crate::layer::node_at;
+use spec_file::CHANNEL_POINTERS;
 use std::alloc::Global;
 use xl_doc::MAX_NODES;
 use xl_fields::{Kind, ReadRefusedOrMemory, refuse, u32_at};
 use xl_hier::TileFile;
-
-/// How many channel pointers are looked at: of 64 channels and the selection, and the zero behind them.
-const CHANNEL_POINTERS: usize = 66;
 
 /// Puts in the layers whose pointers stand from an offset on. Answers the offset behind the zero that ends them.
 #[tactic(auto, using(crate::proofs::Pointers::nodes_next, crate::proofs::Pointers::nodes_fault, crate::proofs::Pointers::nodes_end, crate::proofs::Pointers::nodes_cut, crate::proofs::Pointers::nodes_many))]
@@ -24,7 +23,7 @@ pub fn nodes_at<F: TileFile>(
     at: usize,
     draft: &mut DocumentDraft,
 ) -> Result<usize, ReadRefusedOrMemory>
-    requires file { length file.now ≤ 2 ^ 31 }
+    requires file { length file.now ≤ FILE_LIMIT }
     requires shared { file.now ≡ F.bytes shared.now }
     requires can { F.can_read shared.now }
     requires place { at ≤ 2 ^ 33 }
@@ -57,11 +56,11 @@ pub fn channels_at<F: TileFile>(
     at: usize,
     draft: &mut DocumentDraft,
 ) -> Result<(), ReadRefusedOrMemory>
-    requires file { length file.now ≤ 2 ^ 31 }
+    requires file { length file.now ≤ FILE_LIMIT }
     requires shared { file.now ≡ F.bytes shared.now }
     requires can { F.can_read shared.now }
     requires place { at ≤ 2 ^ 33 }
-    ensures { Yields result (λ _. draft.new) (channels_at 66 file.now at draft.old) }
+    ensures { Yields result (λ _. draft.new) (channels_at CHANNEL_POINTERS file.now at draft.old) }
 {
     for i in 0..CHANNEL_POINTERS {
         let place = at + 4 * i;

@@ -4,8 +4,7 @@ ghost use Rattle.spec_forest.specs.Changes.{put_last};
 ghost use Rattle.xl_tree.specs.Places.{alone};
 ghost use Rattle.xl_doc.specs.Nodes.{nodes_of, is_group_body};
 ghost use Rattle.xl_read.specs.Parts.{AreParts};
-ghost use Rattle.spec_forest.specs.declared.TheConstants.{MAX_NODES};
-ghost use Rattle.spec_document.specs.declared.TheConstants.{MAX_DEPTH};
+ghost use Rattle.spec_forest.specs.declared.TheConstants.{MAX_NODES, MAX_DEPTH};
 
 use xl_doc::{Node, NodeId, Tree};
 

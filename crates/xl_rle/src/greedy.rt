@@ -3,11 +3,8 @@ ghost use Rattle.spec_rle.specs.Codes.{code_bytes, short_literal};
 ghost use Rattle.spec_rle.specs.Greedy as coder;
 ghost use Rattle.xl_fields.specs.Behind.{BeginsWith};
 
-use spec_rle::{LONG_LITERAL, LONG_RUN};
+use spec_rle::{LONG_LITERAL, LONG_RUN, MAX_SHORT};
 use std::alloc::AllocError;
-
-// The longest run and the longest literal of the short form.
-const MAX_SHORT: usize = 127;
 
 // Whether three equal bytes begin here.
 fn begins_run(bytes: &[u8]) -> bool
@@ -54,7 +51,7 @@ fn push_run(out: &mut Vec<u8>, count: usize, value: u8) -> Result<(), AllocError
         (coder.run_code count value)) }
     ensures err { OnErr result (out.new.items ≡ out.old.items) }
 {
-    if count <= MAX_SHORT {
+    if count <= MAX_SHORT as usize {
         out.extend_from_slice(&[(count - 1) as u8, value])
     } else {
         out.extend_from_slice(&[LONG_RUN, (count / 256) as u8, (count % 256) as u8, value])
@@ -70,7 +67,7 @@ fn push_literal(out: &mut Vec<u8>, bytes: &[u8]) -> Result<(), AllocError>
     ensures front { BeginsWith out.new.items out.old.items }
 {
     let count = bytes.len();
-    if count <= MAX_SHORT {
+    if count <= MAX_SHORT as usize {
         out.extend_from_slice(&[(256 - count) as u8])?;
     } else {
         out.extend_from_slice(&[LONG_LITERAL, (count / 256) as u8, (count % 256) as u8])?;

@@ -17,10 +17,8 @@ use crate::scope::Scope;
 use crate::script::Script;
 use crate::sessions::Sessions;
 use crate::splitting::first_line;
+use spec_script::MAX_SCRIPT_BYTES;
 use std::alloc::Global;
-
-/// Bytes of a script, at most.
-pub const MAX_SCRIPT_BYTES: usize = 1 << 24;
 
 fn newlines(text: &[u8]) -> usize
     ensures value { result ≡ count_by (λ b. b == 10) text.now }
@@ -29,10 +27,10 @@ fn newlines(text: &[u8]) -> usize
     text.iter().filter(|b| **b == b'\n').count()
 }
 
-// The number of the line of byte 2^24.
+// The number of the line that the last byte a script may have stands in.
 fn line_of_last(text: &[u8]) -> u32
-    requires { 2 ^ 24 < length text.now }
-    ensures { result ≡ grammar.line_of_byte text.now (2 ^ 24) }
+    requires { MAX_SCRIPT_BYTES < length text.now }
+    ensures { result ≡ grammar.line_of_byte text.now MAX_SCRIPT_BYTES }
 {
     1 + newlines(&text[..MAX_SCRIPT_BYTES]) as u32
 }
@@ -98,7 +96,7 @@ fn all_lines(
     text: &[u8],
     chests: &[u32],
 ) -> Result<Sessions, BadLineOrMemory>
-    requires { length text.now ≤ 2 ^ 24 }
+    requires { length text.now ≤ MAX_SCRIPT_BYTES }
     ensures parsed { ParsedAs result (grammar.take_lines 1 (map (line_in scope) (lines_of text.now))
         (grammar.start chests.now)) }
     ensures blamed { IfErr result BlamesLine }
@@ -132,7 +130,7 @@ fn read(alloc: Global, scope: Scope, text: &[u8], chests: &[u32]) -> Result<Scri
 
 /// The lines of each session, or the line that is refused. `chests` are the numbers of the sessions' filters.
 ///
-/// A text of more than 2^24 bytes is refused at the line of byte 2^24, whatever follows.
+/// A text of more than `MAX_SCRIPT_BYTES` bytes is refused at the line of the byte of that number, whatever follows.
 pub fn parse(alloc: Global, text: &[u8], chests: &[u32]) -> Result<Script, BadLineOrMemory>
     ensures read { ScriptOf result (grammar.script text.now chests.now) }
     ensures fits { IfOk result (λ script. FitsFilters chests.now (lists_of script)) }

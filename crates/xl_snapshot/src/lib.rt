@@ -7,3 +7,4 @@
 mod saving;
 
 pub use saving::{file_of, save_document, save_file};
+pub use xl_write::FileBytes;

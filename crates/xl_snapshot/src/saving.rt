@@ -11,34 +11,34 @@ ghost use Rattle.xl_snapshot.specs.Saving.{IsCodedOn, IsSavedOn};
 
 use spec_world::SaveEnd;
 use std::alloc::{AllocError, Global};
-use xl_bytes::FileBytes;
 use xl_compose::Recompose;
 use xl_doc::Document;
 use xl_ports::{Failed, Shelf};
 use xl_rle::PlaneCoder;
-use xl_save::{save, save_pieces};
-use xl_write::{encode, encode_pieces};
+use xl_save::save_parts;
+use xl_write::{FileBytes, encode_parts};
 
-/// The file of a document, whose planes this coder codes.
+/// The file of a document, whose planes this coder codes. A tile that stands in the file that was read just as it is to
+/// be written is shared with that file.
 pub fn file_of<C: PlaneCoder>(
     alloc: Global,
     document: &Document,
     coder: &mut C,
-) -> Result<Vec<u8>, AllocError>
-    ensures written { IfOk result (λ file. Written file.items document.now) }
-    ensures coded { IfOk result (λ file. WrittenBy C.fits file.items document.now) }
+) -> Result<FileBytes, AllocError>
+    ensures written { IfOk result (λ file. Written file document.now) }
+    ensures coded { IfOk result (λ file. WrittenBy C.fits file document.now) }
     ensures followed { OnOk result (FollowsEach C.follows coder.old (planes_of document.now)
         coder.new) }
 {
     let mut pictures = Recompose::new();
-    match encode(alloc, document, coder, &mut pictures) {
+    match encode_parts(alloc, document, coder, &mut pictures) {
         Ok(file) => Ok(file),
         Err(_) => Err(AllocError),
     }
 }
 
 /// Saves the file of a document on a shelf.
-pub fn save_file<D: Shelf>(file: &[u8], shelf: &mut D) -> Result<(), Failed>
+pub fn save_file<D: Shelf>(file: &FileBytes, shelf: &mut D) -> Result<(), Failed>
     requires { IsSome (D.shelf_state shelf.old).selected }
     ensures moments { IfSome (D.shelf_state shelf.old).selected
         (λ name. Between (D.shelf_state shelf.old).disk (D.shelf_state shelf.new).disk
@@ -58,40 +58,7 @@ pub fn save_file<D: Shelf>(file: &[u8], shelf: &mut D) -> Result<(), Failed>
     ensures cause { HasCause (D.shelf_state shelf.old).saving (D.shelf_state shelf.new).saving
         result }
 {
-    save(file, shelf)
-}
-
-// The same file in pieces, most of which are shared with the file that was read.
-fn file_in_pieces<C: PlaneCoder>(
-    alloc: Global,
-    document: &Document,
-    coder: &mut C,
-) -> Result<FileBytes, AllocError>
-    ensures written { IfOk result (λ file. Written file document.now) }
-    ensures coded { IfOk result (λ file. WrittenBy C.fits file document.now) }
-    ensures followed { OnOk result (FollowsEach C.follows coder.old (planes_of document.now)
-        coder.new) }
-{
-    let mut pictures = Recompose::new();
-    match encode_pieces(alloc, document, coder, &mut pictures) {
-        Ok(file) => Ok(file),
-        Err(_) => Err(AllocError),
-    }
-}
-
-// Saves such a file on a shelf.
-fn save_in_pieces<D: Shelf>(file: &FileBytes, shelf: &mut D) -> Result<(), Failed>
-    requires { IsSome (D.shelf_state shelf.old).selected }
-    ensures whole { OnOk result (IfSome (D.shelf_state shelf.old).selected
-        (λ name. IfSome (D.shelf_state shelf.new).disk (HasSaved name file.now))) }
-    ensures saved { OnOk result ((d : Plain) → Written file.now d
-        → IsSavedOn (D.shelf_state shelf.old) d save_end.Done
-        (D.shelf_state shelf.new)) }
-    ensures failed { OnErr result ((d : Plain) → Written file.now d
-        → IsSavedOn (D.shelf_state shelf.old) d save_end.Fault
-        (D.shelf_state shelf.new)) }
-{
-    save_pieces(file, shelf)
+    save_parts(file, shelf)
 }
 
 /// Saves a document on a shelf, and answers how that ended. Without memory for the file the shelf is not touched.
@@ -108,10 +75,10 @@ pub fn save_document<D: Shelf, C: PlaneCoder>(
     ensures coded { IsCodedOn C.fits (D.shelf_state shelf.old) document.now result
         (D.shelf_state shelf.new) }
 {
-    let Ok(file) = file_in_pieces(alloc, document, coder) else {
+    let Ok(file) = file_of(alloc, document, coder) else {
         return SaveEnd::Memory;
     };
-    match save_in_pieces(&file, shelf) {
+    match save_file(&file, shelf) {
         Ok(()) => SaveEnd::Done,
         Err(Failed) => SaveEnd::Fault,
     }

@@ -46,9 +46,6 @@ use xl_filters::{Chest, PointFilter, Tables};
 use xl_marks::{Cache, Change};
 use xl_undo::Trail;
 
-/// How many entries a history has at most.
-pub const MOST_ENTRIES: usize = 1 << 20;
-
 /// The last version's document and what its next changes need. The last of `undo` is undone next, and the last of
 /// `redo` redone.
 #[derive(Drop)]

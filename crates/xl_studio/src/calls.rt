@@ -35,7 +35,9 @@ impl<D: Shelf> Studio<D> {
     fn announce(&self, call: &Call) {
         match call {
             Call::Tile(_, _) => {}
-            _ => self.calm.disturb(),
+            Call::Edit(_) | Call::Undo(_) | Call::Redo | Call::Peek(_, _) | Call::Top => {
+                self.calm.disturb();
+            }
         }
     }
 

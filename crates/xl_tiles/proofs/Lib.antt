@@ -1,4 +1,3 @@
-pub mod AlikeRows
 pub mod Blocks
 pub mod Coded
 pub mod Counts
@@ -15,5 +14,6 @@ pub mod ReadParts
 pub mod Rects
 pub mod RowLists
 pub mod Tables
+pub mod UniformTiles
 pub mod WrittenParts
 pub mod WholePlane

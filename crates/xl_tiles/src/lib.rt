@@ -1,7 +1,6 @@
 //! Planes of pixels.
 #![tactic(auto)]
 
-mod alike;
 mod area;
 mod block;
 mod changes;
@@ -19,6 +18,7 @@ mod shares;
 mod table;
 mod tile;
 mod tile_row;
+mod uniform;
 mod writing;
 
 pub use fill::repeat;

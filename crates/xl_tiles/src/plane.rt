@@ -14,13 +14,13 @@ ghost use Rattle.xl_tiles.specs.Sized.{IsSized};
 ghost use Rattle.xl_tiles.specs.Written.{IsWithin, with_tile, written};
 ghost use Rattle.xl_tiles.specs.Table.{AreTiled};
 
-use crate::alike::alike_tiles;
 use crate::area::{Area, Sheet, area_of};
 use crate::changes::count_changed;
 use crate::codes::{plain_tile, tile_codes};
 use crate::reading::{point_byte, read_area, row_of, tile_bytes};
 use crate::table::TileTable;
 use crate::tile::{SCRATCH, TileRef};
+use crate::uniform::uniform_tiles;
 use crate::writing::write_area;
 use std::alloc::{AllocError, AllocFailed, Global};
 use std::marker::Model;
@@ -65,7 +65,7 @@ impl Plane {
         Ok(Plane { sheet, tiles })
     }
 
-    /// A plane whose pixels are all alike. Its tiles share their bytes.
+    /// A uniform plane, each pixel of which is this one. Its tiles share their bytes.
     pub fn new(alloc: Global, w: u32, h: u32, bpp: u32, pixel: &[u8]) -> Result<Plane, AllocError>
         requires width { IsSide w }
         requires height { IsSide h }
@@ -74,7 +74,7 @@ impl Plane {
         requires pixel { length pixel.now ≡ bpp }
         ensures { IfOk result (λ p. p ≡ plane_of w h bpp (λ x y c. slice_index pixel.now c)) }
     {
-        let tiles = alike_tiles(alloc, Sheet::new(w, h, bpp), pixel)?;
+        let tiles = uniform_tiles(alloc, Sheet::new(w, h, bpp), pixel)?;
         Plane::of_tiles(alloc, w, h, bpp, tiles)
     }
 

@@ -1,10 +1,8 @@
 -- Where ids stand among entries, and in the forest that these are.
 use Rattle.std.proofs.Common.{◌≡◌, ℕ, zero, suc, ◌+◌, ◌<◌, Bool, true, false, cond, eqb, List, [], ◌∷◌, ◌++◌, length}
 use Rattle.std.proofs.Common.{get_or, set, take, drop, refl, sym, ◌∙◌, ap, arith, rules}
-use Rattle.std.proofs.lemmas.Bool.{eq-eqb, eqb-true}
-use Rattle.std.proofs.lemmas.Bool.Decides.{nat_tests}
 use Rattle.std.proofs.lemmas.List.{take_more}
-use Rattle.std.specs.Prelude.{Option, Some, None, option_map, is_some, if◌then◌else◌}
+use Rattle.std.specs.Prelude.{Option, Some, None, option_map}
 use Rattle.spec_forest.specs.Forest.{Forest, none, leaf, group}
 use Rattle.xl_tree.specs.declared.entries.NodeEntry.{NodeEntry}
 use Rattle.xl_tree.specs.Flat.{flat, from_id}
@@ -24,22 +22,6 @@ mapped_more n (Some k) = ap Some (omega arith)
 mapped_none : (x : Option ℕ) → option_map (λ k. 0 + k) x ≡ x
 mapped_none None = refl
 mapped_none (Some k) = ap Some (omega arith)
-
-first_some_none : (x : Option ℕ) → first_some x None ≡ x
-first_some_none None = refl
-first_some_none (Some n) = refl
-
-none_there : (x : Option ℕ) → is_some x ≡ false → x ≡ None
-none_there None absent = refl
-none_there (Some n) absent = cc
-
-first_there : (x y : Option ℕ) → is_some x ≡ true → first_some x y ≡ x
-first_there None y some = cc
-first_there (Some n) y some = refl
-
-pub one_more : (len before : ℕ) (old : Option ℕ) → len ≡ before + (if is_some old then 0 else 1) → is_some old ≡ false
-    → len ≡ before + 1
-one_more len before old len_is absent = len_is ∙ ap (λ b. before + (if b then 0 else 1)) absent
 
 module _ {N : Type 0} where
   place_in-append : (id : ℕ) (xs ys : List (NodeEntry N))
@@ -120,7 +102,8 @@ module _ {N : Type 0} where
     by_case rest true there = let at_is : 0 ≡ at = cc in omega (arith, at_is)
     by_case rest false there = behind rest (place_in id es) refl there
 
-  last_place : (id i : ℕ) (es : List (NodeEntry N)) (e : NodeEntry N) → i < length es → e ≡ get_or es i e
+  -- one entry more has a place where its id has none yet
+  pub last_place : (id i : ℕ) (es : List (NodeEntry N)) (e : NodeEntry N) → i < length es → e ≡ get_or es i e
       → place_in id (take (i + 1) es) ≡ first_some (place_in id (take i es)) (cond (eqb id e.id) (Some i) None)
   last_place id i es e h is =
       ap (place_in id) (take_more es i e h)
@@ -133,36 +116,6 @@ module _ {N : Type 0} where
         last : (b : Bool) → option_map (λ k. i + k) (cond b (Some 0) (option_map (λ k. 1 + k) None)) ≡ cond b (Some i) None
         last true = ap Some (omega arith)
         last false = refl
-
-  -- an entry whose id has no place yet gets the next one
-  pub placed_new : (i : ℕ) (es : List (NodeEntry N)) (e : NodeEntry N) (old new : ℕ → Option ℕ) → i < length es → e ≡ get_or es i e
-      → ((id : ℕ) → old id ≡ place_in id (take i es)) → is_some (old e.id) ≡ false
-      → ((id : ℕ) → new id ≡ cond (eqb e.id id) (Some i) (old id)) → (id : ℕ) → new id ≡ place_in id (take (i + 1) es)
-  placed_new i es e old new h is told absent put id =
-      put id ∙ (by_case (eqb e.id id) refl ∙ sym (last_place id i es e h is)) where
-        by_case : (b : Bool) → eqb e.id id ≡ b
-            → cond b (Some i) (old id) ≡ first_some (place_in id (take i es)) (cond (eqb id e.id) (Some i) None)
-        by_case true same =
-            let id_is : e.id ≡ id = eqb-true e.id id same in
-            let before : place_in id (take i es) ≡ None = sym (told id) ∙ (ap old (sym id_is) ∙ none_there (old e.id) absent) in
-            sym ((λ j. first_some (before j) (cond (eq-eqb id e.id (sym id_is) j) (Some i) None)))
-        by_case false other =
-            let differs : eqb id e.id ≡ false = grind (other, arith, nat_tests) in
-            told id ∙ sym (ap (λ b. first_some (place_in id (take i es)) (cond b (Some i) None)) differs
-            ∙ first_some_none (place_in id (take i es)))
-
-  -- an entry whose id has a place changes none
-  pub placed_old : (i : ℕ) (es : List (NodeEntry N)) (e : NodeEntry N) (old : ℕ → Option ℕ) → i < length es → e ≡ get_or es i e
-      → ((id : ℕ) → old id ≡ place_in id (take i es)) → is_some (old e.id) ≡ true → (id : ℕ)
-      → old id ≡ place_in id (take (i + 1) es)
-  placed_old i es e old h is told there id =
-      told id ∙ (by_case (eqb id e.id) refl ∙ sym (last_place id i es e h is)) where
-        by_case : (b : Bool) → eqb id e.id ≡ b
-            → place_in id (take i es) ≡ first_some (place_in id (take i es)) (cond b (Some i) None)
-        by_case true same =
-            let id_is : id ≡ e.id = eqb-true id e.id same in
-            sym (first_there (place_in id (take i es)) (Some i) (ap is_some (sym (told id) ∙ ap old id_is) ∙ there))
-        by_case false other = sym (first_some_none (place_in id (take i es)))
 
   -- an index of entries is one of the same entries
   pub same_index : (index : Index) (xs es : List (NodeEntry N)) → IsIndex index xs → xs ≡ es → IsIndex index es

@@ -14,4 +14,5 @@ pub mod Moved
 pub mod Restacked
 pub mod Ids
 pub mod Own
+pub mod Ascending
 pub mod Indexed

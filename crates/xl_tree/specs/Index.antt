@@ -1,8 +1,12 @@
 -- Where ids stand among entries.
-use Rattle.std.specs.Prelude.{◌≡◌, ℕ, ◌+◌, ◌≤◌, ◌==◌, nat_eq, if◌then◌else◌, List, [], ◌∷◌, Option, Some, None, option_map}
-use Rattle.std.specs.HashMap.{get, hash_map_len, spare}
+use Rattle.std.specs.Prelude.{◌≡◌, ℕ, ◌+◌, ◌<◌, ◌≤◌, ◌==◌, if◌then◌else◌, List, [], ◌∷◌, length, slice_index_or}
+use Rattle.std.specs.Prelude.{Option, Some, None, option_map}
+use Rattle.std.specs.List.{AllPairs}
+use Rattle.std.specs.Vec.{vec_capacity}
+use Rattle.std.specs.declared.vec.Vec.{Vec}
 use Rattle.xl_tree.specs.declared.entries.NodeEntry.{NodeEntry}
 use Rattle.xl_tree.specs.declared.index.Index.{Index}
+use Rattle.xl_tree.specs.declared.index.Place.{Place}
 use Rattle.spec_forest.specs.declared.TheConstants.{MAX_NODES}
 
 -- the place of the first entry with an id
@@ -11,13 +15,29 @@ place_in id [] = None
 place_in id (e ∷ es) = if id == e.id then Some 0 else option_map (λ n. 1 + n) (place_in id es)
 
 -- the place that an index tells for an id
-abbrev pub place_at : Index → (id : ℕ) → Option ℕ
-place_at index id = get nat_eq index.places id
+abbrev pub place_at : List Place → (id : ℕ) → Option ℕ
+place_at [] id = None
+place_at (p ∷ ps) id = if id == p.id then Some p.at else place_at ps id
 
 -- the index tells of each id where it stands
 abbrev pub IsIndex : {N : Type 0} → Index → List (NodeEntry N) → Type 0
 IsIndex index entries = (id : ℕ) → place_at index id ≡ place_in id entries
 
+-- the ids ascend, so none comes twice
+abbrev pub IsAscending : List Place → Type 0
+IsAscending places = AllPairs (λ p q. p.id < q.id) places
+
 -- there is room for the entries of any tree
-abbrev pub HasRoom : Index → Type 0
-HasRoom index = MAX_NODES ≤ hash_map_len index.places + spare index.places
+abbrev pub HasRoom : {Z : Type 0} → Vec Place Z → Type 0
+HasRoom places = MAX_NODES ≤ vec_capacity places
+
+-- the place at k is the id's
+pub record HasPlace (id : ℕ) (places : List Place) (k : ℕ) : Type 0 where
+  pub within : k < length places
+  pub place_is : (d : Place) → place_at places id ≡ Some (slice_index_or places k d).at
+
+-- the id has no place, and one belongs before that at k: the ids before k are lower, and those from k on are higher
+pub record IsGap (id : ℕ) (places : List Place) (k : ℕ) : Type 0 where
+  pub within : k ≤ length places
+  pub lower : (j : ℕ) (d : Place) → j < k → (slice_index_or places j d).id < id
+  pub higher : (j : ℕ) (d : Place) → k ≤ j → j < length places → id < (slice_index_or places j d).id

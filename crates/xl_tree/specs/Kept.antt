@@ -7,14 +7,14 @@ use Rattle.xl_tree.specs.declared.entries.NodeEntry.{NodeEntry}
 use Rattle.xl_tree.specs.declared.index.Index.{Index}
 use Rattle.xl_tree.specs.Flat.{flat, forest_of}
 use Rattle.xl_tree.specs.Ids.{AreOwn}
-use Rattle.xl_tree.specs.Index.{HasRoom, IsIndex}
-use Rattle.spec_forest.specs.declared.TheConstants.{MAX_NODES}
+use Rattle.xl_tree.specs.Index.{IsIndex}
+use Rattle.spec_forest.specs.declared.TheConstants.{MAX_NODES, MAX_DEPTH}
 
 -- these are the entries of siblings at a level, in preorder, with all below them, within the limits
 pub record AreSiblings {N : Type 0} (level : ℕ) (entries : List (NodeEntry N)) : Type 0 where
   pub flat_is : entries ≡ flat level (forest_of entries)
   pub few : length entries ≤ MAX_NODES
-  pub low : level + levels (forest_of entries) ≤ 8
+  pub low : level + levels (forest_of entries) ≤ MAX_DEPTH
 
 -- the entries of a forest within the limits, each node with an id of its own, an index of them, and room for all that may come
 pub record IsKept {N Z : Type 0} (entries : Vec (NodeEntry N) Z) (index : Index) : Type 0 where
@@ -22,4 +22,3 @@ pub record IsKept {N Z : Type 0} (entries : Vec (NodeEntry N) Z) (index : Index)
   pub own : AreOwn (ids (forest_of entries.items))
   pub room : MAX_NODES ≤ vec_capacity entries
   pub indexed : IsIndex index entries.items
-  pub index_room : HasRoom index

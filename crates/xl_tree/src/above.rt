@@ -5,10 +5,11 @@ ghost use Rattle.xl_tree.specs.Above.{groups_before};
 use crate::entries::NodeEntry;
 use crate::forest::Tree;
 use crate::naming::NodeId;
+use spec_forest::MAX_DEPTH;
 use std::marker::Model;
 
 /// How many groups there is room for: one more than a node may be in.
-const ROOM: usize = 8;
+const ROOM: usize = MAX_DEPTH as usize;
 
 /// The groups above a node, innermost first.
 #[derive(Drop)]
@@ -19,13 +20,14 @@ pub struct Ancestors {
 
 impl Model for Ancestors {
     ghost use Rattle.std.specs.Prelude.{◌≡◌, ◌≤◌, List, length, take};
+    ghost use Rattle.spec_forest.specs.declared.TheConstants.{MAX_DEPTH};
     ghost use Rattle.xl_tree.specs.declared.naming.NodeId.{NodeId};
 
     ghost Value = { List NodeId };
 
     ghost view = { λ a. take a.len a.ids };
 
-    ghost invariant = { λ a. (length a.ids ≡ 8) × (a.len ≤ 8) };
+    ghost invariant = { λ a. (length a.ids ≡ MAX_DEPTH) × (a.len ≤ MAX_DEPTH) };
 }
 
 impl Ancestors {
@@ -39,7 +41,7 @@ impl Ancestors {
     }
 
     fn push(&mut self, id: NodeId)
-        requires { length self.old < 8 }
+        requires { length self.old < MAX_DEPTH }
         ensures { self.new ≡ self.old ++ id ∷ [] }
     {
         self.ids[self.len] = id;
@@ -49,7 +51,7 @@ impl Ancestors {
     /// The ids, innermost first.
     pub fn as_slice(&self) -> &[NodeId]
         ensures ids { result.now ≡ self.now }
-        ensures few { length self.now ≤ 8 }
+        ensures few { length self.now ≤ MAX_DEPTH }
     {
         &self.ids[..self.len]
     }
@@ -71,7 +73,7 @@ impl<N: Drop> Tree<N> {
 
 /// The groups among these entries that are above what follows them at a level.
 fn groups_before<N>(before: &[NodeEntry<N>], level: u32) -> Ancestors
-    requires { level ≤ 8 }
+    requires { level ≤ MAX_DEPTH }
     ensures { map (λ i. i.0) result ≡ groups_before before.now level }
 {
     let mut above = Ancestors::none();

@@ -3,7 +3,6 @@ ghost use Rattle.std.specs.Vec.{vec_capacity};
 
 use crate::entries::NodeEntry;
 use crate::forest::Tree;
-use crate::index::Index;
 use crate::naming::Share;
 use spec_forest::MAX_NODES;
 use std::alloc::{AllocError, Global};
@@ -14,8 +13,7 @@ impl<N: Share + Drop> Tree<N> {
         ensures { IfOk result (λ other. other ≡ self.now) }
     {
         let entries = share_entries(alloc, self.entries.as_slice())?;
-        let mut index = Index::new(alloc)?;
-        index.renew(entries.as_slice());
+        let index = self.index.share(alloc)?;
         Ok(Tree { entries, index })
     }
 }

@@ -6,7 +6,7 @@ ghost use Rattle.xl_tree.specs.Ids.{IsNew};
 ghost use Rattle.xl_tree.specs.Places.{alone};
 ghost use Rattle.xl_tree.specs.Reads.{size_of};
 ghost use Rattle.xl_tree.specs.Refusals.{answer_of, answer_with, no_node, no_stack, put_refusal, restack_refusal, stands_in};
-ghost use Rattle.spec_forest.specs.declared.TheConstants.{MAX_NODES};
+ghost use Rattle.spec_forest.specs.declared.TheConstants.{MAX_NODES, MAX_DEPTH};
 
 use crate::branch::Branch;
 use crate::entries::NodeEntry;
@@ -30,7 +30,7 @@ impl<N: Shown + Drop> Tree<N> {
         requires new { IsNew id.0 self.old }
         requires few { size self.old < MAX_NODES }
         requires low { put_refusal parent.0 place self.old ≡ None
-            → levels (put_into parent.0 place (alone (N.is_group node) id.0 node) self.old) ≤ 8 }
+            → levels (put_into parent.0 place (alone (N.is_group node) id.0 node) self.old) ≤ MAX_DEPTH }
         ensures answer { result ≡ answer_with (put_refusal parent.0 place self.old) node }
         ensures tree { self.new ≡ (if is_ok result
             then put_into parent.0 place (alone (N.is_group node) id.0 node) self.old
@@ -87,7 +87,7 @@ impl<N: Drop> Tree<N> {
         requires apart { IsDistinct nat_eq (ids branch.old.forest ++ ids self.old) }
         requires few { size branch.old.forest + size self.old ≤ MAX_NODES }
         requires low { put_refusal parent.0 place self.old ≡ None
-            → levels (put_into parent.0 place branch.old.forest self.old) ≤ 8 }
+            → levels (put_into parent.0 place branch.old.forest self.old) ≤ MAX_DEPTH }
         ensures answer { result ≡ answer_of (put_refusal parent.0 place self.old) }
         ensures tree { self.new ≡ (if is_ok result
             then put_into parent.0 place branch.old.forest self.old
@@ -111,7 +111,7 @@ impl<N: Drop> Tree<N> {
     pub fn restack(&mut self, id: NodeId, parent: NodeId, place: u32) -> Result<(), TreeRefused>
         requires low { restack_refusal id.0 parent.0 place self.old ≡ None
             → levels (put_into parent.0 place (branch_of id.0 self.old) (without id.0 self.old))
-            ≤ 8 }
+            ≤ MAX_DEPTH }
         ensures answer { result ≡ answer_of (restack_refusal id.0 parent.0 place self.old) }
         ensures tree { self.new ≡ (if is_ok result
             then put_into parent.0 place (branch_of id.0 self.old) (without id.0 self.old)

@@ -1,6 +1,7 @@
 ghost use Rattle.std.specs.Prelude.{◌≡◌, ◌<◌, ◌≤◌, length, IfNone, IfOk, IfSome, IsSome, is_some};
 ghost use Rattle.spec_forest.specs.Forest.{none, nothing, ids, levels, size, find, stack_at};
 ghost use Rattle.spec_forest.specs.Changes.{put_last};
+ghost use Rattle.spec_forest.specs.declared.TheConstants.{MAX_DEPTH};
 ghost use Rattle.xl_tree.specs.Flat.{flat, from_id};
 ghost use Rattle.xl_tree.specs.Ids.{AreOwn, IsNew};
 ghost use Rattle.xl_tree.specs.Kept.{AreSiblings};
@@ -62,7 +63,7 @@ impl<N: Drop> Tree<N> {
     pub fn top(&self) -> Stack<'_, N>
         ensures value { result ≡ self.now }
         ensures few { size self.now ≤ MAX_NODES }
-        ensures low { levels self.now ≤ 8 }
+        ensures low { levels self.now ≤ MAX_DEPTH }
         ensures own { AreOwn (ids self.now) }
     {
         Stack::of(self.entries.as_slice(), 0)
@@ -73,7 +74,7 @@ impl<N: Drop> Tree<N> {
     pub fn stack(&self, id: NodeId) -> Option<Stack<'_, N>>
         ensures value { result ≡ stack_at id.0 self.now }
         ensures few { IfSome result (λ stack. size stack ≤ MAX_NODES) }
-        ensures low { IfSome result (λ stack. levels stack ≤ 8) }
+        ensures low { IfSome result (λ stack. levels stack ≤ MAX_DEPTH) }
     {
         if id.0 == 0 {
             return Some(self.top());
@@ -87,7 +88,7 @@ impl<N: Drop> Tree<N> {
         ensures none { IfNone result (find id.0 self.now ≡ nothing) }
         ensures some { IfSome result (λ p. IsFound (find id.0 self.now) p.0.now p.1) }
         ensures few { IfSome result (λ p. size p.1 ≤ MAX_NODES) }
-        ensures low { IfSome result (λ p. levels p.1 ≤ 8) }
+        ensures low { IfSome result (λ p. levels p.1 ≤ MAX_DEPTH) }
     {
         let (first, rest) = self.from_node(id).split_first()?;
         if !first.group {
@@ -123,7 +124,7 @@ impl<N: Shown + Drop> Tree<N> {
     pub fn put_last(&mut self, path: &[u32], id: NodeId, node: N)
         requires leads { IsSome (put_last path.now none self.old) }
         requires new { IsNew id.0 self.old }
-        requires short { length path.now < 8 }
+        requires short { length path.now < MAX_DEPTH }
         requires few { size self.old < MAX_NODES }
         ensures { put_last path.now (alone (N.is_group node) id.0 node) self.old ≡ Some self.new }
     {

@@ -1,5 +1,6 @@
 ghost use Rattle.std.specs.Prelude.{◌≡◌, ◌+◌, ◌-◌, ◌<◌, ◌≤◌, ◌++◌, [], drop, length, map, take, vec_len};
 ghost use Rattle.std.specs.Vec.{vec_capacity};
+ghost use Rattle.spec_forest.specs.declared.TheConstants.{MAX_DEPTH};
 ghost use Rattle.xl_tree.specs.Moves.{AreShallow, shifted};
 
 use crate::entries::NodeEntry;
@@ -8,7 +9,7 @@ use crate::entries::NodeEntry;
 fn shift_front<N>(run: &mut [NodeEntry<N>], count: usize, from: u32, to: u32)
     requires within { count ≤ length run.old }
     requires shallow { AreShallow (take count run.old) }
-    requires low { to ≤ 8 }
+    requires low { to ≤ MAX_DEPTH }
     ensures { run.new ≡ map (shifted from to) (take count run.old) ++ drop count run.old }
 {
     for at in 0..count {
@@ -35,7 +36,7 @@ pub fn take_out<N>(entries: &mut Vec<NodeEntry<N>>, at: usize, count: usize, lev
 pub fn put_back<N>(entries: &mut Vec<NodeEntry<N>>, at: usize, count: usize, level: u32)
     requires within { at + count ≤ vec_len entries.old }
     requires shallow { AreShallow (drop (vec_len entries.old - count) entries.old.items) }
-    requires low { level ≤ 8 }
+    requires low { level ≤ MAX_DEPTH }
     ensures items { entries.new.items ≡ take at entries.old.items
         ++ (map (shifted 0 level) (drop (vec_len entries.old - count) entries.old.items)
         ++ take (vec_len entries.old - count - at) (drop at entries.old.items)) }

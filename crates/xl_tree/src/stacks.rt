@@ -3,7 +3,7 @@ ghost use Rattle.spec_forest.specs.Forest.{levels, none, size};
 ghost use Rattle.xl_tree.specs.Flat.{forest_of};
 ghost use Rattle.xl_tree.specs.Kept.{AreSiblings};
 ghost use Rattle.xl_tree.specs.Parts.{whole, Falls};
-ghost use Rattle.spec_forest.specs.declared.TheConstants.{MAX_NODES};
+ghost use Rattle.spec_forest.specs.declared.TheConstants.{MAX_NODES, MAX_DEPTH};
 
 use crate::entries::{NodeEntry, deeper, deepest};
 use crate::naming::NodeId;
@@ -125,7 +125,7 @@ impl<'a, N: Drop> Stack<'a, N> {
     /// The number of levels.
     pub fn levels(&self) -> u32
         ensures levels { result ≡ levels self.now }
-        ensures low { result ≤ 8 }
+        ensures low { result ≤ MAX_DEPTH }
     {
         if self.entries.is_empty() {
             return 0;

@@ -1,6 +1,5 @@
 ghost use Rattle.std.specs.Prelude.{◌≡◌, ◌≤◌, ◌+◌, ℕ, List, length, IfOk, OnOk, Some};
 ghost use Rattle.spec_audit.specs.Limited.{AreNumbers};
-ghost use Rattle.spec_audit.specs.Source.{most_source};
 ghost use Rattle.spec_script.specs.Fits.{FitsFilters};
 ghost use Rattle.xl_ports.specs.Source.{led_by, IsEnded};
 ghost use Rattle.xl_script.specs.Lines.{lists_of};
@@ -56,14 +55,14 @@ fn parse_audit(alloc: Global, bytes: &[u8], counts: &[u32]) -> Result<Audit, Unr
 
 /// The script and the output that a source has left. `counts` are the numbers of the sessions' filters.
 ///
-/// A source is read to its end, unless it has more than 2^28 bytes. The head is looked at before the script.
+/// A source is read to its end, unless it has more than `MAX_SOURCE_BYTES`. The head is looked at before the script.
 pub fn read_audit<S: Source>(alloc: Global, source: &mut S, counts: &[u32]) -> Result<Audit, Unread>
     ensures reads { ReadsAudit (S.left source.old) counts.now result }
     ensures fits { IfOk result (λ audit. FitsFilters counts.now (lists_of audit.script)) }
     ensures numbers { IfOk result (λ audit. AreNumbers (lists_of audit.script)) }
     ensures takes { (bytes : List ℕ) × (S.left source.old ≡ led_by bytes (S.left source.new))
-        × (length bytes ≤ most_source + 1) }
-    ensures few_reads { S.reads source.new ≤ S.reads source.old + (most_source + 1) }
+        × (length bytes ≤ MAX_SOURCE_BYTES + 1) }
+    ensures few_reads { S.reads source.new ≤ S.reads source.old + (MAX_SOURCE_BYTES + 1) }
     ensures ended { OnOk result (IsEnded (S.left source.new)) }
     ensures cause { HasCause (S.faults source.old) (S.faults source.new) result }
 {

@@ -1,8 +1,7 @@
 -- The bytes of a group's own picture.
-use Rattle.std.proofs.Common.{◌≡◌, ℕ, zero, suc, ◌+◌, ◌*◌, ◌<◌, ◌≤◌, List, [], ◌∷◌, ◌++◌, length, take, slice_index}
+use Rattle.std.proofs.Common.{◌≡◌, ℕ, zero, suc, ◌+◌, ◌*◌, List, [], ◌∷◌, ◌++◌, length}
 use Rattle.std.proofs.Common.{refl, sym, ap, ◌∙◌, arith}
 use Rattle.std.specs.Prelude.{flat_map}
-use Rattle.spec_blend.specs.declared.Pixel.{Pixel}
 use Rattle.spec_grid.specs.declared.Rect.{Rect}
 use Rattle.spec_grid.specs.Rect.{count_from, part_above_0}
 use Rattle.spec_document.specs.declared.Base.{Base}
@@ -13,7 +12,9 @@ use Rattle.spec_document.proofs.PlaneLemmas.{length-plane_of}
 use Rattle.spec_picture.specs.Picture.{picture, pixel_bytes, picture_bytes}
 use Rattle.spec_layout.specs.Layout.{group_bpp, group_byte, group_plane}
 use Rattle.spec_document.specs.Limits.{MayHaveGroups}
-use Rattle.xl_write.specs.Groups.{plane_over, red_and_alpha}
+use Rattle.spec_picture.specs.Greys.{red_and_alpha}
+use Rattle.spec_picture.proofs.Greys.{reds_and_alphas}
+use Rattle.xl_write.specs.Groups.{plane_over}
 
 -- numbers that are counted from further on
 shifted : (f : ℕ → List ℕ) (a k n : ℕ) → flat_map (λ x. f (a + x)) (count_from k n) ≡ flat_map f (count_from (a + k) n)
@@ -32,22 +33,6 @@ over_points : (f : ℕ → ℕ → List ℕ) (x y w h : ℕ)
 over_points f x y w h =
     ap (λ (g : ℕ → List ℕ). flat_map g (count_from 0 h)) (λ i. λ row. shifted_0 (λ u. f u (y + row)) x w i)
     ∙ shifted_0 (λ v. flat_map (λ u. f u v) (count_from x w)) y h
-
-two_bytes : Pixel → List ℕ
-two_bytes p = p.r ∷ p.a ∷ []
-
-row_picked : (P : ℕ → Pixel) (us rest : List ℕ)
-    → red_and_alpha (flat_map (λ u. pixel_bytes (P u)) us ++ rest) ≡ flat_map (λ u. (P u).r ∷ (P u).a ∷ []) us ++ red_and_alpha rest
-row_picked P [] rest = refl
-row_picked P (u ∷ us) rest = ap (λ xs. (P u).r ∷ (P u).a ∷ xs) (row_picked P us rest)
-
-rows_picked : (P : ℕ → ℕ → Pixel) (us vs : List ℕ)
-    → red_and_alpha (flat_map (λ v. flat_map (λ u. pixel_bytes (P u v)) us) vs)
-    ≡ flat_map (λ v. flat_map (λ u. (P u v).r ∷ (P u v).a ∷ []) us) vs
-rows_picked P us [] = refl
-rows_picked P us (v ∷ vs) =
-    row_picked (λ u. P u v) us (flat_map (λ v. flat_map (λ u. pixel_bytes (P u v)) us) vs)
-    ∙ ap (λ xs. flat_map (λ u. (P u v).r ∷ (P u v).a ∷ []) us ++ xs) (rows_picked P us vs)
 
 -- the plane of a group in a document of this base
 abbrev plane_in : Base → Document → (id : ℕ) → Rect → Plane
@@ -70,7 +55,7 @@ grey_plane d id r rgba bytes is e eb =
     let x = part_above_0 r.x in
     let y = part_above_0 r.y in
     ap (made_of r 2) (eb ∙ (ap red_and_alpha e
-    ∙ (rows_picked (λ u v. picture d id u v) (count_from x r.w) (count_from y r.h)
+    ∙ (reds_and_alphas (λ u v. picture d id u v) (count_from x r.w) (count_from y r.h)
     ∙ sym (over_points (λ u v. (picture d id u v).r ∷ (picture d id u v).a ∷ []) x y r.w r.h))))
     ∙ ap (λ base. plane_in base d id r) is
 
@@ -91,41 +76,3 @@ plane_length d id r p e =
     ap (λ (p : Plane). length p.bytes) e
     ∙ (length-plane_of (λ x y c. group_byte d.base (picture d id (part_above_0 r.x + x) (part_above_0 r.y + y)) c) r.w r.h
     (group_bpp d.base) ∙ turned r.w r.h (group_bpp d.base))
-
--- four bytes more
-pub picked_more : (n k : ℕ) (xs : List ℕ) → n ≡ 4 * k → n + 4 ≤ length xs
-    → red_and_alpha (take (suc (suc (suc (suc n)))) xs) ≡ red_and_alpha (take n xs)
-    ++ slice_index xs n ∷ slice_index xs (suc (suc (suc n))) ∷ []
-picked_more zero k (r ∷ g ∷ b ∷ a ∷ xs) e h = refl
-picked_more (suc (suc (suc (suc n)))) zero xs e h = absurd (omega (arith, e))
-picked_more (suc (suc (suc (suc n)))) (suc k) (r ∷ g ∷ b ∷ a ∷ xs) e h =
-    ap (λ zs. r ∷ a ∷ zs) (picked_more n k xs (omega (arith, e)) (omega (arith, h)))
-picked_more zero k [] e h = absurd (omega (arith, h))
-picked_more zero k (r ∷ []) e h = absurd (omega (arith, h))
-picked_more zero k (r ∷ g ∷ []) e h = absurd (omega (arith, h))
-picked_more zero k (r ∷ g ∷ b ∷ []) e h = absurd (omega (arith, h))
-picked_more (suc zero) k xs e h = absurd (omega (arith, e))
-picked_more (suc (suc zero)) k xs e h = absurd (omega (arith, e))
-picked_more (suc (suc (suc zero))) k xs e h = absurd (omega (arith, e))
-picked_more (suc (suc (suc (suc n)))) (suc k) [] e h = absurd (omega (arith, h))
-picked_more (suc (suc (suc (suc n)))) (suc k) (r ∷ []) e h = absurd (omega (arith, h))
-picked_more (suc (suc (suc (suc n)))) (suc k) (r ∷ g ∷ []) e h = absurd (omega (arith, h))
-picked_more (suc (suc (suc (suc n)))) (suc k) (r ∷ g ∷ b ∷ []) e h = absurd (omega (arith, h))
-
--- what is left of fewer than four bytes gives nothing
-pub picked_all : (n k : ℕ) (xs : List ℕ) → n ≡ 4 * k → length xs < n + 4 → red_and_alpha (take n xs) ≡ red_and_alpha xs
-picked_all zero k [] e h = refl
-picked_all zero k (r ∷ []) e h = refl
-picked_all zero k (r ∷ g ∷ []) e h = refl
-picked_all zero k (r ∷ g ∷ b ∷ []) e h = refl
-picked_all zero k (r ∷ g ∷ b ∷ a ∷ xs) e h = absurd (omega (arith, h))
-picked_all (suc zero) k xs e h = absurd (omega (arith, e))
-picked_all (suc (suc zero)) k xs e h = absurd (omega (arith, e))
-picked_all (suc (suc (suc zero))) k xs e h = absurd (omega (arith, e))
-picked_all (suc (suc (suc (suc n)))) zero xs e h = absurd (omega (arith, e))
-picked_all (suc (suc (suc (suc n)))) (suc k) [] e h = refl
-picked_all (suc (suc (suc (suc n)))) (suc k) (r ∷ []) e h = refl
-picked_all (suc (suc (suc (suc n)))) (suc k) (r ∷ g ∷ []) e h = refl
-picked_all (suc (suc (suc (suc n)))) (suc k) (r ∷ g ∷ b ∷ []) e h = refl
-picked_all (suc (suc (suc (suc n)))) (suc k) (r ∷ g ∷ b ∷ a ∷ xs) e h =
-    ap (λ zs. r ∷ a ∷ zs) (picked_all n k xs (omega (arith, e)) (omega (arith, h)))

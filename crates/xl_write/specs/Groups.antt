@@ -1,9 +1,10 @@
 -- The groups of a document, whose pictures are written beside their layers.
-use Rattle.std.specs.Prelude.{◌≢◌, ℕ, List, [], ◌∷◌, IsSome}
+use Rattle.std.specs.Prelude.{◌≢◌, ℕ, List, IsSome}
 use Rattle.spec_grid.specs.declared.Rect.{Rect}
 use Rattle.spec_document.specs.declared.Base.{Base}
 use Rattle.spec_document.specs.declared.Base.TheVariants.{Rgb, Grey, Indexed}
 use Rattle.spec_document.specs.Plane.{Plane}
+use Rattle.spec_picture.specs.Greys.{red_and_alpha}
 use Rattle.spec_layout.specs.Layout.{group_bpp}
 use Rattle.spec_forest.specs.Forest.{none, leaf, group, stack_at}
 use Rattle.spec_document.specs.Document.{Document, Nodes}
@@ -18,14 +19,6 @@ abbrev pub AreGroupsOf : Document → Nodes → Type 0
 AreGroupsOf d none = Unit {0}
 AreGroupsOf d (leaf id l under) = AreGroupsOf d under
 AreGroupsOf d (group id g children under) = IsGroupOf d id × (AreGroupsOf d children × AreGroupsOf d under)
-
--- the first and the last of each four bytes
-abbrev pub red_and_alpha : List ℕ → List ℕ
-red_and_alpha [] = []
-red_and_alpha (r ∷ []) = []
-red_and_alpha (r ∷ g ∷ []) = []
-red_and_alpha (r ∷ g ∷ b ∷ []) = []
-red_and_alpha (r ∷ g ∷ b ∷ a ∷ rest) = r ∷ a ∷ red_and_alpha rest
 
 -- the bytes of a group's own picture in a document of this base, of its RGBA bytes
 abbrev pub own_pixels : Base → List ℕ → List ℕ

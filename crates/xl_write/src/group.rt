@@ -5,10 +5,10 @@ ghost use Rattle.spec_grid.specs.Rect.{part_above_0};
 ghost use Rattle.spec_layout.specs.Layout as layout;
 ghost use Rattle.spec_picture.specs.Picture.{picture_bytes};
 ghost use Rattle.xl_doc.specs.Canvas.{IsInside};
-ghost use Rattle.xl_write.specs.Groups.{IsGroupOf, own_pixels, plane_over, red_and_alpha};
+ghost use Rattle.xl_write.specs.Groups.{IsGroupOf, own_pixels, plane_over};
 
 use std::alloc::{AllocError, Global};
-use xl_doc::{Base, Document, MAX_SIDE, NodeId, Pictures, Plane, Rect};
+use xl_doc::{Base, Document, MAX_SIDE, NodeId, Pictures, Plane, Rect, red_and_alpha};
 use xl_grid::is_empty;
 
 /// The part of the canvas that a group covers, or one pixel at the origin where that is empty.
@@ -51,18 +51,6 @@ fn picture_of<P: Pictures>(
 {
     let mut bytes = vec![in alloc; 0; 4 * (rect.w as usize * rect.h as usize)]?;
     pictures.fill(alloc, doc, id, rect, bytes.as_mut_slice())?;
-    Ok(bytes)
-}
-
-// The red byte and the alpha of each pixel.
-fn red_and_alpha(alloc: Global, rgba: &[u8]) -> Result<Vec<u8>, AllocError>
-    ensures { IfOk result (λ bytes. bytes.items ≡ red_and_alpha rgba.now) }
-{
-    let mut bytes = Vec::with_capacity(alloc, rgba.len() / 2)?;
-    for k in 0..rgba.len() / 4 {
-        bytes.push(rgba[4 * k])?;
-        bytes.push(rgba[4 * k + 3])?;
-    }
     Ok(bytes)
 }
 

@@ -1,5 +1,5 @@
 use Rattle.std.proofs.Common.{arith}
-use Rattle.xl_bytes.proofs.Pieces.{bytes_more}
+use Rattle.xl_bytes.proofs.Parts.{bytes_more}
 use Rattle.xl_bytes.proofs.storing.append_parts.Goals as goal
 
 pub loop-part-preserved : goal.loop-part-preserved

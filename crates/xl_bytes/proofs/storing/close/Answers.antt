@@ -1,6 +1,6 @@
 use Rattle.std.proofs.Common.{ap, ◌∙◌, ◌++◌}
 use Rattle.std.specs.List.{concat}
-use Rattle.xl_bytes.proofs.Pieces.{concat_more}
+use Rattle.xl_bytes.proofs.Parts.{concat_more}
 use Rattle.xl_bytes.proofs.storing.close.Goals as goal
 
 pub returns-clause-ok : goal.returns-clause-ok

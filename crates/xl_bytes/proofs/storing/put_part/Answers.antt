@@ -1,6 +1,6 @@
 use Rattle.std.proofs.Common.{◌≡◌, ℕ, List, ◌∙◌, ◌∷◌, [], ◌++◌, ap, length, arith}
 use Rattle.std.specs.List.{concat}
-use Rattle.xl_bytes.proofs.Pieces.{written_back, concat_more}
+use Rattle.xl_bytes.proofs.Parts.{written_back, concat_more}
 use Rattle.xl_bytes.proofs.storing.put_part.Goals as goal
 
 pub returns-clause-ok : goal.returns-clause-ok

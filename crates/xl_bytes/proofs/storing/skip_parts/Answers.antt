@@ -1,5 +1,5 @@
 use Rattle.std.proofs.Common.{ℕ, List, ap, ◌∙◌, ◌-◌, sym, drop, length, arith}
-use Rattle.xl_bytes.proofs.Pieces.{none_skipped, one_skipped, all_skipped}
+use Rattle.xl_bytes.proofs.Parts.{none_skipped, one_skipped, all_skipped}
 use Rattle.xl_bytes.proofs.storing.skip_parts.Goals as goal
 
 pub loop-k-init : goal.loop-k-init

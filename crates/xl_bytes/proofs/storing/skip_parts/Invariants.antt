@@ -1,4 +1,4 @@
-use Rattle.xl_bytes.proofs.Pieces.{Skipped}
+use Rattle.xl_bytes.proofs.Parts.{Skipped}
 use Rattle.xl_bytes.proofs.storing.skip_parts.Given as goal
 
 abbrev pub invariant-loop-k : goal.invariant-loop-k

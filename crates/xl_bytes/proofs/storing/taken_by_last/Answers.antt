@@ -1,10 +1,10 @@
 use Rattle.std.proofs.Common.{◌≡◌, ℕ, List, arith, ap, ◌∙◌, ◌+◌, ◌-◌, length, set}
 use Rattle.std.specs.List.{concat}
-use Rattle.xl_bytes.proofs.Pieces.{last_longer, set_same}
+use Rattle.xl_bytes.proofs.Parts.{last_longer, set_same}
 use Rattle.xl_bytes.proofs.storing.taken_by_last.Goals as goal
 
-last_place : (pieces : List (List ℕ)) → (length pieces ≡ 0 → ⊥) → length pieces - 1 + 1 ≡ length pieces
-last_place pieces some = omega (arith, some)
+last_place : (parts : List (List ℕ)) → (length parts ≡ 0 → ⊥) → length parts - 1 + 1 ≡ length parts
+last_place parts some = omega (arith, some)
 
 pub returns-clause-joined : goal.returns-clause-joined
 returns-clause-joined c all =

@@ -13,4 +13,4 @@ repeat-requires c =
 pub returns : goal.returns
 returns c =
     IfOk-weaker c.repeat.result _ _
-    (λ v alike. repeated_flat (c.args.rect.w * c.args.rect.h) c.args.value v.items alike) c.repeat.ensures
+    (λ v repeated. repeated_flat (c.args.rect.w * c.args.rect.h) c.args.value v.items repeated) c.repeat.ensures

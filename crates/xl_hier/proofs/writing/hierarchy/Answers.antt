@@ -2,6 +2,8 @@ use Rattle.std.proofs.Common.{◌≡◌, ◌+◌, ◌*◌, ◌<◌, ◌≤◌, �
 use Rattle.std.proofs.lemmas.Nat.{mul-le}
 use Rattle.spec_grid.specs.Grid.{tiles_along}
 use Rattle.spec_grid.specs.declared.TheConstants.{MAX_SIDE}
+use Rattle.xl_hier.specs.declared.writing.TheConstants.{FIRST_TILE_BELOW}
+use Rattle.xl_hier.proofs.Filling.{few_tiles}
 use Rattle.xl_hier.proofs.Whole.{laid_out}
 use Rattle.xl_hier.proofs.writing.hierarchy.Goals as goal
 
@@ -10,11 +12,8 @@ count_is : (columns rows w h p q : ℕ) → columns ≡ tiles_along w → rows �
     → rows * columns ≡ tiles_along q * tiles_along p
 count_is columns rows w h p q c r ew eh = λ i. (r ∙ ap tiles_along eh) i * (c ∙ ap tiles_along ew) i
 
-few_tiles : (n : ℕ) → n ≤ MAX_SIDE → tiles_along n ≤ 256
-few_tiles n h = omega (arith, h)
-
 first_small : (at count w h : ℕ) → at < 2 ^ 31 → count ≡ tiles_along h * tiles_along w → w ≤ MAX_SIDE → h ≤ MAX_SIDE
-    → at + 32 + 4 * count < 2 ^ 31 + 300000
+    → at + 32 + 4 * count < FIRST_TILE_BELOW
 first_small at count w h short is hw hh =
     omega (arith, short, is, mul-le (tiles_along h) (tiles_along w) 256 256 (few_tiles h hh) (few_tiles w hw))
 

@@ -1,4 +1,3 @@
-use Rattle.std.proofs.Common.{arith}
 use Rattle.xl_pack.proofs.PackText.{smallest_file, pack_text}
 use Rattle.xl_pack.proofs.packing.pack.Goals as goal
 
@@ -11,4 +10,4 @@ pub returns-clause-text : goal.returns-clause-text
 returns-clause-text c =
     pack_text c.args.document c.run_length_coded-document.result c.args.with_plans _ _ _ c.args.before c.len-after.result _
     c.run_length_coded-document.ensures c.in_ok-spelled.ensures
-    (omega (arith, c.len-after.ensures, c.in_ok-spelled.spelled.file.ok.0)) c.in_ok-text.ensures
+    c.len-after.ensures c.in_ok-text.ensures

@@ -11,7 +11,7 @@ submit-requires-clause-there g c κs within = c.requires.group.plain _
 
 pub returns-clause-file : goal.returns-clause-file
 returns-clause-file g c =
-    subst (λ d. IfOk c.file_of.result (λ file. Written file.items d))
+    subst (λ d. IfOk c.file_of.result (λ file. Written file d))
     (c.document.ensures
     ∙ flat_answered _ c.args.core.now c.submit.new.self c.args.group.guard (edits_of c.args.group.edits) c.version-seen.result
     (reply_of c.in_ok-submit.field-0) c.requires.fresh c.requires.group.guard c.requires.group.edits c.requires.group.becomes

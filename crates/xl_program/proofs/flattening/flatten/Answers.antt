@@ -29,12 +29,12 @@ saves g c =
     let opened = c.in-Ok-open_core.ensures in
     saved_there g.D.Shelf.shelf_state g.K.Sink.held
     g.K.Sink.faults c.read_document.new.shelf c.into_shelf-shelf.result c.save_flat-result.new.shelf
-    c.in-Ok-open_core.core.history.base c.in-Ok.document c.in-Ok-file.file.items c.deref.result.now c.args.sink.now
+    c.in-Ok-open_core.core.history.base c.in-Ok.document c.in-Ok-file.file c.args.sink.now
     c.save_flat-result.new.sink c.save_flat-result.result c.save_flat-result.ensures.saved
     (handed_back g.D.Shelf.shelf_state
     c.in-Ok-open_core.core.shelf c.flat_file-file.new.core.shelf c.read_document.new.shelf c.into_shelf-shelf.result opened.shelf
     c.flat_file-file.ensures.shelf c.into_shelf-shelf.ensures.shelf)
-    c.deref.ensures.value c.in-Ok-file.ensures.file opened.base
+    c.in-Ok-file.ensures.file opened.base
 
 pub returns-clause-comes : goal.returns-clause-comes
 returns-clause-comes g c = λ given.

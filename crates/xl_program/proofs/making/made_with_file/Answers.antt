@@ -5,4 +5,4 @@ use Rattle.xl_program.proofs.making.made_with_file.Goals as goal
 
 pub returns-clause-file : goal.returns-clause-file
 returns-clause-file c =
-    subst (λ (d : Document). Written c.in_ok-file.file.items d) c.in_ok-made.ensures.document c.in_ok-file.ensures.written
+    subst (λ (d : Document). Written c.in_ok-file.file d) c.in_ok-made.ensures.document c.in_ok-file.ensures.written

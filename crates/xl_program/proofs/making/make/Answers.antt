@@ -2,7 +2,6 @@ use Rattle.std.proofs.Common.{◌≡◌, refl, inl, inr, sym, ◌∙◌, subst, 
 use Rattle.std.specs.Prelude.{Option, List, [], ℕ, IsSome}
 use Rattle.spec_document.specs.Document.{Document}
 use Rattle.spec_generated.specs.Generated.{document, script}
-use Rattle.spec_layout.specs.Layout.{Written}
 use Rattle.spec_script.specs.Fits.{FitsFilters}
 use Rattle.spec_script.specs.Script.{Line}
 use Rattle.xl_doc.specs.Numbered.{AreNumbered}
@@ -14,10 +13,6 @@ use Rattle.xl_program.proofs.Taken.{untouched}
 use Rattle.xl_report.proofs.MadeNumbered.{made_is_numbered}
 use Rattle.xl_program.proofs.making.make.Goals as goal
 use Rattle.xl_ports.specs.State.{ShelfState}
-
--- the file as it is handed on
-written : (bytes file : List ℕ) (d : Document) → bytes ≡ file → Written file d → Written bytes d
-written bytes file d same wrote = subst (λ (b : List ℕ). Written b d) (sym same) wrote
 
 pub run_made-played-requires-clause-selected : goal.run_made-played-requires-clause-selected
 run_made-played-requires-clause-selected g c κs within =
@@ -44,13 +39,13 @@ pub returns-then-is_err-clause-comes : goal.returns-then-is_err-clause-comes
 returns-then-is_err-clause-comes g c = λ given. (
   (refl, refl),
   (err_at c.save_first.result (sym c.is_err.ensures.value ∙ c.if-is_err.true) c.save_first.ensures.failed
-      c.args.seed (written c.deref.result.now _ (document c.args.seed) c.deref.ensures.value c.in-Ok.ensures.file)).0,
+      c.args.seed c.in-Ok.ensures.file).0,
 )
 
 pub returns-then-is_err-clause-cause : goal.returns-then-is_err-clause-cause
 returns-then-is_err-clause-cause g c =
     (err_at c.save_first.result (sym c.is_err.ensures.value ∙ c.if-is_err.true) c.save_first.ensures.failed c.args.seed
-    (written c.deref.result.now _ (document c.args.seed) c.deref.ensures.value c.in-Ok.ensures.file)).1
+    c.in-Ok.ensures.file).1
 
 pub returns-clause-comes : goal.returns-clause-comes
 returns-clause-comes g c = λ given.
@@ -62,7 +57,7 @@ returns-clause-comes g c = λ given.
     let saved =
     saved_as_now (see c.args.shelf) first now c.args.name.now (document c.args.seed) run.shelf.loads
     (ok_at c.save_first.result (sym c.is_err.ensures.value ∙ c.if-is_err.false) c.save_first.ensures.saved c.args.seed
-    (written c.deref.result.now _ (document c.args.seed) c.deref.ensures.value c.in-Ok.ensures.file)) in
+    c.in-Ok.ensures.file) in
     made_comes (document c.args.seed) (script c.args.seed) (seed_is_made c.args.seed) old first now saved g.K.Sink.held
     g.K.Sink.faults _ _ c.args.sink.now c.write_replies.new.sink
     c.run_made-played.result.replies c.write_replies.result
@@ -79,7 +74,7 @@ returns-clause-cause g c =
     let see = g.D.Shelf.shelf_state in
     let saved =
     ok_at c.save_first.result (sym c.is_err.ensures.value ∙ c.if-is_err.false) c.save_first.ensures.saved c.args.seed
-    (written c.deref.result.now _ (document c.args.seed) c.deref.ensures.value c.in-Ok.ensures.file) in
+    c.in-Ok.ensures.file in
     made_cause g.K.Sink.held g.K.Sink.faults c.args.sink.now c.write_replies.new.sink (see c.args.shelf)
     (see c.run_made-played.result.shelf) c.args.name.now c.args.seed
     c.run_made-played.result.replies c.write_replies.result

@@ -1,6 +1,6 @@
 use Rattle.std.proofs.Common.{refl, sym, ◌∙◌, arith}
 use Rattle.xl_program.proofs.FirstSaves.{ok_at, err_at}
-use Rattle.xl_program.proofs.PackSaves.{IsPackRead, is_packed, may_be_packed, save_rose, text_moved, smallest_moved}
+use Rattle.xl_program.proofs.PackSaves.{IsPackRead, is_packed, may_be_packed, save_rose, text_moved}
 use Rattle.xl_program.proofs.PackSaves.{rose_at, stays_at}
 use Rattle.xl_program.proofs.Reported.{wrote_part, wrote_all}
 use Rattle.xl_program.proofs.packing.pack.Goals as goal
@@ -24,7 +24,7 @@ returns-then-is_err-clause-comes g c = λ given.
       (refl, refl),
       may_be_packed read after c.args.with_plans
           (err_at c.save_smallest.result (sym c.is_err.ensures.value ∙ c.if-is_err.true) c.save_smallest.ensures.stopped
-          loaded.document (smallest_moved loaded.document _ _ c.deref.ensures.value c.in-Ok.ensures.smallest))
+          loaded.document c.in-Ok.ensures.smallest)
           c.save_smallest.ensures.reading
           (rose_at _ _ c.save_smallest.result (sym c.is_err.ensures.value ∙ c.if-is_err.true) c.save_smallest.ensures.cause),
     )
@@ -63,18 +63,18 @@ returns-then-is_err-2-clause-comes g c = λ given.
       named = c.in_ok-loaded.ensures.named;
       reading = c.in_ok-loaded.ensures.cause;
     } in (
-      c.deref-2.result.now,
+      c.deref.result.now,
       (
-        is_packed read after c.args.with_plans c.deref.result.now c.deref-2.result.now
+        is_packed read after c.args.with_plans c.in-Ok.packed.file c.deref.result.now
             (ok_at c.save_smallest.result well c.save_smallest.ensures.saved
-            loaded.document (smallest_moved loaded.document _ _ c.deref.ensures.value c.in-Ok.ensures.smallest))
+            loaded.document c.in-Ok.ensures.smallest)
             c.save_smallest.ensures.reading
             (stays_at _ _ c.save_smallest.result well c.save_smallest.ensures.cause)
-            (text_moved loaded.document c.args.with_plans loaded.length _ _ _ _ c.deref.ensures.value c.deref-2.ensures.value
+            (text_moved loaded.document c.args.with_plans loaded.length _ _ _ c.deref.ensures.value
             c.in-Ok.ensures.text),
         tt,
       ),
-      wrote_part g.K.Sink.held g.K.Sink.faults c.args.sink.now c.write_all.new.sink c.deref-2.result.now c.write_all.result
+      wrote_part g.K.Sink.held g.K.Sink.faults c.args.sink.now c.write_all.new.sink c.deref.result.now c.write_all.result
           (sym c.is_err-2.ensures.value ∙ c.if-is_err-2.true) c.write_all.ensures,
     )
 
@@ -94,18 +94,18 @@ returns-clause-comes g c = λ given.
       named = c.in_ok-loaded.ensures.named;
       reading = c.in_ok-loaded.ensures.cause;
     } in (
-      c.deref-2.result.now,
+      c.deref.result.now,
       (
-        is_packed read after c.args.with_plans c.deref.result.now c.deref-2.result.now
+        is_packed read after c.args.with_plans c.in-Ok.packed.file c.deref.result.now
             (ok_at c.save_smallest.result well c.save_smallest.ensures.saved
-            loaded.document (smallest_moved loaded.document _ _ c.deref.ensures.value c.in-Ok.ensures.smallest))
+            loaded.document c.in-Ok.ensures.smallest)
             c.save_smallest.ensures.reading
             (stays_at _ _ c.save_smallest.result well c.save_smallest.ensures.cause)
-            (text_moved loaded.document c.args.with_plans loaded.length _ _ _ _ c.deref.ensures.value c.deref-2.ensures.value
+            (text_moved loaded.document c.args.with_plans loaded.length _ _ _ c.deref.ensures.value
             c.in-Ok.ensures.text),
         refl,
       ),
-      wrote_all g.K.Sink.held g.K.Sink.faults c.args.sink.now c.write_all.new.sink c.deref-2.result.now c.write_all.result
+      wrote_all g.K.Sink.held g.K.Sink.faults c.args.sink.now c.write_all.new.sink c.deref.result.now c.write_all.result
           (sym c.is_err-2.ensures.value ∙ c.if-is_err-2.false) c.write_all.ensures,
     )
 

@@ -1,6 +1,6 @@
 use Rattle.std.proofs.Common.{refl}
 use Rattle.std.proofs.lemmas.Slice.{pushed}
-use Rattle.xl_tiles.proofs.AlikeRows.{one_more}
+use Rattle.xl_tiles.proofs.UniformTiles.{one_more}
 use Rattle.xl_tiles.proofs.fill.repeat.Goals as goal
 
 pub loop-i-preserved : goal.loop-i-preserved

@@ -17,7 +17,7 @@ put_channel-requires-clause-room g c =
     let cs = c.args.channels.now in
     let i = c.loop-channel.channel-index in
     let end = sheets_end g.C.PlaneCoder.fits c.args.compression
-    (map plain_sheet (take i cs)) c.args.pieces.now.bytes c.loop-channel.pieces.bytes _ _
+    (map plain_sheet (take i cs)) c.args.unfinished.now.bytes c.loop-channel.unfinished.bytes _ _
     (writable_first cs i c.requires.sheets) c.loop-channel.invariant.pieces in
     omega (
       arith,
@@ -31,9 +31,9 @@ pub loop-channel-preserved : goal.loop-channel-preserved
 loop-channel-preserved g c = record {
   pieces =
       one_channel_more g.C.PlaneCoder.fits c.args.compression c.args.channels.now c.loop-channel.channel-index c.channel-item.result
-      c.channel-item.result c.args.pieces.now.bytes
-      c.loop-channel.pieces.bytes c.put_channel.new.pieces.bytes c.args.pieces.now.begins.items
-      c.loop-channel.pieces.begins.items c.put_channel.new.pieces.begins.items
+      c.channel-item.result c.args.unfinished.now.bytes
+      c.loop-channel.unfinished.bytes c.put_channel.new.unfinished.bytes c.args.unfinished.now.begins.items
+      c.loop-channel.unfinished.begins.items c.put_channel.new.unfinished.begins.items
       c.loop-channel-test.true c.channel-item.is c.loop-channel.invariant.pieces c.in_ok-put_channel.ensures.piece;
   followed =
       channel_followed g.C.PlaneCoder.follows c.args.compression c.args.channels.now c.loop-channel.channel-index

@@ -44,8 +44,8 @@ put_selection-requires-clause-room g c =
     λ i. map plain_sheet ((c.as_slice.ensures ∙ ap (λ d. d.channels) c.doc.view_is) i)
     ++ selection_sheet (ap (λ d. d.selection) c.doc.view_is i) in
     let all = all_before IsWritableSheet xs ys (subst (AllByRecursion IsWritableSheet) (sym whole) c.requires.sheets) in
-    let end = sheets_end g.C.PlaneCoder.fits c.doc.inside.compression xs c.args.pieces.now.bytes
-    c.put_channels.new.pieces.bytes _ _ all c.in_ok-put_channels.ensures.pieces in
+    let end = sheets_end g.C.PlaneCoder.fits c.doc.inside.compression xs c.args.unfinished.now.bytes
+    c.put_channels.new.unfinished.bytes _ _ all c.in_ok-put_channels.ensures.pieces in
     omega (
       arith,
       end,
@@ -59,12 +59,12 @@ returns-clause-pieces g c =
     let fits = g.C.PlaneCoder.fits in
     let xs = map plain_sheet c.as_slice.result.now in
     let ys = selection_sheet c.doc.inside.selection in
-    let old = c.args.pieces.now.bytes in
-    let mid = c.put_channels.new.pieces.bytes in
-    let new = c.put_selection.new.pieces.bytes in
-    let a = c.args.pieces.now.begins.items in
-    let b = c.put_channels.new.pieces.begins.items in
-    let e = c.put_selection.new.pieces.begins.items in
+    let old = c.args.unfinished.now.bytes in
+    let mid = c.put_channels.new.unfinished.bytes in
+    let new = c.put_selection.new.unfinished.bytes in
+    let a = c.args.unfinished.now.begins.items in
+    let b = c.put_channels.new.unfinished.begins.items in
+    let e = c.put_selection.new.unfinished.begins.items in
     let whole : xs ++ ys ≡ sheets c.args.doc.now =
     λ i. map plain_sheet ((c.as_slice.ensures ∙ ap (λ d. d.channels) c.doc.view_is) i)
     ++ selection_sheet (ap (λ d. d.selection) c.doc.view_is i) in

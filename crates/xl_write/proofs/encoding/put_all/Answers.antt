@@ -25,11 +25,11 @@ put_sheets-requires-clause-room g c =
     let d = c.args.doc.now in
     let put : PiecesAppended (IsItem g.C.PlaneCoder.fits d.compression) (items d) _ _ _ _ =
     put_moved g.C.PlaneCoder.fits d c.new-path.result.items [] 0
-    (nodes_of c.top.result) d.nodes c.args.pieces.now.bytes c.put_nodes.new.pieces.bytes _ _
+    (nodes_of c.top.result) d.nodes c.args.unfinished.now.bytes c.put_nodes.new.unfinished.bytes _ _
     c.new-path.ensures.items
     (ap nodes_of c.top.ensures.value ∙ ap (λ d. d.nodes) c.doc.view_is) c.in_ok-put_nodes.ensures.pieces in
     let end = items_end g.C.PlaneCoder.fits d.compression d.base
-    (items d) c.args.pieces.now.bytes c.put_nodes.new.pieces.bytes _ _ (items_writable d c.requires.document) put in
+    (items d) c.args.unfinished.now.bytes c.put_nodes.new.unfinished.bytes _ _ (items_writable d c.requires.document) put in
     omega (arith, end, room d c.requires.document, c.requires.begin)
 
 pub returns-clause-followed : goal.returns-clause-followed

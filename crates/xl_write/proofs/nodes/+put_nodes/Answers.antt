@@ -14,16 +14,16 @@ pub put_nodes-requires : goal.put_nodes-requires
 put_nodes-requires g t c κs within =
     let d = c.args.doc.now in
     let path = c.args.path.now.items in
-    let old = c.args.pieces.now.bytes in
-    let new = c.put_layer_at.new.pieces.bytes in
+    let old = c.args.unfinished.now.bytes in
+    let new = c.put_layer_at.new.unfinished.bytes in
     let under = nodes_of c.in-Leaf.under in
     let l = layer_of c.in-Leaf.node.now in
-    let start : length c.args.pieces.now.bytes ≡ length old = omega arith in
-    let end : length new ≡ length c.put_layer_at.new.pieces.bytes = omega arith in
+    let start : length c.args.unfinished.now.bytes ≡ length old = omega arith in
+    let end : length new ≡ length c.put_layer_at.new.unfinished.bytes = omega arith in
     let can : CanWalk d path c.args.siblings.place (leaf c.in-Leaf.id.0 l under) (length old) =
     moved d path path c.args.siblings.place (nodes_of c.args.siblings.nodes) (leaf c.in-Leaf.id.0 l under) _ _ refl
     (ap nodes_of (sym c.in-Leaf.ensures.parts)) start c.requires.can in
-    let next : CanWalk d c.put_layer_at.new.path.items (c.args.siblings.place + 1) under (length c.put_layer_at.new.pieces.bytes) =
+    let next : CanWalk d c.put_layer_at.new.path.items (c.args.siblings.place + 1) under (length c.put_layer_at.new.unfinished.bytes) =
     moved d path _ (c.args.siblings.place + 1) under under _ _ (sym c.in_ok-put_layer_at-in-Leaf.ensures.path) refl end
     (under_leaf g.C.PlaneCoder.fits d path c.args.siblings.place c.in-Leaf.id.0 l under old new _ _ can
     (compressed g.C.PlaneCoder.fits c.doc.inside.compression d.compression _ old new _ _
@@ -37,19 +37,19 @@ put_nodes-requires-in-Group g t c κs within =
     let d = c.args.doc.now in
     let path = c.args.path.now.items in
     let deep = path ++ c.args.siblings.place ∷ [] in
-    let old = c.args.pieces.now.bytes in
-    let new = c.put_group.new.pieces.bytes in
+    let old = c.args.unfinished.now.bytes in
+    let new = c.put_group.new.unfinished.bytes in
     let children = nodes_of c.in-Group.children in
     let under = nodes_of c.in-Group.under in
     let gr = group_of c.in-Group.node.now in
-    let start : length c.args.pieces.now.bytes ≡ length old = omega arith in
-    let end : length new ≡ length c.put_group.new.pieces.bytes = omega arith in
+    let start : length c.args.unfinished.now.bytes ≡ length old = omega arith in
+    let end : length new ≡ length c.put_group.new.unfinished.bytes = omega arith in
     let can : CanWalk d path c.args.siblings.place (group c.in-Group.id.0 gr children under) (length old) =
     moved d path path c.args.siblings.place (nodes_of c.args.siblings.nodes) (group c.in-Group.id.0 gr children under) _ _ refl
     (ap nodes_of (sym c.in-Group.ensures.parts)) start c.requires.can in
     let put = piece_moved g.C.PlaneCoder.fits d c.deref.result.now deep c.in-Group.id.0 gr old new _ _ (c.deref.ensures.value
     ∙ c.in_ok-push-in-Group.ensures.items) c.in_ok-put_group-in-Group.ensures.piece in
-    let next : CanWalk d c.push.new.self.items 0 children (length c.put_group.new.pieces.bytes) =
+    let next : CanWalk d c.push.new.self.items 0 children (length c.put_group.new.unfinished.bytes) =
     moved d deep _ 0 children children _ _ (sym c.in_ok-push-in-Group.ensures.items) refl end
     (in_group g.C.PlaneCoder.fits d path c.args.siblings.place c.in-Group.id.0 gr children under old new _ _ can put) in
     let agree = subst MarksAgree (sym c.in-Group.ensures.parts) c.requires.agree in
@@ -61,14 +61,14 @@ put_nodes-requires-in-Group-2 g t c κs within =
     let d = c.args.doc.now in
     let path = c.args.path.now.items in
     let deep = path ++ c.args.siblings.place ∷ [] in
-    let old = c.args.pieces.now.bytes in
-    let mid = c.put_group.new.pieces.bytes in
-    let new = c.put_nodes-in-Group.new.pieces.bytes in
+    let old = c.args.unfinished.now.bytes in
+    let mid = c.put_group.new.unfinished.bytes in
+    let new = c.put_nodes-in-Group.new.unfinished.bytes in
     let children = nodes_of c.in-Group.children in
     let under = nodes_of c.in-Group.under in
     let gr = group_of c.in-Group.node.now in
-    let start : length c.args.pieces.now.bytes ≡ length old = omega arith in
-    let end : length new ≡ length c.put_nodes-in-Group.new.pieces.bytes =
+    let start : length c.args.unfinished.now.bytes ≡ length old = omega arith in
+    let end : length new ≡ length c.put_nodes-in-Group.new.unfinished.bytes =
     omega arith in
     let back : c.pop.new.self.items ≡ path =
     popped path c.put_nodes-in-Group.new.path.items c.pop.new.self.items c.args.siblings.place c.put_nodes-in-Group.new.path.len
@@ -81,7 +81,7 @@ put_nodes-requires-in-Group-2 g t c κs within =
     ∙ c.in_ok-push-in-Group.ensures.items) c.in_ok-put_group-in-Group.ensures.piece in
     let inside = put_moved g.C.PlaneCoder.fits d c.push.new.self.items deep 0 children children mid new _ _
     c.in_ok-push-in-Group.ensures.items refl c.in_ok-put_nodes-in-Group.ensures.pieces in
-    let next : CanWalk d c.pop.new.self.items (c.args.siblings.place + 1) under (length c.put_nodes-in-Group.new.pieces.bytes) =
+    let next : CanWalk d c.pop.new.self.items (c.args.siblings.place + 1) under (length c.put_nodes-in-Group.new.unfinished.bytes) =
     moved d path _ (c.args.siblings.place + 1) under under _ _ (sym back) refl end
     (under_group g.C.PlaneCoder.fits d path c.args.siblings.place c.in-Group.id.0 gr children under old mid new _ _ _ can put inside) in
     let agree = subst MarksAgree (sym c.in-Group.ensures.parts) c.requires.agree in
@@ -93,9 +93,9 @@ returns-in_ok-put_layer_at-in-Leaf-clause-pieces g t c =
     let d = c.args.doc.now in
     let fits = g.C.PlaneCoder.fits in
     let path = c.args.path.now.items in
-    let old = c.args.pieces.now.bytes in
-    let mid = c.put_layer_at.new.pieces.bytes in
-    let new = c.put_nodes.new.pieces.bytes in
+    let old = c.args.unfinished.now.bytes in
+    let mid = c.put_layer_at.new.unfinished.bytes in
+    let new = c.put_nodes.new.unfinished.bytes in
     let under = nodes_of c.in-Leaf.under in
     let l = layer_of c.in-Leaf.node.now in
     on_ok_weaker c.put_nodes.result
@@ -114,10 +114,10 @@ returns-in_ok-put_nodes-in-Group-clause-pieces g t c =
     let fits = g.C.PlaneCoder.fits in
     let path = c.args.path.now.items in
     let deep = path ++ c.args.siblings.place ∷ [] in
-    let old = c.args.pieces.now.bytes in
-    let mid = c.put_group.new.pieces.bytes in
-    let far = c.put_nodes-in-Group.new.pieces.bytes in
-    let new = c.put_nodes-in-Group-2.new.pieces.bytes in
+    let old = c.args.unfinished.now.bytes in
+    let mid = c.put_group.new.unfinished.bytes in
+    let far = c.put_nodes-in-Group.new.unfinished.bytes in
+    let new = c.put_nodes-in-Group-2.new.unfinished.bytes in
     let children = nodes_of c.in-Group.children in
     let under = nodes_of c.in-Group.under in
     let gr = group_of c.in-Group.node.now in
@@ -193,7 +193,7 @@ returns-in-Empty-clause-followed g t c =
 pub returns-in-Empty-clause-pieces : goal.returns-in-Empty-clause-pieces
 returns-in-Empty-clause-pieces g t c =
     let path = c.args.path.now.items in
-    let old = c.args.pieces.now.bytes in
-    let begins = c.args.pieces.now.begins.items in
+    let old = c.args.unfinished.now.bytes in
+    let begins = c.args.unfinished.now.begins.items in
     put_moved g.C.PlaneCoder.fits c.args.doc.now path path c.args.siblings.place none (nodes_of c.args.siblings.nodes) old old begins begins refl
     (ap nodes_of c.in-Empty.ensures.parts) (none_appended (IsItem g.C.PlaneCoder.fits c.args.doc.now.compression) old begins)

@@ -1,6 +1,6 @@
 use Rattle.std.proofs.Common.{◌≡◌, ℕ, List, ◌++◌, ap, length, length-append, arith}
 use Rattle.std.specs.List.{concat}
-use Rattle.xl_bytes.proofs.Pieces.{put_behind}
+use Rattle.xl_bytes.proofs.Parts.{put_behind}
 use Rattle.xl_bytes.proofs.file_bytes.FileBytes.share_all.Goals as goal
 
 pub returns-clause-ok : goal.returns-clause-ok

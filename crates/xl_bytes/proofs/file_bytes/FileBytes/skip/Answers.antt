@@ -1,6 +1,6 @@
 use Rattle.std.proofs.Common.{◌≡◌, ℕ, List, ◌∙◌, ◌-◌, ◌++◌, ap, sym, drop, length, arith}
 use Rattle.std.specs.List.{concat}
-use Rattle.xl_bytes.proofs.Pieces.{written_back, drop_both}
+use Rattle.xl_bytes.proofs.Parts.{written_back, drop_both}
 use Rattle.xl_bytes.proofs.file_bytes.FileBytes.skip.Goals as goal
 
 pub returns : goal.returns

@@ -1,4 +1,4 @@
-use Rattle.xl_bytes.proofs.Parts.{skipped}
+use Rattle.xl_bytes.proofs.Slices.{skipped}
 use Rattle.xl_bytes.proofs.part.Part.skip.Goals as goal
 
 pub returns : goal.returns

@@ -42,8 +42,8 @@ put_back-requires-clause-low g c =
     c.in_ok-slot.ensures.slot in
     (slot_fits c.args.parent.0 c.args.place _ _ _ c.args.self.now c.self.invariant.siblings c.self.view_is slot).low
 
-pub renew-requires-clause-few : goal.renew-requires-clause-few
-renew-requires-clause-few g c =
+pub renew-requires : goal.renew-requires
+renew-requires g c =
     let slot = slot_of c.args.parent.0 c.args.place _ _ _ _ c.args.self.now c.as_slice.ensures.value c.self.view_is
     c.in_ok-slot.ensures.slot in
     let met = sym (c.in_ok-slot.ensures.refused
@@ -79,8 +79,7 @@ invariant_of-self g c =
           (own_same _ _ b_is c.branch.invariant.2)
           (own_same _ c.args.self.now c.self.view_is c.self.invariant.own) c.requires.apart);
       room = omega (arith, c.self.invariant.room, c.append.ensures.capacity, c.put_back.ensures.room);
-      indexed = same_index c.renew.new.self _ _ c.renew.ensures.index c.as_slice-2.ensures.value;
-      index_room = c.renew.ensures.room;
+      indexed = same_index c.renew.new.self _ _ c.renew.ensures c.as_slice-2.ensures.value;
     }
 
 pub returns-clause-tree : goal.returns-clause-tree

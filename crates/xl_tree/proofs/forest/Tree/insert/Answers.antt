@@ -32,8 +32,8 @@ unwrap-requires g c =
       c.self.invariant.room,
     ))
 
-pub renew-requires-clause-few : goal.renew-requires-clause-few
-renew-requires-clause-few g c =
+pub renew-requires : goal.renew-requires
+renew-requires g c =
     let slot = slot_of c.args.parent.0 c.args.place _ _ _ _ c.args.self.now c.as_slice.ensures.value c.self.view_is
     c.in-Ok.ensures.slot in
     let met = sym (c.in-Ok.ensures.refused
@@ -68,8 +68,7 @@ invariant_of-self g c =
           (g.N.Shown.is_group c.args.node) c.args.node (c.self.invariant.siblings.flat_is
           ∙ ap (flat 0) c.self.view_is) slot c.requires.few (c.requires.low met) (new_is ∙ entry_is)).siblings;
       room = omega (arith, c.self.invariant.room, c.insert.ensures.capacity);
-      indexed = same_index c.renew.new.self _ _ c.renew.ensures.index c.as_slice-2.ensures.value;
-      index_room = c.renew.ensures.room;
+      indexed = same_index c.renew.new.self _ _ c.renew.ensures c.as_slice-2.ensures.value;
     }
 
 pub returns-clause-tree : goal.returns-clause-tree

@@ -8,6 +8,5 @@ invariant_of-result g c = record {
   siblings = none_siblings c.in_ok-entries.entries.items c.in_ok-entries.ensures.items;
   own = none_own c.in_ok-entries.entries.items c.in_ok-entries.ensures.items;
   room = omega (arith, c.in_ok-entries.ensures.capacity);
-  indexed = λ id. c.in_ok-index.ensures.index id ∙ sym (ap (place_in id) c.in_ok-entries.ensures.items);
-  index_room = c.in_ok-index.ensures.room;
+  indexed = λ id. c.in_ok-index.ensures id ∙ sym (ap (place_in id) c.in_ok-entries.ensures.items);
 }

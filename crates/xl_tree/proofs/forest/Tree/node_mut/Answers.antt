@@ -28,7 +28,6 @@ invariant_of-self-lent g c = λ w.
       indexed = λ id. c.self.invariant.indexed id
           ∙ sym (place_in-set id c.args.at _
           (rewritten c.index_mut-entry.result.now w) c.index_mut-entry.result.now c.index_mut-entry.ensures.value refl);
-      index_room = c.self.invariant.index_room;
     }
 
 pub returns : goal.returns

@@ -38,8 +38,8 @@ unwrap-requires g c =
       c.self.invariant.room,
     ))
 
-pub renew-requires-clause-few : goal.renew-requires-clause-few
-renew-requires-clause-few g c =
+pub renew-requires : goal.renew-requires
+renew-requires g c =
     let at : end_at c.args.path.now c.args.self.now ≡ Some c.unwrap-at.result =
     sym (c.end_at.ensures ∙ ap (end_at c.args.path.now) c.top.ensures.value) ∙ c.unwrap-at.ensures in
     let new_is = rw c.unwrap.ensures at c.insert.ensures.items in
@@ -63,8 +63,7 @@ invariant_of-self g c =
       siblings = (put_last_entry c.args.path.now _ _ c.args.self.now _ c.args.id.0 c.is_group.result c.args.node
           c.self.invariant.siblings c.self.view_is at c.requires.short c.requires.few new_is).siblings;
       room = omega (arith, c.self.invariant.room, c.insert.ensures.capacity);
-      indexed = same_index c.renew.new.self _ _ c.renew.ensures.index c.as_slice.ensures.value;
-      index_room = c.renew.ensures.room;
+      indexed = same_index c.renew.new.self _ _ c.renew.ensures c.as_slice.ensures.value;
     }
 
 pub returns : goal.returns

@@ -41,8 +41,8 @@ move_tail-requires-clause-within g c =
     c.index.ensures in
     parked_within c.args.id.0 c.in-Some.at _ _ _ _ _ c.args.self.now t c.take_out.ensures.items c.take_out.new.entries.ok.0
 
-pub renew-requires-clause-few : goal.renew-requires-clause-few
-renew-requires-clause-few g c =
+pub renew-requires : goal.renew-requires
+renew-requires g c =
     let t = taken c.args.id.0 c.in-Some.at _ _ c.args.self.now c.index.result.now c.self.invariant.siblings c.self.view_is
     c.in-Some.ensures (own_same _ c.args.self.now c.self.view_is c.self.invariant.own).distinct c.size-count.ensures
     c.index.ensures in
@@ -62,8 +62,7 @@ invariant_of-self g c =
       own = own_same _ _ (sym r.from_view)
           (own_without c.args.id.0 c.args.self.now (own_same _ c.args.self.now c.self.view_is c.self.invariant.own));
       room = omega (arith, c.self.invariant.room, c.take_out.ensures.room, c.move_tail.ensures.from_room);
-      indexed = same_index c.renew.new.self _ _ c.renew.ensures.index c.as_slice.ensures.value;
-      index_room = c.renew.ensures.room;
+      indexed = same_index c.renew.new.self _ _ c.renew.ensures c.as_slice.ensures.value;
     }
 
 pub invariant_of-branch : goal.invariant_of-branch

@@ -122,8 +122,8 @@ put_back-requires-clause-low g c =
     let slot = slot_of c.args.parent.0 c.args.place _ _ _ _ _ rest_is k.rest_is c.in-Ok.ensures.slot in
     slot_low c.args.parent.0 c.args.place _ _ _ (omega (arith, k.rest.low, ap levels k.rest_is)) slot
 
-pub renew-requires-clause-few : goal.renew-requires-clause-few
-renew-requires-clause-few g c =
+pub renew-requires : goal.renew-requires
+renew-requires g c =
     let t = taken c.args.id.0 c.in-Some.at _ _ c.args.self.now c.index.result.now c.self.invariant.siblings c.self.view_is
     c.in-Some.ensures (own_same _ c.args.self.now c.self.view_is c.self.invariant.own).distinct c.size-count.ensures
     c.index.ensures in
@@ -183,8 +183,7 @@ invariant_of-self g c =
           (own_in_slot c.args.parent.0 c.args.place _ _ _ _ slot (own_branch c.args.id.0 c.args.self.now own)
           (own_without c.args.id.0 c.args.self.now own) (taken_apart c.args.id.0 c.args.self.now own));
       room = omega (arith, c.self.invariant.room, c.take_out.ensures.room, c.put_back.ensures.room);
-      indexed = same_index c.renew.new.self _ _ c.renew.ensures.index c.as_slice.ensures.value;
-      index_room = c.renew.ensures.room;
+      indexed = same_index c.renew.new.self _ _ c.renew.ensures c.as_slice.ensures.value;
     }
 
 pub put_back-requires-in-Err-clause-within : goal.put_back-requires-in-Err-clause-within
@@ -241,7 +240,6 @@ invariant_of-self-in-Err g c =
       room = omega (arith, c.self.invariant.room, c.take_out.ensures.room, c.put_back-in-Err.ensures.room);
       indexed = same_index c.self.inside.index _ _ c.self.invariant.indexed (c.self.invariant.siblings.flat_is
           ∙ (ap (flat 0) c.self.view_is ∙ sym back));
-      index_room = c.self.invariant.index_room;
     }
 
 pub returns-in-Ok-clause-answer : goal.returns-in-Ok-clause-answer
