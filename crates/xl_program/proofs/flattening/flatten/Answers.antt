@@ -8,7 +8,7 @@ use Rattle.xl_ports.specs.State.{ShelfState}
 use Rattle.xl_ports.specs.Disk.{read_at}
 
 -- what was known when the file was read
-then : (g : given.Over) (c : goal.After-drop-file g)
+then : (g : given.Over) (c : goal.After-drop-file-inside-2 g)
     → IsFlatRead
     (g.D.Shelf.shelf_state c.args.shelf)
     (g.D.Shelf.shelf_state
@@ -20,7 +20,7 @@ then g c =
     read.cause c.in-Ok-group_of.ensures
 
 -- the save on the shelf that the file was read from
-saves : (g : given.Over) (c : goal.After-drop-file g)
+saves : (g : given.Over) (c : goal.After-drop-file-inside-2 g)
     → SavesAndTells g.K.Sink.held g.K.Sink.faults (made_flat c.in-Ok.document)
     (g.D.Shelf.shelf_state c.read_document.new.shelf)
     (g.D.Shelf.shelf_state c.save_flat-result.new.shelf)
@@ -58,7 +58,7 @@ returns-clause-cause g c =
     (saves g c)
 
 -- the shelf that a core gave back is the one that the file was read from
-back : (g : given.Over) (c : goal.After-drop-file g) → c.into_shelf-shelf.result ≡ c.read_document.new.shelf
+back : (g : given.Over) (c : goal.After-drop-file-inside-2 g) → c.into_shelf-shelf.result ≡ c.read_document.new.shelf
 back g c =
     let opened = c.in-Ok-open_core.ensures in
     handed_back g.D.Shelf.shelf_state
