@@ -7,6 +7,7 @@ pub mod Gathered
 pub mod JoinedBlocks
 pub mod JoinedTiles
 pub mod OtherTile
+pub mod Overlays
 pub mod PackedTiles
 pub mod Places
 pub mod Plain

@@ -51,5 +51,5 @@ returns c =
     let whole : c.loop-k.k ≡ c.args.range.across * c.args.range.down = omega arith in
     subst (λ k. Swapped c.args.sheet.width c.args.sheet.height
     (written (plane_by c.args.sheet.width c.args.sheet.height c.args.sheet.bpp c.args.tiles.now)
-    (rect_of c.args.area) c.args.bytes.now) c.args.range k c.args.tiles.now c.loop-k.next)
+    (rect_of c.args.area) c.args.pixels.now.bytes.now) c.args.range k c.args.tiles.now c.loop-k.next)
     whole c.loop-k.invariant.swapped

@@ -10,5 +10,5 @@ abbrev pub invariant-loop-k : goal.invariant-loop-k
 invariant-loop-k l = record {
   scratch : length l.scratch ≡ 32768;
   swapped : Swapped l.sheet.width l.sheet.height
-      (written (plane_by l.sheet.width l.sheet.height l.sheet.bpp l.tiles) (rect_of l.area) l.bytes) l.range l.k l.tiles l.next;
+      (written (plane_by l.sheet.width l.sheet.height l.sheet.bpp l.tiles) (rect_of l.area) l.pixels.bytes.now) l.range l.k l.tiles l.next;
 }

@@ -1,11 +1,13 @@
-use Rattle.std.proofs.Common.{◌≡◌, ◌+◌, ◌*◌, ◌≤◌, ◌∙◌, ap, length, sym, arith}
-use Rattle.std.proofs.Math.Nat.{le_of_mul-le-mul_right}
+use Rattle.std.proofs.Common.{◌≡◌, ◌≤◌, ◌∙◌, ap, sym, subst, length, arith}
+use Rattle.xl_tiles.specs.Overlay.{FitsOver}
+use Rattle.xl_tiles.proofs.Overlays.{few_bytes, length_under}
 use Rattle.xl_tiles.proofs.tile.TileRef.copy_block.Goals as goal
 
-pub join_block-requires-clause-from_down : goal.join_block-requires-clause-from_down
-join_block-requires-clause-from_down c =
-    let size : length c.args.self.now ≡ c.self.inside.pixels * c.args.block.bpp =
-    ap length (sym c.self.view_is) ∙ (c.self.invariant.size ∙ ap (λ bpp. c.self.inside.pixels * bpp) c.if-bpp-block.false.1) in
-    let fits : c.args.from.stride * (c.args.from.y + c.args.block.h) * c.args.block.bpp ≤ c.self.inside.pixels * c.args.block.bpp =
-    rw size at c.requires.from_down in
-    le_of_mul-le-mul_right fits (omega (arith, c.requires.some))
+pub copy_block-requires-in-Some-clause-bytes_small : goal.copy_block-requires-in-Some-clause-bytes_small
+copy_block-requires-in-Some-clause-bytes_small c =
+    let same : length c.bytes.result.now ≡ length c.self.inside.stored =
+    ap length (c.bytes.ensures ∙ sym c.self.view_is)
+    ∙ length_under c.self.inside.patch c.self.inside.stored c.self.invariant.0 in
+    let few : length c.self.inside.stored ≤ 16384 =
+    few_bytes (subst (λ patch. FitsOver patch (length c.self.inside.stored)) c.in-Some.is c.self.invariant.0) in
+    omega (arith, same, few)

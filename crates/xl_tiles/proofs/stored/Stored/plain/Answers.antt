@@ -1,7 +1,7 @@
 use Rattle.std.proofs.Common.{◌≡◌, ◌+◌, ◌-◌, ◌*◌, ◌≤◌, ℕ, List, length, sym, ap, ◌∙◌, take, drop, subst, arith}
 use Rattle.xl_tiles.specs.Packed.{packed, IsPacked}
 use Rattle.xl_tiles.proofs.PackedTiles.{plain_reads}
-use Rattle.xl_tiles.proofs.tile.TileRef.plain.Goals as goal
+use Rattle.xl_tiles.proofs.stored.Stored.plain.Goals as goal
 
 -- a plain tile stands inside, and its bytes are those between its ends
 plain_part : (file : List ℕ) (at n bpp compression : ℕ) → compression ≡ 0 → IsPacked file at n bpp compression

@@ -2,7 +2,7 @@ use Rattle.std.proofs.Common.{arith}
 use Rattle.std.proofs.lemmas.Option.{IfSome_then}
 use Rattle.std.proofs.lemmas.Result.{IfOk-weaker}
 use Rattle.xl_tiles.proofs.Coded.{begins_inside, codes_are}
-use Rattle.xl_tiles.proofs.tile.TileRef.codes.Goals as goal
+use Rattle.xl_tiles.proofs.stored.Stored.codes.Goals as goal
 
 pub codes_at-requires-clause-inside : goal.codes_at-requires-clause-inside
 codes_at-requires-clause-inside c =

@@ -1,0 +1,55 @@
+-- A block of the pixels of a buffer that lies over a tile.
+use Rattle.std.specs.Prelude.{◌≡◌, ℕ, ◌+◌, ◌-◌, ◌*◌, ◌≤◌, ◌^◌, min, List, slice_index, length, Option, None, Some}
+use Rattle.std.specs.Arc.{arc_value}
+use Rattle.std.specs.declared.sync.Arc.{Arc}
+use Rattle.spec_document.specs.Plane.{bytes_over}
+use Rattle.xl_tiles.specs.Area.{IsOverlap}
+use Rattle.xl_tiles.specs.Block.{pixel_byte}
+use Rattle.xl_tiles.specs.declared.area.Area.{Area}
+use Rattle.spec_grid.specs.declared.TheConstants.{MAX_SIDE}
+use Rattle.xl_tiles.specs.declared.overlay.Overlay.{Overlay}
+use Rattle.xl_tiles.specs.declared.overlay.Patch.{Patch}
+
+-- the bytes of the tile with the block over them, row by row
+unfoldable pub overlaid : Overlay → (buffer tile : List ℕ) → List ℕ
+overlaid o buffer tile =
+    bytes_over 0 0 o.to.stride o.rows o.block.bpp (λ x y c.
+    pixel_byte o.to o.from o.block.w o.block.h o.block.bpp buffer (slice_index tile ((y * o.to.stride + x) * o.block.bpp + c)) x y c)
+
+-- the block is one of the buffer, and lies in the tile
+pub record Fits (o : Overlay) (size room : ℕ) : Type 0 where
+  pub size_is : size ≡ o.to.stride * o.rows * o.block.bpp
+  pub to_across : o.to.x + o.block.w ≤ o.to.stride
+  pub to_down : o.to.y + o.block.h ≤ o.rows
+  pub wide : o.to.stride ≤ 64
+  pub tall : o.rows ≤ 64
+  pub from_across : o.from.x + o.block.w ≤ o.from.stride
+  pub from_down : o.from.stride * (o.from.y + o.block.h) * o.block.bpp ≤ room
+  pub from_tall : o.from.y + o.block.h ≤ MAX_SIDE
+  pub small : room ≤ 2 ^ 30
+  pub some : 1 ≤ o.block.bpp
+  pub few : o.block.bpp ≤ 4
+
+-- the block of the pixels that an area has in a tile of a plane, among the bytes of the area, row by row
+pub record LiesIn (w h bpp col row : ℕ) (a : Area) (o : Overlay) : Type 0 where
+  pub left : ℕ
+  pub top : ℕ
+  pub across : IsOverlap a.x a.w col left o.block.w
+  pub down : IsOverlap a.y a.h row top o.block.h
+  pub is : o
+      ≡ record {
+        to = record { x = left - 64 * col; y = top - 64 * row; stride = min 64 (w - 64 * col) };
+        rows = min 64 (h - 64 * row);
+        from = record { x = left - a.x; y = top - a.y; stride = a.w };
+        block = record { w = o.block.w; h = o.block.h; bpp = bpp };
+      }
+
+-- the bytes of a tile under a patch, if there is one
+abbrev pub under : {Z : Type 0} → Option (Arc Patch Z) → (tile : List ℕ) → List ℕ
+under None tile = tile
+under (Some patch) tile = overlaid (arc_value patch).overlay (arc_value (arc_value patch).buffer).items tile
+
+-- a patch, if there is one, lies in a tile of so many bytes
+abbrev pub FitsOver : {Z : Type 0} → Option (Arc Patch Z) → (size : ℕ) → Type 0
+FitsOver None size = Unit {0}
+FitsOver (Some patch) size = Fits (arc_value patch).overlay size (length (arc_value (arc_value patch).buffer).items)
