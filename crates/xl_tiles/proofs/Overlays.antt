@@ -1,18 +1,20 @@
 -- Blocks of pixels that lie over tiles.
-use Rattle.std.proofs.Common.{◌≡◌, ℕ, ◌+◌, ◌-◌, ◌*◌, ◌<◌, ◌≤◌, ◌^◌, min, Bool, true, false, cond, List, slice_index, length}
+use Rattle.std.proofs.Common.{◌≡◌, ℕ, ◌+◌, ◌-◌, ◌*◌, ◌<◌, ◌≤◌, ◌==◌, ◌&&◌, min, Bool, true, false, cond, List, slice_index, length}
 use Rattle.std.proofs.Common.{Option, None, Some, refl, sym, ap, subst, ◌∙◌, arith}
 use Rattle.std.specs.Arc.{arc_value}
 use Rattle.std.specs.declared.sync.Arc.{Arc}
 use Rattle.std.proofs.lemmas.Nat.{mul-le}
+use Rattle.std.proofs.lemmas.Bool.Decides.{nat_tests}
 use Rattle.spec_grid.specs.Grid.{tiles_along}
 use Rattle.spec_grid.specs.declared.TheConstants.{MAX_SIDE}
 use Rattle.spec_document.specs.Limits.{AreBytes}
 use Rattle.spec_document.proofs.BytesMade.{bytes_made, index_byte}
 use Rattle.spec_document.proofs.PlaneLemmas.{index-bytes_over}
+use Rattle.spec_fields.proofs.Steps.{chosen_true}
 use Rattle.spec_hierarchy.specs.Tiles.{tile_bytes}
 use Rattle.xl_tiles.specs.Area.{IsArea, rect_of}
 use Rattle.xl_tiles.specs.Block.{is_in, pixel_byte}
-use Rattle.xl_tiles.specs.Overlay.{overlaid, under, Fits, FitsOver, LiesIn}
+use Rattle.xl_tiles.specs.Overlay.{is_whole, overlaid, under, Fits, FitsOver, LiesIn}
 use Rattle.xl_tiles.specs.Table.{tile, tile_of, plane_by, AreTiled}
 use Rattle.xl_tiles.specs.Written.{written}
 use Rattle.xl_tiles.specs.declared.area.Area.{Area}
@@ -64,6 +66,31 @@ bytes_overlaid o buffer old all all_old =
     either (is_in o.to.x o.to.y o.block.w o.block.h x y) _ _
     (index_byte buffer (((y - o.to.y + o.from.y) * o.from.stride + (x - o.to.x + o.from.x)) * o.block.bpp + c) all)
     (index_byte old ((y * o.to.stride + x) * o.block.bpp + c) all_old))
+
+-- a point of a tile is in a block that is all of it
+inside : (X Y w h stride rows x y : ℕ) → ((X == 0 && Y == 0) && (w == stride && h == rows)) ≡ true → x < stride → y < rows
+    → is_in X Y w h x y ≡ true
+inside X Y w h stride rows x y whole hx hy = grind (arith, nat_tests, whole, hx, hy)
+
+-- a block that is all of the tile does not show what is below
+pub same_over : (o : Overlay) (buffer old other : List ℕ) → is_whole o ≡ true → overlaid o buffer old ≡ overlaid o buffer other
+unfolding overlaid
+same_over o buffer old other whole =
+    over_is (overlaid o buffer old) 0 0 o.to.stride o.rows o.block.bpp (byte_of o buffer other) (length_overlaid o buffer old)
+    (λ x y c hx hy hc.
+    let on = inside o.to.x o.to.y o.block.w o.block.h o.to.stride o.rows x y whole hx hy in
+    index_overlaid o buffer old x y c hx hy hc
+    ∙ (chosen_true (is_in o.to.x o.to.y o.block.w o.block.h x y) _ _ on
+    ∙ sym (from_zero o buffer other x y c ∙ chosen_true (is_in o.to.x o.to.y o.block.w o.block.h x y) _ _ on)))
+
+-- bytes over which a block was laid, which are those of a tile but where the block is all of it
+pub laid_over : (o : Overlay) (buffer own old : List ℕ) → (is_whole o ≡ false → own ≡ old)
+    → overlaid o buffer own ≡ overlaid o buffer old
+laid_over o buffer own old same = by (is_whole o) refl
+  where
+    by : (b : Bool) → is_whole o ≡ b → overlaid o buffer own ≡ overlaid o buffer old
+    by true whole = same_over o buffer own old whole
+    by false part = ap (overlaid o buffer) (same part)
 
 -- a tile has as many bytes with a block over it
 pub same_length : (o : Overlay) (buffer old : List ℕ) → Fits o (length old) (length buffer)

@@ -1,5 +1,5 @@
 -- A block of the pixels of a buffer that lies over a tile.
-use Rattle.std.specs.Prelude.{◌≡◌, ℕ, ◌+◌, ◌-◌, ◌*◌, ◌≤◌, ◌^◌, min, List, slice_index, length, Option, None, Some}
+use Rattle.std.specs.Prelude.{◌≡◌, ℕ, ◌+◌, ◌-◌, ◌*◌, ◌≤◌, ◌^◌, ◌==◌, ◌&&◌, Bool, min, List, slice_index, length, Option, None, Some}
 use Rattle.std.specs.Arc.{arc_value}
 use Rattle.std.specs.declared.sync.Arc.{Arc}
 use Rattle.spec_document.specs.Plane.{bytes_over}
@@ -15,6 +15,10 @@ unfoldable pub overlaid : Overlay → (buffer tile : List ℕ) → List ℕ
 overlaid o buffer tile =
     bytes_over 0 0 o.to.stride o.rows o.block.bpp (λ x y c.
     pixel_byte o.to o.from o.block.w o.block.h o.block.bpp buffer (slice_index tile ((y * o.to.stride + x) * o.block.bpp + c)) x y c)
+
+-- the block is all of the tile
+abbrev pub is_whole : Overlay → Bool
+is_whole o = (o.to.x == 0 && o.to.y == 0) && (o.block.w == o.to.stride && o.block.h == o.rows)
 
 -- the block is one of the buffer, and lies in the tile
 pub record Fits (o : Overlay) (size room : ℕ) : Type 0 where

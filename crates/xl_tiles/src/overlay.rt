@@ -1,7 +1,7 @@
 //! Blocks of pixels that lie over a tile.
 ghost use Rattle.std.specs.Prelude.{◌≡◌, ◌+◌, ◌*◌, ◌≤◌, length};
 ghost use Rattle.std.specs.Arc.{arc_value};
-ghost use Rattle.xl_tiles.specs.Overlay.{overlaid, Fits};
+ghost use Rattle.xl_tiles.specs.Overlay.{is_whole, overlaid, Fits};
 
 use crate::block::{Block, Spot, copy_block};
 use std::sync::Arc;
@@ -16,6 +16,16 @@ pub struct Overlay {
 }
 
 impl Overlay {
+    /// Whether the block is all of the tile.
+    pub fn covers(self) -> bool
+        ensures { result ≡ is_whole self }
+    {
+        self.to.x == 0
+            && self.to.y == 0
+            && self.block.w == self.to.stride
+            && self.block.h == self.rows
+    }
+
     /// Writes the block over the bytes of a tile.
     pub fn put(self, tile: &mut [u8], buffer: &[u8])
         requires { Fits self (length tile.old) (length buffer.now) }

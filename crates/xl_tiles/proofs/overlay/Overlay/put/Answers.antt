@@ -1,4 +1,4 @@
-use Rattle.std.proofs.Common.{◌∙◌, arith}
+use Rattle.std.proofs.Common.{◌∙◌}
 use Rattle.xl_tiles.proofs.Overlays.{overlaid_is}
 use Rattle.xl_tiles.proofs.overlay.Overlay.put.Goals as goal
 

@@ -1,6 +1,6 @@
-use Rattle.std.proofs.Common.{◌≡◌, ◌∙◌, ap, sym, subst, length}
+use Rattle.std.proofs.Common.{◌≡◌, ◌∙◌, ap, sym, subst}
 use Rattle.spec_document.specs.Limits.{AreBytes}
-use Rattle.xl_tiles.specs.Overlay.{under, Fits}
+use Rattle.xl_tiles.specs.Overlay.{under}
 use Rattle.xl_tiles.proofs.Overlays.{bytes_overlaid}
 use Rattle.xl_tiles.proofs.tile.TileRef.patched.Goals as goal
 
