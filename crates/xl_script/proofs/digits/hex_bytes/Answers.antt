@@ -1,10 +1,16 @@
-use Rattle.std.proofs.Common.{◌≡◌, ◌-◌, length, take, drop, take_all, length-drop, sym, ◌∙◌, arith}
-use Rattle.xl_script.proofs.HexPairs.{byte_more}
+use Rattle.std.proofs.Common.{◌≡◌, ◌∙◌, ap}
+use Rattle.std.specs.Prelude.{Some}
+use Rattle.xl_script.proofs.HexPairs.{read_some, read_none}
 use Rattle.xl_script.proofs.digits.hex_bytes.Goals as goal
 
-pub loop-rest-preserved : goal.loop-rest-preserved
-loop-rest-preserved c =
-    let rest = c.loop-rest.rest.now in
-    let whole : take (length rest - 2) (drop 2 rest) ≡ drop 2 rest = take_all _ _ (omega (arith, length-drop 2 rest)) in
-    let more = byte_more c.loop-rest.bytes rest c.in-Some.byte c.in-len2-up.len_at_least (sym c.in-Some.ensures) in
-    rw (whole, c.in_ok-push.ensures.ok) (more ∙ c.loop-rest.invariant)
+pub returns-in-Ok : goal.returns-in-Ok
+returns-in-Ok c = ap Some c.from_vec.ensures ∙ read_some c.args.digits.now c.in-Ok.ensures.ok
+
+pub returns-in-Err-InvalidHexCharacter : goal.returns-in-Err-InvalidHexCharacter
+returns-in-Err-InvalidHexCharacter c = read_none c.args.digits.now _ (λ e. cc) c.in-Err-InvalidHexCharacter.ensures.err
+
+pub returns-in-Err-OddLength : goal.returns-in-Err-OddLength
+returns-in-Err-OddLength c = read_none c.args.digits.now _ (λ e. cc) c.in-Err-OddLength.ensures.err
+
+pub returns-in-Err-InvalidStringLength : goal.returns-in-Err-InvalidStringLength
+returns-in-Err-InvalidStringLength c = read_none c.args.digits.now _ (λ e. cc) c.in-Err-InvalidStringLength.ensures.err
