@@ -6,6 +6,7 @@ use Rattle.spec_grid.specs.declared.TileAt.{TileAt}
 use Rattle.spec_grid.specs.Rect.{count_from}
 use Rattle.spec_grid.specs.Grid.{all_tiles}
 use Rattle.spec_document.specs.Plane.{Plane}
+use Rattle.spec_rle.specs.declared.TheConstants.{MAX_EXCESS}
 use Rattle.spec_rle.specs.Codes.{Spells}
 use Rattle.spec_hierarchy.specs.Tiles.{tile_bytes, tile_plane}
 
@@ -17,12 +18,12 @@ abbrev pub places_from : (first : ℕ) → List (List ℕ) → List ℕ
 places_from first [] = []
 places_from first (piece ∷ pieces) = first ∷ places_from (first + length piece) pieces
 
--- each plane is spelled as its coder spells it, in at most 64 bytes more than it has
+-- each plane is spelled as its coder spells it, in at most MAX_EXCESS bytes more than it has
 abbrev pub AreSpelled : (fits : List ℕ → List ℕ → Type 0) → List ℕ → List (List ℕ) → Type 0
 AreSpelled fits bytes [] = bytes ≡ []
 AreSpelled fits bytes (plane ∷ planes) =
-    (spelled : List ℕ) × (rest : List ℕ) × Spells spelled plane × (length spelled ≤ length plane + 64) × fits plane spelled
-    × (bytes ≡ spelled ++ rest)
+    (spelled : List ℕ) × (rest : List ℕ) × Spells spelled plane × (length spelled ≤ length plane + MAX_EXCESS)
+    × fits plane spelled × (bytes ≡ spelled ++ rest)
     × AreSpelled fits rest planes
 
 -- the pixels of a tile as they are, or a spelling for each of the bytes of a pixel

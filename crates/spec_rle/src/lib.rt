@@ -22,6 +22,9 @@ pub const MAX_SHORT: u32 = 127;
 /// The most bytes of a plane that a code in the long form gives.
 pub const MAX_LONG: u32 = 65535;
 
+/// How many bytes more than the plane a spelling has at most that is written.
+pub const MAX_EXCESS: usize = 64;
+
 /// A spelling spells one plane of a length.
 pub fn spells_one_plane()
     ensures { (bytes a b : List ℕ) → Spells bytes a → Spells bytes b → a ≡ b }

@@ -7,6 +7,7 @@ use Rattle.std.proofs.Math.Seq.{take-add}
 use Rattle.std.proofs.lemmas.List.{drop-drop}
 use Rattle.spec_fields.specs.Reading.{Read, ◌>>=◌}
 use Rattle.spec_fields.proofs.Steps.{onward}
+use Rattle.spec_rle.specs.declared.TheConstants.{MAX_EXCESS}
 use Rattle.spec_rle.specs.Reading.{Part, plane_at}
 use Rattle.spec_rle.proofs.SpelledBack.{spelled_has}
 use Rattle.spec_hierarchy.specs.Reading.{planes_at}
@@ -54,7 +55,7 @@ next_inside file at n next all some e =
     omega (arith, there.has.fits, there.next, one.ends)
 
 one_more : (file : List ℕ) (at n k next end : ℕ) → AllByRecursion (λ b. b < 256) file → 1 ≤ n
-    → next_of (plane_at file at n) ≡ Ok next → next ≤ at + n + 64 → StandTo file next n k end → StandTo file at n (suc k) end
+    → next_of (plane_at file at n) ≡ Ok next → next ≤ at + n + MAX_EXCESS → StandTo file next n k end → StandTo file at n (suc k) end
 one_more file at n k next end all some e short rest =
     let one = read_to (plane_at file at n) next e in
     let there = spelled_has file at n one.part all some one.is in
@@ -87,7 +88,7 @@ one_more file at n k next end all some e short rest =
 
 -- one plane before those that stand
 pub one_before : (file : List ℕ) (at n planes c next end : ℕ) → AllByRecursion (λ b. b < 256) file → 1 ≤ n → c < planes
-    → next_of (plane_at file at n) ≡ Ok next → next ≤ at + n + 64 → StandTo file next n (planes - (c + 1)) end
+    → next_of (plane_at file at n) ≡ Ok next → next ≤ at + n + MAX_EXCESS → StandTo file next n (planes - (c + 1)) end
     → StandTo file at n (planes - c) end
 one_before file at n planes c next end all some less e short stands =
     let count : suc (planes - (c + 1)) ≡ planes - c = omega (arith, less) in

@@ -6,13 +6,11 @@ ghost use Rattle.std.specs.Arc.{arc_value};
 ghost use Rattle.spec_document.specs.Limits.{AreBytes};
 ghost use Rattle.xl_codes.specs.Codes.{AreCodes, StandTo};
 
+use spec_rle::MAX_EXCESS;
 use std::alloc::AllocError;
 use std::sync::Arc;
 use xl_bytes::Part;
 use xl_rle::check_plane;
-
-/// How many bytes more than the plane a spelling has at most that is kept.
-const MORE: usize = 64;
 
 /// Tells contracts that bytes are numbers below 256.
 pub fn know_bytes(bytes: &[u8])
@@ -34,7 +32,7 @@ fn end_of_codes(bytes: &[u8], at: usize, n: usize, planes: usize) -> Option<usiz
         let Ok(next) = check_plane(bytes, end, n) else {
             return None;
         };
-        if next.saturating_sub(end) > n + MORE {
+        if next.saturating_sub(end) > n + MAX_EXCESS {
             return None;
         }
         end = next;

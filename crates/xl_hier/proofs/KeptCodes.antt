@@ -1,12 +1,13 @@
 -- Spellings that a coder keeps as they stand.
 use Rattle.std.proofs.Common.{ℕ, ◌+◌, ◌≤◌, List, [], ◌∷◌, length, refl}
+use Rattle.spec_rle.specs.declared.TheConstants.{MAX_EXCESS}
 use Rattle.spec_rle.specs.Codes.{Spells, AnySpelling}
 use Rattle.spec_hierarchy.specs.Layout.{AreSpelled}
 use Rattle.xl_rle.specs.Follows.{FollowsEach}
 
 -- they fit, where any does
 pub kept_fit : (fits : List ℕ → List ℕ → Type 0)
-    → ((plane spelled : List ℕ) → Spells spelled plane → length spelled ≤ length plane + 64 → fits plane spelled)
+    → ((plane spelled : List ℕ) → Spells spelled plane → length spelled ≤ length plane + MAX_EXCESS → fits plane spelled)
     → (bytes : List ℕ) (planes : List (List ℕ)) → AreSpelled AnySpelling bytes planes → AreSpelled fits bytes planes
 kept_fit fits any bytes [] are = are
 kept_fit fits any bytes (plane ∷ planes) (spelled, rest, spells, short, fitting, is, are) =

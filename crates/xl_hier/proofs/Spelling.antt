@@ -4,6 +4,7 @@ use Rattle.std.proofs.Common.{arith, append_assoc, append-nil}
 use Rattle.spec_grid.specs.declared.TileAt.{TileAt}
 use Rattle.spec_grid.specs.Rect.{count_from}
 use Rattle.spec_document.specs.Plane.{Plane}
+use Rattle.spec_rle.specs.declared.TheConstants.{MAX_EXCESS}
 use Rattle.spec_rle.specs.Codes.{Spells}
 use Rattle.spec_hierarchy.specs.Tiles.{tile_plane}
 use Rattle.xl_rle.specs.Appends.{Appends}
@@ -22,7 +23,7 @@ none fits p t old = record { bytes = []; spelled = refl; appended = sym (append-
 
 spelled_more : (fits : List ℕ → List ℕ → Type 0) (planes : List (List ℕ)) (bytes spelled plane : List ℕ)
     → AreSpelled fits bytes planes
-    → Spells spelled plane → length spelled ≤ length plane + 64 → fits plane spelled
+    → Spells spelled plane → length spelled ≤ length plane + MAX_EXCESS → fits plane spelled
     → AreSpelled fits (bytes ++ spelled) (planes ++ plane ∷ [])
 spelled_more fits [] bytes spelled plane none spells short fitting =
     (spelled, [], spells, short, fitting, ap (λ xs. xs ++ spelled) none ∙ sym (append-nil spelled), refl)

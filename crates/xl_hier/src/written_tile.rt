@@ -8,6 +8,7 @@ ghost use Rattle.xl_rle.specs.Follows.{FollowsEach};
 ghost use Rattle.xl_tiles.specs.declared.tile.TheConstants.{SCRATCH};
 
 use crate::gather::{append_tile, gather, tile_pixels};
+use spec_rle::MAX_EXCESS;
 use std::alloc::{AllocError, Global};
 use xl_bytes::{FileBytes, Part};
 use xl_grid::TileAt;
@@ -17,9 +18,8 @@ use xl_tiles::{Plane, SCRATCH};
 /// A plane of a tile has at most 64 by 64 bytes.
 pub const MAX_PLANE: usize = 4096;
 
-// The spellings of all planes of a tile have at most so many bytes: a pixel has at most four, and a spelling at most 64
-// more than its plane.
-const MAX_SPELLINGS: usize = 4 * (MAX_PLANE + 64);
+// The spellings of all planes of a tile have at most so many bytes: a pixel has at most four.
+const MAX_SPELLINGS: usize = 4 * (MAX_PLANE + MAX_EXCESS);
 
 // Codes each of the bytes of a pixel, and appends the spellings.
 fn append_spellings<C: PlaneCoder>(

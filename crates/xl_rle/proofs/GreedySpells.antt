@@ -6,6 +6,7 @@ use Rattle.std.specs.Prelude.{flat_map, nat_le}
 use Rattle.std.specs.List.{AllByRecursion}
 use Rattle.std.proofs.lemmas.Bool.{leb-true, leb-false, false≢true}
 use Rattle.std.proofs.lemmas.List.{length-replicate}
+use Rattle.spec_rle.specs.declared.TheConstants.{MAX_EXCESS}
 use Rattle.spec_rle.specs.Codes.{Code, short_run, long_run, short_literal, long_literal, IsCode, code_bytes}
 use Rattle.spec_rle.specs.Codes.{code_pixels, EndsWithBytes, Spells}
 use Rattle.spec_rle.specs.Greedy.{run_length, begins_run, up_to_run, run_code, literal_code, first_code, greedy_codes, greedy}
@@ -237,5 +238,5 @@ are_short (suc n) (b ∷ bytes) enough =
     by true e more = let short = short_run_first n b bytes e more.any in record { any = omega (arith, short); run = λ h. short }
     by false e more = record { any = short_literal_first n b bytes e more.run; run = λ h. absurd (false≢true (sym e ∙ h)) }
 
-pub greedy_short : (plane : List ℕ) → length plane ≤ 4096 → length (greedy plane) ≤ length plane + 64
+pub greedy_short : (plane : List ℕ) → length plane ≤ 4096 → length (greedy plane) ≤ length plane + MAX_EXCESS
 greedy_short plane few = omega (arith, (are_short (length plane) plane (omega arith)).any, few)

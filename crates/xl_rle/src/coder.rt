@@ -1,5 +1,6 @@
 ghost use Rattle.std.specs.Prelude.{◌≡◌, ◌≤◌, ◌+◌, List, ℕ, Bool, true, false, length, refl, OnOk, OnErr};
 ghost use Rattle.std.specs.Bool.{OnTrue};
+ghost use Rattle.spec_rle.specs.declared.TheConstants.{MAX_EXCESS};
 ghost use Rattle.spec_rle.specs.Codes.{Spells};
 ghost use Rattle.spec_rle.specs.Greedy as spelling;
 ghost use Rattle.xl_rle.specs.Appends.{Appends};
@@ -17,9 +18,9 @@ pub trait PlaneCoder {
     /// Whether a spelling that stands in a file is kept as it is.
     ghost keeping: { Bool };
 
-    /// Where it is kept, each spelling fits that has at most 64 bytes more than the plane.
-    ghost any_fits: { OnTrue keeping ((plane spelled : List ℕ) → Spells spelled plane → length spelled ≤ length plane + 64
-        → fits plane spelled) };
+    /// Where it is kept, each spelling fits that has at most `MAX_EXCESS` bytes more than the plane.
+    ghost any_fits: { OnTrue keeping ((plane spelled : List ℕ) → Spells spelled plane
+        → length spelled ≤ length plane + MAX_EXCESS → fits plane spelled) };
 
     /// Where it is kept, a coder may stay as it is by the plane.
     ghost stays: { OnTrue keeping ((coder : Self) (plane : List ℕ) → follows coder plane coder) };
@@ -76,7 +77,7 @@ impl PlaneCoder for Greedy {
 pub struct Keeping;
 
 impl PlaneCoder for Keeping {
-    ghost fits = { λ plane bytes. length bytes ≤ length plane + 64 };
+    ghost fits = { λ plane bytes. length bytes ≤ length plane + MAX_EXCESS };
 
     ghost follows = { λ before plane after. after ≡ before };
 
