@@ -28,7 +28,8 @@ fn lay_by(mode: Mode, below: &mut [Pixel], above: &[Pixel], weights: &[u32], rec
     }
 }
 
-/// The same as `lay_by`. Each arm names its mode, so that its loop is compiled for that mode alone.
+/// The same as `lay_by`, in a mode that is not the normal one. Each arm names its mode, so that its loop is compiled for
+/// that mode alone.
 fn lay_by_each(
     mode: Mode,
     below: &mut [Pixel],
@@ -36,6 +37,7 @@ fn lay_by_each(
     weights: &[u32],
     reciprocals: &[u32],
 )
+    requires other { mode ≢ Mode.Normal }
     requires above { length below.old ≡ length above.now }
     requires weights { length below.old ≡ length weights.now }
     requires reciprocals { length below.old ≡ length reciprocals.now }
@@ -46,7 +48,7 @@ fn lay_by_each(
     ensures { below.new ≡ blended_rows mode below.old above.now }
 {
     match mode {
-        Mode::Normal => lay_by(Mode::Normal, below, above, weights, reciprocals),
+        Mode::Normal => unreachable!(),
         Mode::Multiply => lay_by(Mode::Multiply, below, above, weights, reciprocals),
         Mode::Screen => lay_by(Mode::Screen, below, above, weights, reciprocals),
         Mode::Overlay => lay_by(Mode::Overlay, below, above, weights, reciprocals),
@@ -65,8 +67,9 @@ fn lay_by_each(
     }
 }
 
-/// Pixels over any others.
+/// Pixels over any others, in a mode that is not the normal one.
 fn lay_over_any(mode: Mode, below: &mut [Pixel], above: &[Pixel])
+    requires other { mode ≢ Mode.Normal }
     requires lengths { length below.old ≡ length above.now }
     requires piece { length below.old ≤ PIECE }
     ensures { below.new ≡ blended_rows mode below.old above.now }
