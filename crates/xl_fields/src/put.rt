@@ -1,5 +1,6 @@
-ghost use Rattle.std.specs.Prelude.{◌≡◌, ◌≢◌, ◌≤◌, ◌++◌, length, OnOk, OnErr};
+ghost use Rattle.std.specs.Prelude.{◌≡◌, ◌≢◌, ◌+◌, ◌≤◌, ◌++◌, length, OnOk, OnErr};
 ghost use Rattle.std.specs.List.{AllByRecursion};
+ghost use Rattle.spec_fields.specs.declared.TheConstants.{MAX_NAME_IN_FILE};
 ghost use Rattle.spec_fields.specs.Put.{text};
 ghost use Rattle.xl_fields.specs.Behind.{BeginsWith};
 
@@ -8,7 +9,7 @@ use std::alloc::{AllocError, Global};
 
 // Out of memory, a part of the name may stand behind what was there.
 fn append_name(alloc: Global, out: &mut Vec<u8>, name: &[u8]) -> Result<(), AllocError>
-    requires { length name.now ≤ 4096 }
+    requires { length name.now + 1 ≤ MAX_NAME_IN_FILE }
     ensures whole { OnOk result (out.new.items ≡ out.old.items ++ text name.now) }
     ensures front { BeginsWith out.new.items out.old.items }
 {
@@ -25,7 +26,7 @@ fn append_name(alloc: Global, out: &mut Vec<u8>, name: &[u8]) -> Result<(), Allo
 ///
 /// Out of memory, `out` is as before.
 pub fn put_string(alloc: Global, out: &mut Vec<u8>, name: &[u8]) -> Result<(), AllocError>
-    requires short { length name.now ≤ 4096 }
+    requires short { length name.now + 1 ≤ MAX_NAME_IN_FILE }
     requires no_zero { AllByRecursion (λ b. b ≢ 0) name.now }
     ensures ok { OnOk result (out.new.items ≡ out.old.items ++ text name.now) }
     ensures err { OnErr result (out.new.items ≡ out.old.items) }
