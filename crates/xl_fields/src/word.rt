@@ -4,7 +4,7 @@ ghost use Rattle.spec_fields.specs.Field.{word_at, int_at};
 
 use crate::refusal::refuse;
 use spec_fields::{Kind, ReadRefused};
-use std::alloc::{AllocError, Global};
+use std::alloc::AllocError;
 
 /// The word at an offset. Truncated there, where fewer than four bytes are left.
 pub fn u32_at(bytes: &[u8], at: usize) -> Result<u32, ReadRefused>
@@ -26,7 +26,7 @@ pub fn i32_at(bytes: &[u8], at: usize) -> Result<i32, ReadRefused>
 }
 
 /// Appends a word. Out of memory, `out` is as before.
-pub fn put_u32(_alloc: Global, out: &mut Vec<u8>, value: u32) -> Result<(), AllocError>
+pub fn put_u32(out: &mut Vec<u8>, value: u32) -> Result<(), AllocError>
     ensures ok { OnOk result (out.new.items ≡ out.old.items ++ to_be_bytes w32 value) }
     ensures err { OnErr result (out.new.items ≡ out.old.items) }
 {

@@ -24,11 +24,11 @@ const HEADS: usize = 4 * (5 + 2 + 1);
 // a pointer to each of at most 256 times 256 tiles.
 const FIRST_TILE_BELOW: usize = (1 << 31) + HEADS + 4 * (256 * 256);
 
-fn append_words(alloc: Global, out: &mut Vec<u8>, values: &[u32]) -> Result<(), AllocError>
+fn append_words(out: &mut Vec<u8>, values: &[u32]) -> Result<(), AllocError>
     ensures { OnOk result (out.new.items ≡ out.old.items ++ words values.now) }
 {
     for value in values {
-        put_u32(alloc, out, *value)?;
+        put_u32(out, *value)?;
     }
     Ok(())
 }
@@ -44,9 +44,9 @@ fn heads(alloc: Global, plane: &Plane, at: u32, begins: &[u32]) -> Result<Vec<u8
     let height = plane.height();
     let mut bytes = Vec::with_capacity(alloc, HEADS)?;
     let front = [width, height, plane.bpp(), at + 20, 0, width, height];
-    append_words(alloc, &mut bytes, &front)?;
-    append_words(alloc, &mut bytes, begins)?;
-    append_words(alloc, &mut bytes, &[0])?;
+    append_words(&mut bytes, &front)?;
+    append_words(&mut bytes, begins)?;
+    append_words(&mut bytes, &[0])?;
     Ok(bytes)
 }
 
