@@ -101,14 +101,6 @@ impl Channels {
         self.list.len()
     }
 
-    /// How many channels there are, which is at most `MAX_CHANNELS`.
-    pub(crate) fn count(&self) -> u64
-        ensures value { result ≡ length self.now }
-        ensures few { result ≤ MAX_CHANNELS }
-    {
-        self.list.len() as u64
-    }
-
     /// The same channels, with room for the most. Their planes are shared.
     pub fn share(&self, alloc: Global) -> Result<Channels, AllocError>
         ensures { IfOk result (λ other. other ≡ self.now) }

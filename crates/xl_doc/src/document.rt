@@ -87,7 +87,7 @@ impl Document {
     {
         let canvas = u64::from(self.width) * u64::from(self.height);
         let nodes = nodes_area(self.tree.top(), canvas);
-        nodes + canvas * self.channels.count() + canvas * selection_count(&self.selection)
+        nodes + canvas * self.channels.len() as u64 + canvas * selection_count(&self.selection)
     }
 
     /// The least version of the format that can hold the document.
