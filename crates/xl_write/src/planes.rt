@@ -1,6 +1,7 @@
 //! Words and planes, appended to the bytes of a file.
-ghost use Rattle.std.specs.Prelude.{◌≡◌, ◌^◌, ◌<◌, ◌≤◌, ◌++◌, length, OnOk};
+ghost use Rattle.std.specs.Prelude.{◌≡◌, ◌<◌, ◌≤◌, ◌++◌, length, OnOk};
 ghost use Rattle.spec_fields.specs.Put.{word};
+ghost use Rattle.spec_file.specs.declared.TheConstants.{FILE_LIMIT};
 ghost use Rattle.spec_hierarchy.specs.BytePlanes.{byte_planes};
 ghost use Rattle.xl_hier.specs.Appended.{PlaneAppended};
 ghost use Rattle.xl_rle.specs.Follows.{FollowsEach};
@@ -24,7 +25,7 @@ pub fn put_hierarchy<C: PlaneCoder>(
     compression: u8,
     coder: &mut C,
 ) -> Result<(), AllocError>
-    requires short { length out.old < 2 ^ 31 }
+    requires short { length out.old < FILE_LIMIT }
     requires compression { compression ≤ 1 }
     ensures written { OnOk result (PlaneAppended C.fits compression plane.now out.old out.new) }
     ensures followed { OnOk result (FollowsEach C.follows coder.old
