@@ -1,6 +1,8 @@
 use crate::faults::fault_text;
 use crate::lines::cause_text;
+use spec_audit::MAX_SOURCE_BYTES;
 use spec_fields::ReadRefused;
+use spec_script::MAX_SCRIPT_BYTES;
 use std::alloc::{AllocError, Global};
 use xl_command::{Command, command_of};
 use xl_program::{Rejection, Stopped};
@@ -8,9 +10,6 @@ use xl_script::BadLine;
 
 const USAGE: &str =
     "these words are no command; the commands are\n  xcfedit render FILE              writes the picture of FILE as a PAM\n  xcfedit info FILE                writes the layers of FILE as a line of JSON\n  xcfedit edit FILE [--workers N]  runs a script from standard input on FILE, N from 0 to 8\n  xcfedit make FILE --seed N       saves the document of the seed N, runs the seed's script on FILE and sums the run up in a line\n  xcfedit pack FILE [--plan]       saves FILE as small as it can be with run-length coded tiles\n  xcfedit flatten FILE             puts one layer in the place of all nodes of FILE\n  xcfedit view FILE --cols W --rows H  runs a script of session 0 on FILE, a tile with its neighbours, W and H from 1 to 16\n  xcfedit audit FILE               judges a script and what an edit of FILE by it is said to have printed, from standard input";
-
-const HEAD: &str =
-    "the input is no line \"script N\" with N bytes of a script behind it, N from 0 to 16777216, and the output; it has 268435456 bytes at most";
 
 /// The version of the program, which stands in the manual page and in the changelog too.
 pub const VERSION: &str = "0.1.0";
@@ -48,7 +47,7 @@ fn stop_text(alloc: Global, command: Command<'_>, stopped: Stopped) -> Result<St
     let name = file_of(command);
     match stopped {
         Stopped::SourceFault => String::from_str(alloc, "the script cannot be read"),
-        Stopped::BadHead => String::from_str(alloc, HEAD),
+        Stopped::BadHead => head_text(alloc),
         Stopped::BadLine(bad) => line_text(alloc, bad),
         Stopped::ShelfFault => shelf_text(alloc, command),
         Stopped::Refused(refused) => refusal_text(alloc, name, refused),
@@ -60,6 +59,13 @@ fn stop_text(alloc: Global, command: Command<'_>, stopped: Stopped) -> Result<St
         Stopped::SinkFault => String::from_str(alloc, "the output cannot be written"),
         Stopped::Memory => String::from_str(alloc, "out of memory"),
     }
+}
+
+// What is wrong with the input of an audit.
+fn head_text(alloc: Global) -> Result<String, AllocError> {
+    format!(in alloc;
+        "the input is no line \"script N\" with N bytes of a script behind it, N from 0 to {MAX_SCRIPT_BYTES}, and the output; it has {MAX_SOURCE_BYTES} bytes at most"
+    )
 }
 
 // The bad line of a script.
