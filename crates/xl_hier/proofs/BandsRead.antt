@@ -189,9 +189,9 @@ no_band {file = file} {first = first} {f = f} {row = row} {tiles = tiles} so_far
 -- the fault of the first band that has one is that of all tiles
 pub band_fault : {file : List ℕ} {first : ℕ} {f : Frame} {row : ℕ} {tiles : List (List ℕ)}
     → SoFar file first f row tiles → row < tiles_along f.height → (e : ReadRefusedOrMemory) → (old new : List (List ℕ))
-    → BandRead file first f row old new (Err e) → (k : ℕ) (now : List (List ℕ)) → HasRead file first f k now (Err e)
-band_fault so_far hr Memory old new fault k now = tt
-band_fault so_far hr (Refused e) old new fault k now = no_band so_far hr fault
+    → BandRead file first f row old new (Err e) → HasRead file first f (Err e)
+band_fault so_far hr Memory old new fault = tt
+band_fault so_far hr (Refused e) old new fault = no_band so_far hr fault
 
 -- all bands are read
 pub all_read : {file : List ℕ} {first : ℕ} {f : Frame} {tiles : List (List ℕ)} → SoFar file first f (tiles_along f.height) tiles
@@ -218,8 +218,7 @@ tiled so_far limits = record {
 }
 
 -- the fault of the tiles is that of the plane
-pub fault_of : (file : List ℕ) (first : ℕ) (f : Frame) (row : ℕ) (tiles : List (List ℕ)) (e : ReadRefusedOrMemory)
-    → HasRead file first f row tiles (Err e)
+pub fault_of : (file : List ℕ) (first : ℕ) (f : Frame) (e : ReadRefusedOrMemory) → HasRead file first f (Err e)
     → Gives {A = Plane} (Err e) (pixels_at file first f.width f.height f.bpp f.compression)
-fault_of file first f row tiles Memory h = tt
-fault_of file first f row tiles (Refused e) h = ap (λ r. r >>= (λ tiles. Ok (plane_of_tiles f.width f.height f.bpp tiles))) h
+fault_of file first f Memory h = tt
+fault_of file first f (Refused e) h = ap (λ r. r >>= (λ tiles. Ok (plane_of_tiles f.width f.height f.bpp tiles))) h

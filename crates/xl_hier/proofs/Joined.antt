@@ -74,11 +74,9 @@ module _ {file : List ℕ} {first : ℕ} {f : Frame} {bands : List Band} {tiles 
       }
 
   -- its fault is that of all tiles
-  pub joined_fault : (e : ReadRefusedOrMemory) → band.outcome ≡ Err e → (k : ℕ) (tiles_now : List (List ℕ))
-      → HasRead file first f k tiles_now (Err e)
-  joined_fault e bad k tiles_now =
+  pub joined_fault : (e : ReadRefusedOrMemory) → band.outcome ≡ Err e → HasRead file first f (Err e)
+  joined_fault e bad =
       band_fault now.so_far within e [] band.tiles.items (subst (BandRead file first f now.row [] band.tiles.items) bad first_read)
-      k tiles_now
 
 -- all are put together
 pub all_joined : {file : List ℕ} {first : ℕ} {f : Frame} {bands : List Band} {tiles : List (List ℕ)}

@@ -1,5 +1,5 @@
 //! Bands of a plane that are read beside one another.
-ghost use Rattle.std.specs.Prelude.{◌≡◌, ◌*◌, ◌<◌, ◌^◌, ◌&&◌, ◌==◌, ℕ, nat_le, [], length, slice_index_or};
+ghost use Rattle.std.specs.Prelude.{◌≡◌, ◌<◌, ◌^◌, ℕ, [], length, slice_index_or};
 ghost use Rattle.std.specs.Prelude.{All, IfOk};
 ghost use Rattle.std.specs.Arc.{arc_value};
 ghost use Rattle.spec_grid.specs.Grid as grid;
@@ -14,18 +14,6 @@ use std::sync::Arc;
 use std::thread::Threads;
 use xl_fields::ReadRefusedOrMemory;
 use xl_tiles::TileRef;
-
-/// The fewest tiles that are read beside one another: to start threads takes as long as to walk the codes of some tens
-/// of tiles.
-pub const LEAST_BESIDE: usize = 256;
-
-/// Whether it pays to read the tiles of a plane beside one another: codes are walked, and of plain tiles no byte is.
-pub fn pays(frame: Frame) -> bool
-    ensures { result ≡ (frame.compression == 1 && nat_le LEAST_BESIDE (grid.tiles_along frame.height
-        * grid.tiles_along frame.width)) }
-{
-    frame.compression == 1 && frame.rows() * frame.columns() >= LEAST_BESIDE
-}
 
 // Room for a band, and how its reading ended.
 #[derive(Drop)]
@@ -91,21 +79,19 @@ fn fill_bands<R: Threads + Sync>(
     );
 }
 
-/// Appends all tiles, read beside one another and put together in their order, so that the first fault is that of the
-/// first band that has one, whichever was met first. The pointers to the tiles begin at an offset.
+/// All tiles of a plane, read beside one another and put together in their order, so that the first fault is that of
+/// the first band that has one, whichever was met first. The pointers to the tiles begin at an offset.
 pub fn read_beside<R: Threads + Sync>(
     rt: &R,
     alloc: Global,
     file: &Arc<Vec<u8>>,
     first: usize,
     frame: Frame,
-    tiles: &mut Vec<TileRef>,
-) -> Result<(), ReadRefusedOrMemory>
-    requires small { first < 2 ^ 33 }
-    requires empty { tiles.old.items ≡ [] }
-    ensures { HasRead (arc_value file.now).items first frame (grid.tiles_along frame.height)
-        tiles.new.items result }
+) -> Result<Vec<TileRef>, ReadRefusedOrMemory>
+    requires { first < 2 ^ 33 }
+    ensures { HasRead (arc_value file.now).items first frame result }
 {
+    let mut tiles = Vec::with_capacity(alloc, frame.rows() * frame.columns())?;
     let mut bands = new_bands(alloc, frame)?;
     fill_bands(rt, file, first, frame, bands.as_mut_slice());
     for band in bands {
@@ -116,5 +102,5 @@ pub fn read_beside<R: Threads + Sync>(
         outcome?;
         tiles.append(&mut own)?;
     }
-    Ok(())
+    Ok(tiles)
 }

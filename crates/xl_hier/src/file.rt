@@ -1,17 +1,20 @@
-ghost use Rattle.std.specs.Prelude.{◌≡◌, ◌<◌, ◌^◌, ℕ, List, []};
+ghost use Rattle.std.specs.Prelude.{◌≡◌, ◌<◌, ◌^◌, ℕ, List};
 ghost use Rattle.std.specs.Arc.{arc_value};
 ghost use Rattle.std.specs.Thread.{IsSync};
-ghost use Rattle.spec_grid.specs.Grid as grid;
 ghost use Rattle.xl_hier.specs.SoFar.{HasRead};
 
 use crate::band::read_bands;
-use crate::beside::{pays, read_beside};
+use crate::beside::read_beside;
 use crate::frame::Frame;
 use std::alloc::Global;
 use std::sync::Arc;
 use std::thread::Threads;
 use xl_fields::ReadRefusedOrMemory;
 use xl_tiles::TileRef;
+
+// The fewest tiles that are read beside one another: to start threads takes as long as to walk the codes of some tens
+// of tiles.
+const LEAST_BESIDE: usize = 256;
 
 /// A file whose tiles share its bytes, and how the tiles of a plane are read there.
 pub trait TileFile {
@@ -24,19 +27,16 @@ pub trait TileFile {
     fn shared(&self) -> &Arc<Vec<u8>>
         ensures { (arc_value result.now).items ≡ bytes self.now };
 
-    /// Appends all tiles of a plane to none. The pointers to them begin at an offset.
+    /// All tiles of a plane, row by row. The pointers to them begin at an offset.
     fn read_tiles(
         &self,
         alloc: Global,
         first: usize,
         frame: Frame,
-        tiles: &mut Vec<TileRef>,
-    ) -> Result<(), ReadRefusedOrMemory>
+    ) -> Result<Vec<TileRef>, ReadRefusedOrMemory>
         requires can { can_read self.now }
         requires small { first < 2 ^ 33 }
-        requires empty { tiles.old.items ≡ [] }
-        ensures { HasRead (bytes self.now) first frame (grid.tiles_along frame.height)
-            tiles.new.items result };
+        ensures { HasRead (bytes self.now) first frame result };
 }
 
 /// The tiles are read one after another.
@@ -51,13 +51,17 @@ impl TileFile for Arc<Vec<u8>> {
 
     fn read_tiles(
         &self,
-        _alloc: Global,
+        alloc: Global,
         first: usize,
         frame: Frame,
-        tiles: &mut Vec<TileRef>,
-    ) -> Result<(), ReadRefusedOrMemory> {
-        read_bands(self, first, frame, tiles)
+    ) -> Result<Vec<TileRef>, ReadRefusedOrMemory> {
+        read_bands(alloc, self, first, frame)
     }
+}
+
+// Whether it pays to read the tiles of a plane beside one another: codes are walked, and of plain tiles no byte is.
+fn pays(frame: Frame) -> bool {
+    frame.compression == 1 && frame.rows() * frame.columns() >= LEAST_BESIDE
 }
 
 /// A file, and what makes threads. The bands of a large plane in runs are read beside one another.
@@ -81,12 +85,11 @@ impl<'a, R: Threads + Sync> TileFile for FileBeside<'a, R> {
         alloc: Global,
         first: usize,
         frame: Frame,
-        tiles: &mut Vec<TileRef>,
-    ) -> Result<(), ReadRefusedOrMemory> {
+    ) -> Result<Vec<TileRef>, ReadRefusedOrMemory> {
         if pays(frame) {
-            read_beside(self.rt, alloc, self.file, first, frame, tiles)
+            read_beside(self.rt, alloc, self.file, first, frame)
         } else {
-            read_bands(self.file, first, frame, tiles)
+            read_bands(alloc, self.file, first, frame)
         }
     }
 }

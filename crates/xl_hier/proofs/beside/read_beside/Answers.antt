@@ -16,7 +16,7 @@ loop-band-init g c =
     c.into_iter-band-iterator.ensures.into_iter_gives.0 same (omega (arith, bands.ok.0)) in
     let count : length c.fill_bands.new.bands ≡ tiles_along c.args.frame.height = same ∙ c.in_ok-bands.ensures.count in
     none_joined (arc_value c.args.file.now).items c.args.first c.args.frame c.into_iter-band-iterator.result.rest.items
-    c.args.tiles.now.items c.requires.empty (ap length items ∙ count)
+    c.in_ok-tiles.tiles.items c.in_ok-tiles.ensures.items (ap length items ∙ count)
     (λ k d h. subst (λ (bs : List Band). BandRead (arc_value c.args.file.now).items c.args.first c.args.frame k []
     (get_or bs k d).tiles.items (get_or bs k d).outcome) (sym items)
     (c.fill_bands.ensures.read k d (omega (arith, h, ap length items, c.fill_bands.ensures.length))))
@@ -26,7 +26,7 @@ returns-in_err-outcome g c =
     let p = err_from_is_err_and c.from_residual-in_err-outcome.result c.from_residual-in_err-outcome.ensures.1 in
     rw (p.1, p.2)
     (joined_fault c.in-Some.band c.next.new.self.rest.items c.loop-band.invariant c.in-Some.ensures.steps.0 c.in_err-outcome.field-0.0
-    c.in_err-outcome.was (tiles_along c.args.frame.height) c.loop-band.tiles.items)
+    c.in_err-outcome.was)
 
 pub loop-band-preserved : goal.loop-band-preserved
 loop-band-preserved g c =
