@@ -18,6 +18,7 @@ pub use frame::Frame;
 pub use laws::written_planes_are_read;
 pub use reading::read_hierarchy;
 pub use writing::{hierarchy, write_hierarchy};
+pub use xl_bytes::FileBytes;
 pub use xl_fields::ReadRefusedOrMemory;
 pub use xl_rle::{Greedy, Keeping, PlaneCoder};
-pub use xl_tiles::Plane;
+pub use xl_tiles::{Plane, TileRef};
