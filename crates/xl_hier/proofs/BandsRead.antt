@@ -1,5 +1,5 @@
 -- The bands of a plane, in their order, are the plane.
-use Rattle.std.proofs.Common.{◌≡◌, ℕ, zero, suc, ◌+◌, ◌-◌, ◌*◌, ◌<◌, min, List, [], ◌∷◌, ◌++◌, length}
+use Rattle.std.proofs.Common.{◌≡◌, ℕ, zero, suc, ◌+◌, ◌-◌, ◌*◌, ◌<◌, List, [], ◌∷◌, ◌++◌, length}
 use Rattle.std.proofs.Common.{get_or, refl, sym, ap, subst, ◌∙◌, arith, inl, inr, length-append, append-nil}
 use Rattle.std.specs.Prelude.{Ok, Err, flat_map}
 use Rattle.std.proofs.lemmas.Bool.{cases_lt}
@@ -24,7 +24,7 @@ use Rattle.spec_hierarchy.specs.Tiles.{tile_width, tile_height, plane_of_tiles}
 use Rattle.spec_hierarchy.specs.Reading.{pointer_at, tile_at, tiles_at}
 use Rattle.xl_hier.specs.declared.frame.Frame.{Frame}
 use Rattle.xl_tiles.specs.Behind.{behind}
-use Rattle.xl_hier.specs.Bands.{row_tiles, band_at, bands_from, IsBand, BandRead}
+use Rattle.xl_hier.specs.Bands.{row_tiles, band_at, bands_from, tile_size, IsBand, BandRead}
 use Rattle.xl_hier.specs.SoFar.{all_at, SoFar, HasRead}
 use Rattle.xl_tiles.proofs.Decoded.{behind-behind}
 use Rattle.xl_hier.proofs.InBand.{length_of_row}
@@ -169,7 +169,7 @@ band_more {file = file} {first = first} {f = f} {row = row} {tiles = tiles} {nex
                 ap (λ n. n * tiles_along f.width + c) same ∙ ap (λ n. n + c) (sym so_far.count) in
                 ap (λ n. length (get_or (tiles ++ band) n [])) place
                 ∙ (ap length (get_or-append-add tiles band c [])
-                ∙ (read.sizes c c_in ∙ (λ i. min 64 (f.width - 64 * c) * min 64 (f.height - 64 * sym same i) * f.bpp)))
+                ∙ (read.sizes c c_in ∙ (λ i. tile_size f c (sym same i))))
           ];
       bytes = all_append AreBytes tiles band so_far.bytes read.bytes;
     })

@@ -21,7 +21,7 @@ use Rattle.spec_hierarchy.specs.Tiles.{tile_width, tile_height}
 use Rattle.spec_hierarchy.specs.Reading.{pointer_at, tile_at, tiles_at}
 use Rattle.xl_hier.specs.declared.frame.Frame.{Frame}
 use Rattle.xl_tiles.specs.Behind.{behind}
-use Rattle.xl_hier.specs.Bands.{row_tiles, band_at, BandRead}
+use Rattle.xl_hier.specs.Bands.{row_tiles, band_at, tile_size, BandRead}
 use Rattle.xl_tiles.proofs.Decoded.{behind-behind, one_behind}
 
 abbrev tile : (col row : ℕ) → TileAt
@@ -71,8 +71,7 @@ pub record InBand (file : List ℕ) (first : ℕ) (f : Frame) (row col : ℕ) (o
   pub reads : band_at file first f row ≡ behind band
       (tiles_at (drop col (row_tiles f.width row)) file (first + 4 * (row * tiles_along f.width + col)) f.width f.height f.bpp
       f.compression)
-  pub sizes : (c : ℕ) → c < col
-      → length (get_or band c []) ≡ min 64 (f.width - 64 * c) * min 64 (f.height - 64 * row) * f.bpp
+  pub sizes : (c : ℕ) → c < col → length (get_or band c []) ≡ tile_size f c row
   pub bytes : AllByRecursion AreBytes band
   pub appended : tiles ≡ old ++ band
 

@@ -1,5 +1,5 @@
 -- The tiles of a plane in bands: a band is a row of tiles, and is read by itself.
-use Rattle.std.specs.Prelude.{◌≡◌, ℕ, zero, suc, ◌+◌, ◌-◌, ◌*◌, ◌<◌, min, List, [], ◌++◌, length, map, slice_index_or, Result, Ok, Err}
+use Rattle.std.specs.Prelude.{◌≡◌, ℕ, zero, suc, ◌+◌, ◌*◌, ◌<◌, List, [], ◌++◌, length, map, slice_index_or, Result, Ok, Err}
 use Rattle.std.specs.List.{AllByRecursion}
 use Rattle.spec_grid.specs.declared.TileAt.{TileAt}
 use Rattle.spec_grid.specs.Rect.{count_from}
@@ -7,6 +7,7 @@ use Rattle.spec_grid.specs.Grid.{tiles_along}
 use Rattle.spec_document.specs.Limits.{AreBytes}
 use Rattle.spec_fields.specs.Reading.{Read, ◌>>=◌}
 use Rattle.spec_hierarchy.specs.Reading.{tiles_at}
+use Rattle.spec_hierarchy.specs.Tiles.{tile_width, tile_height}
 use Rattle.xl_fields.specs.declared.refusal.ReadRefusedOrMemory.{ReadRefusedOrMemory}
 use Rattle.xl_fields.specs.declared.refusal.ReadRefusedOrMemory.TheVariants.{Memory, Refused}
 use Rattle.xl_tiles.specs.Behind.{behind}
@@ -28,12 +29,17 @@ bands_from (suc n) file first f row = do
   band ← band_at file first f row
   behind band (bands_from n file first f (suc row))
 
+-- how many bytes the tile in a column and a row is to have
+abbrev pub tile_size : Frame → (col row : ℕ) → ℕ
+tile_size f col row =
+    let spot : TileAt = record { col = col; row = row } in
+    tile_width f.width spot * tile_height f.height spot * f.bpp
+
 -- a band is read, and each of its tiles has as many bytes as it is to have
 pub record IsBand (file : List ℕ) (first : ℕ) (f : Frame) (row : ℕ) (band : List (List ℕ)) : Type 0 where
   pub count : length band ≡ tiles_along f.width
   pub reads : band_at file first f row ≡ Ok band
-  pub sizes : (col : ℕ) → col < tiles_along f.width
-      → length (slice_index_or band col []) ≡ min 64 (f.width - 64 * col) * min 64 (f.height - 64 * row) * f.bpp
+  pub sizes : (col : ℕ) → col < tiles_along f.width → length (slice_index_or band col []) ≡ tile_size f col row
   pub bytes : AllByRecursion AreBytes band
 
 -- a band is appended, or that is its first fault, or memory ran out
