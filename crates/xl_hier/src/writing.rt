@@ -135,8 +135,8 @@ fn tiles_of<C: PlaneCoder>(
 /// count from the start of the file.
 ///
 /// The tiles stand as they are where the compression is 0, and as the coder spells their planes where it is 1; so the
-/// coder followed these planes, in the order in which they stand. A tile that stands in the file that was read just as
-/// it is to be written is shared with that file, and a plain tile that was edited with the plane.
+/// coder followed these planes, in the order in which they stand. Tiles may share the bytes of the file that was read,
+/// or those of the plane (`write_tile`).
 pub fn hierarchy<C: PlaneCoder>(
     alloc: Global,
     at: usize,

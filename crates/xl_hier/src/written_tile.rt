@@ -114,8 +114,8 @@ fn append_run_length<C: PlaneCoder>(
 /// Appends a tile: its pixels as they are where the compression is 0, and else the spellings of its planes, which the
 /// coder followed. The scratch has room for a plane of the tile, and behind that for the tile.
 ///
-/// A tile that stands in the file that was read just as it is to be written is shared with that file, and a plain tile
-/// that was edited with the plane.
+/// Codes that the coder keeps, and a tile that stands plain and is written plain, are shared with the file that was
+/// read, or with the plane where the tile was edited, unless they are shorter than 512 bytes.
 pub fn write_tile<C: PlaneCoder>(
     alloc: Global,
     plane: &Plane,

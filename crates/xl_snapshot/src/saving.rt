@@ -18,8 +18,7 @@ use xl_rle::PlaneCoder;
 use xl_save::save_parts;
 use xl_write::{FileBytes, encode_parts};
 
-/// The file of a document, whose planes this coder codes. A tile that stands in the file that was read just as it is to
-/// be written is shared with that file.
+/// The file of a document, whose planes this coder codes. Tiles may share the bytes of the file that was read.
 pub fn file_of<C: PlaneCoder>(
     alloc: Global,
     document: &Document,
