@@ -6,7 +6,7 @@ use Rattle.std.specs.List.{AllByRecursion, cons_option}
 use Rattle.spec_grid.specs.Rect.{count_from}
 use Rattle.std.proofs.lemmas.Bool.Decides.{eqb_tells}
 use Rattle.spec_document.specs.Document.{Document}
-use Rattle.spec_history.specs.Calls.{most_entries}
+use Rattle.spec_history.specs.declared.TheConstants.{MAX_ENTRIES}
 use Rattle.spec_history.specs.Machine.{State, Saving, initial}
 use Rattle.spec_history.specs.History.{Entry, Kind, asked, starts, ends, is_end_kind, MayBe, MayEnd, after_kind, after_entry, replay, replay_from, RunFrom}
 use Rattle.spec_history.proofs.Growing.{out-answer}
@@ -169,7 +169,7 @@ among_split (x ∷ xs) ys = let rest = among_split xs ys in omega (arith, rest)
 -- before a word that is no end there is room for its entry, and for the end that is owed then
 pub walked_few : (s : Start) (o : Output) (place : ℕ) (earlier : List Entry) (d : OrderWord) (counts : List ℕ) → FitsFilters counts s.scripts
     → IsMerge s.scripts o.order → Walked s o place earlier → place < length o.order → (get_or o.order place d).end ≡ false
-    → length earlier + entries_owed (replay s.base earlier).out + 2 ≤ most_entries
+    → length earlier + entries_owed (replay s.base earlier).out + 2 ≤ MAX_ENTRIES
 walked_few s o place earlier d counts fits merge walked lt no_end =
     let w = get_or o.order place d in
     let rest = drop (place + 1) o.order in

@@ -1,22 +1,14 @@
--- The limits that a call keeps by its type, and those of a history.
+-- The limits that a call keeps by its type.
 use Rattle.std.specs.Prelude.{ℕ, ◌≤◌, List, length}
 use Rattle.std.specs.List.{AllByRecursion}
 use Rattle.spec_edit.specs.Edit.{Edit, IsEdit}
 use Rattle.spec_history.specs.Machine.{Call, edit, undo, redo, tile, peek, top}
-use Rattle.spec_history.specs.declared.TheConstants.{MAX_EDITS, MOST_ENTRIES}
-
--- edits in a group
-abbrev pub most_edits : ℕ
-most_edits = MAX_EDITS
-
--- entries in a history
-abbrev pub most_entries : ℕ
-most_entries = MOST_ENTRIES
+use Rattle.spec_history.specs.declared.TheConstants.{MAX_EDITS}
 
 -- a group has 1 to MAX_EDITS edits, each within its type
 pub record IsGroupOfEdits (edits : List Edit) : Type 0 where
   pub some : 1 ≤ length edits
-  pub few : length edits ≤ most_edits
+  pub few : length edits ≤ MAX_EDITS
   pub each : AllByRecursion IsEdit edits
 
 abbrev pub IsCall : Call → Type 0

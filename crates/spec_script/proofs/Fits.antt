@@ -9,10 +9,11 @@ use Rattle.std.proofs.lemmas.List.Elements.{filter-append}
 use Rattle.spec_grid.specs.Rect.{count_from}
 use Rattle.spec_edit.specs.Effect.{changed_at}
 use Rattle.spec_history.specs.Machine as machine
-use Rattle.spec_history.specs.Calls.{most_edits}
+use Rattle.spec_history.specs.declared.TheConstants.{MAX_EDITS}
 use Rattle.spec_script.specs.Words.{lines_of, words_of}
 use Rattle.spec_script.specs.Commands.{Command, Asked, an_edit, begins, ends, a_call, saves, forgets, command_of}
-use Rattle.spec_script.specs.Script.{most_calls, Line, call, save, forget, Open, Session, Parsed, Taken, is_there}
+use Rattle.spec_script.specs.Script.{Line, call, save, forget, Open, Session, Parsed, Taken, is_there}
+use Rattle.spec_script.specs.declared.TheConstants.{MAX_CALLS}
 use Rattle.spec_script.specs.Script.{finds_filter, has_its_filter, has_filter, take_outside, take_inside, take_command}
 use Rattle.spec_script.specs.Script.{is_skipped, take_by, take_asked, take_line, or_refused, take_lines, never_ended}
 use Rattle.spec_script.specs.Script.{ended, closed, blank, line_of_byte, start, script, is_call}
@@ -149,8 +150,8 @@ taken-inside : (given : ℕ) (o : Open) (s : Session) (c : Command) → IsFor gi
 taken-inside given o s (an_edit e) is inside =
     let some : begun_by s.open_group ≡ 1 = ap begun_by inside in
     let group : GroupFinds s.filters s.dropped o = subst (λ g. IfSome g (GroupFinds s.filters s.dropped)) inside is.group_is in
-    if-taken given (calls_so_far s) (has_its_filter s e && nat_lt (length o.edits) most_edits) _ (λ both.
-    let there = (and_parts (has_its_filter s e) (nat_lt (length o.edits) most_edits) both).0 in
+    if-taken given (calls_so_far s) (has_its_filter s e && nat_lt (length o.edits) MAX_EDITS) _ (λ both.
+    let there = (and_parts (has_its_filter s e) (nat_lt (length o.edits) MAX_EDITS) both).0 in
     record {
       after = record {
         filters_are = is.filters_are;
@@ -227,18 +228,18 @@ place-of chests session (s ∷ ss) (suc place) each =
 record IsSoFar (chests : List ℕ) (p : Parsed) : Type 0 where
   each : EachFor chests 0 p.sessions
   few : all_calls p.sessions ≤ p.calls
-  most : p.calls ≤ most_calls
+  most : p.calls ≤ MAX_CALLS
 
 put : (chests : List ℕ) (p : Parsed) (place : ℕ) (s : Session) (t : Taken) → IsSoFar chests p
     → (at : IsPlace chests 0 p.sessions place s) → IsStep at.given (calls_so_far s) t
-    → (b : Bool) → nat_le (p.calls + t.begun) most_calls ≡ b
+    → (b : Bool) → nat_le (p.calls + t.begun) MAX_CALLS ≡ b
     → IfSome (cond b (Some (record { sessions = changed_at place (λ _. t.session) p.sessions; calls = p.calls + t.begun })) None)
     (IsSoFar chests)
 put chests p place s t so at step true e =
     let count = at.count t.session in
     let more = step.few in
     let few = so.few in
-    record { each = at.put t.session step.after; few = omega arith; most = leb-true (p.calls + t.begun) most_calls e }
+    record { each = at.put t.session step.after; few = omega arith; most = leb-true (p.calls + t.begun) MAX_CALLS e }
 put chests p place s t so at step false e = tt
 
 by-held : (chests : List ℕ) (number : ℕ) (asked : Asked) (p : Parsed) → IsSoFar chests p → IsCommand asked.command
@@ -248,7 +249,7 @@ by-held chests number asked p so command =
     (place-of chests 0 p.sessions asked.session so.each) (λ s at.
     if-then (IsStep at.given (calls_so_far s)) (IsSoFar chests) (take_command number s s.open_group asked.command) _
     (either at.given number s s.open_group asked.command refl at.is command) (λ t step.
-    put chests p asked.session s t so at step (nat_le (p.calls + t.begun) most_calls) refl))
+    put chests p asked.session s t so at step (nat_le (p.calls + t.begun) MAX_CALLS) refl))
 
 -- ---- the lines of the text
 
@@ -299,7 +300,7 @@ EachHeld chests session (lines ∷ lists) =
 
 record AreListsHeld (chests : List ℕ) (lists : List (List Line)) : Type 0 where
   each : EachHeld chests 0 lists
-  few : count_calls lists ≤ most_calls
+  few : count_calls lists ≤ MAX_CALLS
 
 each-lists : (chests : List ℕ) (session : ℕ) (ss : List Session) → EachFor chests session ss
     → EachHeld chests session (map (λ s. s.lines) ss)

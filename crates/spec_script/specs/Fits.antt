@@ -5,7 +5,8 @@ use Rattle.std.specs.List.{list_all}
 use Rattle.spec_history.specs.Machine as machine
 use Rattle.spec_history.specs.Machine.{Call}
 use Rattle.spec_history.specs.Calls.{IsCall}
-use Rattle.spec_script.specs.Script.{Line, call, save, forget, most_calls, is_there, finds_filter, is_call}
+use Rattle.spec_script.specs.Script.{Line, call, save, forget, is_there, finds_filter, is_call}
+use Rattle.spec_script.specs.declared.TheConstants.{MAX_CALLS}
 
 -- each filter that a call names is there
 abbrev pub finds_filters : (filters : ℕ) (dropped : List ℕ) → Call → Bool
@@ -46,4 +47,4 @@ count_calls (lines ∷ lists) = length (filter is_call lines) + count_calls list
 
 pub record FitsFilters (chests : List ℕ) (lists : List (List Line)) : Type 0 where
   pub each : EachFit chests 0 lists
-  pub few : count_calls lists ≤ most_calls
+  pub few : count_calls lists ≤ MAX_CALLS

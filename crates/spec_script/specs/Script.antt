@@ -9,7 +9,7 @@ use Rattle.spec_edit.specs.Edit.{Edit}
 use Rattle.spec_edit.specs.Effect.{changed_at}
 use Rattle.spec_history.specs.Machine as machine
 use Rattle.spec_history.specs.Machine.{Call}
-use Rattle.spec_history.specs.Calls.{most_edits}
+use Rattle.spec_history.specs.declared.TheConstants.{MAX_EDITS}
 use Rattle.spec_script.specs.declared.TheConstants.{MAX_SCRIPT_BYTES, MAX_CALLS}
 use Rattle.spec_script.specs.Words.{◌>>=◌, lines_of, words_of}
 use Rattle.spec_script.specs.Commands.{Command, Asked, an_edit, begins, ends, a_call, saves, forgets, command_of}
@@ -17,10 +17,6 @@ use Rattle.spec_script.specs.Commands.{Command, Asked, an_edit, begins, ends, a_
 -- a session's own list, and none past the last one
 abbrev pub list_at : {A : Type 0} → List (List A) → (session : ℕ) → List A
 list_at lists session = unwrap_or (slice_get lists session) []
-
--- calls in a script
-abbrev pub most_calls : ℕ
-most_calls = MAX_CALLS
 
 -- what a session does, line by line
 pub data Line : Type 0 where
@@ -86,7 +82,7 @@ take_outside number s (forgets slot) =
 -- a command inside a group: only its edits, as many as a group may have, and its end after at least one
 abbrev pub take_inside : Open → Session → Command → Option Taken
 take_inside o s (an_edit e) =
-    if has_its_filter s e && nat_lt (length o.edits) most_edits
+    if has_its_filter s e && nat_lt (length o.edits) MAX_EDITS
     then takes (record s { open_group = Some (record o { edits = o.edits ++ e ∷ [] }) }) 0 else None
 take_inside o s ends =
     if nat_lt 0 (length o.edits)
@@ -99,7 +95,7 @@ take_command number s (Some o) command = take_inside o s command
 
 abbrev pub put_session : Parsed → (session : ℕ) → Taken → Option Parsed
 put_session p session t =
-    if nat_le (p.calls + t.begun) most_calls
+    if nat_le (p.calls + t.begun) MAX_CALLS
     then Some (record { sessions = changed_at session (λ _. t.session) p.sessions; calls = p.calls + t.begun }) else None
 
 abbrev pub is_skipped : List ℕ → Bool

@@ -18,7 +18,8 @@ use Rattle.spec_filters.specs.declared.FilterKind.{FilterKind}
 use Rattle.spec_filters.specs.declared.FilterKind.TheVariants.{Invert, Threshold, Posterize, Fade}
 use Rattle.spec_filters.specs.declared.FilterState.{FilterState}
 use Rattle.spec_grid.specs.Rect.{count_from}
-use Rattle.spec_history.specs.Calls.{IsCall, most_entries}
+use Rattle.spec_history.specs.Calls.{IsCall}
+use Rattle.spec_history.specs.declared.TheConstants.{MAX_ENTRIES}
 use Rattle.spec_history.specs.History.{Entry, Kind, asked, starts, ends, MayBe, MayEnd, after_kind, after_entry}
 use Rattle.spec_history.specs.History.{RunFrom, mine}
 use Rattle.spec_history.specs.Limited.{AsksCall, AreCalls}
@@ -278,7 +279,7 @@ module _ (counts : List ℕ) (lists : List (List Line)) (chests : List (List Fil
 
 module _ {d : Document} {counts : List ℕ} {lists : List (List Line)} {chests : List (List FilterState)} {out : List ℕ}
     {es : List Entry} (fits : FitsFilters counts lists) (text : IsTextOf out d lists chests es) where
-  pub are_few : length es ≤ most_entries
+  pub are_few : length es ≤ MAX_ENTRIES
   are_few =
       let run = run_short d (initial d) [] es text.legal.run in
       let all = all_counted es (λ session high. subst IsNone (sym (text.others session high)) tt) in

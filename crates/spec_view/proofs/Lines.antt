@@ -6,10 +6,11 @@ use Rattle.std.proofs.lemmas.Bool.{and_parts}
 use Rattle.spec_grid.specs.Rect.{count_from}
 use Rattle.spec_edit.specs.Effect.{changed_at}
 use Rattle.spec_history.specs.Machine as machine
-use Rattle.spec_history.specs.Calls.{most_edits}
+use Rattle.spec_history.specs.declared.TheConstants.{MAX_EDITS}
 use Rattle.spec_script.specs.Words.{◌>>=◌, lines_of, words_of}
 use Rattle.spec_script.specs.Commands.{Command, Asked, an_edit, begins, ends, a_call, saves, forgets, command_of}
-use Rattle.spec_script.specs.Script.{Line, call, save, forget, Open, Session, Parsed, Taken, has_filter, has_its_filter, most_calls}
+use Rattle.spec_script.specs.Script.{Line, call, save, forget, Open, Session, Parsed, Taken, has_filter, has_its_filter}
+use Rattle.spec_script.specs.declared.TheConstants.{MAX_CALLS}
 use Rattle.spec_script.specs.Script.{take_outside, take_inside, take_command, put_session, take_by, take_asked, take_line}
 use Rattle.spec_script.specs.Script.{take_lines, is_skipped}
 use Rattle.spec_script.specs.Script.{or_refused, never_ended, ended, closed, blank, line_of_byte, start, list_at}
@@ -54,7 +55,7 @@ outside number s saves all is = cc
 outside number s (forgets slot) all is = if-taken (has_filter s slot) _ (behind s.lines (forget slot) all tt)
 
 inside : (o : Open) (s : Session) (c : Command) → AreViewedLines s.lines → IfSome (take_inside o s c) (λ t. AreViewedLines t.session.lines)
-inside o s (an_edit e) all = if-taken (has_its_filter s e && nat_lt (length o.edits) most_edits) _ all
+inside o s (an_edit e) all = if-taken (has_its_filter s e && nat_lt (length o.edits) MAX_EDITS) _ all
 inside o s ends all = if-taken (nat_lt 0 (length o.edits)) _ (behind s.lines _ all refl)
 inside o s (begins guard) all = tt
 inside o s (a_call c) all = tt
@@ -86,7 +87,7 @@ if-there (s ∷ ss) (suc i) all = if-there ss i all.1
 
 put : (p : Parsed) (session : ℕ) (t : Taken) → AreSo p.sessions → AreViewedLines t.session.lines
     → IfSome (put_session p session t) AreSoIn
-put p session t all is = go (nat_le (p.calls + t.begun) most_calls)
+put p session t all is = go (nat_le (p.calls + t.begun) MAX_CALLS)
   where
     go : (b : Bool) → IfSome (cond b
         (Some (record { sessions = changed_at session (λ _. t.session) p.sessions; calls = p.calls + t.begun })) None)

@@ -10,7 +10,7 @@ use Rattle.spec_cache.specs.Slots.{mark_slots}
 use Rattle.spec_cache.specs.Cache.{Cache, Held, no_slots, add_stack}
 use Rattle.spec_history.specs.Machine.{State, Saving, Cause, latest, document_at, initial, has_stack}
 use Rattle.spec_history.specs.History.{Entry}
-use Rattle.spec_history.specs.Calls.{most_entries}
+use Rattle.spec_history.specs.declared.TheConstants.{MAX_ENTRIES}
 
 -- a tile of a stack that someone composes, of the version at which it was taken
 pub record Job : Type 0 where
@@ -62,7 +62,7 @@ entries_owed None = 0
 entries_owed (Some out) = 1
 
 abbrev pub free_entries : World → ℕ
-free_entries w = most_entries - (length w.entries + entries_owed w.state.out)
+free_entries w = MAX_ENTRIES - (length w.entries + entries_owed w.state.out)
 
 -- ---- the slots after a change
 

@@ -7,7 +7,7 @@ use Rattle.std.proofs.lemmas.List.{length-map}
 use Rattle.spec_edit.specs.Apply.{At, Refused, apply_group}
 use Rattle.spec_edit.specs.Edit as edits
 use Rattle.spec_edit.specs.Apply.{is_filter}
-use Rattle.spec_history.specs.Calls.{most_edits}
+use Rattle.spec_history.specs.declared.TheConstants.{MAX_EDITS}
 use Rattle.spec_tables.specs.Acceptance.{filter_count}
 use Rattle.spec_tables.proofs.Asked.{Plain, view}
 use Rattle.xl_edit.specs.declared.edit.Edit.{Edit}
@@ -53,7 +53,7 @@ bare old es tables r none came = ap (apply_group old es) (sym none) ∙ came
 pub each : (es : List edits.Edit) → IsPlainGroup es → AllByRecursion edits.IsEdit es
 each es plain = plain.0.each
 
-pub few : (edits : List Edit) → IsPlainGroup (edits_of edits) → length edits ≤ most_edits
+pub few : (edits : List Edit) → IsPlainGroup (edits_of edits) → length edits ≤ MAX_EDITS
 few edits plain =
     let long = length-map edits edit_of in
     let most = plain.0.few in omega (arith, long, most)

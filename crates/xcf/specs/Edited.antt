@@ -2,14 +2,14 @@
 use Rattle.std.specs.Prelude.{◌≡◌, ℕ, ◌+◌, ◌^◌, ◌<◌, List, [], Result, Ok, Err}
 use Rattle.spec_edit.specs.Apply.{At, apply, apply_group}
 use Rattle.spec_edit.specs.Edit.{Edit}
-use Rattle.spec_history.specs.Calls.{most_edits}
+use Rattle.spec_history.specs.declared.TheConstants.{MAX_EDITS}
 use Rattle.xcf.specs.Plain.{IsPlainGroup, IsChecked}
 use Rattle.xcf.specs.declared.errors.NotEdited.{NotEdited}
 use Rattle.xcf.specs.declared.errors.NotEdited.TheVariants.{Memory, NotGroup, NoIds, Refused}
 
 -- more ids are left than a group may take
 abbrev pub HasIds : At → Type 0
-HasIds image = image.next + most_edits + 1 < 2 ^ 32
+HasIds image = image.next + MAX_EDITS + 1 < 2 ^ 32
 
 -- The whole group is made. Or the image is as before: the first edit that is refused is named, or what is wrong with the group, or
 -- no more ids are left than a group may take, or memory ran out.

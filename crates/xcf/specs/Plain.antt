@@ -7,7 +7,8 @@ use Rattle.spec_edit.specs.Edit.{drop_mask, new_layer, new_group, delete, restac
 use Rattle.spec_edit.specs.Edit.{set_colours}
 use Rattle.spec_file.specs.Header.{is_side}
 use Rattle.spec_script.specs.Commands.{are_colours}
-use Rattle.spec_history.specs.Calls.{most_edits, IsGroupOfEdits}
+use Rattle.spec_history.specs.Calls.{IsGroupOfEdits}
+use Rattle.spec_history.specs.declared.TheConstants.{MAX_EDITS}
 use Rattle.xcf.specs.declared.errors.NotGroup.{NotGroup}
 use Rattle.xcf.specs.declared.errors.NotGroup.TheVariants.{Count, NotPlain}
 
@@ -53,5 +54,5 @@ IsPlainGroup edits = IsGroupOfEdits edits × (first_unplain edits ≡ None)
 -- it is a group of plain edits, or what is wrong with it
 abbrev pub IsChecked : List Edit → Result (Unit {0}) NotGroup → Type 0
 IsChecked edits (Ok done) = IsPlainGroup edits
-IsChecked edits (Err Count) = (edits ≡ []) ⊎ (most_edits < length edits)
-IsChecked edits (Err (NotPlain place)) = (length edits ≤ most_edits) × (first_unplain edits ≡ Some place)
+IsChecked edits (Err Count) = (edits ≡ []) ⊎ (MAX_EDITS < length edits)
+IsChecked edits (Err (NotPlain place)) = (length edits ≤ MAX_EDITS) × (first_unplain edits ≡ Some place)

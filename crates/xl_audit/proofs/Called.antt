@@ -4,7 +4,8 @@ use Rattle.std.proofs.Common.{ap, subst, arith}
 use Rattle.std.specs.Prelude.{Option, slice_index, slice_set, MatchBool, slice_get, unwrap_or}
 use Rattle.spec_document.specs.Document.{Document}
 use Rattle.spec_filters.specs.declared.FilterState.{FilterState}
-use Rattle.spec_history.specs.Calls.{IsCall, most_entries}
+use Rattle.spec_history.specs.Calls.{IsCall}
+use Rattle.spec_history.specs.declared.TheConstants.{MAX_ENTRIES}
 use Rattle.spec_history.specs.Machine as machine
 use Rattle.spec_history.specs.Machine.{Call, Reply, latest, answer}
 use Rattle.spec_history.specs.History.{Entry, asked, replay, is_changed}
@@ -69,7 +70,7 @@ module _ (s : Start) (o : Output) (earlier : List Entry) (w : OrderWord) (next :
       reply = made.reply;
     }
 
-    room : length earlier + entries_owed (replay s.base earlier).out < most_entries
+    room : length earlier + entries_owed (replay s.base earlier).out < MAX_ENTRIES
     room = let few = next.few no_end in omega (arith, few)
 
     goes : GoesOn s.base earlier old.standing old.made w.session c old.standing.version made.tables made.reply new.standing

@@ -5,7 +5,7 @@ use Rattle.std.specs.Prelude.{Option, Some, None, slice_index, slice_set, IfSome
 use Rattle.std.proofs.lemmas.List.{length-set}
 use Rattle.spec_grid.specs.declared.TileAt.{TileAt}
 use Rattle.spec_document.specs.Document.{Document}
-use Rattle.spec_history.specs.Calls.{most_entries}
+use Rattle.spec_history.specs.declared.TheConstants.{MAX_ENTRIES}
 use Rattle.spec_history.specs.Limited.{AsksCall}
 use Rattle.spec_history.specs.Machine as machine
 use Rattle.spec_history.specs.Machine.{Call, Reply, State, Saving, latest, document_at}
@@ -139,7 +139,7 @@ pub stands_peeked : (base : Document) (es : List Entry) (now : Now) (made : List
     → Stands base es now made → length made ≡ 8 → session < 8
     → IsStep base (replay base es) es (entry_peek session (slice_index made session) stack at reply)
     → PeekMeetsKept base es (asked (machine.peek stack at) []) reply → is_changed reply ≡ false
-    → length es + entries_owed (replay base es).out < most_entries
+    → length es + entries_owed (replay base es).out < MAX_ENTRIES
     → Stands base (es ++ entry_peek session (slice_index made session) stack at reply ∷ []) now
     (slice_set made session (slice_index made session + 1))
 stands_peeked base es now made session stack at reply stands eight within step peeks unchanged room =
@@ -184,7 +184,7 @@ out_called base es session index call tables reply old new is kept =
 -- ---- a call other than a peek
 
 pub come_called : (base : Document) (es : List Entry) (old new : Walk) (session : ℕ) (c : Call) (tables : List (List ℕ)) (reply : Reply)
-    → HasCome base es old → session < 8 → length es + entries_owed (replay base es).out < most_entries
+    → HasCome base es old → session < 8 → length es + entries_owed (replay base es).out < MAX_ENTRIES
     → GoesOn base es old.standing old.made session c old.standing.version tables reply new.standing
     → IsCounted old new session (is_changed reply)
     → HasCome base (es

@@ -11,7 +11,7 @@ use Rattle.spec_document.specs.Document.{Document}
 use Rattle.spec_picture.specs.Picture.{project}
 use Rattle.spec_filters.specs.declared.FilterState.{FilterState}
 use Rattle.spec_cache.specs.Cache as cache
-use Rattle.spec_history.specs.Calls.{most_entries}
+use Rattle.spec_history.specs.declared.TheConstants.{MAX_ENTRIES}
 use Rattle.spec_history.specs.Machine as machine
 use Rattle.spec_history.specs.Machine.{Reply, State, latest, document_at, answer, has_stack, tile_of}
 use Rattle.spec_history.specs.History.{Entry, asked, replay, is_changed, document_of, Answers, PeekAnswers, MayPeek}
@@ -63,7 +63,7 @@ grid_at : (base : Document) (es : List Entry) (v : ℕ) (at : TileAt)
 grid_at base es v at = let c = canvas-document base es v in λ i. is_on_grid (c.width i) (c.height i) at
 
 shows_right : (base : Document) (es : List Entry) (wanted : List Bool) (shares : List (Option Document)) (stack seen : ℕ) (k : Option ℕ)
-    (at : TileAt) (r : Reply) (digest : List ℕ) → HasVersions base (replay base es) wanted shares → latest (replay base es) ≤ most_entries
+    (at : TileAt) (r : Reply) (digest : List ℕ) → HasVersions base (replay base es) wanted shares → latest (replay base es) ≤ MAX_ENTRIES
     → WantsIfAny wanted (version_shown r) → peek_fits (latest (replay base es)) seen k r ≡ true
     → shows_version shares stack at r digest ≡ true
     → IsThereAt base (replay base es) stack r × (digest ≡ shown_digest base es (asked (machine.peek stack at) []) r)
@@ -81,7 +81,7 @@ shows_right base es wanted shares stack seen k at (machine.tile_of v) digest has
 shows_right base es wanted shares stack seen k at r digest has few wants fits shows = (tt, same_bytes digest [] shows)
 
 right_shows : (base : Document) (es : List Entry) (wanted : List Bool) (shares : List (Option Document)) (stack seen : ℕ) (k : Option ℕ)
-    (at : TileAt) (r : Reply) (digest : List ℕ) → HasVersions base (replay base es) wanted shares → latest (replay base es) ≤ most_entries
+    (at : TileAt) (r : Reply) (digest : List ℕ) → HasVersions base (replay base es) wanted shares → latest (replay base es) ≤ MAX_ENTRIES
     → WantsIfAny wanted (version_shown r) → peek_fits (latest (replay base es)) seen k r ≡ true
     → is_on_grid base.width base.height at ≡ true
     → IsThereAt base (replay base es) stack r → digest ≡ shown_digest base es (asked (machine.peek stack at) []) r

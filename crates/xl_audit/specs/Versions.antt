@@ -3,7 +3,7 @@ use Rattle.std.specs.Prelude.{◌≡◌, ℕ, ◌+◌, ◌≤◌, Bool, true, fa
 use Rattle.std.specs.Prelude.{slice_get, Option, Some, None, unwrap_or, IfSome}
 use Rattle.std.specs.List.{AllByRecursion}
 use Rattle.spec_document.specs.Document.{Document}
-use Rattle.spec_history.specs.Calls.{most_entries}
+use Rattle.spec_history.specs.declared.TheConstants.{MAX_ENTRIES}
 use Rattle.spec_history.specs.Machine as machine
 use Rattle.spec_history.specs.Machine.{Call, Reply, State, latest, document_at}
 use Rattle.spec_script.specs.Script as lines
@@ -53,7 +53,7 @@ is_wanted wanted version = unwrap_or (slice_get wanted version) false
 
 -- the version, if any, is wanted; no history has versions past these
 abbrev pub WantsIfAny : List Bool → Option ℕ → Type 0
-WantsIfAny wanted named = IfSome named (λ v. v ≤ most_entries → is_wanted wanted v ≡ true)
+WantsIfAny wanted named = IfSome named (λ v. v ≤ MAX_ENTRIES → is_wanted wanted v ≡ true)
 
 -- all that is wanted in the old table is wanted in the new one
 abbrev pub WantsMore : (old new : List Bool) → Type 0

@@ -7,7 +7,7 @@ use Rattle.spec_document.specs.Document.{Document}
 use Rattle.spec_document.specs.Limits.{AreBytes}
 use Rattle.spec_filters.specs.declared.FilterState.{FilterState}
 use Rattle.spec_cache.specs.Cache.{kept}
-use Rattle.spec_history.specs.Calls.{most_edits, most_entries}
+use Rattle.spec_history.specs.declared.TheConstants.{MAX_EDITS, MAX_ENTRIES}
 use Rattle.spec_history.specs.Machine.{Call, Reply, Saving}
 use Rattle.spec_history.specs.History.{Entry, replay, next_index, mine, is_changed}
 use Rattle.spec_script.specs.Script as lines
@@ -34,7 +34,7 @@ pub record MayGoOn (now : Now) : Type 0 where
   pub kept : IsKeptNow now
   pub versions : now.version < 2 ^ 31
   pub groups : now.next_group < 2 ^ 31
-  pub ids : HasIds (at_now now) most_edits
+  pub ids : HasIds (at_now now) MAX_EDITS
 
 -- The walk has come through these entries: they stand, just what has to be kept is kept, and it has counted the calls of each
 -- session, what each has seen, the version of the save that is out, and the versions that are wanted.
@@ -62,7 +62,7 @@ MayStand (Some out) w (lines.forget slot) false = Unit {0}
 pub record IsNextWord (s : Start) (o : Output) (earlier : List Entry) (w : OrderWord) : Type 0 where
   pub eight : w.session < 8
   pub index : w.end ≡ false → w.index ≡ next_index earlier w.session
-  pub few : w.end ≡ false → length earlier + entries_owed (replay s.base earlier).out + 2 ≤ most_entries
+  pub few : w.end ≡ false → length earlier + entries_owed (replay s.base earlier).out + 2 ≤ MAX_ENTRIES
   pub stands : MayStand (replay s.base earlier).out w (call_at s.scripts w) w.end
   pub line : IsNoCall (call_at s.scripts w) → call_at s.scripts w ≡ lines.save
   pub printable : is_save_memory (printed_at o.replies w).reply ≡ false

@@ -1,12 +1,11 @@
 //! The versions that printed peeks show.
 ghost use Rattle.std.specs.Prelude.{◌≡◌, ◌≤◌, true, [], length, OnOk, IfOk, Some, None, MatchOption};
-ghost use Rattle.spec_history.specs.Calls.{most_entries};
 ghost use Rattle.xl_audit.specs.Calls.{line_in};
 ghost use Rattle.xl_audit.specs.Versions.{version_named, is_wanted, WantsMore, WantsOfWord, AreWanted, share_at, with_share};
 ghost use Rattle.spec_audit.specs.Walk.{printed_at};
 
 use crate::calls::{SessionCalls, call_at};
-use spec_history::MOST_ENTRIES;
+use spec_history::MAX_ENTRIES;
 use std::alloc::{AllocError, Global};
 use xl_doc::Document;
 use xl_edit::{Call, Reply};
@@ -29,12 +28,12 @@ fn version_named(calls: &[SessionCalls], output: &Output, word: OrderWord) -> Op
 
 // Marks a version as wanted, if a history may have so many.
 fn want(wanted: &mut Vec<bool>, version: u32) -> Result<(), AllocError>
-    ensures this { OnOk result (version ≤ most_entries → is_wanted wanted.new.items version
+    ensures this { OnOk result (version ≤ MAX_ENTRIES → is_wanted wanted.new.items version
         ≡ true) }
     ensures others { OnOk result (WantsMore wanted.old.items wanted.new.items) }
 {
     let place = version as usize;
-    if place > MOST_ENTRIES {
+    if place > MAX_ENTRIES {
         return Ok(());
     }
     if place >= wanted.len() {

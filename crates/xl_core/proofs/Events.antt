@@ -8,7 +8,7 @@ use Rattle.spec_cache.specs.declared.Finished.{Finished}
 use Rattle.spec_cache.specs.Cache.{Cache, install, finish}
 use Rattle.spec_history.specs.Machine.{Saving, saved, latest}
 use Rattle.spec_history.specs.History.{Entry, starts, ends, next_index, replay}
-use Rattle.spec_history.specs.Calls.{most_entries}
+use Rattle.spec_history.specs.declared.TheConstants.{MAX_ENTRIES}
 use Rattle.spec_history.specs.Kept.{IsLegal}
 use Rattle.spec_history.proofs.Growing.{replay-snoc}
 use Rattle.spec_history.proofs.Versions.{latest_of-legal}
@@ -63,7 +63,7 @@ out_happens c session out there = λ jobs.
     happens_by jobs c (begins_save session) c w (ap (start_where c.history.base w session) (sym there)) refl refl
 
 none_free : {K : Type 0} (c : Editing K) (session : ℕ) → out_of c.history ≡ None
-    → most_entries < length c.history.entries + 2 → Happens c (begins_save session) c
+    → MAX_ENTRIES < length c.history.entries + 2 → Happens c (begins_save session) c
 none_free c session none full = λ jobs.
     let base = c.history.base in
     let w = world_with c jobs in
@@ -74,7 +74,7 @@ none_free c session none full = λ jobs.
     (sym (ap (λ b. cond b w (save_starts base w session)) test) ∙ ap (start_where base w session) (sym none)) refl refl
 
 -- nor where fewer than two entries are free
-pub full_happens : {K : Type 0} (c : Editing K) (session : ℕ) → most_entries < length c.history.entries + 2
+pub full_happens : {K : Type 0} (c : Editing K) (session : ℕ) → MAX_ENTRIES < length c.history.entries + 2
     → Happens c (begins_save session) c
 full_happens c session full = go (out_of c.history) refl
   where
@@ -84,7 +84,7 @@ full_happens c session full = go (out_of c.history) refl
 
 pub started_happens : {K : Type 0} (old new : Editing K) (session : ℕ) (k : K) (spare : ℕ)
     → IsLegal old.history.base old.history.entries → out_of old.history ≡ None
-    → length old.history.entries + 2 ≤ most_entries → new ≡ with_start old session k spare → Happens old (begins_save session) new
+    → length old.history.entries + 2 ≤ MAX_ENTRIES → new ≡ with_start old session k spare → Happens old (begins_save session) new
 started_happens old new session k spare legal none enough is = λ jobs.
     let base = old.history.base in
     let es = old.history.entries in

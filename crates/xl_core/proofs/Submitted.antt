@@ -6,7 +6,8 @@ use Rattle.std.proofs.lemmas.Bool.Decides.{nat_tests}
 use Rattle.spec_document.specs.Document.{Document}
 use Rattle.spec_history.specs.Machine as machine
 use Rattle.spec_history.specs.History.{asked, replay, next_index}
-use Rattle.spec_history.specs.Calls.{IsCall, most_entries}
+use Rattle.spec_history.specs.Calls.{IsCall}
+use Rattle.spec_history.specs.declared.TheConstants.{MAX_ENTRIES}
 use Rattle.spec_world.specs.World.{World, entries_owed, free_entries}
 use Rattle.spec_world.specs.Events as events
 use Rattle.spec_world.specs.Events.{Outcome}
@@ -79,7 +80,7 @@ pub submitted_answers : {K : Type 0} (old new : Editing K) (session : ℕ) (call
     → IsSubmitted old session call seen tables reply new → Answers old.history session call tables reply new.history
 submitted_answers old new session call seen tables reply built is =
     subst (λ b. MatchBool b full went)
-    (same_full most_entries (length old.history.entries + entries_owed (replay old.history.base old.history.entries).out))
+    (same_full MAX_ENTRIES (length old.history.entries + entries_owed (replay old.history.base old.history.entries).out))
     (go (free_entries (world old) == 0) is.1 is.2)
   where
     w : World

@@ -13,7 +13,7 @@ use Rattle.xl_ports.specs.State.{ShelfState}
 use Rattle.spec_saves.specs.Names.{version_out}
 use Rattle.spec_saves.specs.Shelf.{ShelfIsRight}
 use Rattle.spec_saves.specs.Returns.{Returns}
-use Rattle.spec_history.specs.Calls.{most_entries}
+use Rattle.spec_history.specs.declared.TheConstants.{MAX_ENTRIES}
 use Rattle.xl_standing.specs.History.{History, version, document}
 use Rattle.xl_standing.specs.Now.{world_of}
 use Rattle.xl_standing.specs.Places.{place_done}
@@ -161,10 +161,10 @@ Begins old session (Snapshot v d k) new =
     (v ≡ version old.history)
     × (d ≡ document old.history)
     × (old.shelf ≡ Some k)
-    × (length old.history.entries + 2 ≤ most_entries)
+    × (length old.history.entries + 2 ≤ MAX_ENTRIES)
     × (new ≡ with_start old session k new.spare)
 Begins old session Out new = (old.shelf ≡ None) × IsAsBefore old new
-Begins old session Full new = IsSome old.shelf × (most_entries < length old.history.entries + 2) × IsAsBefore old new
+Begins old session Full new = IsSome old.shelf × (MAX_ENTRIES < length old.history.entries + 2) × IsAsBefore old new
 
 -- A save ends with the version that it started with.
 abbrev pub Ends : {K : Type 0} → (old : Editing K) → (session : ℕ) → SaveEnd → K → Reply → (new : Editing K) → Type 0

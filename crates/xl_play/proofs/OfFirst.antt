@@ -5,7 +5,7 @@ use Rattle.std.specs.declared.alloc.Global.{Global}
 use Rattle.std.specs.List.{AllByRecursion}
 use Rattle.std.proofs.lemmas.List.{length-map}
 use Rattle.spec_filters.specs.declared.FilterState.{FilterState}
-use Rattle.spec_history.specs.Calls.{most_entries}
+use Rattle.spec_history.specs.declared.TheConstants.{MAX_ENTRIES}
 use Rattle.spec_script.specs.Script as script
 use Rattle.spec_script.specs.Fits.{AreFit, EachFit, FitsFilters, count_calls}
 use Rattle.spec_text.specs.Text.{calls_of}
@@ -55,7 +55,7 @@ first_count (lines ∷ lists) = let same = ap length (calls_are lines) in omega 
 
 -- there is room for their calls
 pub first_few : (counts : List ℕ) (lists : List (List script.Line)) (lines : List script.Line) → FitsFilters counts lists
-    → lines ≡ list_at lists 0 → 2 * length (calls_of lines) ≤ most_entries
+    → lines ≡ list_at lists 0 → 2 * length (calls_of lines) ≤ MAX_ENTRIES
 first_few counts lists lines fits own =
     let few = fits.few in
     let count = first_count lists in

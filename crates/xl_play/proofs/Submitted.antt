@@ -1,5 +1,5 @@
 -- What a call that is submitted leaves: one entry more, with the line that is printed for it.
-use Rattle.spec_history.specs.Calls.{most_entries}
+use Rattle.spec_history.specs.declared.TheConstants.{MAX_ENTRIES}
 use Rattle.std.proofs.Common.{◌≡◌, ℕ, ◌+◌, ◌≤◌, Bool, true, false, cond, List, [], ◌∷◌, ◌++◌, length, None, refl, ap, sym}
 use Rattle.std.proofs.Common.{◌∙◌, subst, arith, ne_eqb}
 use Rattle.std.specs.Prelude.{◌==◌, Option, Result, Ok, Err}
@@ -89,7 +89,7 @@ reply_shown h base w top seen tables bytes shows = refl
 
 -- two entries are free, and no save is out
 pub record HasRoom (h : History) : Type 0 where
-  pub free : length h.entries + 2 ≤ most_entries
+  pub free : length h.entries + 2 ≤ MAX_ENTRIES
   pub ended : (replay h.base h.entries).out ≡ None
 
 text_of : (seen : ℕ) (reply : code.Reply) → IsSaid seen (reply_of reply) → HasText reply

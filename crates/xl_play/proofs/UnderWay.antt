@@ -1,5 +1,5 @@
 -- The lines of session 0, of which some were played and some are left.
-use Rattle.spec_history.specs.Calls.{most_entries}
+use Rattle.spec_history.specs.declared.TheConstants.{MAX_ENTRIES}
 use Rattle.std.proofs.Common.{◌≡◌, ℕ, ◌+◌, ◌*◌, ◌≤◌, List, [], ◌∷◌, ◌++◌, length, refl, ap, sym, ◌∙◌, subst, arith}
 use Rattle.std.proofs.Common.{append_assoc, append-nil, length-append, eq-eqb, cond, map}
 use Rattle.std.specs.Prelude.{IsSome, Bool, true, false, ◌==◌, ◌&&◌, not, Option, Some}
@@ -224,8 +224,8 @@ module _ {D : Type 0} where
         (subst (λ (ls : List Line). AreFit (length filters) way.dropped (lines_of ls)) turn way.fit).0
 
     -- there is room for the entries of a line
-    pub under_way_free : 2 * length (calls_of (lines_of all)) ≤ most_entries
-        → length old.history.entries + 2 * length (calls_of (line_of line ∷ [])) ≤ most_entries
+    pub under_way_free : 2 * length (calls_of (lines_of all)) ≤ MAX_ENTRIES
+        → length old.history.entries + 2 * length (calls_of (line_of line ∷ [])) ≤ MAX_ENTRIES
     under_way_free room =
         let few = way.few in
         let split =

@@ -1,5 +1,6 @@
 //! The run of a script of session 0 alone, without threads.
-ghost use Rattle.spec_history.specs.Calls.{IsCall, most_entries};
+ghost use Rattle.spec_history.specs.Calls.{IsCall};
+ghost use Rattle.spec_history.specs.declared.TheConstants.{MAX_ENTRIES};
 ghost use Rattle.spec_history.specs.History.{next_index};
 ghost use Rattle.spec_history.specs.Machine.{Reply as Plain};
 ghost use Rattle.spec_history.specs.Limited.{edits_of};
@@ -67,7 +68,7 @@ fn play_call<L: Ledger, D: Shelf, G: Gate>(
         (string_bytes transcript.old.text) }
     requires inside { IsSome core.old.shelf }
     requires index { transcript.old.index ≡ next_index core.old.history.entries 0 }
-    requires few { length core.old.history.entries + 2 ≤ most_entries }
+    requires few { length core.old.history.entries + 2 ≤ MAX_ENTRIES }
     requires kept { KeepsExactly core.old }
     requires call { IsCall (call_of call) }
     requires there { AreThere (states_in state desk.old.chest) (edits_of (call_of call)) }
@@ -105,7 +106,7 @@ fn play_save<D: Shelf, G: Gate>(
     requires inside { IsSome core.old.shelf }
     requires selected { IsSome (D.shelf_state core.old.opening).selected }
     requires index { transcript.old.index ≡ next_index core.old.history.entries 0 }
-    requires few { length core.old.history.entries + 2 ≤ most_entries }
+    requires few { length core.old.history.entries + 2 ≤ MAX_ENTRIES }
     requires kept { KeepsExactly core.old }
     ensures between { IsBetweenLines core.old.history.base core.old.opening core.new }
     ensures saved { OnOk result ((reply : Plain)
@@ -143,7 +144,7 @@ fn play_line<L: Ledger, D: Shelf, G: Gate>(
     requires selected { IsSome (D.shelf_state core.old.opening).selected }
     requires index { transcript.old.index ≡ next_index core.old.history.entries 0 }
     requires few { length core.old.history.entries + 2 * length (calls_of (line_of line ∷ []))
-        ≤ most_entries }
+        ≤ MAX_ENTRIES }
     requires kept { KeepsExactly core.old }
     requires fit { FitsChest (states_in state desk.old.chest) (line_of line) }
     ensures between { IsBetweenLines core.old.history.base core.old.opening core.new }
@@ -192,7 +193,7 @@ fn play_lines<L: Ledger, D: Shelf, G: Gate>(
     requires selected { IsSome (D.shelf_state core.old.opening).selected }
     requires boxes { length boxes.items < 2 ^ 32 }
     requires fit { AreFit (length boxes.items) [] (lines_of lines.items) }
-    requires few { 2 * length (calls_of (lines_of lines.items)) ≤ most_entries }
+    requires few { 2 * length (calls_of (lines_of lines.items)) ≤ MAX_ENTRIES }
     ensures between { IsBetweenLines core.old.history.base core.old.opening core.new }
     ensures made { OnOk result (AreMade (map (λ b. state b) boxes.items) (lines_of lines.items)
         core.new.history.entries) }

@@ -1,5 +1,5 @@
 //! A save, from its start to its end.
-ghost use Rattle.spec_history.specs.Calls.{most_entries};
+ghost use Rattle.spec_history.specs.declared.TheConstants.{MAX_ENTRIES};
 ghost use Rattle.std.specs.Prelude.{◌≡◌, ◌+◌, ◌<◌, ◌≤◌, length, IfOk, OnOk, IsSome};
 ghost use Rattle.spec_history.specs.Kept.{IsLegal};
 ghost use Rattle.xl_edit.specs.Replies.{reply_of};
@@ -25,7 +25,7 @@ pub fn save_latest<D: Shelf>(
     requires inside { IsSome core.old.shelf }
     requires legal { IsLegal core.old.history.base core.old.history.entries }
     requires selected { IsSome (D.shelf_state core.old.opening).selected }
-    requires few { length core.old.history.entries + 2 ≤ most_entries }
+    requires few { length core.old.history.entries + 2 ≤ MAX_ENTRIES }
     requires kept { KeepsExactly core.old }
     ensures between { IsBetweenLines core.old.history.base core.old.opening core.new }
     ensures saved { IfOk result (λ reply. core.new.history ≡ with_save core.old.history session

@@ -2,7 +2,8 @@
 ghost use Rattle.std.specs.Prelude.{◌≡◌, ◌+◌, ◌*◌, ◌<◌, ◌≤◌, ◌^◌, true, [], ◌∷◌, None, length, map, option_map, IfOk, OnOk, IsSome};
 ghost use Rattle.std.specs.Prelude.{string_bytes};
 ghost use Rattle.std.specs.List.{AllByRecursion};
-ghost use Rattle.spec_history.specs.Calls.{IsCall, most_entries};
+ghost use Rattle.spec_history.specs.Calls.{IsCall};
+ghost use Rattle.spec_history.specs.declared.TheConstants.{MAX_ENTRIES};
 ghost use Rattle.spec_history.specs.History.{next_index};
 ghost use Rattle.spec_history.specs.Limited.{edits_of};
 ghost use Rattle.spec_script.specs.Fits.{AreFit, FitsFilters};
@@ -122,7 +123,7 @@ impl Viewing {
         requires size { IsWindowSize self.now.cols self.now.rows }
         requires inside { IsSome core.old.shelf }
         requires index { transcript.old.index ≡ next_index core.old.history.entries 0 }
-        requires few { length core.old.history.entries + 2 ≤ most_entries }
+        requires few { length core.old.history.entries + 2 ≤ MAX_ENTRIES }
         requires kept { KeepsExactly core.old }
         requires call { IsCall (call_of call) }
         requires there { AreThere (states_in state desk.old.chest) (edits_of (call_of call)) }
@@ -168,7 +169,7 @@ impl Viewing {
         requires inside { IsSome core.old.shelf }
         requires index { transcript.old.index ≡ next_index core.old.history.entries 0 }
         requires few { length core.old.history.entries + 2 * length (calls_of (line_of line ∷ []))
-            ≤ most_entries }
+            ≤ MAX_ENTRIES }
         requires kept { KeepsExactly core.old }
         requires fit { FitsChest (states_in state desk.old.chest) (line_of line) }
         requires viewed { IsViewedLine (line_of line) }
@@ -215,7 +216,7 @@ impl Viewing {
         requires inside { IsSome core.old.shelf }
         requires boxes { length boxes.items < 2 ^ 32 }
         requires fit { AreFit (length boxes.items) [] (lines_of lines.items) }
-        requires few { 2 * length (calls_of (lines_of lines.items)) ≤ most_entries }
+        requires few { 2 * length (calls_of (lines_of lines.items)) ≤ MAX_ENTRIES }
         requires viewed { AllByRecursion IsViewedLine (lines_of lines.items) }
 
         ensures between { IsBetweenLines core.old.history.base core.old.opening core.new }

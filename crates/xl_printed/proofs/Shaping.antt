@@ -7,7 +7,7 @@ use Rattle.std.proofs.lemmas.List.{drop_all}
 use Rattle.std.proofs.lemmas.Option.{unwrap_or-slice_get}
 use Rattle.spec_grid.specs.Rect.{count_from}
 use Rattle.spec_script.specs.Script as script
-use Rattle.spec_script.specs.Script.{most_calls}
+use Rattle.spec_script.specs.declared.TheConstants.{MAX_CALLS}
 use Rattle.spec_text.specs.Text.{calls_of}
 use Rattle.spec_audit.specs.Output.{Output, calls_for, call_counts, HasFewCalls, IsMerge, IsShaped}
 use Rattle.spec_audit.specs.Reading.{read_output}
@@ -116,7 +116,7 @@ short_from : (scripts : List (List script.Line)) (first n : ℕ) → first + n �
 short_from scripts first zero le few = tt
 short_from scripts first (suc n) le few =
     let l = length_saved (calls_for scripts first) in
-    let most : length (calls_for scripts first) ≤ most_calls = few first (omega (arith, le)) in
+    let most : length (calls_for scripts first) ≤ MAX_CALLS = few first (omega (arith, le)) in
     (omega (arith, l, most), short_from scripts (suc first) n (omega (arith, le)) few)
 
 pub are_short : (scripts : List (List script.Line)) → HasFewCalls scripts → AllByRecursion (λ s. length s < 2 ^ 32) (saves_of scripts)

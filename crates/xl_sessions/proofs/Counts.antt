@@ -5,9 +5,10 @@ use Rattle.std.proofs.lemmas.Bool.{lt-ltb, cases_lt}
 use Rattle.std.proofs.lemmas.List.Concat.{flat_map-cons}
 use Rattle.std.specs.List.{AllByRecursion, AllZip}
 use Rattle.spec_filters.specs.declared.FilterState.{FilterState}
-use Rattle.spec_history.specs.Calls.{most_entries}
+use Rattle.spec_history.specs.declared.TheConstants.{MAX_ENTRIES}
 use Rattle.spec_script.specs.Fits.{count_calls}
-use Rattle.spec_script.specs.Script.{Line, call, save, forget, list_at, most_calls}
+use Rattle.spec_script.specs.Script.{Line, call, save, forget, list_at}
+use Rattle.spec_script.specs.declared.TheConstants.{MAX_CALLS}
 use Rattle.spec_text.specs.Text.{calls_of}
 use Rattle.spec_text.proofs.CallsWithin.{calls_are}
 use Rattle.xl_filters.specs.declared.chest.Slot.{Slot}
@@ -113,7 +114,7 @@ module _ {X : Type 0} {H : X → Type 0} where
       omega (arith, here, rest, split)
 
   pub parts_few : (state : Slot X H → FilterState) (chests : List (List FilterState)) (lists : List (List Line))
-      (ps : List (SessionPart X H)) → AreBrought state chests lists 0 ps → count_calls lists ≤ most_calls → HaveFewCalls ps
+      (ps : List (SessionPart X H)) → AreBrought state chests lists 0 ps → count_calls lists ≤ MAX_CALLS → HaveFewCalls ps
   parts_few state chests lists ps brought few =
       let most = parts_from state chests lists 0 ps brought in omega (arith, most, few)
 
@@ -133,10 +134,10 @@ module _ {K : Type 0} {C : Ghosts (State K) (Moment K)} {X : Type 0} {H : X → 
   -- behind sessions that have made a entries, of b at most
   room_behind : (state : Slot X H → FilterState) (studio : Studio K) (a b whole most : ℕ) (parts : List (SessionPart X H))
       (players : List (Player (Seat K C) X H))
-      → a ≤ b → whole ≡ a + total count_of players → most ≡ b + total most_of parts → most ≤ most_entries
+      → a ≤ b → whole ≡ a + total count_of players → most ≡ b + total most_of parts → most ≤ MAX_ENTRIES
       → HavePlayed state studio parts players
       → AllByRecursion (λ (p : Player (Seat K C) X H). p.stopped ≡ Some HistoryFull
-      → (whole + 2 ≤ most_entries) × (most_entries < length (entries_in (front_of p.seat)) + 2)) players
+      → (whole + 2 ≤ MAX_ENTRIES) × (MAX_ENTRIES < length (entries_in (front_of p.seat)) + 2)) players
   room_behind state studio a b whole most [] [] le made is few played = tt
   room_behind state studio a b whole most [] (p ∷ players) le made is few played = absurd played
   room_behind state studio a b whole most (part ∷ parts) [] le made is few played = absurd played
@@ -167,7 +168,7 @@ module _ {K : Type 0} {C : Ghosts (State K) (Moment K)} {X : Type 0} {H : X → 
   pub not_full_each : (whole n : ℕ) (players : List (Player (Seat K C) X H)) → n ≤ whole
       → AllByRecursion (λ (p : Player (Seat K C) X H). length (entries_in (front_of p.seat)) ≤ n) players
       → AllByRecursion (λ (p : Player (Seat K C) X H). p.stopped ≡ Some HistoryFull
-      → (whole + 2 ≤ most_entries) × (most_entries < length (entries_in (front_of p.seat)) + 2)) players
+      → (whole + 2 ≤ MAX_ENTRIES) × (MAX_ENTRIES < length (entries_in (front_of p.seat)) + 2)) players
       → AllByRecursion (λ (p : Player (Seat K C) X H). IsNotFull p.stopped) players
   not_full_each whole n [] le fronts room = tt
   not_full_each whole n (p ∷ players) le fronts room = (

@@ -5,7 +5,7 @@ use Rattle.std.proofs.lemmas.Bool.{leb-true}
 use Rattle.std.specs.Prelude.{MatchBool, Result, Ok, Err, IfOk, IfErr, IsErrAnd, OnErr}
 use Rattle.spec_document.specs.Document.{Document}
 use Rattle.spec_filters.specs.declared.FilterState.{FilterState}
-use Rattle.spec_history.specs.Calls.{most_entries}
+use Rattle.spec_history.specs.declared.TheConstants.{MAX_ENTRIES}
 use Rattle.spec_history.specs.Machine.{Call, Reply, Saving, saved, save_fault, save_memory, history_full}
 use Rattle.spec_history.specs.History.{Entry, replay}
 use Rattle.spec_history.specs.Kept.{IsLegal}
@@ -37,10 +37,10 @@ owed_le None = omega arith
 owed_le (Some out) = omega arith
 
 no_room : (base : Document) (es : List Entry) → is_full (record { base = base; entries = es }) ≡ true
-    → most_entries < length es + 2
+    → MAX_ENTRIES < length es + 2
 no_room base es full =
-    let most : most_entries ≤ length es + entries_owed (replay base es).out =
-    leb-true most_entries (length es + entries_owed (replay base es).out) full in
+    let most : MAX_ENTRIES ≤ length es + entries_owed (replay base es).out =
+    leb-true MAX_ENTRIES (length es + entries_owed (replay base es).out) full in
     let owed = owed_le (replay base es).out in
     omega (arith, most, owed)
 
@@ -93,7 +93,7 @@ module _ {K : Type 0} where
       → IsLegal base (entries_in new.front) → reply ≡ history_full → FindsFull old new
   full_where true base session c tables reply old new entered test is legal so = record {
     none = heard_none old new is.2 0;
-    full = subst (λ (ms : List (Moment K)). most_entries < length (entries_in ms) + 2) (sym is.1)
+    full = subst (λ (ms : List (Moment K)). MAX_ENTRIES < length (entries_in ms) + 2) (sym is.1)
         (no_room base (entries_in entered) test);
   }
   full_where false base session c tables reply old new entered test is legal so =

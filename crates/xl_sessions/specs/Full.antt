@@ -1,6 +1,6 @@
 -- How many entries the lines of sessions make, and what is known where a session finds the history full.
 use Rattle.std.specs.Prelude.{◌≡◌, ℕ, ◌+◌, ◌*◌, ◌<◌, ◌≤◌, List, length, Option, Some}
-use Rattle.spec_history.specs.Calls.{most_entries}
+use Rattle.spec_history.specs.declared.TheConstants.{MAX_ENTRIES}
 use Rattle.spec_script.specs.Script.{Line}
 use Rattle.spec_text.specs.Text.{calls_of}
 use Rattle.xl_sessions.specs.declared.unplayed.Unplayed.{Unplayed}
@@ -24,9 +24,9 @@ module _ {K : Type 0} where
   -- no entry was made, since the history has no room for two: one for a call, and one that a save may owe
   pub record FindsFull (old new : Known K) : Type 0 where
     pub none : MakesAtMost 0 old new
-    pub full : most_entries < length (entries_in new.front) + 2
+    pub full : MAX_ENTRIES < length (entries_in new.front) + 2
 
   -- the history has no room for two entries, and the lines would have made two more than there are of the session
   pub record IsStoppedAtFull (lines : List Line) (known : Known K) : Type 0 where
     pub fewer : length known.made + 2 ≤ most_made lines
-    pub full : most_entries < length (entries_in known.front) + 2
+    pub full : MAX_ENTRIES < length (entries_in known.front) + 2

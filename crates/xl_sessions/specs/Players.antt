@@ -6,7 +6,7 @@ use Rattle.std.specs.List.{AllByRecursion, AllZip}
 use Rattle.std.specs.declared.alloc.Global.{Global}
 use mathlib.Core.List.{IsPrefix}
 use Rattle.spec_filters.specs.declared.FilterState.{FilterState}
-use Rattle.spec_history.specs.Calls.{most_entries}
+use Rattle.spec_history.specs.declared.TheConstants.{MAX_ENTRIES}
 use Rattle.spec_history.specs.History.{latest_of}
 use Rattle.spec_script.specs.Script.{Line}
 use Rattle.spec_script.specs.Fits.{AreFit}
@@ -77,7 +77,7 @@ module _ {X : Type 0} {H : X → Type 0} where
 
   -- they are no more than a history may have
   abbrev pub HaveFewCalls : List (SessionPart X H) → Type 0
-  HaveFewCalls ps = total most_of ps ≤ most_entries
+  HaveFewCalls ps = total most_of ps ≤ MAX_ENTRIES
 
   abbrev pub AreFitParts : (state : Slot X H → FilterState) → List (SessionPart X H) → Type 0
   AreFitParts state ps = FromFirst (IsFitPart state) 0 ps
@@ -180,7 +180,7 @@ module _ {K : Type 0} {C : Ghosts (State K) (Moment K)} {X : Type 0} {H : X → 
   LeaveRoom players =
       AllByRecursion
       (λ p. p.stopped ≡ Some HistoryFull
-      → (total count_of players + 2 ≤ most_entries) × (most_entries < length (entries_in (front_of p.seat)) + 2)) players
+      → (total count_of players + 2 ≤ MAX_ENTRIES) × (MAX_ENTRIES < length (entries_in (front_of p.seat)) + 2)) players
 
   -- ---- joined
 

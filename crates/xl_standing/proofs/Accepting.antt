@@ -8,7 +8,7 @@ use Rattle.spec_edit.specs.Apply.{At, Refused, apply_group}
 use Rattle.spec_filters.specs.declared.FilterState.{FilterState}
 use Rattle.spec_history.specs.Machine as machine
 use Rattle.spec_history.specs.Machine.{Call, State, latest, document_at, names, made, stays}
-use Rattle.spec_history.specs.Calls.{most_entries}
+use Rattle.spec_history.specs.declared.TheConstants.{MAX_ENTRIES}
 use Rattle.spec_history.specs.History.{Entry, is_changed, replay}
 use Rattle.spec_world.specs.World.{entries_owed}
 use Rattle.spec_tables.specs.Agrees.{IsPartUsed, IsPartAfter}
@@ -30,13 +30,13 @@ none_else false old new part = part
 -- so what is left where memory runs out is that of the history
 pub part_in_history : (base : Document) (entries : List Entry) (now : Now) (made : List ℕ) (call : Call)
     (old new : List (Option FilterState)) → Stands base entries now made
-    → length entries + entries_owed (replay base entries).out < most_entries → IsPartAfter (accepts now call) old new call
+    → length entries + entries_owed (replay base entries).out < MAX_ENTRIES → IsPartAfter (accepts now call) old new call
     → IsPartAfter (is_accepted (record { base = base; entries = entries }) call) old new call
 part_in_history base entries now made (machine.edit guard edits) old new stands few part =
     let s = replay base entries in
     let h : History = record { base = base; entries = entries } in
     let at : At = record { document = document_at base s (latest s); next = s.next_id } in
-    let room : nat_le most_entries (length entries + entries_owed s.out) ≡ false = grind (arith, nat_tests, few) in
+    let room : nat_le MAX_ENTRIES (length entries + entries_owed s.out) ≡ false = grind (arith, nat_tests, few) in
     let same : accepts now (machine.edit guard edits) ≡ is_accepted h (machine.edit guard edits) =
     ap (λ n. accepts n (machine.edit guard edits)) stands.is_now
     ∙ (changed_where s at edits (names guard (latest s)) (apply_group at edits [])

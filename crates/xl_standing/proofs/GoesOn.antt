@@ -19,7 +19,8 @@ use Rattle.spec_history.specs.Machine as machine
 use Rattle.spec_history.specs.Machine.{Call, Reply, latest, document_at, answer, has_stack}
 use Rattle.spec_history.specs.History as history
 use Rattle.spec_history.specs.History.{Entry, asked, replay, next_index, latest_of, document_of}
-use Rattle.spec_history.specs.Calls.{IsCall, most_entries}
+use Rattle.spec_history.specs.Calls.{IsCall}
+use Rattle.spec_history.specs.declared.TheConstants.{MAX_ENTRIES}
 use Rattle.spec_history.specs.Marks.{marks}
 use Rattle.spec_history.proofs.Canvas.{canvas-document}
 use Rattle.spec_history.proofs.Growing.{replay-snoc, next_index-snoc, out-answer}
@@ -118,7 +119,7 @@ pub record GoesOn (base : Document) (entries : List Entry) (now : Now) (made : L
       ≡ with_call base (world_of base entries now.cache) session call tables reply
 
 -- where there is room for an entry, some are free
-some-free : (base : Document) (w : World) → length w.entries + entries_owed w.state.out < most_entries
+some-free : (base : Document) (w : World) → length w.entries + entries_owed w.state.out < MAX_ENTRIES
     → (free_entries w == 0) ≡ false
 some-free base w few = let room : 0 < free_entries w = omega (arith, few) in grind (arith, nat_tests, room)
 
@@ -128,7 +129,7 @@ module _ (between : (base old new : Document)
   pub goes_on : (base : Document) (entries : List Entry) (now new : Now) (made : List ℕ) (session : ℕ) (call : Call) (seen : ℕ)
       (tables : List (List ℕ)) (reply : Reply)
       → Stands base entries now made → length made ≡ 8 → session < 8 → seen ≤ latest (replay base entries)
-      → length entries + entries_owed (replay base entries).out < most_entries → IsCall call
+      → length entries + entries_owed (replay base entries).out < MAX_ENTRIES → IsCall call
       → AllByRecursion AreBytes tables → Gives (response now call seen tables) reply new
       → GoesOn base entries now made session call seen tables reply new
   goes_on base entries now new made session call seen tables reply stands eight within seen_le few is_call bytes gives =
@@ -191,7 +192,7 @@ module _ (between : (base old new : Document)
 -- where there was room, the world after the call is the one that the call leads to
 pub submitted : (base : Document) (w : World) (session : ℕ) (call : Call) (seen : ℕ) (tables : List (List ℕ)) (reply : Reply)
     (new : World)
-    → length w.entries + entries_owed w.state.out < most_entries → reply ≡ reply_to base w call seen tables
+    → length w.entries + entries_owed w.state.out < MAX_ENTRIES → reply ≡ reply_to base w call seen tables
     → new ≡ with_call base w session call tables reply
     → (reply ≡ (submit base w session call seen tables).reply) × (new ≡ (submit base w session call seen tables).world)
 submitted base w session call seen tables reply new few says is =
@@ -208,7 +209,7 @@ submitted base w session call seen tables reply new few says is =
 
 -- where there was none, it stays
 pub refused-full : (base : Document) (w : World) (session : ℕ) (call : Call) (seen : ℕ) (tables : List (List ℕ))
-    → most_entries ≤ length w.entries + entries_owed w.state.out
+    → MAX_ENTRIES ≤ length w.entries + entries_owed w.state.out
     → (machine.history_full ≡ (submit base w session call seen tables).reply) × (w ≡ (submit base w session call seen tables).world)
 refused-full base w session call seen tables full_is =
     let full : Outcome = record { reply = machine.history_full; world = w } in

@@ -5,7 +5,7 @@ use Rattle.std.specs.Prelude.{◌==◌, ◌&&◌, not, slice_index, slice_set, O
 use Rattle.spec_document.specs.Document.{Document}
 use Rattle.spec_history.specs.Machine.{Reply, saved, save_fault, save_memory, Saving, latest}
 use Rattle.spec_history.specs.History.{Entry, starts, ends, replay, next_index, is_end_kind, is_changed, EndsWith, MayEnd}
-use Rattle.spec_history.specs.Calls.{most_entries}
+use Rattle.spec_history.specs.declared.TheConstants.{MAX_ENTRIES}
 use Rattle.spec_history.proofs.Growing.{replay-snoc, next_index-snoc}
 use Rattle.spec_world.specs.World.{entries_owed}
 use Rattle.xl_standing.specs.Now.{Now, now_of, Stands}
@@ -15,7 +15,7 @@ use Rattle.xl_standing.proofs.Pictures.{pictures-entry}
 -- a save starts with the last version
 pub stands_started : (base : Document) (entries : List Entry) (now : Now) (made : List ℕ) (session : ℕ)
     → Stands base entries now made → length made ≡ 8 → session < 8
-    → (replay base entries).out ≡ None → length entries + 2 ≤ most_entries
+    → (replay base entries).out ≡ None → length entries + 2 ≤ MAX_ENTRIES
     → Stands base (entries ++ record {
       session = session;
       index = slice_index made session;

@@ -15,7 +15,8 @@ use Rattle.spec_cache.specs.Cache.{Cache, kept}
 use Rattle.spec_history.specs.Machine as machine
 use Rattle.spec_history.specs.Machine.{Call, Reply, tile_of, no_stack, outside_tile, Answer, moved, not_top, top_group}
 use Rattle.spec_history.specs.Machine.{names, Cause, State, Done, latest, document_at, has_stack, made, again, answer}
-use Rattle.spec_history.specs.Machine.{undo_answer, redo_answer, most_undos}
+use Rattle.spec_history.specs.Machine.{undo_answer, redo_answer}
+use Rattle.spec_history.specs.declared.TheConstants.{MAX_UNDO}
 use Rattle.spec_history.specs.Chained.{Undoes, Redoes, IsThere, IsChained}
 use Rattle.spec_history.proofs.Growing.{Grows, grows_by, document_at-grows}
 use Rattle.spec_history.proofs.Versions.{IsWithin, IsSound}
@@ -149,10 +150,10 @@ module _ (between : (base old new : Document)
       let document : document_at base t (latest t) ≡ at.document = last-document base t s.documents at.document refl in
       let before : document_at base t (latest s) ≡ document_at base s (latest s) =
       document_at-grows base s t (latest s) later.grows (omega arith) in
-      let undo : map (undo_of base t) (take (most_undos - 1) s.undo) ≡ take (most_undos - 1) (map (undo_of base s) s.undo) =
-      same-undo base s t (take (most_undos - 1) s.undo) sound count later
-      (all-take (IsThere s) (most_undos - 1) s.undo ready.chained.undo_there)
-      ∙ sym (take-map (undo_of base s) (most_undos - 1) s.undo) in
+      let undo : map (undo_of base t) (take (MAX_UNDO - 1) s.undo) ≡ take (MAX_UNDO - 1) (map (undo_of base s) s.undo) =
+      same-undo base s t (take (MAX_UNDO - 1) s.undo) sound count later
+      (all-take (IsThere s) (MAX_UNDO - 1) s.undo ready.chained.undo_there)
+      ∙ sym (take-map (undo_of base s) (MAX_UNDO - 1) s.undo) in
       let version : latest t ≡ latest s + 1 = simp length-append (omega arith) in
       let after : document_at base t (latest s + 1) ≡ at.document = ap (document_at base t) (sym version) ∙ document in
       let place : latest s + 1 - 1 ≡ length s.causes = omega (arith, count) in
@@ -291,10 +292,10 @@ module _ (between : (base old new : Document)
       let after : document_at base t d.after ≡ document_at base s d.after =
       document_at-grows base s t d.after again.later.grows all.0.after in
       let damage = same-damage s t d.after again.later count there.0.later there.0.after in
-      let undo : map (undo_of base t) (take (most_undos - 1) s.undo) ≡ take (most_undos - 1) (map (undo_of base s) s.undo) =
-      same-undo base s t (take (most_undos - 1) s.undo) sound count again.later
-      (all-take (IsThere s) (most_undos - 1) s.undo ready.chained.undo_there)
-      ∙ sym (take-map (undo_of base s) (most_undos - 1) s.undo) in
+      let undo : map (undo_of base t) (take (MAX_UNDO - 1) s.undo) ≡ take (MAX_UNDO - 1) (map (undo_of base s) s.undo) =
+      same-undo base s t (take (MAX_UNDO - 1) s.undo) sound count again.later
+      (all-take (IsThere s) (MAX_UNDO - 1) s.undo ready.chained.undo_there)
+      ∙ sym (take-map (undo_of base s) (MAX_UNDO - 1) s.undo) in
       let redo : map (redo_of base t) ds ≡ map (redo_of base s) ds = same-redo base s t ds sound count again.later there.1 in
       let pictures = kept-follows base s t cache (redo_of base s d).1 ready from.0 again.document
       (ap damage_behind (sym again.behind)) again.version in

@@ -5,7 +5,8 @@ use Rattle.std.specs.Prelude.{reverse, Some, option_map, slice_get}
 use Rattle.std.proofs.lemmas.List.{take_at, take_all, take-append-drop, length-drop, reverse-append, reverse-reverse, length-reverse}
 use Rattle.std.proofs.lemmas.Bool.{cases_lt}
 use Rattle.spec_document.specs.Document.{Document}
-use Rattle.spec_history.specs.Machine.{push, most_undos}
+use Rattle.spec_history.specs.Machine.{push}
+use Rattle.spec_history.specs.declared.TheConstants.{MAX_UNDO}
 use Rattle.spec_history.proofs.Causes.{slice_get-last}
 use Rattle.xl_undo.specs.Trail.{newest}
 use Rattle.xl_standing.specs.Now.{top_of}
@@ -30,12 +31,12 @@ reverse-newest n xs = elim (cases_lt (length xs) n) as (λ _. reverse (newest n 
 ]
 
 -- a group comes last, and so on top
-pub reverse-pushed : {X : Type 0} (xs : List X) (x : X) → reverse (newest most_undos (xs ++ x ∷ [])) ≡ push x (reverse xs)
-reverse-pushed xs x = reverse-newest most_undos (xs ++ x ∷ []) ∙ ap (take most_undos) (reverse-append xs (x ∷ []))
+pub reverse-pushed : {X : Type 0} (xs : List X) (x : X) → reverse (newest MAX_UNDO (xs ++ x ∷ [])) ≡ push x (reverse xs)
+reverse-pushed xs x = reverse-newest MAX_UNDO (xs ++ x ∷ []) ∙ ap (take MAX_UNDO) (reverse-append xs (x ∷ []))
 
-pub newest-whole : {X : Type 0} (xs : List X) (x : X) → length xs < most_undos → newest most_undos (xs ++ x ∷ []) ≡ xs ++ x ∷ []
+pub newest-whole : {X : Type 0} (xs : List X) (x : X) → length xs < MAX_UNDO → newest MAX_UNDO (xs ++ x ∷ []) ≡ xs ++ x ∷ []
 newest-whole xs x room =
-    let none : length (xs ++ x ∷ []) - most_undos ≡ 0 = omega (arith, room, length-append xs (x ∷ [])) in
+    let none : length (xs ++ x ∷ []) - MAX_UNDO ≡ 0 = omega (arith, room, length-append xs (x ∷ [])) in
     ap (λ k. drop k (xs ++ x ∷ [])) none
 
 pub newest-few : {X : Type 0} (n : ℕ) (xs : List X) → (length (newest n xs) ≤ n) × (length (newest n xs) ≤ length xs)

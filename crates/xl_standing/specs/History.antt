@@ -6,7 +6,7 @@ use Rattle.spec_picture.specs.Picture.{project}
 use Rattle.spec_history.specs.Machine as machine
 use Rattle.spec_history.specs.Machine.{Call, Reply, answer}
 use Rattle.spec_world.specs.World.{entries_owed}
-use Rattle.spec_history.specs.Calls.{most_entries}
+use Rattle.spec_history.specs.declared.TheConstants.{MAX_ENTRIES}
 use Rattle.spec_history.specs.History.{Entry, asked, is_changed, replay, next_index, latest_of, document_of}
 use Rattle.spec_history.specs.Kept.{kept}
 
@@ -35,7 +35,7 @@ with_call h session call tables reply = record h {
 
 -- no entry is free beside the end that is owed where a save is out
 abbrev pub is_full : History → Bool
-is_full h = nat_le most_entries (length h.entries + entries_owed (replay h.base h.entries).out)
+is_full h = nat_le MAX_ENTRIES (length h.entries + entries_owed (replay h.base h.entries).out)
 
 -- The history is not full, and the machine answers the call by a change. It does so with no tables where it does with any
 -- (`acceptance_looks_at_no_table` of `spec_tables`).

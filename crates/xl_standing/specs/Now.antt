@@ -20,7 +20,7 @@ use Rattle.spec_history.specs.Machine.{tile_of, stale, no_stack, outside_tile, t
 use Rattle.spec_history.specs.Machine.{history_full, version_shown, names, push, Cause, State, Done, latest, document_at, has_stack}
 use Rattle.spec_history.specs.History.{Entry, replay, next_index}
 use Rattle.spec_history.specs.Kept.{IsLegal}
-use Rattle.spec_history.specs.Calls.{most_entries}
+use Rattle.spec_history.specs.declared.TheConstants.{MAX_ENTRIES}
 use Rattle.spec_world.specs.World.{World, entries_owed, stack_ids, add_stacks}
 use Rattle.spec_world.specs.Events.{peek_reply, show_slot}
 use Rattle.spec_world.specs.Standing.{IsStanding}
@@ -282,7 +282,7 @@ pub record Stands (base : Document) (entries : List Entry) (now : Now) (made : L
   pub within : IsDocument base
   pub small : AllByRecursion (λ id. id ≤ 2 ^ 31) (ids base.nodes)
   pub legal : IsLegal base entries
-  pub few : length entries + entries_owed (replay base entries).out ≤ most_entries
+  pub few : length entries + entries_owed (replay base entries).out ≤ MAX_ENTRIES
   pub is_now : now ≡ now_of base (replay base entries) now.cache
   pub groups : now.next_group ≤ length entries + 1
   pub indices : (session : ℕ) → session < 8 → slice_index made session ≡ next_index entries session

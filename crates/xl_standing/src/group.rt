@@ -7,7 +7,7 @@ ghost use Rattle.spec_document.specs.Limits.{AreBytes};
 ghost use Rattle.spec_edit.specs.Apply.{apply_group, is_filter, first_table};
 ghost use Rattle.spec_edit.specs.Edit.{IsEdit};
 ghost use Rattle.spec_edit.specs.Limited.{IsAt};
-ghost use Rattle.spec_history.specs.Calls.{most_edits};
+ghost use Rattle.spec_history.specs.declared.TheConstants.{MAX_EDITS};
 ghost use Rattle.spec_tables.specs.Acceptance.{filter_count, refused_in, slot_of};
 ghost use Rattle.spec_tables.specs.Agrees.{AreThere, AreAsked, IsPartUsed};
 ghost use Rattle.xl_standing.specs.Group.{HasIds, IsAppliedOne, AppliesGroup, IsRefusal, LeavesChest};
@@ -59,7 +59,7 @@ pub(crate) fn make_group(
     edits: &[Edit],
     chest: &mut Chest,
 ) -> Result<MadeGroup, GroupRefusedOrMemory>
-    requires few { length edits.now ≤ most_edits }
+    requires few { length edits.now ≤ MAX_EDITS }
     requires each { AllByRecursion IsEdit (edits_of edits.now) }
     requires ids { HasIds (at document.now next_id) (length edits.now) }
     requires there { AreThere (states_in state chest.old) (edits_of edits.now) }
@@ -93,7 +93,7 @@ fn check_group(
     edits: &[Edit],
     tables: Tables,
 ) -> Result<(), GroupRefusedOrMemory>
-    requires few { length edits.now ≤ most_edits }
+    requires few { length edits.now ≤ MAX_EDITS }
     requires each { AllByRecursion IsEdit (edits_of edits.now) }
     requires ids { HasIds (at document.now next_id) (length edits.now) }
     requires tables { length tables ≡ filter_count (edits_of edits.now) }
@@ -117,7 +117,7 @@ pub fn try_group(
     edits: &[Edit],
     tables: Tables,
 ) -> Result<MadeGroup, GroupRefusedOrMemory>
-    requires few { length edits.now ≤ most_edits }
+    requires few { length edits.now ≤ MAX_EDITS }
     requires each { AllByRecursion IsEdit (edits_of edits.now) }
     requires ids { HasIds (at document.now next_id) (length edits.now) }
     requires tables { length tables ≡ filter_count (edits_of edits.now) }
@@ -165,7 +165,7 @@ fn apply_group(
     tables: &[Table],
     damage: &mut Damage,
 ) -> Result<(), GroupRefusedOrMemory>
-    requires few { length edits.now ≤ most_edits }
+    requires few { length edits.now ≤ MAX_EDITS }
     requires each { AllByRecursion IsEdit (edits_of edits.now) }
     requires ids { HasIds (at document.old next_id.old) (length edits.now) }
     requires tables { length tables.now ≡ filter_count (edits_of edits.now) }

@@ -20,7 +20,7 @@ pub use bytes::know_table;
 pub use desk::Desk;
 pub use group::{GroupRefusedOrMemory, MadeGroup, try_group};
 pub use next_id::next_id_of;
-pub use spec_history::MOST_ENTRIES;
+pub use spec_history::MAX_ENTRIES;
 pub use standing::Standing;
 pub use step::Step;
 pub use tile::{has_stack, has_tile};

@@ -5,7 +5,8 @@ ghost use Rattle.std.specs.List.{AllByRecursion};
 ghost use Rattle.spec_cache.specs.Cache.{no_slots, is_clean, kept, next_place, after_take, finish, install};
 ghost use Rattle.spec_document.specs.Limits.{AreBytes, IsDocument};
 ghost use Rattle.spec_edit.specs.Edit.{IsEdit};
-ghost use Rattle.spec_history.specs.Calls.{IsCall, most_edits};
+ghost use Rattle.spec_history.specs.Calls.{IsCall};
+ghost use Rattle.spec_history.specs.declared.TheConstants.{MAX_EDITS};
 ghost use Rattle.spec_history.specs.Limited as limited;
 ghost use Rattle.spec_history.specs.Machine as machine;
 ghost use Rattle.spec_tables.specs.Agrees.{AreThere, AreAsked, IsPartAfter};
@@ -63,7 +64,7 @@ impl Model for Standing {
     ghost use Rattle.std.specs.Prelude.{◌+◌, ◌≤◌, length, reverse};
     ghost use Rattle.std.specs.Coded.{codes};
     ghost use Rattle.spec_document.specs.Code.{coded_document};
-    ghost use Rattle.spec_history.specs.Machine.{most_undos};
+    ghost use Rattle.spec_history.specs.declared.TheConstants.{MAX_UNDO};
     ghost use Rattle.xl_standing.specs.Now.{Now};
     ghost use Rattle.xl_standing.specs.Steps.{Lead};
 
@@ -82,7 +83,7 @@ impl Model for Standing {
     } };
 
     ghost invariant = { λ s. Lead s.document (reverse s.undo) × Lead s.document (reverse s.redo)
-        × (length s.undo + length s.redo ≤ most_undos) };
+        × (length s.undo + length s.redo ≤ MAX_UNDO) };
 }
 
 impl Standing {
@@ -141,7 +142,7 @@ impl Standing {
             (limited.edits_of (call_of call.now)) }
         requires versions { self.old.version < 2 ^ 31 }
         requires groups { self.old.next_group < 2 ^ 31 }
-        requires ids { HasIds (at_now self.old) most_edits }
+        requires ids { HasIds (at_now self.old) MAX_EDITS }
         ensures response { IfOk result
             (λ a. Gives (response self.old (call_of call.now) seen a.tables) (reply_of a.reply)
             self.new) }
@@ -195,13 +196,13 @@ impl Standing {
         edits: &[Edit],
         chest: &mut Chest,
     ) -> Result<Answered, AllocError>
-        requires few { length edits.now ≤ most_edits }
+        requires few { length edits.now ≤ MAX_EDITS }
         requires each { AllByRecursion IsEdit (edits_of edits.now) }
         requires there { AreThere (states_in state chest.old) (edits_of edits.now) }
         requires kept { IsKeptNow self.old }
         requires versions { self.old.version < 2 ^ 31 }
         requires groups { self.old.next_group < 2 ^ 31 }
-        requires ids { HasIds (at_now self.old) most_edits }
+        requires ids { HasIds (at_now self.old) MAX_EDITS }
         ensures response { IfOk result
             (λ a. Gives (edited self.old guard (edits_of edits.now) a.tables) (reply_of a.reply)
             self.new) }

@@ -11,7 +11,7 @@ use Rattle.spec_history.specs.Machine as machine
 use Rattle.spec_history.specs.Machine.{Call, Reply, tile_of, stale, history_full, State, latest}
 use Rattle.spec_history.specs.History.{Entry, Kind, asked, starts, ends, replay, latest_of}
 use Rattle.spec_history.specs.Kept.{IsFreshReply, IsLegal}
-use Rattle.spec_history.specs.Calls.{most_entries}
+use Rattle.spec_history.specs.declared.TheConstants.{MAX_ENTRIES}
 use Rattle.spec_history.proofs.Growing.{cond_both, replay-snoc}
 use Rattle.spec_history.proofs.Seen.{fresh-answer}
 use Rattle.spec_history.proofs.Versions.{latest_of-legal}
@@ -105,7 +105,7 @@ module _ {K : Type 0} where
       let es : entries_in (moments_of old) ≡ old.history.entries =
       entries-moments old.history.base old.opening old.handed old.history.entries in
       let full : (free_entries (world old) == 0) ≡ is_full (record { base = old.history.base; entries = old.history.entries }) =
-      none_free most_entries _ in
+      none_free MAX_ENTRIES _ in
       let P : List Entry → Type 0 = λ entries. MatchBool (is_full (record { base = old.history.base; entries = entries }))
       ((reply ≡ history_full) × (moments_of new ≡ moments_of old))
       (moments_of new ≡ moments_of old ++ Made (called_entry entries session call tables reply) None ∷ []) in
@@ -167,7 +167,7 @@ module _ {K : Type 0} where
     rebased = ap (λ (b : Document). (replay b new.history.entries).out) base
 
   pub kept_after : (old new : Editing K) → IsKept old → IsRight new.history.base (world new)
-      → length new.history.entries ≤ most_entries → new.history.base ≡ old.history.base → KeepsShelf old new
+      → length new.history.entries ≤ MAX_ENTRIES → new.history.base ≡ old.history.base → KeepsShelf old new
       → AddsCalls (moments_of old) (moments_of new) → IsKept new
   kept_after old new kept right few base keeps adds = record {
     right = right;

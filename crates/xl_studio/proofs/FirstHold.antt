@@ -4,7 +4,7 @@ use Rattle.std.proofs.Common.{Option, Some, None, refl, sym, ap, ◌∙◌, subs
 use Rattle.std.specs.Prelude.{Result, Ok, Err, IfOk, OnErr}
 use mathlib.Core.List.{IsPrefix}
 use Rattle.spec_document.specs.Document.{Document}
-use Rattle.spec_history.specs.Calls.{most_entries}
+use Rattle.spec_history.specs.declared.TheConstants.{MAX_ENTRIES}
 use Rattle.spec_history.specs.Machine.{history_full}
 use Rattle.spec_history.specs.History.{Entry, starts}
 use Rattle.spec_history.specs.Kept.{IsLegal}
@@ -135,7 +135,7 @@ module _ {K : Type 0} where
     heard : left ≡ moments_of held → HasHeard old new
     heard same = has_heard old new start (moments_of held) (moments_of held) left refl begins same is grown
 
-    no_room : left ≡ moments_of held → most_entries < length (entries_in (moments_of held)) + 2
+    no_room : left ≡ moments_of held → MAX_ENTRIES < length (entries_in (moments_of held)) + 2
         → out_of (history_of held.history.base (moments_of held)) ≡ None → FoundNoRoom held.history.base history_full old new
     no_room same few none =
         let h : HasHeard old new = heard same in

@@ -6,7 +6,7 @@ use Rattle.std.proofs.lemmas.List.Sums.{sum_by-cons}
 use Rattle.spec_document.specs.Document.{Document}
 use Rattle.spec_history.specs.Machine.{Reply, State}
 use Rattle.spec_history.specs.History.{Entry, Kind, asked, starts, ends}
-use Rattle.spec_history.specs.Calls.{most_entries}
+use Rattle.spec_history.specs.declared.TheConstants.{MAX_ENTRIES}
 use Rattle.spec_history.proofs.Causes.{slice_get-front, slice_get-last}
 use Rattle.spec_history.proofs.Growing.{replay-snoc}
 use Rattle.spec_world.specs.declared.SaveEnd.{SaveEnd}
@@ -123,7 +123,7 @@ module _ {K : Type 0} where
       (adds_end old new session how k reply ended)
 
   pub kept_after_end : (old new : Editing K) (session : ℕ) (how : SaveEnd) (k : K) (reply : Reply) → IsKept old
-      → IsRight new.history.base (world new) → length new.history.entries ≤ most_entries
+      → IsRight new.history.base (world new) → length new.history.entries ≤ MAX_ENTRIES
       → Ends old session how k reply new → IsKept new
   kept_after_end old new session how k reply kept right few ended = record {
     right = right;

@@ -2,7 +2,7 @@
 use Rattle.std.specs.Prelude.{◌≡◌, ◌⊎◌, ℕ, ◌+◌, ◌<◌, ◌≤◌, false, List, [], ◌∷◌, ◌++◌, length, Some, None}
 use mathlib.Core.List.{IsPrefix}
 use Rattle.spec_document.specs.Document.{Document}
-use Rattle.spec_history.specs.Calls.{most_entries}
+use Rattle.spec_history.specs.declared.TheConstants.{MAX_ENTRIES}
 use Rattle.spec_history.specs.Machine as machine
 use Rattle.spec_history.specs.Machine.{Reply}
 use Rattle.spec_history.specs.History.{Entry, ends, next_index, latest_of}
@@ -30,7 +30,7 @@ pub record FoundNoRoom {K : Type 0} (base : Document) (reply : Reply) (old new :
   pub reply_is : reply ≡ machine.history_full
   pub begins : IsPrefix old.front new.front
   pub made : new.made ≡ old.made
-  pub few : most_entries < length (entries_in new.front) + 2
+  pub few : MAX_ENTRIES < length (entries_in new.front) + 2
   pub none_out : out_of (history_of base new.front) ≡ None
 
 -- The save started after some history that begins with what the seat knew and has room for two entries, and the shelf was
@@ -49,7 +49,7 @@ pub record IsWhole {K : Type 0} (see : K
   pub how : SaveEnd
   pub back : K
   pub begins : IsPrefix old.front entered
-  pub room : length (entries_in entered) + 2 ≤ most_entries
+  pub room : length (entries_in entered) + 2 ≤ MAX_ENTRIES
   pub calls : AreAsked (entries_in between)
   pub right : ShelfIsRight (see opening) base (entries_in entered) (see shelf)
   pub returns : Returns (see opening) (see shelf) base (entries_in entered

@@ -1,6 +1,6 @@
 -- What lies under the lock, as contracts see it.
 use Rattle.std.specs.Prelude.{◌≡◌, ◌≤◌, Bool, List, length, None, IsSome}
-use Rattle.spec_history.specs.Calls.{most_entries}
+use Rattle.spec_history.specs.declared.TheConstants.{MAX_ENTRIES}
 use Rattle.spec_world.specs.Right.{IsRight}
 use Rattle.spec_saves.specs.Names.{saves_started}
 use Rattle.xl_core.specs.Editing.{Editing, world, out_of}
@@ -16,7 +16,7 @@ pub record State (K : Type 0) : Type 0 where
 -- in no save is out
 pub record IsKept {K : Type 0} (c : Editing K) : Type 0 where
   pub right : IsRight c.history.base (world c)
-  pub few : length c.history.entries ≤ most_entries
+  pub few : length c.history.entries ≤ MAX_ENTRIES
   pub each_start : length c.handed ≡ saves_started c.history.entries
   pub shelf_in : IsSome c.shelf → out_of c.history ≡ None
 

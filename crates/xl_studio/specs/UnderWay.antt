@@ -2,7 +2,7 @@
 use Rattle.std.specs.Prelude.{◌≡◌, ℕ, ◌+◌, ◌<◌, ◌≤◌, List, [], ◌∷◌, ◌++◌, length, Some, None, IsSome}
 use mathlib.Core.List.{IsPrefix}
 use Rattle.spec_document.specs.Document.{Document}
-use Rattle.spec_history.specs.Calls.{most_entries}
+use Rattle.spec_history.specs.declared.TheConstants.{MAX_ENTRIES}
 use Rattle.spec_history.specs.Machine.{Reply, history_full}
 use Rattle.spec_history.specs.Kept.{IsLegal}
 use Rattle.spec_world.specs.declared.SaveEnd.{SaveEnd}
@@ -32,10 +32,10 @@ module _ {K : Type 0} where
       → Type 0
   AddsStart base entered session (Snapshot v d k) left =
       (left ≡ entered ++ Made (start_of (history_of base entered) session) (Some k) ∷ [])
-      × (length (entries_in entered) + 2 ≤ most_entries)
+      × (length (entries_in entered) + 2 ≤ MAX_ENTRIES)
   AddsStart base entered session Out left = left ≡ entered
   AddsStart base entered session Full left =
-      (left ≡ entered) × (most_entries < length (entries_in entered) + 2) × (out_of (history_of base entered) ≡ None)
+      (left ≡ entered) × (MAX_ENTRIES < length (entries_in entered) + 2) × (out_of (history_of base entered) ≡ None)
 
   -- the last version's document is handed out, with a shelf that is right and has a name selected
   abbrev pub Hands : (see : K → ShelfState) → (old : Editing K) → Begun K → Type 0
@@ -66,7 +66,7 @@ module _ {K : Type 0} where
     pub out : IsUnderWay base session shelf new
     pub begins : IsPrefix old.front out.entered
     pub made : new.made ≡ old.made ++ length (entries_in out.entered) ∷ []
-    pub room : length (entries_in out.entered) + 2 ≤ most_entries
+    pub room : length (entries_in out.entered) + 2 ≤ MAX_ENTRIES
     pub snapshot : d ≡ document (history_of base out.entered)
     pub right : ShelfIsRight (see opening) base (entries_in out.entered) (see shelf)
     pub selected : IsSome (see shelf).selected

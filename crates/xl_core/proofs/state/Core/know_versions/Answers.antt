@@ -1,7 +1,7 @@
 use Rattle.std.proofs.Common.{ℕ, ◌≤◌, List, length, subst, arith}
 use Rattle.spec_document.specs.Document.{Document}
 use Rattle.spec_document.specs.Limits.{IsDocument}
-use Rattle.spec_history.specs.Calls.{most_entries}
+use Rattle.spec_history.specs.declared.TheConstants.{MAX_ENTRIES}
 use Rattle.spec_history.specs.History.{Entry, document_of}
 use Rattle.spec_history.proofs.CallsHaveEdits.{calls_have_edits, calls_are_short}
 use Rattle.spec_history.proofs.VersionsLimited.{short_version}
@@ -13,7 +13,7 @@ each_within : (base : Document) (entries : List Entry) (now : Now) (made : List 
     → IsDocument (document_of base entries number)
 each_within base entries now made stands number =
     let kept = stands.few in
-    let few : length entries ≤ most_entries = omega arith in
+    let few : length entries ≤ MAX_ENTRIES = omega arith in
     short_version base entries number stands.within stands.small (calls_have_edits entries stands.legal.calls)
     (calls_are_short entries stands.legal.calls) few
 

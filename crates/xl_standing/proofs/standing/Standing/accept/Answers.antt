@@ -2,7 +2,8 @@
 use Rattle.std.proofs.Common.{◌≡◌, ◌+◌, ◌-◌, ◌≤◌, [], ◌∷◌, ◌++◌, length, take, arith, sym, ◌∙◌, ap, subst}
 use Rattle.std.specs.Prelude.{reverse}
 use Rattle.spec_document.specs.Document.{Document}
-use Rattle.spec_history.specs.Machine.{push, most_undos}
+use Rattle.spec_history.specs.Machine.{push}
+use Rattle.spec_history.specs.declared.TheConstants.{MAX_UNDO}
 use Rattle.xl_edit.specs.Applied.{at}
 use Rattle.xl_edit.specs.Replies.{reply_of}
 use Rattle.xl_marks.specs.Change.{Change, change_between, gone_along}
@@ -19,17 +20,17 @@ undo_is c = ap reverse c.push-oldest.ensures.list ∙ reverse-pushed c.self.insi
 pub invariant_of-self : goal.invariant_of-self
 invariant_of-self c =
     let d = c.replace-before.new.dest in
-    let rest = take (most_undos - 1) (reverse c.self.inside.undo) in
+    let rest = take (MAX_UNDO - 1) (reverse c.self.inside.undo) in
     let to : c.back-back.result.to ≡ c.self.inside.document =
     ap (λ (s : Step). s.to) c.back-back.ensures ∙ c.replace-before.ensures.value in
-    let size : length c.push-oldest.new.self ≤ most_undos =
-    subst (λ xs. length xs ≤ most_undos) (sym c.push-oldest.ensures.list)
-    (newest-few most_undos (c.self.inside.undo ++ (c.self.inside.next_group, c.back-back.result) ∷ [])).0 in
+    let size : length c.push-oldest.new.self ≤ MAX_UNDO =
+    subst (λ xs. length xs ≤ MAX_UNDO) (sym c.push-oldest.ensures.list)
+    (newest-few MAX_UNDO (c.self.inside.undo ++ (c.self.inside.next_group, c.back-back.result) ∷ [])).0 in
     let none = ap length c.clear.ensures in (
       subst (Lead d) (sym (undo_is c)) (
         ap (λ (s : Step). s.from) c.back-back.ensures,
         subst (λ (x : Document). Lead x rest) (sym to)
-            (lead-take c.self.inside.document (most_undos - 1) (reverse c.self.inside.undo) c.self.invariant.0),
+            (lead-take c.self.inside.document (MAX_UNDO - 1) (reverse c.self.inside.undo) c.self.invariant.0),
       ),
       subst (λ xs. Lead d (reverse xs)) (sym c.clear.ensures) tt,
       omega (arith, size, none),
