@@ -157,11 +157,16 @@ line_of_byte text byte = 1 + count_by (λ b. b == 10) (take byte text)
 abbrev pub start : (chests : List ℕ) → Parsed
 start chests = record { sessions = map (λ s. blank (unwrap_or (slice_get chests s) 0)) (count_from 0 8); calls = 0 }
 
--- The lines of each of the eight sessions, or the refused line. chests are the numbers of their filters.
-abbrev pub script : (text : List ℕ) → (chests : List ℕ) → Result (List (List Line)) ℕ
-script text chests =
-    let parsed = closed (take_lines 1 (lines_of text) (start chests)) in
+-- The lines of each of the eight sessions, or the refused line, where the lines of the text are taken as `as_taken` says. chests are the
+-- numbers of the sessions' filters. A text that is too long is refused whatever is in it.
+abbrev pub script_of : (as_taken : List (List ℕ) → List (List ℕ)) → (text : List ℕ) → (chests : List ℕ) → Result (List (List Line)) ℕ
+script_of as_taken text chests =
+    let parsed = closed (take_lines 1 (as_taken (lines_of text)) (start chests)) in
     if nat_le (length text) MAX_SCRIPT_BYTES then parsed else Err (line_of_byte text MAX_SCRIPT_BYTES)
+
+-- a script, whose lines are taken as they are
+abbrev pub script : (text : List ℕ) → (chests : List ℕ) → Result (List (List Line)) ℕ
+script text chests = script_of (λ lines. lines) text chests
 
 abbrev pub is_call : Line → Bool
 is_call (call c) = true
