@@ -11,8 +11,8 @@ use xl_read::{FILE_LIMIT, ReadRefusedOrMemory, decode};
 /// The document that a file holds, from the file's bytes, its nodes numbered from 1. Its tiles stay in these bytes and
 /// are unpacked as they are looked at.
 ///
-/// Errors: `Refused` with the first rule that the file breaks and its offset, `TooLong` for more than `FILE_LIMIT`
-/// bytes, `Memory`.
+/// Errors: `Refused` with the first rule that the file breaks and its offset, `TooLong` for more than 2^31 bytes,
+/// `Memory`.
 pub fn open(alloc: Global, file: Vec<u8>) -> Result<Document, NotOpened>
     ensures opens { Opens file.items (λ document. document) result }
     ensures numbered { IfOk result (λ document. AreNumbered document.nodes) }
