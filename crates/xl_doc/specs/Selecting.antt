@@ -1,11 +1,7 @@
 -- Selections over a canvas.
-use Rattle.std.specs.Prelude.{◌≡◌, ℕ, ℤ, pos, negsuc, ◌≤ℤ◌, if◌then◌else◌}
+use Rattle.std.specs.Prelude.{ℕ, ℤ, pos, negsuc, ◌≤ℤ◌, if◌then◌else◌}
 use Rattle.spec_grid.specs.Rect.{has_point, part_above_0, sheet}
 use Rattle.spec_document.specs.Plane.{Plane, byte_at}
-
--- the sides of the canvas
-abbrev pub IsOver : (width height : ℕ) → Plane → Type 0
-IsOver width height plane = (plane.width ≡ width) × (plane.height ≡ height)
 
 -- the byte of a plane at a point, and 0 outside it
 abbrev pub byte_or_0 : Plane → (x y : ℤ) → ℕ
