@@ -10,7 +10,7 @@ use xl_undo::{Record, record};
 const LAYER: NodeId = NodeId(1);
 
 // Makes an edit of the image. The documents before and after it.
-fn documents_round(alloc: Global, edit: Edit) -> Result<(Document, Document), AllocError> {
+fn documents_around(alloc: Global, edit: Edit) -> Result<(Document, Document), AllocError> {
     let mut edits = Edits::new(alloc);
     edits.push(edit)?;
     let mut image = match Image::open(alloc, TWO.as_slice().to_vec(alloc)?) {
@@ -26,7 +26,7 @@ fn documents_round(alloc: Global, edit: Edit) -> Result<(Document, Document), Al
 
 // How many tiles the record keeps that leads back from an edit.
 fn tiles_kept_after(alloc: Global, edit: Edit) -> Result<u32, AllocError> {
-    let (before, after) = documents_round(alloc, edit)?;
+    let (before, after) = documents_around(alloc, edit)?;
     Ok(Record::new(before, &after).tiles_kept())
 }
 
@@ -86,7 +86,7 @@ fn a_layer_that_goes_keeps_all_its_tiles(rt: HostRuntime) -> Result<(), Fail> {
 
 // How many layers there are after an edit, once a record has led back from it, and once it has led there again.
 fn layers_along(alloc: Global, edit: Edit) -> Result<(u32, u32, u32), AllocError> {
-    let (before, after) = documents_round(alloc, edit)?;
+    let (before, after) = documents_around(alloc, edit)?;
     let mut way = record(alloc, &before, &after)?;
     let mut document = after;
     let edited = document.tree.len();
