@@ -8,6 +8,8 @@ mod filters;
 #[cfg(test)]
 mod hierarchies;
 #[cfg(test)]
+mod in_runs;
+#[cfg(test)]
 mod jobs;
 #[cfg(test)]
 mod kept;
@@ -15,3 +17,5 @@ mod kept;
 mod planes;
 #[cfg(test)]
 mod rows;
+#[cfg(test)]
+mod sheets;

@@ -1,0 +1,356 @@
+//! A plane whose tiles stand in a file in runs, and what is written over them.
+ghost use Rattle.std.specs.Prelude.{◌≡◌, ◌*◌, ◌<◌, length, IfOk};
+ghost use Rattle.xl_tiles.specs.Written.{IsWithin};
+
+use std::alloc::{AllocError, Global};
+use std::sync::Arc;
+use std::test::Fail;
+use xl_hier::{Plane, read_hierarchy};
+use xl_tiles::{Rect, SCRATCH, TileAt};
+
+/// The hierarchy of 100 by 70 pixels of two bytes, and its level at 20, with four tiles from 48 on.
+const FRONT: [u8; 48] = [
+    0, 0, 0, 100, 0, 0, 0, 70, 0, 0, 0, 2, 0, 0, 0, 20, 0, 0, 0, 0, // hierarchy
+    0, 0, 0, 100, 0, 0, 0, 70, 0, 0, 0, 48, 0, 0, 0, 61, 0, 0, 0, 74, 0, 0, 0, 87, 0, 0, 0, 0,
+];
+
+/// The codes of the tiles, row by row. The second byte of all pixels of a tile is the same.
+const CODES: [[u8; 13]; 4] = [
+    // 64 by 64: the first 63 rows are 10, and the last is 11 but for its last two pixels.
+    [127, 15, 192, 10, 61, 11, 254, 12, 13, 127, 16, 0, 14],
+    // 36 by 64: the first 63 rows are 20, and the last is 23 but for its first two pixels.
+    [127, 8, 220, 20, 254, 21, 22, 33, 23, 127, 9, 0, 24],
+    // 64 by 6: the first row is 30 but for its last two pixels, and the others are 33.
+    [61, 30, 254, 31, 32, 127, 1, 64, 33, 127, 1, 128, 34],
+    // 36 by 6: the first row is 42 but for its first two pixels, and the others are 43.
+    [254, 40, 41, 33, 42, 127, 0, 180, 43, 127, 0, 216, 44],
+];
+
+/// The pixels of columns 62 to 65 of rows 62 to 65, which are those round the corner of the four tiles.
+const AS_READ: [u8; 32] = [
+    10, 14, 10, 14, 20, 24, 20, 24, //
+    12, 14, 13, 14, 21, 24, 22, 24, //
+    31, 34, 32, 34, 40, 44, 41, 44, //
+    33, 34, 33, 34, 43, 44, 43, 44,
+];
+
+/// The same with a pixel of each tile written.
+const WITH_CORNER: [u8; 32] = [
+    10, 14, 10, 14, 20, 24, 20, 24, //
+    12, 14, 101, 102, 103, 104, 22, 24, //
+    31, 34, 105, 106, 107, 108, 41, 44, //
+    33, 34, 33, 34, 43, 44, 43, 44,
+];
+
+/// The same with two columns of three rows written over that, of the two tiles on the left.
+const WITH_BOTH: [u8; 32] = [
+    111, 112, 113, 114, 20, 24, 20, 24, //
+    115, 116, 117, 118, 103, 104, 22, 24, //
+    119, 120, 121, 122, 107, 108, 41, 44, //
+    33, 34, 33, 34, 43, 44, 43, 44,
+];
+
+fn file(alloc: Global) -> Result<Vec<u8>, AllocError> {
+    let mut file = FRONT.as_slice().to_vec(alloc)?;
+    for codes in &CODES {
+        file.extend_from_slice(codes)?;
+    }
+    Ok(file)
+}
+
+/// The plane of the file. One of other sides is answered as out of memory, and so fails the test.
+fn plane_in_runs(alloc: Global) -> Result<Plane, AllocError>
+    ensures width { IfOk result (λ p. p.width ≡ 100) }
+    ensures height { IfOk result (λ p. p.height ≡ 70) }
+    ensures bpp { IfOk result (λ p. p.bpp ≡ 2) }
+{
+    let file = Arc::new(alloc, file(alloc)?)?;
+    match read_hierarchy(alloc, &file, 0, 100, 70, 2, 1) {
+        Ok(plane) => {
+            if plane.width() == 100 && plane.height() == 70 && plane.bpp() == 2 {
+                Ok(plane)
+            } else {
+                Err(AllocError)
+            }
+        }
+        Err(_) => Err(AllocError),
+    }
+}
+
+/// Writes a rectangle of a plane, whose sides stay.
+fn write(alloc: Global, plane: &mut Plane, rect: Rect, bytes: &[u8]) -> Result<(), AllocError>
+    requires within { IsWithin plane.old.width plane.old.height rect }
+    requires bytes { length bytes.now ≡ rect.w * rect.h * plane.old.bpp }
+    ensures width { plane.new.width ≡ plane.old.width }
+    ensures height { plane.new.height ≡ plane.old.height }
+    ensures bpp { plane.new.bpp ≡ plane.old.bpp }
+{
+    plane.write_rect(alloc, rect, bytes)
+}
+
+/// Writes a pixel of each tile, at their corner.
+fn write_corner(alloc: Global, plane: &mut Plane) -> Result<(), AllocError>
+    requires width { plane.old.width ≡ 100 }
+    requires height { plane.old.height ≡ 70 }
+    requires bpp { plane.old.bpp ≡ 2 }
+    ensures width { plane.new.width ≡ 100 }
+    ensures height { plane.new.height ≡ 70 }
+    ensures bpp { plane.new.bpp ≡ 2 }
+{
+    let rect = Rect {
+        x: 63,
+        y: 63,
+        w: 2,
+        h: 2,
+    };
+    write(
+        alloc,
+        plane,
+        rect,
+        &[101, 102, 103, 104, 105, 106, 107, 108],
+    )
+}
+
+/// Writes two columns of three rows, with the corner of the two tiles on the left.
+fn write_columns(alloc: Global, plane: &mut Plane) -> Result<(), AllocError>
+    requires width { plane.old.width ≡ 100 }
+    requires height { plane.old.height ≡ 70 }
+    requires bpp { plane.old.bpp ≡ 2 }
+    ensures width { plane.new.width ≡ 100 }
+    ensures height { plane.new.height ≡ 70 }
+    ensures bpp { plane.new.bpp ≡ 2 }
+{
+    let rect = Rect {
+        x: 62,
+        y: 62,
+        w: 2,
+        h: 3,
+    };
+    write(
+        alloc,
+        plane,
+        rect,
+        &[111, 112, 113, 114, 115, 116, 117, 118, 119, 120, 121, 122],
+    )
+}
+
+/// Writes a pixel of the first tile alone.
+fn write_inside(alloc: Global, plane: &mut Plane) -> Result<(), AllocError>
+    requires width { plane.old.width ≡ 100 }
+    requires height { plane.old.height ≡ 70 }
+    requires bpp { plane.old.bpp ≡ 2 }
+    ensures width { plane.new.width ≡ 100 }
+    ensures height { plane.new.height ≡ 70 }
+    ensures bpp { plane.new.bpp ≡ 2 }
+{
+    let rect = Rect {
+        x: 62,
+        y: 63,
+        w: 1,
+        h: 1,
+    };
+    write(alloc, plane, rect, &[1, 2])
+}
+
+// The pixels round the corner.
+fn around(plane: &Plane) -> [u8; 32]
+    requires width { plane.now.width ≡ 100 }
+    requires height { plane.now.height ≡ 70 }
+    requires bpp { plane.now.bpp ≡ 2 }
+{
+    let rect = Rect {
+        x: 62,
+        y: 62,
+        w: 4,
+        h: 4,
+    };
+    let mut scratch = [0; SCRATCH];
+    let mut out = [0; 32];
+    plane.read_rect(rect, &mut out, &mut scratch);
+    out
+}
+
+// The same pixels of row 63.
+fn row_63(plane: &Plane) -> [u8; 8]
+    requires width { plane.now.width ≡ 100 }
+    requires height { plane.now.height ≡ 70 }
+    requires bpp { plane.now.bpp ≡ 2 }
+{
+    let mut scratch = [0; SCRATCH];
+    let mut out = [0; 8];
+    plane.read_row(62, 63, 4, &mut out, &mut scratch);
+    out
+}
+
+// The same pixels of row 64, byte by byte.
+fn row_64(plane: &Plane) -> [u8; 8]
+    requires width { plane.now.width ≡ 100 }
+    requires height { plane.now.height ≡ 70 }
+    requires bpp { plane.now.bpp ≡ 2 }
+{
+    [
+        plane.get(62, 64, 0),
+        plane.get(62, 64, 1),
+        plane.get(63, 64, 0),
+        plane.get(63, 64, 1),
+        plane.get(64, 64, 0),
+        plane.get(64, 64, 1),
+        plane.get(65, 64, 0),
+        plane.get(65, 64, 1),
+    ]
+}
+
+// How many bytes a tile has, and four of them from a place on.
+fn part_of(plane: &Plane, at: TileAt, from: usize) -> (usize, [Option<u8>; 4])
+    requires column { at.col < 2 }
+    requires row { at.row < 2 }
+    requires place { from < 8192 }
+    requires width { plane.now.width ≡ 100 }
+    requires height { plane.now.height ≡ 70 }
+{
+    let mut scratch = [0; SCRATCH];
+    let bytes = plane.tile_bytes(at, &mut scratch);
+    (
+        bytes.len(),
+        [
+            bytes.get(from).copied(),
+            bytes.get(from + 1).copied(),
+            bytes.get(from + 2).copied(),
+            bytes.get(from + 3).copied(),
+        ],
+    )
+}
+
+// The two pixels round the corner that each tile has, two bytes each: the last ones of its last row, the first ones of
+// that, the last ones of its first row, the first ones of that.
+fn tile_parts(plane: &Plane) -> [(usize, [Option<u8>; 4]); 4]
+    requires width { plane.now.width ≡ 100 }
+    requires height { plane.now.height ≡ 70 }
+{
+    [
+        part_of(plane, TileAt { col: 0, row: 0 }, 8188),
+        part_of(plane, TileAt { col: 1, row: 0 }, 4536),
+        part_of(plane, TileAt { col: 0, row: 1 }, 124),
+        part_of(plane, TileAt { col: 1, row: 1 }, 0),
+    ]
+}
+
+// Whether the codes that a writer may copy of a tile are these. None where it may copy none.
+fn has_codes(plane: &Plane, at: TileAt, codes: &[u8]) -> Result<Option<bool>, AllocError>
+    requires column { at.col < 2 }
+    requires row { at.row < 2 }
+    requires width { plane.now.width ≡ 100 }
+    requires height { plane.now.height ≡ 70 }
+{
+    match plane.tile_codes(at)? {
+        Some(found) => Ok(Some(found.as_slice() == codes)),
+        None => Ok(None),
+    }
+}
+
+// The same of all tiles, and their codes in the file.
+fn have_codes(plane: &Plane) -> Result<[Option<bool>; 4], AllocError>
+    requires width { plane.now.width ≡ 100 }
+    requires height { plane.now.height ≡ 70 }
+{
+    Ok([
+        has_codes(plane, TileAt { col: 0, row: 0 }, &CODES[0])?,
+        has_codes(plane, TileAt { col: 1, row: 0 }, &CODES[1])?,
+        has_codes(plane, TileAt { col: 0, row: 1 }, &CODES[2])?,
+        has_codes(plane, TileAt { col: 1, row: 1 }, &CODES[3])?,
+    ])
+}
+
+#[test]
+fn tiles_in_runs_are_read(rt: HostRuntime) -> Result<(), Fail> {
+    let plane = plane_in_runs(rt.alloc())?;
+    assert_eq!(rt; around(&plane), AS_READ);
+    assert_eq!(rt; row_63(&plane), [12, 14, 13, 14, 21, 24, 22, 24]);
+    assert_eq!(rt; row_64(&plane), [31, 34, 32, 34, 40, 44, 41, 44]);
+    assert_eq!(rt;
+        tile_parts(&plane),
+        [
+            (8192, [Some(12), Some(14), Some(13), Some(14)]),
+            (4608, [Some(21), Some(24), Some(22), Some(24)]),
+            (768, [Some(31), Some(34), Some(32), Some(34)]),
+            (432, [Some(40), Some(44), Some(41), Some(44)]),
+        ]
+    );
+    Ok(())
+}
+
+#[test]
+fn a_write_is_laid_over_four_tiles(rt: HostRuntime) -> Result<(), Fail> {
+    let alloc = rt.alloc();
+    let mut plane = plane_in_runs(alloc)?;
+    write_corner(alloc, &mut plane)?;
+    assert_eq!(rt; around(&plane), WITH_CORNER);
+    assert_eq!(rt; row_63(&plane), [12, 14, 101, 102, 103, 104, 22, 24]);
+    assert_eq!(rt; row_64(&plane), [31, 34, 105, 106, 107, 108, 41, 44]);
+    assert_eq!(rt;
+        tile_parts(&plane),
+        [
+            (8192, [Some(12), Some(14), Some(101), Some(102)]),
+            (4608, [Some(103), Some(104), Some(22), Some(24)]),
+            (768, [Some(31), Some(34), Some(105), Some(106)]),
+            (432, [Some(107), Some(108), Some(41), Some(44)]),
+        ]
+    );
+    Ok(())
+}
+
+#[test]
+fn a_second_write_is_laid_over_the_first(rt: HostRuntime) -> Result<(), Fail> {
+    let alloc = rt.alloc();
+    let mut plane = plane_in_runs(alloc)?;
+    write_corner(alloc, &mut plane)?;
+    write_columns(alloc, &mut plane)?;
+    assert_eq!(rt; around(&plane), WITH_BOTH);
+    assert_eq!(rt; row_63(&plane), [115, 116, 117, 118, 103, 104, 22, 24]);
+    assert_eq!(rt; row_64(&plane), [119, 120, 121, 122, 107, 108, 41, 44]);
+    assert_eq!(rt;
+        tile_parts(&plane),
+        [
+            (8192, [Some(115), Some(116), Some(117), Some(118)]),
+            (4608, [Some(103), Some(104), Some(22), Some(24)]),
+            (768, [Some(119), Some(120), Some(121), Some(122)]),
+            (432, [Some(107), Some(108), Some(41), Some(44)]),
+        ]
+    );
+    Ok(())
+}
+
+// The shares are taken as it is read, and behind the first write.
+#[test]
+fn shares_stay_as_they_were_taken(rt: HostRuntime) -> Result<(), Fail> {
+    let alloc = rt.alloc();
+    let mut plane = plane_in_runs(alloc)?;
+    let first = plane.share(alloc)?;
+    write_corner(alloc, &mut plane)?;
+    let second = plane.share(alloc)?;
+    write_columns(alloc, &mut plane)?;
+    assert_eq!(rt; around(&second), WITH_CORNER);
+    assert_eq!(rt; around(&first), AS_READ);
+    write_columns(alloc, &mut plane)?;
+    assert_eq!(rt; around(&plane), WITH_BOTH);
+    assert_eq!(rt; row_63(&first), [12, 14, 13, 14, 21, 24, 22, 24]);
+    assert_eq!(rt; have_codes(&first)?, [Some(true); 4]);
+    Ok(())
+}
+
+#[test]
+fn a_tile_that_is_written_has_no_codes(rt: HostRuntime) -> Result<(), Fail> {
+    let alloc = rt.alloc();
+    let mut plane = plane_in_runs(alloc)?;
+    assert_eq!(rt; have_codes(&plane)?, [Some(true); 4]);
+    write_inside(alloc, &mut plane)?;
+    assert_eq!(rt; row_63(&plane), [1, 2, 13, 14, 21, 24, 22, 24]);
+    assert_eq!(rt;
+        have_codes(&plane)?,
+        [None, Some(true), Some(true), Some(true)]
+    );
+    write_corner(alloc, &mut plane)?;
+    assert_eq!(rt; row_63(&plane), [1, 2, 101, 102, 103, 104, 22, 24]);
+    assert_eq!(rt; have_codes(&plane)?, [None; 4]);
+    Ok(())
+}
