@@ -26,6 +26,7 @@ pub(crate) enum Ask {
     Top,
     Edit(Change),
     Undo,
+    Redo,
     /// The tile of the image.
     Tile,
     /// The tile of the image, as it is kept.
@@ -57,6 +58,7 @@ fn reply_to<W: Wait, D: Shelf, L: Ledger>(
             studio.edit(rt, alloc, seat, session, group, desk, steps)
         }
         Ask::Undo => studio.undo(rt, alloc, seat, session, None, desk, steps),
+        Ask::Redo => studio.redo(rt, alloc, seat, session, desk, steps),
         Ask::Tile => studio.tile(rt, alloc, seat, session, IMAGE, TILE, desk, steps),
         Ask::Peek => studio.peek(rt, alloc, seat, session, IMAGE, TILE, desk, steps),
     }

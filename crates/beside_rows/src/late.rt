@@ -101,8 +101,8 @@ fn ask<W: Wait, D: Shelf>(
     ask_for(rt, alloc, studio, seat, 0, ask)
 }
 
-// Makes calls of a session. The first reply that is another.
-fn first_wrong<W: Wait, D: Shelf>(
+/// Makes calls of a session. The first reply that is another.
+pub(crate) fn first_wrong<W: Wait, D: Shelf>(
     rt: &W,
     alloc: Global,
     studio: &Studio<D>,

@@ -1,3 +1,4 @@
+use crate::again::edit_again;
 use crate::beside::{Done, Part, Task};
 use crate::calls::Ask;
 use crate::edits::Change;
@@ -130,5 +131,12 @@ fn a_tile_is_refreshed(rt: HostRuntime) -> Result<(), Fail> {
             true
         )
     );
+    Ok(())
+}
+
+// The group that was undone is made again, once.
+#[test]
+fn an_edit_is_made_again(rt: HostRuntime) -> Result<(), Fail> {
+    assert_eq!(rt; edit_again(&rt, rt.alloc())?, None);
     Ok(())
 }
