@@ -4,7 +4,7 @@ use Rattle.xl_read.proofs.Paths.{leads, leads_not, long_not}
 use Rattle.xl_read.proofs.layer.check_path.Goals as goal
 use Rattle.spec_document.specs.declared.numbers.TheConstants.{ITEM_PATH}
 
-pub returns-then-path-clause-rule : goal.returns-then-path-ge-MAX_DEPTH-clause-rule
+pub returns-then-path-clause-rule : goal.returns-then-path-clause-rule
 returns-then-path-clause-rule c =
     long_not c.args.draft.now c.args.head.now c.parent-path.result.now c.path_place.result c.refuse.result
     (c.parent-path.ensures ∙ ap (λ h. path_to h.props.list) c.head.view_is)
