@@ -354,3 +354,28 @@ fn a_tile_that_is_written_has_no_codes(rt: HostRuntime) -> Result<(), Fail> {
     assert_eq!(rt; have_codes(&plane)?, [None; 4]);
     Ok(())
 }
+
+// Which tiles stand plain.
+fn are_plain(plane: &Plane) -> Result<[bool; 4], AllocError>
+    requires width { plane.now.width ≡ 100 }
+    requires height { plane.now.height ≡ 70 }
+{
+    Ok([
+        plane.plain_tile(TileAt { col: 0, row: 0 })?.is_some(),
+        plane.plain_tile(TileAt { col: 1, row: 0 })?.is_some(),
+        plane.plain_tile(TileAt { col: 0, row: 1 })?.is_some(),
+        plane.plain_tile(TileAt { col: 1, row: 1 })?.is_some(),
+    ])
+}
+
+#[test]
+fn a_tile_is_unpacked_by_the_second_write(rt: HostRuntime) -> Result<(), Fail> {
+    let alloc = rt.alloc();
+    let mut plane = plane_in_runs(alloc)?;
+    assert_eq!(rt; are_plain(&plane)?, [false; 4]);
+    write_corner(alloc, &mut plane)?;
+    assert_eq!(rt; are_plain(&plane)?, [false; 4]);
+    write_columns(alloc, &mut plane)?;
+    assert_eq!(rt; are_plain(&plane)?, [true, false, true, false]);
+    Ok(())
+}
