@@ -1,11 +1,14 @@
-//! One session: a file is opened, edited by a group, looked at, put on a shelf, and taken back to what it was.
+//! One session: a file is opened, edited by a group, looked at, put on a shelf, and taken back to what it was and forth
+//! again. Then it is opened as an image without a history, whose colours a filter inverts.
 #![tactic(auto)]
 
 use sha2::{Digest, Sha256};
 use std::alloc::{AllocError, Global};
 use std::process::ExitCode;
 use std::{fs, io};
-use xcf::{Bytes, Edit, Editor, Edits, NodeId, Rect, TileAt, save, tile};
+use xcf::{
+    Bytes, Document, Edit, Editor, Edits, FilterKind, Image, NodeId, Rect, TileAt, save, tile,
+};
 use xl_fakes::MemoryShelf;
 use xl_ports::{Failed, Shelf};
 
@@ -14,14 +17,15 @@ const IMAGE: NodeId = NodeId(0);
 
 const LAYER: NodeId = NodeId(1);
 
+const PIXEL: Rect = Rect {
+    x: 0,
+    y: 0,
+    w: 1,
+    h: 1,
+};
+
 // The layer is half opaque, and its pixel another.
 fn fade_and_fill(alloc: Global) -> Result<Edits, AllocError> {
-    let rect = Rect {
-        x: 0,
-        y: 0,
-        w: 1,
-        h: 1,
-    };
     let pixel = Bytes::from_slice(alloc, &[10, 20, 30, 255])?;
     let mut edits = Edits::new(alloc);
     edits.push(Edit::SetOpacity {
@@ -30,7 +34,7 @@ fn fade_and_fill(alloc: Global) -> Result<Edits, AllocError> {
     })?;
     edits.push(Edit::Fill {
         id: LAYER,
-        rect,
+        rect: PIXEL,
         pixel,
     })?;
     Ok(edits)
@@ -49,16 +53,21 @@ fn undo(rt: &HostRuntime, editor: &mut Editor) -> io::Result<()> {
     println!(rt; "{reply:?}")
 }
 
-fn show_pixels(rt: &HostRuntime, version: u32, pixels: &[u8]) -> io::Result<()> {
+fn redo(rt: &HostRuntime, editor: &mut Editor) -> io::Result<()> {
+    let reply = editor.redo(rt.alloc())?;
+    println!(rt; "{reply:?}")
+}
+
+fn show_pixels(rt: &HostRuntime, pixels: &[u8]) -> io::Result<()> {
     let text = hex::encode(rt.alloc(), pixels)?;
-    println!(rt; "version {version} tile {text}")
+    println!(rt; "tile {text}")
 }
 
 // Shows the first tile of the image, RGBA, row by row.
-fn show(rt: &HostRuntime, editor: &Editor) -> io::Result<()> {
+fn show(rt: &HostRuntime, document: &Document) -> io::Result<()> {
     let at = TileAt { col: 0, row: 0 };
-    match tile(rt.alloc(), editor.document(), IMAGE, at) {
-        Ok(picture) => show_pixels(rt, editor.version(), picture.bytes()),
+    match tile(rt.alloc(), document, IMAGE, at) {
+        Ok(picture) => show_pixels(rt, picture.bytes()),
         Err(flaw) => println!(rt; "not shown: {flaw}"),
     }
 }
@@ -88,10 +97,12 @@ fn keep(rt: &HostRuntime, editor: &Editor) -> io::Result<()> {
 
 fn go_on(rt: &HostRuntime, editor: &mut Editor) -> io::Result<()> {
     edit(rt, editor)?;
-    show(rt, editor)?;
+    show(rt, editor.document())?;
     keep(rt, editor)?;
     undo(rt, editor)?;
-    show(rt, editor)
+    show(rt, editor.document())?;
+    redo(rt, editor)?;
+    show(rt, editor.document())
 }
 
 fn try_session(rt: &HostRuntime) -> io::Result<()> {
@@ -102,8 +113,28 @@ fn try_session(rt: &HostRuntime) -> io::Result<()> {
     }
 }
 
+fn invert(rt: &HostRuntime, image: &mut Image) -> io::Result<()> {
+    match image.filter(rt.alloc(), LAYER, PIXEL, FilterKind::Invert, 0) {
+        Ok(()) => show(rt, image.document()),
+        Err(flaw) => println!(rt; "not filtered: {flaw}"),
+    }
+}
+
+fn try_image(rt: &HostRuntime) -> io::Result<()> {
+    let file = fs::read(rt, "one.xcf")?;
+    match Image::open(rt.alloc(), file) {
+        Ok(mut image) => invert(rt, &mut image),
+        Err(flaw) => println!(rt; "not opened: {flaw}"),
+    }
+}
+
+fn try_both(rt: &HostRuntime) -> io::Result<()> {
+    try_session(rt)?;
+    try_image(rt)
+}
+
 fn main(rt: HostRuntime) -> ExitCode {
-    match try_session(&rt) {
+    match try_both(&rt) {
         Ok(()) => ExitCode::SUCCESS,
         Err(_) => ExitCode::FAILURE,
     }
