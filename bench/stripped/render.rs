@@ -5,9 +5,9 @@ use std::io::{Read, Write};
 use std::marker::PhantomData;
 use xl_blend::{fade_row, fade_row_by, mode_of, Mode, Pixel, Plain, Steps};
 use xl_compose::{bytes::write_row, lay::lay_part, own::own_row};
-use xl_tiles::block::{Block, Spot};
-use xl_tiles::planes::join_block;
-use xl_tiles::run_length::planes_at;
+use xl_tile::block::{Block, Spot};
+use xl_tile::planes::join_block;
+use xl_tile::run_length::planes_at;
 
 const CLEAR: Pixel = Pixel { r: 0, g: 0, b: 0, a: 0 };
 

@@ -24,7 +24,7 @@ stripped spec_blend 'none'
 stripped spec_rle 'none'
 stripped xl_blend 'tests|count'
 stripped xl_rle 'lib|coder|greedy|tests'
-python3 "$here/strip.py" "$top" "$out" xl_tiles join block planes area run_length rows
+python3 "$here/strip.py" "$top" "$out" xl_tile join block planes run_length rows
 python3 "$here/strip.py" "$top" "$out" xl_compose own lay bytes
 
 # a counter of steps that is a number
@@ -43,7 +43,7 @@ sed -i 's/use std::sync::ledger::Ledger;/use crate::count::Ledger;/' "$out"/xl_b
 sed -i '1i #![feature(portable_simd)]' "$out/xl_blend/lib.rs"
 sed -i '/^mod tests;/d; /cfg(test)/d; s/pub use count::Steps;/pub use count::{Ledger, Plain, Steps};/' "$out/xl_blend/lib.rs"
 sed -i 's/use std::sync::ledger::Ledger;/use xl_blend::Ledger;/' "$out"/xl_compose/*.rs
-mkdir -p "$out/xl_fields" "$out/xl_grid"
+mkdir -p "$out/xl_fields"
 cat > "$out/xl_fields/lib.rs" <<'TEXT'
 #[derive(Clone, Copy, Debug)]
 pub enum Kind { Truncated, BadRun }
@@ -51,20 +51,16 @@ pub enum Kind { Truncated, BadRun }
 pub struct ReadRefused { pub kind: Kind, pub at: usize }
 pub fn refuse(kind: Kind, at: usize) -> ReadRefused { ReadRefused { kind, at } }
 TEXT
-cat > "$out/xl_grid/lib.rs" <<'TEXT'
-pub struct Rect { pub x: i32, pub y: i32, pub w: u32, pub h: u32 }
-pub fn tiles_along(side: usize) -> usize { side.div_ceil(64) }
-TEXT
 rm -f "$out/xl_rle/lib.rs"
 modules=$(cd "$out/xl_rle" && ls | sed 's/\.rs$//')
 { for module in $modules; do echo "mod $module;"; done; echo 'pub use check::check_plane; pub use decode::decode_plane;'; } > "$out/xl_rle/lib.rs"
-echo 'pub mod join; pub mod block; pub mod planes; pub mod area; pub mod run_length; pub mod rows;' > "$out/xl_tiles/lib.rs"
+echo 'pub mod join; pub mod block; pub mod planes; pub mod run_length; pub mod rows;' > "$out/xl_tile/lib.rs"
 echo 'pub mod own; pub mod lay; pub mod bytes;' > "$out/xl_compose/lib.rs"
 
 export RUSTC_BOOTSTRAP=1 # for vectors
 flags="-L $out --edition 2021 -A warnings -C opt-level=3 -C target-cpu=x86-64-v2 -C debuginfo=1"
 libraries=
-for crate in spec_blend spec_rle xl_fields xl_grid xl_blend xl_rle xl_tiles xl_compose; do
+for crate in spec_blend spec_rle xl_fields xl_blend xl_rle xl_tile xl_compose; do
     rustc $flags $libraries --crate-type rlib --crate-name "$crate" "$out/$crate/lib.rs" -o "$out/lib$crate.rlib"
     libraries="$libraries --extern $crate=$out/lib$crate.rlib"
 done

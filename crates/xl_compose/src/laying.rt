@@ -7,7 +7,7 @@ ghost use Rattle.xl_compose.specs.Levels.{AreIn, AreShown, IsIn, IsLaid, points}
 ghost use Rattle.xl_compose.specs.Neat.{IsNeat};
 ghost use Rattle.xl_compose.specs.Pieces.{kept_pixel, weight, weights};
 ghost use Rattle.spec_grid.specs.declared.TheConstants.{MAX_SIDE};
-ghost use Rattle.xl_tiles.specs.declared.tile.TheConstants.{SCRATCH};
+ghost use Rattle.xl_tile.specs.declared.tile.TheConstants.{SCRATCH};
 
 use crate::lay::lay_part;
 use crate::own::own_row;

@@ -117,7 +117,7 @@ pub struct Composer {
 impl Model for Composer {
     ghost use Rattle.std.specs.Prelude.{◌≡◌, ◌+◌, ◌*◌, vec_len};
     ghost use Rattle.xl_compose.specs.Depth.{Reach};
-    ghost use Rattle.xl_tiles.specs.declared.tile.TheConstants.{SCRATCH};
+    ghost use Rattle.xl_tile.specs.declared.tile.TheConstants.{SCRATCH};
 
     ghost Value = { Reach };
 

@@ -10,7 +10,7 @@ ghost use Rattle.xl_compose.specs.Laid.{pixel};
 ghost use Rattle.xl_compose.specs.Source.{sheet_source};
 ghost use Rattle.xl_compose.specs.Neat.{IsNeat};
 ghost use Rattle.spec_grid.specs.declared.TheConstants.{MAX_SIDE};
-ghost use Rattle.xl_tiles.specs.declared.tile.TheConstants.{SCRATCH};
+ghost use Rattle.xl_tile.specs.declared.tile.TheConstants.{SCRATCH};
 
 use crate::lay::lay_part;
 use crate::source::{LaidLayer, lay_layer};

@@ -9,7 +9,7 @@ use Rattle.spec_document.proofs.PlaneLemmas.{index-bytes_over}
 use Rattle.spec_edit.specs.Effect.{mixed}
 use Rattle.xl_tiles.specs.Area.{bytes_in}
 use Rattle.xl_tiles.specs.Block.{byte_after}
-use Rattle.xl_tiles.proofs.Tables.{length_over}
+use Rattle.xl_tiles.proofs.Points.{length_over}
 use Rattle.xl_edit.specs.Filling.{AreRows}
 use Rattle.xl_edit.proofs.Weights.{after_out, after_in, after_behind}
 

@@ -1,7 +1,7 @@
 ghost use Rattle.std.specs.Prelude.{◌≡◌, ℕ, ◌+◌, ◌-◌, ◌*◌, ◌<◌, ◌≤◌, ◌++◌, length, min, slice_index, OnOk};
 ghost use Rattle.spec_grid.specs.Grid as grid;
 ghost use Rattle.spec_hierarchy.specs.Tiles as tiles;
-ghost use Rattle.xl_tiles.specs.declared.tile.TheConstants.{SCRATCH};
+ghost use Rattle.xl_tile.specs.declared.tile.TheConstants.{SCRATCH};
 
 use std::alloc::{AllocError, Global};
 use xl_bytes::FileBytes;

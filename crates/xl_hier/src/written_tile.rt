@@ -5,7 +5,7 @@ ghost use Rattle.spec_hierarchy.specs.Layout.{AreSpelled};
 ghost use Rattle.xl_fields.specs.Behind.{BeginsWith};
 ghost use Rattle.xl_hier.specs.Appended.{TileAppended};
 ghost use Rattle.xl_rle.specs.Follows.{FollowsEach};
-ghost use Rattle.xl_tiles.specs.declared.tile.TheConstants.{SCRATCH};
+ghost use Rattle.xl_tile.specs.declared.tile.TheConstants.{SCRATCH};
 
 use crate::gather::{append_tile, gather, tile_pixels};
 use spec_rle::MAX_EXCESS;

@@ -5,7 +5,7 @@ use Rattle.spec_grid.specs.declared.TileAt.{TileAt}
 use Rattle.spec_document.specs.Plane.{Plane, byte_at, bytes_over}
 use Rattle.spec_document.proofs.PlaneLemmas.{index-bytes_over}
 use Rattle.spec_hierarchy.specs.Tiles.{tile_width, tile_height, tile_bytes, tile_plane}
-use Rattle.xl_tiles.proofs.Tables.{over_is}
+use Rattle.xl_tile.proofs.Points.{over_is}
 
 gathered : (p : Plane) (left top w h c : ℕ) (xs : List ℕ) → length xs ≡ w * h
     → ((x y : ℕ) → x < w → y < h → slice_index xs (y * w + x) ≡ byte_at p (left + x) (top + y) c)

@@ -5,9 +5,9 @@ use Rattle.spec_grid.specs.Rect.{has_point, sheet}
 use Rattle.spec_document.specs.Plane.{Plane, byte_at}
 use Rattle.spec_document.proofs.PlaneLemmas.{byte_at-plane_of}
 use Rattle.spec_document.proofs.SamePlane.{plane-ext}
-use Rattle.xl_tiles.specs.Block.{is_in}
+use Rattle.xl_tile.specs.Block.{is_in}
 use Rattle.xl_tiles.specs.Written.{from_edge, written}
-use Rattle.xl_tiles.proofs.Tables.{length_over}
+use Rattle.xl_tile.proofs.Points.{length_over}
 
 chosen : (b : Bool) (x y : ℕ) → b ≡ true → cond b x y ≡ x
 chosen b x y e = ap (λ t. cond t x y) e

@@ -19,13 +19,13 @@ use crate::changes::count_changed;
 use crate::codes::{plain_tile, tile_codes};
 use crate::reading::{point_byte, read_area, row_of, tile_bytes};
 use crate::table::TileTable;
-use crate::tile::{SCRATCH, TileRef};
 use crate::uniform::uniform_tiles;
 use crate::writing::write_area;
 use std::alloc::{AllocError, AllocFailed, Global};
 use std::marker::Model;
 use xl_bytes::Part;
 use xl_grid::{Rect, TileAt, tiles_along};
+use xl_tile::{SCRATCH, TileRef};
 
 /// The pixels of a plane, row by row, each of 1 to 4 bytes. They are kept in tiles of 64 by 64, which several planes
 /// may hold.

@@ -2,12 +2,11 @@ ghost use Rattle.std.specs.Prelude.{◌≡◌, ◌<◌, [], length, slice_index_
 ghost use Rattle.xl_tiles.specs.TileRows.{AreRows};
 ghost use Rattle.spec_document.specs.Limits.{AreBytes};
 
-use crate::shares::are_shares;
-use crate::tile::TileRef;
 use crate::tile_row::TileRow;
 use std::alloc::{AllocError, AllocFailed, Global};
 use std::marker::Model;
 use std::sync::Arc;
+use xl_tile::{TileRef, are_shares};
 
 /// The rows of a table of tiles, which several tables may hold.
 #[derive(Drop)]

@@ -1,11 +1,10 @@
 ghost use Rattle.std.specs.Prelude.{◌≡◌, ◌<◌, [], length, slice_index_or, slice_set, IfOk, OnOk, IfErr, OnErr};
 ghost use Rattle.spec_document.specs.Limits.{AreBytes};
 
-use crate::shares::are_shares;
-use crate::tile::{TileRef, replace_item, shared_items, tile_at};
 use std::alloc::{AllocError, AllocFailed, Global};
 use std::marker::Model;
 use std::sync::Arc;
+use xl_tile::{TileRef, are_shares};
 
 /// The tiles of a row, which several tables may hold.
 #[derive(Drop)]
@@ -108,4 +107,34 @@ impl TileRow {
             }
         }
     }
+}
+
+// The tile at a place.
+fn tile_at(tiles: &[TileRef], at: usize) -> &TileRef
+    requires { at < length tiles.now }
+    ensures { result.now ≡ slice_index_or tiles.now at [] }
+{
+    &tiles[at]
+}
+
+// The same tiles, each shared.
+fn shared_items(alloc: Global, tiles: &[TileRef]) -> Result<Vec<TileRef>, AllocError>
+    ensures { IfOk result (λ own. own.items ≡ tiles.now) }
+{
+    let mut own = Vec::with_capacity(alloc, tiles.len())?;
+    for tile in tiles {
+        own.push(tile.share()?)?;
+    }
+    Ok(own)
+}
+
+// Exchanges a tile of a list.
+fn replace_item(tiles: &mut [TileRef], at: usize, tile: TileRef) -> TileRef
+    requires { at < length tiles.old }
+    ensures result { result ≡ slice_index_or tiles.old at [] }
+    ensures after { tiles.new ≡ slice_set tiles.old at tile }
+    ensures bytes { AreBytes tile }
+{
+    tile.len();
+    std::mem::replace(&mut tiles[at], tile)
 }

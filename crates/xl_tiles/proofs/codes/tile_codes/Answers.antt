@@ -1,9 +1,9 @@
 use Rattle.std.proofs.Common.{◌∙◌, List, ℕ, subst}
 use Rattle.std.proofs.lemmas.Option.{IfSome_then}
 use Rattle.std.proofs.lemmas.Result.{IfOk-weaker}
-use Rattle.xl_tiles.specs.Coded.{IsCoded}
+use Rattle.xl_tile.specs.Coded.{IsCoded}
 use Rattle.xl_tiles.specs.Table.{plane_by, tile}
-use Rattle.xl_tiles.proofs.Coded.{coded_tile}
+use Rattle.xl_tiles.proofs.CodedTiles.{coded_tile}
 use Rattle.xl_tiles.proofs.Tables.{tile_is}
 use Rattle.xl_tiles.proofs.codes.tile_codes.Goals as goal
 

@@ -1,9 +1,9 @@
 use Rattle.std.proofs.Common.{◌≡◌, ◌∙◌, ap, arith, length}
 use Rattle.std.proofs.lemmas.List.{take_at}
 use Rattle.std.proofs.lemmas.Result.{IfOk-weaker}
-use Rattle.xl_tiles.specs.Overlay.{overlaid}
+use Rattle.xl_tile.specs.Overlay.{overlaid}
 use Rattle.xl_tiles.specs.Table.{tile_of}
-use Rattle.xl_tiles.proofs.Overlays.{laid_over}
+use Rattle.xl_tile.proofs.Overlays.{laid_over}
 use Rattle.xl_tiles.proofs.writing.copied_tile.Goals as goal
 
 pub returns : goal.returns

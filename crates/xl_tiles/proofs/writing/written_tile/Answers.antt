@@ -2,10 +2,10 @@ use Rattle.std.proofs.Common.{◌≡◌, ◌∙◌, subst}
 use Rattle.std.specs.Prelude.{IfSome}
 use Rattle.spec_hierarchy.specs.Tiles.{tile_bytes}
 use Rattle.xl_tiles.specs.Area.{rect_of}
-use Rattle.xl_tiles.specs.Overlay.{overlaid}
+use Rattle.xl_tile.specs.Overlay.{overlaid}
 use Rattle.xl_tiles.specs.Table.{plane_by, tile, tile_of}
 use Rattle.xl_tiles.specs.Written.{written}
-use Rattle.xl_tiles.proofs.Overlays.{lies_inside, overlaid_tile}
+use Rattle.xl_tiles.proofs.LyingParts.{lies_inside, overlaid_tile}
 use Rattle.xl_tiles.proofs.writing.written_tile.Goals as goal
 use Rattle.xl_tiles.proofs.writing.written_tile.Goals.{in-Some, in-None+in_ok-tile-in-None}
 

@@ -1,0 +1,9 @@
+pub mod Blocks
+pub mod Coded
+pub mod Decoded
+pub mod JoinedBlocks
+pub mod JoinedTiles
+pub mod Overlays
+pub mod PackedTiles
+pub mod Places
+pub mod Points

@@ -1,5 +1,0 @@
-use Rattle.xl_tiles.proofs.JoinedBlocks.{planes_are}
-use Rattle.xl_tiles.proofs.packed.unpack_planes.Goals as goal
-
-pub returns : goal.returns
-returns c = planes_are _ _ _ _ _ _ c.requires.packed c.planes_at-never.ensures
