@@ -10,8 +10,8 @@ use Rattle.spec_edit.specs.Effect.{effect, makes_node}
 use Rattle.spec_edit.specs.Apply as edits
 use Rattle.spec_edit.specs.Apply.{At}
 use Rattle.spec_edit.proofs.EditsLimited.{keeps}
-use Rattle.xl_edit.specs.declared.refused.EditRefusedOrMemory.{EditRefusedOrMemory}
-use Rattle.xl_edit.specs.Applied.{at, Applies, Makes, MakesBy}
+use Rattle.xl_paint.specs.declared.refused.EditRefusedOrMemory.{EditRefusedOrMemory}
+use Rattle.xl_paint.specs.Applied.{at, Applies, Makes, MakesBy}
 use Rattle.xl_checks.specs.Found.{outcome}
 use Rattle.xl_edit.specs.Kept.{KeepsLimits}
 

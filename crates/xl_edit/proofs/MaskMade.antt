@@ -8,7 +8,7 @@ use Rattle.spec_document.specs.Limits.{IsDocument}
 use Rattle.spec_edit.specs.Refusal.{node}
 use Rattle.xl_doc.specs.Sheet.{Sheet}
 use Rattle.xl_checks.specs.Found.{sheet_of_layer, sheet_found}
-use Rattle.xl_edit.proofs.OneNode.{same_leaf}
+use Rattle.xl_paint.proofs.OneNode.{same_leaf}
 
 -- changes of a layer that come to the same where its pixels are these
 pub leaf_agrees : (d : Document) (id : ℕ) (s : Sheet) (a b : Layer → Layer) → IsDocument d → sheet_found (node d id) ≡ Some s

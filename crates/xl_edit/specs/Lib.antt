@@ -1,15 +1,11 @@
 pub mod Edits
 pub mod Calls
 pub mod Replies
-pub mod Applied
 pub mod Built
 pub mod Kept
-pub mod Paint
 pub mod Fields
 pub mod Layers
 pub mod Canvas
 pub mod Nodes
 pub mod Children
-pub mod Channels
-pub mod Filling
-pub mod Filtered
+pub use Rattle.xl_paint.specs.Applied

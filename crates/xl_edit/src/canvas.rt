@@ -4,15 +4,15 @@ ghost use Rattle.spec_edit.specs.Edit as edits;
 ghost use Rattle.spec_edit.specs.Edit.{IsEdit};
 ghost use Rattle.spec_edit.specs.Effect.{colours_from, selection_of, with_plane, with_rect};
 ghost use Rattle.spec_document.specs.Limits.{AreBytes};
-ghost use Rattle.xl_edit.specs.Applied.{Makes};
+ghost use Rattle.xl_paint.specs.Applied.{Makes};
 ghost use Rattle.xl_edit.specs.Canvas.{AreFlat};
 ghost use Rattle.xl_tiles.specs.Written.{IsWithin};
 
 use crate::blank::zeros;
-use crate::refused::EditRefusedOrMemory;
 use std::alloc::{AllocError, Global};
 use xl_checks::{check_channel, check_colours, check_new_channel, check_select};
 use xl_doc::{Bytes, Channel, ColourMap, Document, Rect};
+use xl_paint::EditRefusedOrMemory;
 use xl_tiles::repeat;
 
 /// Sets the bytes of the selection in a rectangle of the canvas to one value. Where there is no selection, all its

@@ -6,16 +6,16 @@ ghost use Rattle.spec_forest.specs.Changes.{with_leaf};
 ghost use Rattle.spec_edit.specs.Edit as edits;
 ghost use Rattle.spec_edit.specs.Refusal.{node};
 ghost use Rattle.xl_doc.specs.Nodes.{nodes_of, layer_of, IsLeaf, MarksAgree};
-ghost use Rattle.xl_edit.specs.Applied.{Makes};
+ghost use Rattle.xl_paint.specs.Applied.{Makes};
 ghost use Rattle.xl_checks.specs.Found.{IsLayer, sheet_of_layer};
 ghost use Rattle.xl_edit.specs.Kept.{KeepsLimits};
 ghost use Rattle.xl_edit.specs.Layers.{Takes, sheet_changed, layer_changed};
 
 use crate::blank::full_mask;
-use crate::refused::EditRefusedOrMemory;
 use std::alloc::Global;
 use xl_checks::{check_offset, layer_at, masked_at, unmasked_at};
 use xl_doc::{Body, Document, Layer, Mask, Node, NodeId, Tree, know_limits};
+use xl_paint::EditRefusedOrMemory;
 
 /// A change of a layer for which all is ready.
 #[derive(Drop)]

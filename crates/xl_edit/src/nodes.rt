@@ -7,7 +7,7 @@ ghost use Rattle.spec_document.specs.Limits.{AreBytes, IsSide};
 ghost use Rattle.spec_edit.specs.Edit as edits;
 ghost use Rattle.spec_edit.specs.Refusal.{no_node_found, too_deep};
 ghost use Rattle.xl_doc.specs.Nodes.{nodes_of, MarksAgree};
-ghost use Rattle.xl_edit.specs.Applied.{at, Applies, Makes};
+ghost use Rattle.xl_paint.specs.Applied.{at, Applies, Makes};
 ghost use Rattle.xl_edit.specs.Built.{HasNext};
 ghost use Rattle.xl_edit.specs.Kept.{KeepsLimits};
 ghost use Rattle.xl_edit.specs.Nodes.{one_node};
@@ -16,10 +16,10 @@ ghost use Rattle.xl_tree.specs.Ids.{IsNew};
 ghost use Rattle.xl_tree.specs.Refusals.{put_refusal};
 
 use crate::blank::{blank_group, blank_layer};
-use crate::refused::EditRefusedOrMemory;
 use std::alloc::{AllocError, Global};
 use xl_checks::{LayerShape, check_new_group, check_new_layer, check_node};
 use xl_doc::{Bytes, Document, Node, NodeId, Tree};
+use xl_paint::EditRefusedOrMemory;
 use xl_tree::Branch;
 
 /// Takes out a node with all below it. Errors: `NoNode`.

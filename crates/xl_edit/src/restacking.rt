@@ -6,15 +6,15 @@ ghost use Rattle.spec_forest.specs.declared.TheConstants.{MAX_DEPTH};
 ghost use Rattle.spec_edit.specs.Edit as edits;
 ghost use Rattle.spec_edit.specs.Refusal.{bad_place, children, inside, no_node, refusal, stands_in};
 ghost use Rattle.xl_doc.specs.Nodes.{nodes_of, MarksAgree};
-ghost use Rattle.xl_edit.specs.Applied.{Makes};
+ghost use Rattle.xl_paint.specs.Applied.{Makes};
 ghost use Rattle.xl_edit.specs.Children.{is_at_top, is_child};
 ghost use Rattle.xl_checks.specs.Found.{outcome};
 ghost use Rattle.xl_tree.specs.Refusals.{restack_refusal};
 
-use crate::refused::EditRefusedOrMemory;
 use spec_edit::EditRefused;
 use xl_checks::{check_depth, check_node, check_parent, child_count};
 use xl_doc::{Document, Node, NodeId, Tree, know_limits};
+use xl_paint::EditRefusedOrMemory;
 use xl_tree::{Split, Stack};
 
 /// Moves a node with all below it into a stack, before the child at a place, which counts after the node is taken out.

@@ -5,8 +5,8 @@ use Rattle.spec_edit.specs.Edit.{Edit}
 use Rattle.spec_edit.specs.Apply.{At, apply, apply_group}
 use Rattle.spec_edit.specs.Limited.{IsAt}
 use Rattle.spec_tables.specs.Agrees.{IsPartUsed}
-use Rattle.xl_edit.specs.declared.refused.EditRefusedOrMemory.{EditRefusedOrMemory}
-use Rattle.xl_edit.specs.declared.refused.EditRefusedOrMemory.TheVariants as edits
+use Rattle.xl_paint.specs.declared.refused.EditRefusedOrMemory.{EditRefusedOrMemory}
+use Rattle.xl_paint.specs.declared.refused.EditRefusedOrMemory.TheVariants as edits
 use Rattle.xl_standing.specs.declared.group.GroupRefusedOrMemory.{GroupRefusedOrMemory}
 use Rattle.xl_standing.specs.declared.group.GroupRefusedOrMemory.TheVariants.{Memory, Refused}
 

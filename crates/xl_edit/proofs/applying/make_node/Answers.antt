@@ -2,7 +2,7 @@
 use Rattle.std.proofs.Common.{rules, ◌≡◌, to_z, of_z, w32, sym, ◌∙◌, ap, subst}
 use Rattle.spec_edit.specs.Edit as edits
 use Rattle.xl_edit.specs.declared.edit.Edit.{Edit}
-use Rattle.xl_edit.specs.Applied.{at}
+use Rattle.xl_paint.specs.Applied.{at}
 use Rattle.spec_edit.specs.Edit.{IsEdit}
 use Rattle.xl_edit.specs.Built.{HasNext}
 use Rattle.xl_edit.specs.Edits.{edit_of}

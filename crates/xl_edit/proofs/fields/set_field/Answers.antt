@@ -2,7 +2,7 @@
 use Rattle.std.proofs.Common.{refl}
 use Rattle.xl_edit.specs.Fields.{with_field}
 use Rattle.xl_edit.proofs.Accepted.{limits_kept}
-use Rattle.xl_edit.proofs.Limited.{distinct_in}
+use Rattle.xl_paint.proofs.Limited.{distinct_in}
 use Rattle.xl_edit.proofs.fields.set_field.Goals as goal
 
 pub set_field_in-requires-clause-ids : goal.set_field_in-requires-clause-ids

@@ -3,7 +3,7 @@ use Rattle.std.proofs.Common.{refl}
 use Rattle.spec_forest.specs.Changes.{with_leaf}
 use Rattle.xl_edit.specs.Layers.{layer_changed}
 use Rattle.xl_edit.proofs.Accepted.{limits_kept}
-use Rattle.xl_edit.proofs.Limited.{distinct_in}
+use Rattle.xl_paint.proofs.Limited.{distinct_in}
 use Rattle.xl_edit.proofs.layers.change_layer.Goals as goal
 
 pub change_layer_in-requires-clause-ids : goal.change_layer_in-requires-clause-ids

@@ -3,8 +3,8 @@ use Rattle.spec_document.specs.Document.{Layer}
 use Rattle.xl_checks.specs.Found.{sheet_of_layer}
 use Rattle.xl_edit.specs.Layers.{Takes, layer_changed}
 use Rattle.xl_checks.proofs.Seen.{IsLeafAt}
-use Rattle.xl_edit.proofs.NodesWritten.{layer_written, marks-with_node-leaf}
-use Rattle.xl_edit.proofs.Lent.{lent, not_lent}
+use Rattle.xl_paint.proofs.NodesWritten.{layer_written, marks-with_node-leaf}
+use Rattle.xl_paint.proofs.Lent.{lent, not_lent}
 use Rattle.xl_checks.proofs.LayerFound.{not_absent, leaf_at, holds_of_leaf}
 use Rattle.xl_edit.proofs.layers.change_layer_in.Goals as goal
 

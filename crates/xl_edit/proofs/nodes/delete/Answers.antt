@@ -3,7 +3,7 @@ use Rattle.std.proofs.Common.{refl}
 use Rattle.spec_forest.specs.Changes.{without}
 use Rattle.spec_edit.specs.Edit as edits
 use Rattle.xl_edit.proofs.Accepted.{limits_after, limits_kept}
-use Rattle.xl_edit.proofs.Limited.{distinct_in, sound_kept}
+use Rattle.xl_paint.proofs.Limited.{distinct_in, sound_kept}
 use Rattle.xl_edit.proofs.nodes.delete.Goals as goal
 
 pub take_node-requires-clause-ids : goal.take_node-requires-clause-ids

@@ -3,7 +3,7 @@ use Rattle.std.proofs.Common.{refl}
 use Rattle.spec_forest.specs.Changes.{put_into}
 use Rattle.xl_edit.specs.Nodes.{one_node}
 use Rattle.xl_edit.proofs.Accepted.{limits_kept}
-use Rattle.xl_edit.proofs.Limited.{distinct_in}
+use Rattle.xl_paint.proofs.Limited.{distinct_in}
 use Rattle.xl_edit.proofs.nodes.put_node.Goals as goal
 
 pub put_node_in-requires-clause-ids : goal.put_node_in-requires-clause-ids

@@ -6,7 +6,7 @@ use Rattle.spec_forest.specs.Changes.{branch_of}
 use Rattle.spec_forest.proofs.Changed.{levels-branch_of}
 use Rattle.spec_document.specs.Document.{Document}
 use Rattle.spec_edit.specs.Refusal.{no_node}
-use Rattle.xl_edit.proofs.Limited.{distinct_in}
+use Rattle.xl_paint.proofs.Limited.{distinct_in}
 use Rattle.xl_edit.proofs.NodesRestacked.{levels-branch-nodes_of, some_levels}
 use Rattle.xl_edit.proofs.Stacks.{found_there}
 use Rattle.xl_edit.proofs.restacking.levels_from.Goals as goal

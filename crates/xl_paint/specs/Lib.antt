@@ -1,0 +1,5 @@
+pub mod Applied
+pub mod Paint
+pub mod Channels
+pub mod Filling
+pub mod Filtered
