@@ -1,12 +1,12 @@
 ghost use Rattle.std.specs.Prelude.{◌≡◌, ℕ, ◌^◌, ◌+◌, ◌*◌, ◌-◌, ◌<◌, ◌≤◌, List, option_copied, IfSome};
 ghost use Rattle.spec_script.specs.Words as grammar;
 ghost use Rattle.spec_audit.specs.Reading as reading;
-ghost use Rattle.xl_script.specs.Numbers.{below};
-ghost use Rattle.xl_script.specs.Words.{words_left};
+ghost use Rattle.xl_words.specs.Numbers.{below};
+ghost use Rattle.xl_words.specs.Words.{words_left};
 ghost use Rattle.xl_printed.specs.Causes.{only_number, cause_of, cause_if_any};
 
 use xl_edit::EditRefused;
-use xl_script::{no_words, number, one_word};
+use xl_words::{no_words, number, one_word};
 
 /// The refusals by their numbers.
 #[derive(Clone, Copy, Debug)]

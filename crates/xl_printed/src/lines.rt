@@ -6,7 +6,8 @@ use crate::pieces::cut_at;
 use crate::printed::{Printed, SessionReplies};
 use crate::replies::read_reply;
 use std::alloc::{AllocError, Global};
-use xl_script::{SESSIONS, number, number_below};
+use xl_script::SESSIONS;
+use xl_words::{number, number_below};
 
 const SESSION_LIMIT: u64 = SESSIONS as u64;
 

@@ -6,7 +6,8 @@ ghost use Rattle.xl_printed.specs.Lines.{words_behind};
 use crate::lines::read_place;
 use crate::pieces::{cut_at, strip};
 use std::alloc::{AllocError, Global};
-use xl_script::{OrderWord, split_once};
+use xl_script::OrderWord;
+use xl_words::split_once;
 
 // A word without the mark of an end, and whether it has one.
 fn cut_mark(word: &[u8]) -> (&[u8], bool)

@@ -11,7 +11,7 @@ use crate::causes::read_cause;
 use crate::pieces::strip;
 use crate::printed::{Printed, plain};
 use xl_edit::Reply;
-use xl_script::{first_word, is_word, next_word, number, three_words, two_words};
+use xl_words::{first_word, is_word, next_word, number, three_words, two_words};
 
 /// The words that a reply begins with.
 #[derive(Clone, Copy, Debug)]

@@ -1,9 +1,6 @@
-pub mod Splits
-pub mod Decimals
-pub mod HexPairs
 pub mod Looking
 pub mod Asking
 pub mod Steps
+mod Colours
 mod Fits
-mod Fronts
 mod Scoped

@@ -4,7 +4,7 @@ use Rattle.spec_script.specs.Script as script
 use Rattle.xl_script.specs.declared.bad_line.BadLineOrMemory.{BadLineOrMemory}
 use Rattle.xl_script.specs.declared.bad_line.BadLineOrMemory.TheVariants.{Memory, Refused}
 use Rattle.xl_script.specs.declared.script.Line.{Line}
-use Rattle.xl_script.specs.Causes.{Blames}
+use Rattle.xl_words.specs.Causes.{Blames}
 use Rattle.xl_script.specs.Lines.{lists_of}
 
 -- the refused line, unless memory ran out

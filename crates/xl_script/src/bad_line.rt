@@ -1,9 +1,9 @@
 ghost use Rattle.std.specs.Prelude.{◌≡◌};
 ghost use Rattle.xl_script.specs.declared.bad_line.BadLineOrMemory.TheVariants.{Memory, Refused};
 
-use crate::cause::Cause;
 use std::alloc::{AllocError, AllocFailed};
 use thiserror::Error;
+use xl_words::Cause;
 
 /// The line that is refused, counted from 1, and why.
 #[derive(Clone, Copy, Debug, PartialEq, Eq, Error)]

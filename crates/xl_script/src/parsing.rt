@@ -11,14 +11,13 @@ ghost use Rattle.xl_script.specs.Sessions.{TakenAs, TakenIf, ParsedAs};
 ghost use Rattle.xl_script.specs.declared.bad_line.BadLineOrMemory.TheVariants.{Refused};
 
 use crate::bad_line::{BadLine, BadLineOrMemory};
-use crate::cause::{Cause, CauseOrMemory};
 use crate::commands::command_of;
 use crate::scope::Scope;
 use crate::script::Script;
 use crate::sessions::Sessions;
-use crate::splitting::first_line;
 use spec_script::MAX_SCRIPT_BYTES;
 use std::alloc::Global;
+use xl_words::{Cause, CauseOrMemory, first_line};
 
 fn newlines(text: &[u8]) -> usize
     ensures value { result ≡ count_by (λ b. b == 10) text.now }

@@ -1,6 +1,6 @@
 use Rattle.std.proofs.Common.{◌^◌, sym, ◌∙◌, ◌≡◌, true, arith, get_or}
 use Rattle.spec_script.specs.Words.{is_digit}
-use Rattle.xl_script.proofs.Decimals.{reads_past}
+use Rattle.xl_words.proofs.Decimals.{reads_past}
 use Rattle.xl_printed.proofs.causes.digits.Goals as goal
 
 pub returns-then-value-ge-AREA_LIMIT : goal.returns-then-value-ge-AREA_LIMIT

@@ -1,5 +1,5 @@
 use Rattle.std.proofs.Common.{◌^◌}
-use Rattle.xl_script.proofs.Decimals.{ReadsOn}
+use Rattle.xl_words.proofs.Decimals.{ReadsOn}
 use Rattle.xl_printed.proofs.causes.digits.Given as goal
 
 abbrev pub invariant-loop-b : goal.invariant-loop-b

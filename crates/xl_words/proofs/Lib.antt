@@ -1,0 +1,4 @@
+pub mod Splits
+pub mod Decimals
+pub mod HexPairs
+mod Fronts
