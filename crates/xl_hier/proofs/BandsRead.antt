@@ -6,13 +6,9 @@ use Rattle.std.proofs.lemmas.Bool.{cases_lt}
 use Rattle.std.proofs.lemmas.List.{get_or_append_left, get_or-append-add}
 use Rattle.std.proofs.lemmas.Nat.{mul-add-lt}
 use Rattle.spec_document.specs.Limits.{AreBytes}
-use Rattle.spec_document.specs.Plane.{Plane}
 use Rattle.spec_fields.proofs.All.{all_append}
-use Rattle.xl_fields.specs.Gives.{Gives}
 use Rattle.xl_fields.specs.declared.refusal.ReadRefusedOrMemory.{ReadRefusedOrMemory}
 use Rattle.xl_fields.specs.declared.refusal.ReadRefusedOrMemory.TheVariants.{Memory, Refused}
-use Rattle.xl_tiles.specs.Table.{AreTiled}
-use Rattle.xl_hier.specs.Frame.{IsFrame}
 use Rattle.xl_hier.specs.Level.{pixels_at}
 use Rattle.spec_grid.specs.declared.TileAt.{TileAt}
 use Rattle.spec_grid.specs.Rect.{count_from}
@@ -204,21 +200,3 @@ all_read {file = file} {first = first} {f = f} {tiles = tiles} so_far =
     ∙ (ap (λ n. behind tiles (bands_from n file first f (tiles_along f.height))) none
     ∙ ap (λ xs. Ok xs) (append-nil tiles)) in
     ap (λ r. r >>= (λ tiles. Ok (plane_of_tiles f.width f.height f.bpp tiles))) read
-
-pub tiled : {file : List ℕ} {first : ℕ} {f : Frame} {tiles : List (List ℕ)} → SoFar file first f (tiles_along f.height) tiles
-    → IsFrame f.width f.height f.bpp f.compression → AreTiled f.width f.height f.bpp tiles
-tiled so_far limits = record {
-  width = limits.width_in;
-  height = limits.height_in;
-  some = limits.some;
-  few = limits.few;
-  count = so_far.count;
-  sizes = so_far.sizes;
-  bytes = so_far.bytes;
-}
-
--- the fault of the tiles is that of the plane
-pub fault_of : (file : List ℕ) (first : ℕ) (f : Frame) (e : ReadRefusedOrMemory) → HasRead file first f (Err e)
-    → Gives {A = Plane} (Err e) (pixels_at file first f.width f.height f.bpp f.compression)
-fault_of file first f Memory h = tt
-fault_of file first f (Refused e) h = ap (λ r. r >>= (λ tiles. Ok (plane_of_tiles f.width f.height f.bpp tiles))) h
