@@ -99,6 +99,7 @@ impl RowList {
         ensures err { OnErr result (self.new ≡ self.old) }
         ensures bytes { AreBytes tile }
     {
+        // Asked for its clause that these are bytes.
         tile.len();
         let (mut own, spare) = match (shared_rows(alloc, self.rows.as_slice()), tile.share()) {
             (Ok(own), Ok(spare)) => (own, spare),

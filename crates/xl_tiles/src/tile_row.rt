@@ -69,6 +69,7 @@ impl TileRow {
         ensures err { OnErr result (self.new ≡ self.old) }
         ensures bytes { AreBytes tile }
     {
+        // Asked for its clause that these are bytes.
         tile.len();
         match Arc::get_mut(&mut self.tiles) {
             Some(own) => Ok(replace_item(own, col, tile)),
@@ -135,6 +136,7 @@ fn replace_item(tiles: &mut [TileRef], at: usize, tile: TileRef) -> TileRef
     ensures after { tiles.new ≡ slice_set tiles.old at tile }
     ensures bytes { AreBytes tile }
 {
+    // Asked for its clause that these are bytes.
     tile.len();
     std::mem::replace(&mut tiles[at], tile)
 }
