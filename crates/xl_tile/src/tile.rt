@@ -27,8 +27,8 @@ pub const SCRATCH: usize = 32768;
 
 /// The bytes of a tile, its pixels row by row, which several planes may hold.
 ///
-/// They stand in a file or are the tile's own, and a block of other pixels may lie over those of a file, so that a write
-/// unpacks nothing.
+/// They stand in a file or are the tile's own, and one block of other pixels may lie over those of a file in runs, so that
+/// the first small write unpacks nothing.
 #[derive(Drop)]
 pub struct TileRef {
     stored: Stored,
