@@ -1,7 +1,8 @@
-//! The bytes of pixels in a grey image, out of RGBA bytes.
+//! The bytes that pixels have in a document of a base, out of RGBA bytes.
 ghost use Rattle.std.specs.Prelude.{◌≡◌, IfOk};
-ghost use Rattle.spec_picture.specs.Greys.{red_and_alpha};
+ghost use Rattle.spec_picture.specs.Greys.{pixels_of_base, red_and_alpha};
 
+use spec_document::Base;
 use std::alloc::{AllocError, Global};
 
 /// The red byte and the alpha of each pixel.
@@ -16,4 +17,14 @@ pub fn red_and_alpha(alloc: Global, rgba: &[u8]) -> Result<Vec<u8>, AllocError>
         out.push(rgba[4 * i + 3])?;
     }
     Ok(out)
+}
+
+/// The bytes of each pixel that a picture has as a layer or a group of a document of this base.
+pub fn pixels_of_base(alloc: Global, base: Base, rgba: Vec<u8>) -> Result<Vec<u8>, AllocError>
+    ensures { IfOk result (λ out. out.items ≡ pixels_of_base base rgba.items) }
+{
+    match base {
+        Base::Rgb | Base::Indexed => Ok(rgba),
+        Base::Grey => red_and_alpha(alloc, &rgba),
+    }
 }

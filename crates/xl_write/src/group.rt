@@ -1,14 +1,16 @@
 //! The picture of a group, as it is written beside its layers.
 ghost use Rattle.std.specs.Prelude.{◌≡◌, ◌*◌, ◌≤◌, length, IfOk};
-ghost use Rattle.spec_document.specs.Limits.{IsSide, MayHaveGroups};
+ghost use Rattle.spec_document.specs.Document.{bytes_of_kind, picture_kind};
+ghost use Rattle.spec_document.specs.Limits.{IsSide};
 ghost use Rattle.spec_grid.specs.Rect.{part_above_0};
 ghost use Rattle.spec_layout.specs.Layout as layout;
+ghost use Rattle.spec_picture.specs.Greys.{pixels_of_base};
 ghost use Rattle.spec_picture.specs.Picture.{picture_bytes};
 ghost use Rattle.xl_doc.specs.Canvas.{IsInside};
-ghost use Rattle.xl_write.specs.Groups.{IsGroupOf, own_pixels, plane_over};
+ghost use Rattle.xl_write.specs.Groups.{IsGroupOf};
 
 use std::alloc::{AllocError, Global};
-use xl_doc::{Base, Document, MAX_SIDE, NodeId, Pictures, Plane, Rect, red_and_alpha};
+use xl_doc::{Base, Document, MAX_SIDE, NodeId, Pictures, Plane, Rect, pixels_of_base};
 use xl_grid::is_empty;
 
 /// The part of the canvas that a group covers, or one pixel at the origin where that is empty.
@@ -56,7 +58,7 @@ fn picture_of<P: Pictures>(
 
 // How many bytes a pixel of a group has.
 fn group_bpp(base: Base) -> u32
-    ensures value { result ≡ layout.group_bpp base }
+    ensures value { result ≡ bytes_of_kind (picture_kind base) }
     ensures some { 1 ≤ result }
     ensures few { result ≤ 4 }
 {
@@ -66,23 +68,15 @@ fn group_bpp(base: Base) -> u32
     }
 }
 
-// The bytes of each pixel that the base of a document has.
-fn own_pixels(alloc: Global, base: Base, rgba: Vec<u8>) -> Result<Vec<u8>, AllocError>
-    ensures { IfOk result (λ bytes. bytes.items ≡ own_pixels base rgba.items) }
-{
-    match base {
-        Base::Rgb | Base::Indexed => Ok(rgba),
-        Base::Grey => red_and_alpha(alloc, &rgba),
-    }
-}
-
+// A picture over a rectangle, of its RGBA bytes.
 fn plane_over(alloc: Global, base: Base, rect: Rect, rgba: Vec<u8>) -> Result<Plane, AllocError>
     requires width { IsSide rect.w }
     requires height { IsSide rect.h }
-    requires full { length (own_pixels base rgba.items) ≡ rect.w * rect.h * layout.group_bpp base }
-    ensures { IfOk result (λ plane. plane ≡ plane_over base rect rgba.items) }
+    requires full { length (pixels_of_base base rgba.items) ≡ rect.w * rect.h
+        * bytes_of_kind (picture_kind base) }
+    ensures { IfOk result (λ plane. plane ≡ layout.plane_over base rect rgba.items) }
 {
-    let pixels = own_pixels(alloc, base, rgba)?;
+    let pixels = pixels_of_base(alloc, base, rgba)?;
     Plane::of_pixels(alloc, rect.w, rect.h, group_bpp(base), &pixels)
 }
 
@@ -95,7 +89,6 @@ pub fn group_plane<P: Pictures>(
     pictures: &mut P,
 ) -> Result<Plane, AllocError>
     requires group { IsGroupOf doc.now id.0 }
-    requires base { MayHaveGroups doc.now.base }
     requires width { IsSide rect.w }
     requires height { IsSide rect.h }
     requires inside { IsInside doc.now.width doc.now.height rect }
