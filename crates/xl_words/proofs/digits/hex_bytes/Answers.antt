@@ -1,4 +1,4 @@
-use Rattle.std.proofs.Common.{◌≡◌, ◌∙◌, ap}
+use Rattle.std.proofs.Common.{◌∙◌, ap}
 use Rattle.std.specs.Prelude.{Some}
 use Rattle.xl_words.proofs.HexPairs.{read_some, read_none}
 use Rattle.xl_words.proofs.digits.hex_bytes.Goals as goal
