@@ -95,14 +95,18 @@ fn keep(rt: &HostRuntime, editor: &Editor) -> io::Result<()> {
     }
 }
 
-fn go_on(rt: &HostRuntime, editor: &mut Editor) -> io::Result<()> {
-    edit(rt, editor)?;
-    show(rt, editor.document())?;
-    keep(rt, editor)?;
+fn go_back_and_forth(rt: &HostRuntime, editor: &mut Editor) -> io::Result<()> {
     undo(rt, editor)?;
     show(rt, editor.document())?;
     redo(rt, editor)?;
     show(rt, editor.document())
+}
+
+fn go_on(rt: &HostRuntime, editor: &mut Editor) -> io::Result<()> {
+    edit(rt, editor)?;
+    show(rt, editor.document())?;
+    keep(rt, editor)?;
+    go_back_and_forth(rt, editor)
 }
 
 fn try_session(rt: &HostRuntime) -> io::Result<()> {
