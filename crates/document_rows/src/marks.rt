@@ -1,6 +1,6 @@
 //! Each call that takes memory once.
 ghost use Rattle.std.specs.Prelude.{◌≡◌, IfOk};
-ghost use Rattle.spec_forest.specs.Forest.{none};
+ghost use Rattle.spec_document.specs.Forest.{none};
 ghost use Rattle.xl_doc.specs.Sound.{IsSound};
 ghost use Rattle.xl_marks.specs.Sample.{canvas_of};
 

@@ -2,7 +2,7 @@
 use Rattle.std.proofs.Common.{◌≡◌, ℕ, ◌≤◌, List, sym, subst, arith}
 use Rattle.std.specs.Prelude.{Result, Ok}
 use Rattle.spec_document.specs.Document.{Document}
-use Rattle.spec_grid.specs.declared.TileAt.{TileAt}
+use Rattle.spec_document.specs.declared.TileAt.{TileAt}
 use Rattle.spec_window.specs.Viewed.{Pictures, AreKept, after_window}
 use Rattle.spec_window.specs.Window.{window, window_tiles}
 use Rattle.spec_window.specs.declared.TheConstants.{MAX_WINDOW}

@@ -4,8 +4,8 @@ use Rattle.std.proofs.Common.{sym, ◌∙◌, ap, subst, arith}
 use Rattle.std.specs.Prelude.{Option, Some, None, Result, Ok, Err, IfOk, IfSome, OnErr, option_to_list}
 use Rattle.std.specs.List.{AllByRecursion}
 use Rattle.std.proofs.lemmas.List.{append-nil}
-use Rattle.spec_grid.specs.Grid.{is_on_grid}
-use Rattle.spec_picture.specs.Picture.{project}
+use Rattle.spec_document.specs.Grid.{is_on_grid}
+use Rattle.spec_document.specs.Picture.{project}
 use Rattle.spec_document.specs.Document.{Document}
 use Rattle.spec_history.specs.Machine.{Call, Reply, history_full, has_stack}
 use Rattle.spec_history.specs.History.{Entry, asked, next_index, document_of, latest_of}

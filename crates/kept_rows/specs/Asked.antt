@@ -1,6 +1,6 @@
 -- What the tests ask, and how a history goes on by it.
 use Rattle.std.specs.Prelude.{◌≡◌, [], ◌∷◌}
-use Rattle.spec_picture.specs.Picture.{project}
+use Rattle.spec_document.specs.Picture.{project}
 use Rattle.spec_edit.specs.Edit.{Edit, IsEdit}
 use Rattle.spec_history.specs.Machine.{Call}
 use Rattle.spec_history.specs.Calls.{IsCall}

@@ -3,7 +3,7 @@ use Rattle.std.proofs.Common.{◌≡◌, ℕ, zero, suc, ◌+◌, ◌*◌, ◌<�
 use Rattle.std.proofs.Common.{ap, arith, map, drop, get_or, inl, inr}
 use Rattle.std.specs.Prelude.{◌==◌, ◌&&◌, ◌^◌, not, Option, Some, None}
 use Rattle.std.specs.List.{AllByRecursion, cons_option}
-use Rattle.spec_grid.specs.Rect.{count_from}
+use Rattle.spec_document.specs.Rect.{count_from}
 use Rattle.std.proofs.lemmas.Bool.Decides.{eqb_tells}
 use Rattle.spec_document.specs.Document.{Document}
 use Rattle.spec_history.specs.declared.TheConstants.{MAX_ENTRIES}

@@ -3,8 +3,8 @@ use Rattle.std.specs.Prelude.{ℕ, ◌<◌, Bool, false, not, ◌&&◌, ◌||◌
 use Rattle.std.specs.Prelude.{filter, find, flat_map, slice_get, is_some, Option, Some, None, option_map}
 use Rattle.std.specs.Prelude.{option_and_then, unwrap_or}
 use Rattle.std.specs.List.{AllByRecursion}
-use Rattle.spec_grid.specs.declared.Rect.{Rect}
-use Rattle.spec_grid.specs.declared.TileAt.{TileAt}
+use Rattle.spec_document.specs.declared.Rect.{Rect}
+use Rattle.spec_document.specs.declared.TileAt.{TileAt}
 use Rattle.spec_cache.specs.declared.Finished.{Finished}
 use Rattle.spec_cache.specs.declared.Finished.TheVariants.{Installed, Late, Gone}
 use Rattle.spec_cache.specs.Slots.{Slot, Slots, AreOfCanvas, Shown, blank_slots, slot_at, change_slot, mark_slots}

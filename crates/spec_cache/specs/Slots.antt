@@ -3,10 +3,10 @@
 use Rattle.std.specs.Prelude.{◌≡◌, ℕ, suc, ◌+◌, ◌-◌, ◌*◌, ◌/◌, ◌%◌, ◌==◌, ◌&&◌, Bool, true, false, if◌then◌else◌, List}
 use Rattle.std.specs.Prelude.{[], ◌∷◌, length, map, filter, replicate, slice_get, Option, Some, None}
 use Rattle.std.specs.List.{list_any}
-use Rattle.spec_grid.specs.declared.Rect.{Rect}
-use Rattle.spec_grid.specs.declared.TileAt.{TileAt}
-use Rattle.spec_grid.specs.Rect.{do_meet}
-use Rattle.spec_grid.specs.Grid.{same_tile, tiles_along, is_on_grid, tile_rect}
+use Rattle.spec_document.specs.declared.Rect.{Rect}
+use Rattle.spec_document.specs.declared.TileAt.{TileAt}
+use Rattle.spec_document.specs.Rect.{do_meet}
+use Rattle.spec_document.specs.Grid.{same_tile, tiles_along, is_on_grid, tile_rect}
 
 -- A picture or none; the last version of which a marked slot's picture is known to be; whether the slot is marked;
 -- and the version of its

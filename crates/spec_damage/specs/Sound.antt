@@ -1,14 +1,14 @@
 -- What it means that damage is sound: outside of it every stack that is in both documents shows the same.
 use Rattle.std.specs.Prelude.{◌≡◌, ℕ, ◌<◌, false, List, is_none, None, Ok}
 use Rattle.std.specs.List.{AllByRecursion, list_any}
-use Rattle.spec_forest.specs.Forest.{ids, stack_at}
-use Rattle.spec_grid.specs.declared.Rect.{Rect}
-use Rattle.spec_grid.specs.declared.TileAt.{TileAt}
-use Rattle.spec_grid.specs.Rect.{do_meet}
-use Rattle.spec_grid.specs.Grid.{tile_rect}
+use Rattle.spec_document.specs.Forest.{ids, stack_at}
+use Rattle.spec_document.specs.declared.Rect.{Rect}
+use Rattle.spec_document.specs.declared.TileAt.{TileAt}
+use Rattle.spec_document.specs.Rect.{do_meet}
+use Rattle.spec_document.specs.Grid.{tile_rect}
 use Rattle.spec_document.specs.Document.{Document, Nodes}
 use Rattle.spec_document.specs.Limits.{IsDocument}
-use Rattle.spec_picture.specs.Picture.{project}
+use Rattle.spec_document.specs.Picture.{project}
 use Rattle.spec_edit.specs.Edit.{Edit}
 use Rattle.spec_edit.specs.Refusal.{refusal}
 use Rattle.spec_edit.specs.Effect.{effect}

@@ -1,7 +1,7 @@
 -- What is found in nodes within the limits is within them: a layer, and what a group holds.
 use Rattle.std.proofs.Common.{ℕ, eqb}
-use Rattle.spec_forest.specs.Forest.{Found, nothing, a_leaf, a_group, or_else, none, leaf, group, find}
-use Rattle.spec_forest.proofs.Changed.{either}
+use Rattle.spec_document.specs.Forest.{Found, nothing, a_leaf, a_group, or_else, none, leaf, group, find}
+use Rattle.spec_document.proofs.Changed.{either}
 use Rattle.spec_document.specs.declared.Base.{Base}
 use Rattle.spec_document.specs.Document.{Nodes, Layer, Group}
 use Rattle.spec_document.specs.Limits.{AreNodes, IsLayer}

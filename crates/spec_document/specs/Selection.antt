@@ -1,6 +1,6 @@
 -- How much of a canvas is selected.
 use Rattle.std.specs.Prelude.{ℕ, ℤ, Option, Some, None, if◌then◌else◌}
-use Rattle.spec_grid.specs.Rect.{has_point, part_above_0, sheet}
+use Rattle.spec_document.specs.Rect.{has_point, part_above_0, sheet}
 use Rattle.spec_document.specs.Plane.{byte_at}
 use Rattle.spec_document.specs.Document.{Channel, Document}
 

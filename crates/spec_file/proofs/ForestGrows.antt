@@ -6,10 +6,10 @@ use Rattle.std.specs.List.{AllByRecursion, IsDistinct}
 use Rattle.std.proofs.lemmas.List.{append-nil, append_assoc}
 use Rattle.std.proofs.lemmas.Bool.{ne_eqb}
 use Rattle.std.proofs.lemmas.Map.Keys.{IsDistinct-head, IsDistinct-tail, IsDistinct-cons}
-use Rattle.spec_forest.specs.Forest.{Forest, none, leaf, group, size, levels, ids}
-use Rattle.spec_forest.specs.Changes.{above, put_last}
-use Rattle.spec_forest.proofs.Distinct.{ids-above}
-use Rattle.spec_forest.proofs.Changed.{size-above, levels-above}
+use Rattle.spec_document.specs.Forest.{Forest, none, leaf, group, size, levels, ids}
+use Rattle.spec_document.specs.Changes.{above, put_last}
+use Rattle.spec_document.proofs.Distinct.{ids-above}
+use Rattle.spec_document.proofs.Changed.{size-above, levels-above}
 
 module _ {L G : Type 0} where
   -- an option that was mapped to something

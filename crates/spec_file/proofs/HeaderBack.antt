@@ -16,7 +16,7 @@ use Rattle.spec_fields.proofs.Back.{bind_back, wants_back}
 use Rattle.spec_fields.proofs.FieldsBack.{word_first, given_back}
 use Rattle.spec_file.specs.Header.{magic, begins, version_of, base_of, is_side, Header, side_at, header_of}
 use Rattle.spec_file.specs.Holds.{HasHeader}
-use Rattle.spec_grid.specs.declared.TheConstants.{MAX_SIDE}
+use Rattle.spec_document.specs.declared.TheConstants.{MAX_SIDE}
 
 pub both_hold : (a b : Bool) → (a && b) ≡ true → (a ≡ true) × (b ≡ true)
 both_hold true true e = (refl, refl)

@@ -2,7 +2,7 @@
 use Rattle.std.proofs.Common.{◌≡◌, ℕ, ◌+◌, ◌*◌, ◌^◌, ◌<◌, ◌≤◌, List, [], ◌∷◌, length, refl, sym, ◌∙◌, ap, subst, arith}
 use Rattle.std.specs.Prelude.{if◌then◌else◌}
 use Rattle.std.specs.List.{AllByRecursion}
-use Rattle.spec_forest.specs.Forest.{size, levels, ids}
+use Rattle.spec_document.specs.Forest.{size, levels, ids}
 use Rattle.spec_document.specs.declared.Base.{Base}
 use Rattle.spec_document.specs.declared.Base.TheVariants.{Rgb, Grey, Indexed}
 use Rattle.spec_document.specs.declared.Owner.TheVariants.{Image}
@@ -15,7 +15,7 @@ use Rattle.spec_file.specs.Holds.{Holds}
 use Rattle.spec_file.proofs.ForestGrows.{AreUpTo, none_up_to}
 use Rattle.spec_file.proofs.NodesWithin.{IsGrown, nodes_within}
 use Rattle.spec_file.proofs.ChannelsWithin.{HasSheets, channels_within}
-use Rattle.spec_forest.specs.declared.TheConstants.{MAX_NODES}
+use Rattle.spec_document.specs.declared.TheConstants.{MAX_NODES}
 
 colours_are : (base : Base) (colours : List (List ℕ)) → (length colours ≤ 256) × AllByRecursion IsColour colours
     → AreColours base (if is_indexed base then colours else [])

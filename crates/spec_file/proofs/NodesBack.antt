@@ -3,8 +3,8 @@ use Rattle.std.proofs.Common.{◌≡◌, ℕ, zero, suc, ◌+◌, ◌*◌, ◌^�
 use Rattle.std.proofs.Common.{length, nat_lt, refl, sym, ◌∙◌, ap, subst, arith}
 use Rattle.std.specs.Prelude.{Ok, Option, Some, None, nat_le, ◌==◌, MatchBool}
 use Rattle.std.proofs.lemmas.Bool.{leb-true, ltb-true, eqb-true, eqb-false}
-use Rattle.spec_forest.specs.Forest.{none, leaf, group, size}
-use Rattle.spec_forest.specs.Changes.{put_last}
+use Rattle.spec_document.specs.Forest.{none, leaf, group, size}
+use Rattle.spec_document.specs.Changes.{put_last}
 use Rattle.spec_document.specs.declared.Owner.TheVariants as owners
 use Rattle.spec_document.specs.Document.{Document, Nodes, Channel, base_code, base_of_kind, bytes_of_kind, mask_area}
 use Rattle.spec_document.specs.Document.{channel_kept, area, all_kept, kept_bytes, is_indexed}

@@ -2,8 +2,8 @@
 use Rattle.std.proofs.Common.{◌≡◌, ℕ, zero, suc, ◌+◌, ◌<◌, ◌≤◌, Bool, true, false, List, [], ◌∷◌, ◌++◌, length, refl}
 use Rattle.std.proofs.Common.{sym, ◌∙◌, ap, subst, arith}
 use Rattle.std.specs.Prelude.{Option, Some, None, option_map, MatchBool}
-use Rattle.spec_forest.specs.Forest.{none, leaf, group, size, levels, ids}
-use Rattle.spec_forest.specs.Changes.{above, put_last}
+use Rattle.spec_document.specs.Forest.{none, leaf, group, size, levels, ids}
+use Rattle.spec_document.specs.Changes.{above, put_last}
 use Rattle.spec_document.specs.declared.Base.{Base}
 use Rattle.spec_document.specs.declared.Base.TheVariants.{Rgb, Grey, Indexed}
 use Rattle.spec_document.specs.declared.Owner.TheVariants as owners

@@ -21,7 +21,7 @@ use Rattle.spec_file.proofs.HeaderBack.{header_has}
 use Rattle.spec_file.proofs.NodesAre.{IsWithin}
 use Rattle.spec_file.proofs.NodesBack.{nodes_back}
 use Rattle.spec_file.proofs.ChannelsBack.{channels_back}
-use Rattle.spec_forest.specs.declared.TheConstants.{MAX_NODES}
+use Rattle.spec_document.specs.declared.TheConstants.{MAX_NODES}
 
 map_there : (indexed colours : Bool) → not (indexed && not colours) ≡ true → indexed ≡ true → colours ≡ true
 map_there true true e i = refl

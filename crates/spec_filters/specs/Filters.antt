@@ -1,7 +1,7 @@
 -- The tables of the filters, and how often each was used.
 use Rattle.std.specs.Prelude.{ℕ, ◌+◌, ◌-◌, ◌*◌, ◌/◌, ◌^◌, max, min, nat_le, if◌then◌else◌, List, map}
-use Rattle.spec_blend.specs.Blend.{mul}
-use Rattle.spec_grid.specs.Rect.{count_from}
+use Rattle.spec_document.specs.Blend.{mul}
+use Rattle.spec_document.specs.Rect.{count_from}
 use Rattle.spec_filters.specs.declared.FilterKind.{FilterKind}
 use Rattle.spec_filters.specs.declared.FilterKind.TheVariants.{Invert, Threshold, Posterize, Fade}
 use Rattle.spec_filters.specs.declared.FilterState.{FilterState}

@@ -1,11 +1,11 @@
 -- What is made from the seed 7, and sums of what is made from three seeds. The values were computed apart from the definitions.
 use Rattle.std.specs.Prelude.{◌≡◌, ℕ, ◌+◌, ◌*◌, ◌%◌, Bool, true, false, ℤ, pos, negsuc, List, [], ◌∷◌, length, map}
 use Rattle.std.specs.Prelude.{fold, count_by, flat_map, slice_get, slice_index_or, Some, None, refl}
-use Rattle.spec_blend.specs.declared.Mode.TheVariants.{Normal, Multiply, Screen, Addition, SoftLight}
-use Rattle.spec_forest.specs.Forest.{none, leaf, ids}
+use Rattle.spec_document.specs.declared.Mode.TheVariants.{Normal, Multiply, Screen, Addition, SoftLight}
+use Rattle.spec_document.specs.Forest.{none, leaf, ids}
 use Rattle.spec_document.specs.Document.{Document}
 use Rattle.spec_document.proofs.Samples.{layer_of, canvas}
-use Rattle.spec_picture.specs.Picture.{picture_bytes}
+use Rattle.spec_document.specs.Picture.{picture_bytes}
 use Rattle.spec_edit.specs.Edit as edits
 use Rattle.spec_edit.specs.Edit.{Edit}
 use Rattle.spec_history.specs.Machine as machine

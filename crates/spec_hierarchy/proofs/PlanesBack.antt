@@ -4,9 +4,9 @@ use Rattle.std.proofs.Common.{[], ◌∷◌, length, map, get_or, slice_index, n
 use Rattle.std.specs.Prelude.{Ok, nat_le, ◌==◌, MatchBool, flat_map}
 use Rattle.std.specs.List.{AllByRecursion}
 use Rattle.std.proofs.lemmas.Bool.{leb-true, ltb-true, eqb-true}
-use Rattle.spec_grid.specs.declared.TileAt.{TileAt}
-use Rattle.spec_grid.specs.Rect.{count_from}
-use Rattle.spec_grid.specs.Grid.{tiles_along, all_tiles}
+use Rattle.spec_document.specs.declared.TileAt.{TileAt}
+use Rattle.spec_document.specs.Rect.{count_from}
+use Rattle.spec_document.specs.Grid.{tiles_along, all_tiles}
 use Rattle.spec_document.specs.Limits.{AreBytes, IsPlaneOf}
 use Rattle.spec_document.specs.Plane.{Plane}
 use Rattle.spec_document.proofs.PlaneLemmas.{length-plane_of}

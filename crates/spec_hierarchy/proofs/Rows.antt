@@ -1,7 +1,7 @@
 -- A worked plane: 65 by 1 pixels of four bytes, run-length coded, in a tile of 64 by 1 and one of 1 by 1.
 use Rattle.std.specs.Prelude.{◌≡◌, ℕ, zero, suc, List, [], ◌∷◌, ◌++◌, take, Ok, Err, refl}
-use Rattle.spec_grid.specs.declared.TileAt.{TileAt}
-use Rattle.spec_grid.specs.Grid.{all_tiles}
+use Rattle.spec_document.specs.declared.TileAt.{TileAt}
+use Rattle.spec_document.specs.Grid.{all_tiles}
 use Rattle.spec_fields.specs.declared.Kind.TheVariants.{Truncated, BadHierarchy}
 use Rattle.spec_fields.specs.Reading.{fault}
 use Rattle.spec_rle.specs.Reading.{codes_at, code_at}

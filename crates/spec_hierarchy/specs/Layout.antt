@@ -2,9 +2,9 @@
 use Rattle.std.specs.Prelude.{◌≡◌, ℕ, ◌+◌, ◌*◌, ◌≤◌, ◌==◌, List, [], ◌∷◌, ◌++◌, length, map, flat_map, MatchBool}
 use Rattle.std.specs.Int.{w32, to_be_bytes}
 use Rattle.std.specs.List.{concat}
-use Rattle.spec_grid.specs.declared.TileAt.{TileAt}
-use Rattle.spec_grid.specs.Rect.{count_from}
-use Rattle.spec_grid.specs.Grid.{all_tiles}
+use Rattle.spec_document.specs.declared.TileAt.{TileAt}
+use Rattle.spec_document.specs.Rect.{count_from}
+use Rattle.spec_document.specs.Grid.{all_tiles}
 use Rattle.spec_document.specs.Plane.{Plane}
 use Rattle.spec_rle.specs.declared.TheConstants.{MAX_EXCESS}
 use Rattle.spec_rle.specs.Codes.{Spells}

@@ -3,8 +3,8 @@ use Rattle.std.proofs.Common.{◌≡◌, ℕ, zero, suc, ◌+◌, ◌-◌, ◌<�
 use Rattle.std.proofs.Common.{inr, length, refl, sym, ◌∙◌, ap, subst, arith, length-append, eq-eqb, ne_eqb, true≢false}
 use Rattle.std.specs.Prelude.{not, ◌&&◌, ◌==◌, find, Option, Some, None, option_map, unwrap_or, slice_get}
 use Rattle.std.specs.List.{list_all}
-use Rattle.spec_grid.specs.declared.TileAt.{TileAt}
-use Rattle.spec_grid.specs.Rect.{count_from}
+use Rattle.spec_document.specs.declared.TileAt.{TileAt}
+use Rattle.spec_document.specs.Rect.{count_from}
 use Rattle.spec_document.specs.Document.{Document}
 use Rattle.spec_history.specs.Machine.{State, latest, document_at, has_stack}
 use Rattle.spec_history.specs.History.{Entry, after_entry, replay, IsStep, Run, is_changed}

@@ -1,8 +1,8 @@
 -- The last tile call of a tile: at which version it was.
 use Rattle.std.proofs.Common.{◌≡◌, ℕ, ◌≤◌, Bool, true, false, cond, List, [], ◌∷◌, ◌++◌, refl, sym, ◌∙◌, ap, arith, eqb-true}
 use Rattle.std.specs.Prelude.{not, ◌==◌, ◌&&◌, Option, Some, None}
-use Rattle.spec_grid.specs.declared.TileAt.{TileAt}
-use Rattle.spec_grid.specs.Grid.{is_on_grid, same_tile}
+use Rattle.spec_document.specs.declared.TileAt.{TileAt}
+use Rattle.spec_document.specs.Grid.{is_on_grid, same_tile}
 use Rattle.spec_document.specs.Document.{Document}
 use Rattle.spec_history.specs.Machine.{tile, Reply, tile_of, no_stack, outside_tile, State, latest, document_at}
 use Rattle.spec_history.specs.Machine.{initial, answer, has_stack}

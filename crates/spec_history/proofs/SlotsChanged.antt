@@ -2,7 +2,7 @@
 use Rattle.std.proofs.Common.{◌≡◌, ℕ, ◌+◌, ◌-◌, ◌<◌, ◌≤◌, Bool, true, false, cond, List, [], ◌∷◌, ◌++◌, inl, inr}
 use Rattle.std.proofs.Common.{length, refl, sym, ◌∙◌, ap, arith, true≢false, ltb-true}
 use Rattle.std.specs.Prelude.{not, nat_lt, ◌&&◌, ◌||◌, Option, Some, None, is_some, IfSome, slice_get, unwrap_or}
-use Rattle.spec_grid.specs.declared.TileAt.{TileAt}
+use Rattle.spec_document.specs.declared.TileAt.{TileAt}
 use Rattle.spec_document.specs.Document.{Document}
 use Rattle.spec_document.specs.Limits.{IsDocument}
 use Rattle.spec_damage.specs.Picture.{project}

@@ -3,7 +3,7 @@ use Rattle.std.proofs.Common.{◌≡◌, ℕ, ◌+◌, ◌-◌, ◌<◌, ◌≤�
 use Rattle.std.proofs.Common.{length, refl, sym, ◌∙◌, ap, subst, arith, true≢false, eq-eqb, ne_eqb, ltb-true}
 use Rattle.std.proofs.Common.{ltb-false}
 use Rattle.std.specs.Prelude.{nat_lt, ◌==◌, ◌&&◌, Option, Some, None, is_some}
-use Rattle.spec_grid.specs.declared.TileAt.{TileAt}
+use Rattle.spec_document.specs.declared.TileAt.{TileAt}
 use Rattle.spec_document.specs.Document.{Document}
 use Rattle.spec_document.specs.Limits.{IsDocument}
 use Rattle.spec_damage.specs.Picture.{project}

@@ -3,9 +3,9 @@ use Rattle.std.proofs.Common.{◌≡◌, ℕ, zero, suc, ◌+◌, ◌-◌, ◌<�
 use Rattle.std.proofs.Common.{refl, ◌⊎◌, sym, ◌∙◌, ap, subst, arith}
 use Rattle.std.specs.Prelude.{not, Some, Ok, slice_get}
 use Rattle.std.specs.List.{AllByRecursion, list_any}
-use Rattle.spec_grid.specs.declared.TileAt.{TileAt}
-use Rattle.spec_grid.specs.Rect.{do_meet}
-use Rattle.spec_grid.specs.Grid.{tile_rect}
+use Rattle.spec_document.specs.declared.TileAt.{TileAt}
+use Rattle.spec_document.specs.Rect.{do_meet}
+use Rattle.spec_document.specs.Grid.{tile_rect}
 use Rattle.spec_document.specs.Document.{Document}
 use Rattle.spec_document.specs.Limits.{IsDocument}
 use Rattle.spec_damage.specs.Picture.{project}

@@ -1,6 +1,6 @@
 -- What the version that is kept of a tile promises, and what is kept after one entry more.
 use Rattle.std.specs.Prelude.{◌≡◌, ℕ, ◌+◌, ◌≤◌, Bool, not, ◌&&◌, ◌==◌, if◌then◌else◌, List, Option, Some, None}
-use Rattle.spec_grid.specs.declared.TileAt.{TileAt}
+use Rattle.spec_document.specs.declared.TileAt.{TileAt}
 use Rattle.spec_document.specs.Document.{Document}
 use Rattle.spec_damage.specs.Picture.{project}
 use Rattle.spec_history.specs.Machine.{Reply, State, latest, document_at, has_stack}

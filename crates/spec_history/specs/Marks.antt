@@ -1,6 +1,6 @@
 -- The last version that marks what a cache keeps of a tile.
 use Rattle.std.specs.Prelude.{ℕ, zero, suc, ◌-◌, Bool, not, ◌&&◌, ◌||◌, if◌then◌else◌}
-use Rattle.spec_grid.specs.declared.TileAt.{TileAt}
+use Rattle.spec_document.specs.declared.TileAt.{TileAt}
 use Rattle.spec_document.specs.Document.{Document}
 use Rattle.spec_history.specs.Machine.{State, latest, document_at, has_stack}
 use Rattle.spec_history.specs.Kept.{damaged_at}

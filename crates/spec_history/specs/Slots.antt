@@ -1,7 +1,7 @@
 -- What a cache keeps of a tile.
 use Rattle.std.specs.Prelude.{◌≡◌, ℕ, ◌<◌, ◌≤◌, Bool, true, false, ◌==◌, if◌then◌else◌, nat_lt, List, Option, Some}
 use Rattle.std.specs.Prelude.{None, is_some, IfSome}
-use Rattle.spec_grid.specs.declared.TileAt.{TileAt}
+use Rattle.spec_document.specs.declared.TileAt.{TileAt}
 use Rattle.spec_document.specs.Document.{Document}
 use Rattle.spec_damage.specs.Picture.{project}
 use Rattle.spec_history.specs.Machine.{Reply, tile_of, stale, State, latest, document_at, has_stack}

@@ -2,9 +2,9 @@
 use Rattle.std.proofs.Common.{◌≡◌, ℕ, Bool, true, false, cond, eqb, List, refl, sym, ◌∙◌, ap}
 use Rattle.std.specs.Prelude.{◌≢◌, slice_index}
 use Rattle.std.proofs.lemmas.Bool.{eqb-true}
-use Rattle.spec_forest.specs.Forest.{Forest, none, leaf, group}
-use Rattle.spec_forest.specs.Changes.{with_leaf}
-use Rattle.spec_grid.specs.declared.Rect.{Rect}
+use Rattle.spec_document.specs.Forest.{Forest, none, leaf, group}
+use Rattle.spec_document.specs.Changes.{with_leaf}
+use Rattle.spec_document.specs.declared.Rect.{Rect}
 use Rattle.spec_document.specs.Document.{Document, Layer, Nodes}
 use Rattle.spec_edit.specs.Edit.{fill}
 use Rattle.spec_edit.specs.Refusal.{refusal}

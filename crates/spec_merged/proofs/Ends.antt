@@ -5,7 +5,7 @@ use Rattle.std.specs.Prelude.{Option, Some, None, slice_get, unwrap_or}
 use Rattle.std.specs.List.{cons_option}
 use Rattle.std.proofs.lemmas.Bool.{eq-eqb, ltb-true, ltb-false, lt-ltb}
 use Rattle.spec_filters.specs.declared.FilterState.{FilterState}
-use Rattle.spec_grid.specs.Rect.{count_from}
+use Rattle.spec_document.specs.Rect.{count_from}
 use Rattle.spec_document.specs.Document.{Document}
 use Rattle.spec_history.specs.History.{Entry, mine}
 use Rattle.spec_script.specs.Script.{Line, call, save, forget}

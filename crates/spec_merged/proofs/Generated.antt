@@ -4,7 +4,7 @@ use Rattle.std.specs.Prelude.{nat_le, if◌then◌else◌}
 use Rattle.std.specs.List.{AllByRecursion}
 use Rattle.std.proofs.lemmas.List.Concat.{flat_map-cons}
 use Rattle.spec_filters.specs.declared.FilterState.{FilterState}
-use Rattle.spec_grid.specs.Rect.{count_from}
+use Rattle.spec_document.specs.Rect.{count_from}
 use Rattle.spec_history.specs.History.{Entry, document_of, latest_of}
 use Rattle.spec_script.specs.Script.{Line, save}
 use Rattle.spec_text.specs.Text.{IsTextOf}

@@ -1,7 +1,7 @@
 -- Changes of all leaves of a forest at once, each by its id.
 use Rattle.std.proofs.Common.{◌≡◌, ℕ, cond, eqb, refl}
-use Rattle.spec_forest.specs.Forest.{Forest, none, leaf, group}
-use Rattle.spec_forest.specs.Changes.{with_leaf}
+use Rattle.spec_document.specs.Forest.{Forest, none, leaf, group}
+use Rattle.spec_document.specs.Changes.{with_leaf}
 
 module _ {L G : Type 0} where
   -- each leaf is changed, by its id

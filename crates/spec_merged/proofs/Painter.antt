@@ -1,8 +1,8 @@
 -- What lines that fill make of a document, leaf by leaf.
 use Rattle.std.proofs.Common.{◌≡◌, ℕ, Bool, true, false, cond, eqb, List, [], ◌∷◌, refl, ◌∙◌, ap}
 use Rattle.std.specs.Prelude.{slice_index, Option, Some, None}
-use Rattle.spec_forest.specs.Changes.{with_leaf}
-use Rattle.spec_grid.specs.declared.Rect.{Rect}
+use Rattle.spec_document.specs.Changes.{with_leaf}
+use Rattle.spec_document.specs.declared.Rect.{Rect}
 use Rattle.spec_document.specs.Document.{Document, Layer}
 use Rattle.spec_edit.specs.declared.EditRefused.{EditRefused}
 use Rattle.spec_edit.specs.Edit.{Edit, fill}

@@ -3,7 +3,7 @@ use Rattle.std.proofs.Common.{◌≡◌, ℕ, ◌-◌, List, [], ◌∷◌, ◌+
 use Rattle.std.specs.Prelude.{slice_get, unwrap_or, Option, Some, None, Ok}
 use Rattle.std.proofs.lemmas.Option.{unwrap_or-slice_get}
 use Rattle.std.proofs.Math.Seq.{get_or-append_seam}
-use Rattle.spec_grid.specs.declared.Rect.{Rect}
+use Rattle.spec_document.specs.declared.Rect.{Rect}
 use Rattle.spec_document.specs.Document.{Document, Layer}
 use Rattle.spec_edit.specs.declared.EditRefused.{EditRefused}
 use Rattle.spec_edit.specs.Edit.{Edit, fill}

@@ -1,7 +1,7 @@
 -- Sessions that fill layers of their own: each layer has an owner, and a session fills only the layers that it owns.
 use Rattle.std.specs.Prelude.{◌≡◌, ℕ, suc, List, [], ◌∷◌, ◌++◌, Option, None}
 use Rattle.std.specs.List.{AllByRecursion}
-use Rattle.spec_grid.specs.declared.Rect.{Rect}
+use Rattle.spec_document.specs.declared.Rect.{Rect}
 use Rattle.spec_edit.specs.Edit.{Edit, fill}
 use Rattle.spec_history.specs.Machine.{Call, edit, undo, redo, tile, peek, top}
 use Rattle.spec_script.specs.Script.{Line, call, save, forget}

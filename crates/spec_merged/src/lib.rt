@@ -2,7 +2,7 @@
 #![tactic(auto)]
 
 ghost use Rattle.std.specs.Prelude.{◌≡◌, ◌≢◌, ℕ, ◌<◌, ◌≤◌, List, [], length, filter_map, slice_get, unwrap_or};
-ghost use Rattle.spec_grid.specs.declared.Rect.{Rect};
+ghost use Rattle.spec_document.specs.declared.Rect.{Rect};
 ghost use Rattle.spec_document.specs.Document.{Document};
 ghost use Rattle.spec_edit.specs.Edit.{fill};
 ghost use Rattle.spec_edit.specs.Refusal.{refusal};

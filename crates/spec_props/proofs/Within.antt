@@ -7,7 +7,7 @@ use Rattle.std.specs.List.{AllByRecursion}
 use Rattle.std.specs.Int.Signed.{le_z_yes}
 use Rattle.std.proofs.lemmas.Bool.{leb-true, eqb-true, eq-eqb}
 use Rattle.std.proofs.lemmas.List.{reverse-append, length-take-le, length-drop}
-use Rattle.spec_grid.specs.Rect.{count_from}
+use Rattle.spec_document.specs.Rect.{count_from}
 use Rattle.spec_document.specs.declared.Owner.{Owner}
 use Rattle.spec_document.specs.declared.Owner.TheVariants.{Image, Layer, Channel, Mask}
 use Rattle.spec_document.specs.Limits.{AreBytes, IsColour, IsKept, AreKept, is_offset, IsOffset, interprets, is_unit}

@@ -4,8 +4,8 @@ use Rattle.std.proofs.Common.{[], ◌∷◌, length, refl, arith}
 use Rattle.std.specs.Prelude.{Option, Some, None, IfSome, option_map, ◌/◌, ◌%◌}
 use Rattle.std.proofs.lemmas.Bool.{and_parts, leb-true, ltb-true, eqb-true}
 use Rattle.std.proofs.lemmas.Nat.{div-add-mod'}
-use Rattle.spec_grid.specs.declared.Rect.{Rect}
-use Rattle.spec_grid.specs.declared.TileAt.{TileAt}
+use Rattle.spec_document.specs.declared.Rect.{Rect}
+use Rattle.spec_document.specs.declared.TileAt.{TileAt}
 use Rattle.spec_document.specs.Limits.{AreBytes, IsSide}
 use Rattle.spec_edit.specs.Edit as edits
 use Rattle.spec_edit.specs.Edit.{Edit, IsEdit}
@@ -19,7 +19,7 @@ use Rattle.spec_script.specs.Commands.{fill_rule, write_rule, filter_rule, copy_
 use Rattle.spec_script.specs.Commands.{number_rule, flag_rule, one_rule, rect_byte_rule, offset_rule, rename_rule}
 use Rattle.spec_script.specs.Commands.{new_layer_rule, new_group_rule, restack_rule, name_rule, are_colours}
 use Rattle.spec_script.specs.Commands.{colours_rule, alone, optional_rule, tile_rule, forget_rule}
-use Rattle.spec_grid.specs.declared.TheConstants.{MAX_SIDE}
+use Rattle.spec_document.specs.declared.TheConstants.{MAX_SIDE}
 
 -- a call with a line of its own, which a group of edits has not
 abbrev pub IsOwnCall : Call → Type 0

@@ -1,9 +1,9 @@
 -- The nodes of a document without the bytes of their layers' pixels.
 use Rattle.std.proofs.Common.{◌≡◌, ℕ, zero, suc, ◌+◌, max, Bool, true, false, cond, eqb, [], ◌∷◌, ◌++◌, refl, sym, ◌∙◌, ap}
 use Rattle.std.specs.Prelude.{Some, option_map}
-use Rattle.spec_forest.specs.Forest.{none, leaf, group, Found, nothing, a_leaf, a_group, or_else, find, children_of}
-use Rattle.spec_forest.specs.Forest.{size, count, levels, first_of, ancestors, stack_at}
-use Rattle.spec_forest.specs.Changes.{above, put_at, with_children, put_into, without, branch_of, with_leaf, with_group}
+use Rattle.spec_document.specs.Forest.{none, leaf, group, Found, nothing, a_leaf, a_group, or_else, find, children_of}
+use Rattle.spec_document.specs.Forest.{size, count, levels, first_of, ancestors, stack_at}
+use Rattle.spec_document.specs.Changes.{above, put_at, with_children, put_into, without, branch_of, with_leaf, with_group}
 use Rattle.spec_document.specs.Document.{Document, Nodes, Layer, Group, nodes_area, plane_area, mask_area}
 
 abbrev pub bare_layer : Layer → Layer

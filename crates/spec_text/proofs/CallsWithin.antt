@@ -5,8 +5,8 @@ use Rattle.std.specs.Prelude.{Option, Some, None, nat_le, slice_get, unwrap_or, 
 use Rattle.std.specs.List.{AllByRecursion, cons_option}
 use Rattle.std.proofs.Math.Nat.{div-lt_iff_lt-mul}
 use Rattle.std.proofs.lemmas.Bool.{eq-eqb, eqb-false, ltb-true, ltb-false}
-use Rattle.spec_blend.specs.Blend.{mul}
-use Rattle.spec_blend.proofs.OverLemmas.{mul-le_right, mul-le_left}
+use Rattle.spec_document.specs.Blend.{mul}
+use Rattle.spec_document.proofs.OverLemmas.{mul-le_right, mul-le_left}
 use Rattle.spec_document.proofs.Elements.{all-append}
 use Rattle.spec_document.specs.Document.{Document}
 use Rattle.spec_document.specs.Limits.{AreBytes}
@@ -17,7 +17,7 @@ use Rattle.spec_filters.specs.Filters.{posterize_byte, table_byte, table_of, aft
 use Rattle.spec_filters.specs.declared.FilterKind.{FilterKind}
 use Rattle.spec_filters.specs.declared.FilterKind.TheVariants.{Invert, Threshold, Posterize, Fade}
 use Rattle.spec_filters.specs.declared.FilterState.{FilterState}
-use Rattle.spec_grid.specs.Rect.{count_from}
+use Rattle.spec_document.specs.Rect.{count_from}
 use Rattle.spec_history.specs.Calls.{IsCall}
 use Rattle.spec_history.specs.declared.TheConstants.{MAX_ENTRIES}
 use Rattle.spec_history.specs.History.{Entry, Kind, asked, starts, ends, MayBe, MayEnd, after_kind, after_entry}

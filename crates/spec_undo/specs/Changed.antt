@@ -1,6 +1,6 @@
 -- How many tiles differ between two documents, and how many only one of them has.
 use Rattle.std.specs.Prelude.{ℕ, ◌+◌, if◌then◌else◌, List, [], ◌∷◌, Option, Some, None}
-use Rattle.spec_forest.specs.Forest.{none, leaf, group, Found, nothing, a_leaf, a_group, find}
+use Rattle.spec_document.specs.Forest.{none, leaf, group, Found, nothing, a_leaf, a_group, find}
 use Rattle.spec_document.specs.Document.{Channel, Layer, Group, Nodes, Document}
 use Rattle.spec_document.specs.Plane.{Plane}
 use Rattle.spec_undo.specs.Planes.{tile_count, are_alike, changed_tiles}

@@ -1,7 +1,7 @@
 -- How many tiles differ between two planes.
 use Rattle.std.specs.Prelude.{ℕ, ◌+◌, ◌*◌, ◌==◌, Bool, not, ◌&&◌, bytes_eq, if◌then◌else◌, length, filter}
-use Rattle.spec_grid.specs.declared.TileAt.{TileAt}
-use Rattle.spec_grid.specs.Grid.{tiles_along, all_tiles}
+use Rattle.spec_document.specs.declared.TileAt.{TileAt}
+use Rattle.spec_document.specs.Grid.{tiles_along, all_tiles}
 use Rattle.spec_document.specs.Plane.{Plane}
 use Rattle.spec_hierarchy.specs.Tiles.{tile_bytes}
 

@@ -4,9 +4,9 @@ use Rattle.std.proofs.Common.{◌∙◌, ap, subst, true≢false, arith}
 use Rattle.std.specs.Prelude.{Option, Some, None, IfSome, is_some, option_map, option_and_then, unwrap_or, slice_get}
 use Rattle.std.specs.List.{list_any}
 use Rattle.std.proofs.lemmas.Bool.{and_right}
-use Rattle.spec_grid.specs.declared.TileAt.{TileAt}
-use Rattle.spec_grid.specs.Rect.{do_meet}
-use Rattle.spec_grid.specs.Grid.{tile_rect}
+use Rattle.spec_document.specs.declared.TileAt.{TileAt}
+use Rattle.spec_document.specs.Rect.{do_meet}
+use Rattle.spec_document.specs.Grid.{tile_rect}
 use Rattle.spec_document.specs.Document.{Document}
 use Rattle.spec_cache.specs.Slots.{Slot, Slots, AreOfCanvas, blank_slots, slot_at, mark_slot, mark_slots}
 use Rattle.spec_cache.specs.Cache.{Cache, IsCache, slots_of, has_slots, slot_of}

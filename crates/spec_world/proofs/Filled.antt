@@ -4,10 +4,10 @@ use Rattle.std.proofs.Common.{remove, take, drop, refl, sym, ◌∙◌, ap, subs
 use Rattle.std.specs.Prelude.{Option, Some, None, IfSome, is_some, option_and_then, slice_get}
 use Rattle.std.specs.List.{AllByRecursion}
 use Rattle.std.proofs.lemmas.Bool.{and_parts, eqb-true, eqb-false, ltb-false}
-use Rattle.spec_grid.specs.declared.TileAt.{TileAt}
-use Rattle.spec_grid.specs.Grid.{is_on_grid, same_tile}
+use Rattle.spec_document.specs.declared.TileAt.{TileAt}
+use Rattle.spec_document.specs.Grid.{is_on_grid, same_tile}
 use Rattle.spec_document.specs.Document.{Document}
-use Rattle.spec_picture.specs.Picture.{project}
+use Rattle.spec_document.specs.Picture.{project}
 use Rattle.spec_cache.specs.declared.Finished.{Finished}
 use Rattle.spec_cache.specs.declared.Finished.TheVariants.{Installed, Late, Gone}
 use Rattle.spec_cache.specs.Slots.{Slot, Slots, slot_at, change_slot, fill_slot}

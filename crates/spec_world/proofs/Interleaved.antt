@@ -1,8 +1,8 @@
 -- Two long runs in which calls, jobs and saves interleave. What they answer and leave was computed apart from the definitions.
 use Rattle.std.specs.Prelude.{◌≡◌, ℕ, ◌*◌, Bool, true, false, pos, negsuc, List, [], ◌∷◌, Some, None, refl, flat_map, replicate}
-use Rattle.spec_blend.specs.declared.Mode.TheVariants.{Multiply}
-use Rattle.spec_grid.specs.declared.TileAt.{TileAt}
-use Rattle.spec_forest.specs.Forest.{none, leaf, group}
+use Rattle.spec_document.specs.declared.Mode.TheVariants.{Multiply}
+use Rattle.spec_document.specs.declared.TileAt.{TileAt}
+use Rattle.spec_document.specs.Forest.{none, leaf, group}
 use Rattle.spec_document.specs.Plane.{Plane}
 use Rattle.spec_document.specs.Document.{Document}
 use Rattle.spec_document.proofs.Samples.{canvas, layer_of, plain_group}

@@ -3,9 +3,9 @@ use Rattle.std.proofs.Common.{◌≡◌, ℕ, zero, suc, ◌-◌, ◌≤◌, Boo
 use Rattle.std.proofs.Common.{◌∙◌, ap, subst, true≢false, inl, inr, arith}
 use Rattle.std.specs.Prelude.{slice_get}
 use Rattle.std.proofs.lemmas.Bool.{or_parts, cases_lt}
-use Rattle.spec_grid.specs.declared.TileAt.{TileAt}
+use Rattle.spec_document.specs.declared.TileAt.{TileAt}
 use Rattle.spec_document.specs.Document.{Document}
-use Rattle.spec_picture.specs.Picture.{project}
+use Rattle.spec_document.specs.Picture.{project}
 use Rattle.spec_history.specs.Machine.{State, latest, document_at, has_stack}
 use Rattle.spec_history.specs.Kept.{cause_meets, damaged_at}
 use Rattle.spec_history.specs.TilesStay.{StackStays}

@@ -3,8 +3,8 @@ use Rattle.std.proofs.Common.{◌≡◌, ℕ, suc, ◌+◌, ◌-◌, Bool, true,
 use Rattle.std.proofs.Common.{◌∙◌, ap, subst, true≢false, arith}
 use Rattle.std.specs.Prelude.{Option, Some, None, is_some, option_map, option_and_then, unwrap_or, slice_get}
 use Rattle.std.proofs.lemmas.Bool.{and_right}
-use Rattle.spec_grid.specs.declared.TileAt.{TileAt}
-use Rattle.spec_grid.specs.Grid.{is_on_grid}
+use Rattle.spec_document.specs.declared.TileAt.{TileAt}
+use Rattle.spec_document.specs.Grid.{is_on_grid}
 use Rattle.spec_document.specs.Document.{Document}
 use Rattle.spec_cache.specs.Slots.{Slot, Slots, Shown, AreOfCanvas, blank_slots, slot_at, mark_slot, mark_slots}
 use Rattle.spec_cache.specs.Cache as cache

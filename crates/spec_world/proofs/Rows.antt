@@ -1,7 +1,7 @@
 -- Worked worlds.
 use Rattle.std.specs.Prelude.{◌≡◌, ℕ, true, false, pos, negsuc, List, [], ◌∷◌, map, replicate, Some, None, refl}
-use Rattle.spec_grid.specs.declared.TileAt.{TileAt}
-use Rattle.spec_forest.specs.Forest.{none, leaf, group}
+use Rattle.spec_document.specs.declared.TileAt.{TileAt}
+use Rattle.spec_document.specs.Forest.{none, leaf, group}
 use Rattle.spec_document.specs.Document.{Document}
 use Rattle.spec_document.proofs.Samples.{pixel, layer_of, plain_group, canvas, one, two}
 use Rattle.spec_edit.specs.Edit as edits

@@ -3,15 +3,15 @@ use Rattle.std.specs.Prelude.{ℕ, ◌+◌, ◌*◌, ◌%◌, Bool, true, false,
 use Rattle.std.specs.Prelude.{length, map, fold, Option, Some, None, option_map, is_some, unwrap_or}
 use Rattle.std.specs.List.{list_all}
 use Rattle.std.specs.Str.{bytes_eq}
-use Rattle.spec_grid.specs.declared.TileAt.{TileAt}
-use Rattle.spec_grid.specs.Grid.{all_tiles}
+use Rattle.spec_document.specs.declared.TileAt.{TileAt}
+use Rattle.spec_document.specs.Grid.{all_tiles}
 use Rattle.spec_document.specs.Document.{Document}
 use Rattle.spec_cache.specs.declared.Finished.{Finished}
 use Rattle.spec_cache.specs.Slots.{Slot, fill_slot, change_slots, with_tiles, shown_by}
 use Rattle.spec_cache.specs.Cache.{Held, Place, slots_of, next_place}
 use Rattle.spec_history.specs.Machine.{Reply, latest, document_at, has_stack}
 use Rattle.spec_history.specs.Kept as history
-use Rattle.spec_picture.specs.Picture.{project}
+use Rattle.spec_document.specs.Picture.{project}
 use Rattle.spec_world.specs.World.{World, document_now, stack_ids}
 use Rattle.spec_history.specs.Marks.{marked_at}
 use Rattle.spec_world.specs.Events.{Event, submits, takes, finishes, begins_save, ends_save, submit, finish_answer, after}

@@ -4,10 +4,10 @@ use Rattle.std.proofs.Common.{refl, sym, ◌∙◌, ap, subst, true≢false, inl
 use Rattle.std.specs.Prelude.{Option, Some, None, IfSome, IsSome, IsSomeAnd, is_some, option_map, unwrap_or, find}
 use Rattle.std.proofs.lemmas.Bool.{or_left, and_parts, cases_lt}
 use Rattle.std.specs.List.{list_all}
-use Rattle.spec_grid.specs.declared.TileAt.{TileAt}
-use Rattle.spec_grid.specs.Rect.{count_from}
+use Rattle.spec_document.specs.declared.TileAt.{TileAt}
+use Rattle.spec_document.specs.Rect.{count_from}
 use Rattle.spec_document.specs.Document.{Document}
-use Rattle.spec_picture.specs.Picture.{project}
+use Rattle.spec_document.specs.Picture.{project}
 use Rattle.spec_cache.specs.Slots.{Slot, blank_slot, mark_slot, fill_slot, shown_as, shown_by}
 use Rattle.spec_history.specs.Machine.{State, latest, document_at, initial, has_stack}
 use Rattle.spec_history.specs.Kept.{damaged_at, kept_in}

@@ -3,11 +3,11 @@ use Rattle.std.proofs.Common.{◌≡◌, ℕ, ◌≤◌, Bool, true, false, cond
 use Rattle.std.proofs.Common.{sym, ◌∙◌, ap, subst, true≢false, arith, eq-eqb}
 use Rattle.std.specs.Prelude.{Option, Some, None, IfSome, is_some, option_and_then, unwrap_or}
 use Rattle.std.proofs.lemmas.Bool.{eqb-true}
-use Rattle.spec_grid.specs.declared.TileAt.{TileAt}
-use Rattle.spec_grid.specs.Grid.{is_on_grid, same_tile}
+use Rattle.spec_document.specs.declared.TileAt.{TileAt}
+use Rattle.spec_document.specs.Grid.{is_on_grid, same_tile}
 use Rattle.spec_document.specs.Document.{Document}
 use Rattle.spec_document.specs.Limits.{IsDocument}
-use Rattle.spec_picture.specs.Picture.{project}
+use Rattle.spec_document.specs.Picture.{project}
 use Rattle.spec_cache.specs.Slots.{Slot, Slots, slot_at, change_slot, fill_slot, shown_as, shown_by}
 use Rattle.spec_cache.specs.Cache as cache
 use Rattle.spec_cache.specs.Cache.{Place, slots_of, slot_of, change_stack, next_place, with_last}

@@ -4,9 +4,9 @@ use Rattle.std.proofs.Common.{refl, sym, ◌∙◌, ap, subst, true≢false, ari
 use Rattle.std.specs.Prelude.{Option, Some, None, IfSome, IsSomeAnd, is_some, option_and_then}
 use Rattle.std.specs.List.{list_all}
 use Rattle.std.proofs.lemmas.Bool.{ltb-true}
-use Rattle.spec_grid.specs.declared.TileAt.{TileAt}
-use Rattle.spec_grid.specs.Rect.{count_from}
-use Rattle.spec_grid.specs.Grid.{is_on_grid}
+use Rattle.spec_document.specs.declared.TileAt.{TileAt}
+use Rattle.spec_document.specs.Rect.{count_from}
+use Rattle.spec_document.specs.Grid.{is_on_grid}
 use Rattle.spec_document.specs.Document.{Document}
 use Rattle.spec_edit.specs.Edit.{Edit}
 use Rattle.spec_cache.specs.Slots.{Slot, Slots, Shown, slot_at, shown_by}

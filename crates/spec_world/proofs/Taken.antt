@@ -5,8 +5,8 @@ use Rattle.std.proofs.Common.{div-lt_iff_lt-mul, mul_comm, eq-eqb}
 use Rattle.std.specs.Prelude.{Option, Some, None, IfSome, is_some, option_map, slice_get, find}
 use Rattle.std.specs.List.{AllByRecursion}
 use Rattle.std.proofs.lemmas.Bool.{and_from}
-use Rattle.spec_grid.specs.declared.TileAt.{TileAt}
-use Rattle.spec_grid.specs.Grid.{tiles_along, is_on_grid}
+use Rattle.spec_document.specs.declared.TileAt.{TileAt}
+use Rattle.spec_document.specs.Grid.{tiles_along, is_on_grid}
 use Rattle.spec_document.specs.Document.{Document}
 use Rattle.spec_cache.specs.Slots.{Slot, Slots, AreOfCanvas, tile_numbered, tiled_from, marked_tiles}
 use Rattle.spec_cache.specs.Cache.{Held, Place, slots_in, comes_after, marked_places, or_first, next_after, next_place, with_last}

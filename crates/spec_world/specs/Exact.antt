@@ -1,6 +1,6 @@
 -- The kept pictures where only tile calls give any, and no job does: each is just the one that has to be kept.
 use Rattle.std.specs.Prelude.{◌≡◌, ℕ, List}
-use Rattle.spec_grid.specs.declared.TileAt.{TileAt}
+use Rattle.spec_document.specs.declared.TileAt.{TileAt}
 use Rattle.spec_document.specs.Document.{Document}
 use Rattle.spec_cache.specs.Slots.{Slot}
 use Rattle.spec_history.specs.Machine.{peek, latest, answer}

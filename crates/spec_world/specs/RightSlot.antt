@@ -1,8 +1,8 @@
 -- What holds of one slot, beside the document that its stack belongs to. From this the facts of a world follow slot by slot.
 use Rattle.std.specs.Prelude.{◌≡◌, ℕ, ◌+◌, ◌<◌, ◌≤◌, true, false, List, IfSome, IsSome, Option, Some}
-use Rattle.spec_grid.specs.declared.TileAt.{TileAt}
+use Rattle.spec_document.specs.declared.TileAt.{TileAt}
 use Rattle.spec_document.specs.Document.{Document}
-use Rattle.spec_picture.specs.Picture.{project}
+use Rattle.spec_document.specs.Picture.{project}
 use Rattle.spec_cache.specs.Slots.{Slot}
 use Rattle.spec_history.specs.Machine.{State, latest, document_at}
 use Rattle.spec_history.specs.History.{Entry, replay}

@@ -1,8 +1,8 @@
 -- What holds of a world after each event, slot by slot: more than is told of it, so that it holds after the next event too.
 use Rattle.std.specs.Prelude.{◌≡◌, ℕ, ◌≤◌, true, IfSome}
 use Rattle.std.specs.List.{AllByRecursion}
-use Rattle.spec_grid.specs.declared.TileAt.{TileAt}
-use Rattle.spec_grid.specs.Grid.{is_on_grid}
+use Rattle.spec_document.specs.declared.TileAt.{TileAt}
+use Rattle.spec_document.specs.Grid.{is_on_grid}
 use Rattle.spec_document.specs.Document.{Document}
 use Rattle.spec_cache.specs.Cache.{IsCache, has_slots}
 use Rattle.spec_history.specs.Machine.{State, latest, has_stack}

@@ -1,10 +1,10 @@
 -- A world: the machine with its history, the pictures that are kept, and the jobs that are out.
 use Rattle.std.specs.Prelude.{ℕ, ◌+◌, ◌-◌, not, List, [], ◌∷◌, ◌++◌, map, filter, fold, length, slice_get, Option, Some, None}
-use Rattle.spec_grid.specs.declared.Rect.{Rect}
-use Rattle.spec_grid.specs.declared.TileAt.{TileAt}
-use Rattle.spec_forest.specs.Forest.{none, leaf, group}
+use Rattle.spec_document.specs.declared.Rect.{Rect}
+use Rattle.spec_document.specs.declared.TileAt.{TileAt}
+use Rattle.spec_document.specs.Forest.{none, leaf, group}
 use Rattle.spec_document.specs.Document.{Document, Nodes}
-use Rattle.spec_picture.specs.Picture.{project}
+use Rattle.spec_document.specs.Picture.{project}
 use Rattle.spec_history.specs.Damage.{group_damage}
 use Rattle.spec_cache.specs.Slots.{mark_slots}
 use Rattle.spec_cache.specs.Cache.{Cache, Held, no_slots, add_stack}

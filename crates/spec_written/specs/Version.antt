@@ -1,8 +1,8 @@
 -- The least version of the format that can hold a document.
 use Rattle.std.specs.Prelude.{ℕ, Bool, true, false, ◌||◌, nat_le, if◌then◌else◌}
-use Rattle.spec_blend.specs.Blend.{mode_code}
-use Rattle.spec_blend.specs.declared.Mode.{Mode}
-use Rattle.spec_forest.specs.Forest.{none, leaf, group}
+use Rattle.spec_document.specs.Blend.{mode_code}
+use Rattle.spec_document.specs.declared.Mode.{Mode}
+use Rattle.spec_document.specs.Forest.{none, leaf, group}
 use Rattle.spec_document.specs.declared.Base.{Base}
 use Rattle.spec_document.specs.declared.Base.TheVariants.{Rgb, Grey, Indexed}
 use Rattle.spec_document.specs.Document.{Document, Nodes}

@@ -6,7 +6,7 @@ use Rattle.spec_edit.specs.Apply.{At, apply}
 use Rattle.spec_edit.specs.Edit as edits
 use Rattle.spec_edit.specs.Limited.{IsAt}
 use Rattle.spec_edit.proofs.EditsLimited.{apply_goes}
-use Rattle.spec_grid.specs.declared.Rect.{Rect}
+use Rattle.spec_document.specs.declared.Rect.{Rect}
 
 -- a filter that is accepted leaves a document within its limits
 pub filter_leaves : (old new : At) (id : ℕ) (rect : Rect) (table : List ℕ) → IsAt old → AreBytes table

@@ -1,10 +1,10 @@
 -- What comes of a look at a tile.
 use Rattle.std.specs.Prelude.{◌≡◌, ℕ, true, false, List, Result, Ok, Err}
 use Rattle.spec_document.specs.Document.{Document}
-use Rattle.spec_grid.specs.declared.TileAt.{TileAt}
-use Rattle.spec_grid.specs.Grid.{is_on_grid}
+use Rattle.spec_document.specs.declared.TileAt.{TileAt}
+use Rattle.spec_document.specs.Grid.{is_on_grid}
 use Rattle.spec_history.specs.Machine.{has_stack}
-use Rattle.spec_picture.specs.Picture.{project}
+use Rattle.spec_document.specs.Picture.{project}
 use Rattle.xcf.specs.declared.errors.NotShown.{NotShown}
 use Rattle.xcf.specs.declared.errors.NotShown.TheVariants.{Memory, NoStack, OutsideTile}
 

@@ -1,10 +1,10 @@
 ghost use Rattle.std.specs.Prelude.{◌≡◌, ◌<◌, IfOk, IsSome, IsTrue, OnOk, Ok, length};
 ghost use Rattle.spec_document.specs.Document.{renumber};
 ghost use Rattle.spec_file.specs.Reading.{reading};
-ghost use Rattle.spec_forest.specs.Forest.{stack_at};
-ghost use Rattle.spec_grid.specs.Grid.{is_on_grid};
+ghost use Rattle.spec_document.specs.Forest.{stack_at};
+ghost use Rattle.spec_document.specs.Grid.{is_on_grid};
 ghost use Rattle.spec_layout.specs.Layout.{Written};
-ghost use Rattle.spec_picture.specs.Picture.{picture_bytes, project};
+ghost use Rattle.spec_document.specs.Picture.{picture_bytes, project};
 ghost use Rattle.xcf.specs.Shown.{Shows};
 
 use crate::errors::NotShown;

@@ -5,10 +5,10 @@ use Rattle.std.specs.Prelude.{◌&&◌, Option, slice_index, slice_set, slice_ge
 use Rattle.std.specs.Str.{bytes_eq}
 use Rattle.std.proofs.lemmas.List.{length-set}
 use Rattle.std.proofs.lemmas.Bool.{leb-true}
-use Rattle.spec_grid.specs.declared.TileAt.{TileAt}
-use Rattle.spec_grid.specs.Grid.{is_on_grid}
+use Rattle.spec_document.specs.declared.TileAt.{TileAt}
+use Rattle.spec_document.specs.Grid.{is_on_grid}
 use Rattle.spec_document.specs.Document.{Document}
-use Rattle.spec_picture.specs.Picture.{project}
+use Rattle.spec_document.specs.Picture.{project}
 use Rattle.spec_filters.specs.declared.FilterState.{FilterState}
 use Rattle.spec_cache.specs.Cache as cache
 use Rattle.spec_history.specs.declared.TheConstants.{MAX_ENTRIES}

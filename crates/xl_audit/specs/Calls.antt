@@ -1,6 +1,6 @@
 -- The call of a word, by the calls of each session.
 use Rattle.std.specs.Prelude.{ℕ, List, [], map, Option, slice_get, unwrap_or}
-use Rattle.spec_grid.specs.Rect.{count_from}
+use Rattle.spec_document.specs.Rect.{count_from}
 use Rattle.spec_filters.specs.declared.FilterState.{FilterState}
 use Rattle.spec_history.specs.Calls.{IsCall}
 use Rattle.spec_history.specs.Limited.{edits_of}

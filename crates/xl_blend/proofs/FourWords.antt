@@ -1,8 +1,8 @@
 -- The bytes of the words of four pixels.
 use Rattle.std.proofs.Common.{◌≡◌, ℕ, ◌+◌, ◌*◌, ◌/◌, ◌%◌, ◌≤◌, [], ◌∷◌, suc, refl, ap, ◌∙◌, arith}
 use lib.Lanes.{digits_l, number_l}
-use Rattle.spec_blend.specs.declared.Pixel.{Pixel}
-use Rattle.spec_blend.specs.Over.{IsPixel}
+use Rattle.spec_document.specs.declared.Pixel.{Pixel}
+use Rattle.spec_document.specs.Over.{IsPixel}
 use Rattle.xl_blend.specs.Words.{word_of}
 
 -- the lowest byte of a number, and the rest of it

@@ -3,12 +3,12 @@ use Rattle.std.proofs.Common.{◌≡◌, ℕ, ◌+◌, ◌-◌, ◌*◌, ◌≤�
 use Rattle.std.proofs.Common.{refl, sym, ◌∙◌, ap, arith, ◌≢◌, List}
 use Rattle.std.proofs.lemmas.Bool.{eqb-true, eqb-false}
 use Rattle.std.proofs.lemmas.Nat.{div-mul-add}
-use Rattle.spec_blend.specs.declared.Mode.{Mode}
-use Rattle.spec_blend.specs.declared.Mode.TheVariants.{Normal}
-use Rattle.spec_blend.specs.declared.Pixel.{Pixel}
-use Rattle.spec_blend.specs.Blend.{mul, blend}
-use Rattle.spec_blend.specs.Over.{over_normal, over_blended, clear, mean, IsPixel}
-use Rattle.spec_blend.proofs.OverLemmas.{mul-le_left}
+use Rattle.spec_document.specs.declared.Mode.{Mode}
+use Rattle.spec_document.specs.declared.Mode.TheVariants.{Normal}
+use Rattle.spec_document.specs.declared.Pixel.{Pixel}
+use Rattle.spec_document.specs.Blend.{mul, blend}
+use Rattle.spec_document.specs.Over.{over_normal, over_blended, clear, mean, IsPixel}
+use Rattle.spec_document.proofs.OverLemmas.{mul-le_left}
 use Rattle.xl_blend.specs.Shown.{shown}
 use Rattle.xl_blend.specs.Rows.{over_opaque, over_rows, blended_rows}
 use Rattle.xl_blend.specs.Words.{alpha_over, weight}

@@ -5,12 +5,12 @@ use Rattle.std.proofs.Math.Nat.{mul-le-mul_right, mul-le-mul_left}
 use Rattle.std.proofs.lemmas.Bool.{cond_both, ltb-true, ltb-false}
 use lib.Dec.{ltb}
 use mir.Syntax.{w16}
-use Rattle.spec_blend.specs.declared.Mode.TheVariants.{Overlay, HardLight, SoftLight, Difference, Addition}
-use Rattle.spec_blend.specs.declared.Mode.TheVariants.{GrainExtract, GrainMerge, Normal, Multiply, Screen}
-use Rattle.spec_blend.specs.declared.Mode.TheVariants.{Subtract, DarkenOnly, LightenOnly}
-use Rattle.spec_blend.specs.Blend.{mul, screen, blend}
-use Rattle.spec_blend.specs.Over.{mean}
-use Rattle.spec_blend.proofs.OverLemmas.{mul-le_left, mul-le_right}
+use Rattle.spec_document.specs.declared.Mode.TheVariants.{Overlay, HardLight, SoftLight, Difference, Addition}
+use Rattle.spec_document.specs.declared.Mode.TheVariants.{GrainExtract, GrainMerge, Normal, Multiply, Screen}
+use Rattle.spec_document.specs.declared.Mode.TheVariants.{Subtract, DarkenOnly, LightenOnly}
+use Rattle.spec_document.specs.Blend.{mul, screen, blend}
+use Rattle.spec_document.specs.Over.{mean}
+use Rattle.spec_document.proofs.OverLemmas.{mul-le_left, mul-le_right}
 use Rattle.xl_blend.proofs.Weighed.{weighed}
 use Rattle.xl_blend.proofs.Products.{screen_by_product, rest_of_product, overlay_fits, double_part}
 

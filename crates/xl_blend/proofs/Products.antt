@@ -1,7 +1,7 @@
 -- Products in parts of 255, by fewer multiplications.
 use Rattle.std.proofs.Common.{◌≡◌, ℕ, ◌+◌, ◌-◌, ◌*◌, ◌/◌, ◌≤◌, refl, arith}
 use Rattle.std.proofs.Math.Nat.{mul-le-mul_left, mul-le-mul_right}
-use Rattle.spec_blend.specs.Blend.{mul, screen}
+use Rattle.spec_document.specs.Blend.{mul, screen}
 
 -- the products of two bytes and of what they lack
 lacking : (i j m k : ℕ) → i + j ≡ 255 → m + k ≡ 255 → j * k + 255 * (i + m) ≡ 65025 + i * m

@@ -3,10 +3,10 @@ use Rattle.std.proofs.Common.{◌≡◌, ℕ, ◌<◌, List, [], ◌∷◌, leng
 use Rattle.std.specs.List.{zip}
 use Rattle.std.proofs.lemmas.List.{length-map, get_or-map}
 use Rattle.std.proofs.lemmas.Slice.Zip.{length-zip, get_or-zip}
-use Rattle.spec_blend.specs.declared.Mode.{Mode}
-use Rattle.spec_blend.specs.declared.Pixel.{Pixel}
-use Rattle.spec_blend.specs.Blend.{mul}
-use Rattle.spec_blend.specs.Over.{over}
+use Rattle.spec_document.specs.declared.Mode.{Mode}
+use Rattle.spec_document.specs.declared.Pixel.{Pixel}
+use Rattle.spec_document.specs.Blend.{mul}
+use Rattle.spec_document.specs.Over.{over}
 use Rattle.xl_blend.specs.Rows.{over_rows, faded, faded_row, faded_row_by}
 
 length-zipped : {A B C : Type 0} (g : A × B → C) (xs : List A) (ys : List B) → length xs ≡ length ys

@@ -1,11 +1,11 @@
 -- Lanes of vectors that hold bytes.
 use Rattle.std.specs.Prelude.{◌≡◌, ℕ, ◌≤◌, Bool, true, false, List, length}
 use Rattle.std.specs.Simd.Lanes.{Each1, zip2}
-use Rattle.spec_blend.specs.declared.Mode.{Mode}
-use Rattle.spec_blend.specs.declared.Mode.TheVariants.{Normal, Multiply, Screen, Overlay, Difference, Addition}
-use Rattle.spec_blend.specs.declared.Mode.TheVariants.{Subtract, DarkenOnly, LightenOnly, Divide, Dodge, Burn}
-use Rattle.spec_blend.specs.declared.Mode.TheVariants.{HardLight, SoftLight, GrainExtract, GrainMerge}
-use Rattle.spec_blend.specs.Over.{mean}
+use Rattle.spec_document.specs.declared.Mode.{Mode}
+use Rattle.spec_document.specs.declared.Mode.TheVariants.{Normal, Multiply, Screen, Overlay, Difference, Addition}
+use Rattle.spec_document.specs.declared.Mode.TheVariants.{Subtract, DarkenOnly, LightenOnly, Divide, Dodge, Burn}
+use Rattle.spec_document.specs.declared.Mode.TheVariants.{HardLight, SoftLight, GrainExtract, GrainMerge}
+use Rattle.spec_document.specs.Over.{mean}
 
 -- sixteen lanes with a byte each
 abbrev pub AreBytes : List ℕ → Type 0

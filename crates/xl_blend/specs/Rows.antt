@@ -1,10 +1,10 @@
 -- Rows of pixels, laid over one another and faded.
 use Rattle.std.specs.Prelude.{ℕ, List, ◌++◌, map, take, drop}
 use Rattle.std.specs.List.{zip}
-use Rattle.spec_blend.specs.declared.Mode.{Mode}
-use Rattle.spec_blend.specs.declared.Pixel.{Pixel}
-use Rattle.spec_blend.specs.Blend.{mul, blend}
-use Rattle.spec_blend.specs.Over.{over, over_blended, mean}
+use Rattle.spec_document.specs.declared.Mode.{Mode}
+use Rattle.spec_document.specs.declared.Pixel.{Pixel}
+use Rattle.spec_document.specs.Blend.{mul, blend}
+use Rattle.spec_document.specs.Over.{over, over_blended, mean}
 
 -- each pixel of a row laid over the pixel below it
 abbrev pub over_rows : Mode → (below above : List Pixel) → List Pixel

@@ -1,7 +1,7 @@
 -- Rows of one pixel throughout.
 use Rattle.std.specs.Prelude.{◌≡◌, ℕ, ◌<◌, List, length, slice_index_or}
-use Rattle.spec_blend.specs.declared.Pixel.{Pixel}
-use Rattle.spec_blend.specs.Over.{clear}
+use Rattle.spec_document.specs.declared.Pixel.{Pixel}
+use Rattle.spec_document.specs.Over.{clear}
 
 -- the pixel at a place is the first
 abbrev pub IsFirstAt : ℕ → List Pixel → Type 0

@@ -1,7 +1,7 @@
 -- Pixels as words of 32 bits, and reciprocals.
 use Rattle.std.specs.Prelude.{ℕ, ◌+◌, ◌-◌, ◌*◌, ◌/◌, ◌%◌, min, max}
-use Rattle.spec_blend.specs.declared.Pixel.{Pixel}
-use Rattle.spec_blend.specs.Blend.{mul}
+use Rattle.spec_document.specs.declared.Pixel.{Pixel}
+use Rattle.spec_document.specs.Blend.{mul}
 
 -- the four bytes of a pixel, red lowest
 abbrev pub word_of : Pixel → ℕ

@@ -1,14 +1,14 @@
 //! The alphas of rows of pixels.
 ghost use Rattle.std.specs.Prelude.{◌≡◌, ℕ, ◌<◌, ◌≤◌, length, slice_index, slice_index_or};
 ghost use Rattle.std.specs.Bool.{OnTrue};
-ghost use Rattle.spec_blend.specs.Over.{clear, IsPixel};
+ghost use Rattle.spec_document.specs.Over.{clear, IsPixel};
 ghost use Rattle.xl_blend.specs.Words.{word_of, alpha_over, reciprocal_of, weight};
 
 use crate::normal::alpha_of;
 use crate::pixels::weight_of;
 use crate::reciprocals::reciprocal;
 use crate::words::word;
-use spec_blend::Pixel;
+use spec_document::Pixel;
 
 /// Whether a row is opaque; of an empty row the answer is no.
 ///

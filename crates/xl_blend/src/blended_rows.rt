@@ -1,6 +1,6 @@
 //! Pieces of rows in the modes other than the normal one.
 ghost use Rattle.std.specs.Prelude.{◌≡◌, ◌≢◌, ℕ, ◌<◌, ◌≤◌, length, slice_index, slice_index_or};
-ghost use Rattle.spec_blend.specs.Over.{clear};
+ghost use Rattle.spec_document.specs.Over.{clear};
 ghost use Rattle.xl_blend.specs.Rows.{blended_rows, over_rows};
 ghost use Rattle.xl_blend.specs.Words.{reciprocal_of, weight};
 
@@ -9,7 +9,7 @@ use crate::normal_rows::PIECE;
 use crate::opaque_rows::lay_over_opaque;
 use crate::pixels::blend_by;
 use crate::uniform_rows::{are_uniform, lay_uniform};
-use spec_blend::{Mode, Pixel};
+use spec_document::{Mode, Pixel};
 
 /// Pixels over others, by what weighs their colours and the reciprocals of that.
 #[inline(always)]

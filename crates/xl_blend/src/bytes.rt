@@ -1,7 +1,7 @@
 //! Products and means of bytes, rounded to the nearest.
 ghost use Rattle.std.specs.Prelude.{◌≡◌, ◌≤◌, ◌<◌};
-ghost use Rattle.spec_blend.specs.Blend.{mul as product};
-ghost use Rattle.spec_blend.specs.Over.{mean as laid_mean};
+ghost use Rattle.spec_document.specs.Blend.{mul as product};
+ghost use Rattle.spec_document.specs.Over.{mean as laid_mean};
 ghost use Rattle.xl_blend.specs.Words.{reciprocal_of};
 
 use crate::reciprocals::{quotient, reciprocal};

@@ -1,8 +1,8 @@
 //! The codes that stand for blend modes in a file.
 ghost use Rattle.std.specs.Prelude.{◌≡◌};
-ghost use Rattle.spec_blend.specs.Blend.{mode_code, mode_of_code};
+ghost use Rattle.spec_document.specs.Blend.{mode_code, mode_of_code};
 
-use spec_blend::Mode;
+use spec_document::Mode;
 
 /// The mode of a code, and none for a code that is not supported.
 pub fn mode_of(code: u32) -> Option<Mode>

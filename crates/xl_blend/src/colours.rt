@@ -1,11 +1,11 @@
 //! The blend modes, each on one colour byte.
 ghost use Rattle.std.specs.Prelude.{◌≡◌};
-ghost use Rattle.spec_blend.specs.Blend.{blend as blended};
+ghost use Rattle.spec_document.specs.Blend.{blend as blended};
 
 use crate::lights::{overlay, screen, soft_light};
 use crate::reciprocals::scaled_quotient;
 use crate::words::mul_bytes;
-use spec_blend::Mode;
+use spec_document::Mode;
 
 /// The colour byte that a mode gives for `i` below and `m` above.
 #[inline(always)]

@@ -3,7 +3,7 @@ ghost use Rattle.std.specs.Prelude.{◌≡◌, length};
 ghost use Rattle.xl_blend.specs.Rows.{faded, faded_row, faded_row_by};
 
 use crate::words::{mul_bytes, of_bytes, wide_of};
-use spec_blend::Pixel;
+use spec_document::Pixel;
 
 /// The pixel with a part, of 255, of its alpha. Its bytes are taken apart and put together as words, so that the loops
 /// below are compiled to vectors.

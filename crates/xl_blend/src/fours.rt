@@ -1,12 +1,12 @@
 //! Four pixels laid over opaque ones, in lanes.
 ghost use Rattle.std.specs.Prelude.{◌≡◌, ◌+◌, ◌≤◌, true, [], ◌∷◌, length, slice_index, slice_index_or, slice_set};
-ghost use Rattle.spec_blend.specs.Over.{clear, IsPixel};
+ghost use Rattle.spec_document.specs.Over.{clear, IsPixel};
 ghost use Rattle.xl_blend.specs.Lanes.{AreBytes, has_lanes};
 ghost use Rattle.xl_blend.specs.Rows.{over_opaque};
 
 use crate::lanes::{blends, mixes};
 use crate::words::word;
-use spec_blend::{Mode, Pixel};
+use spec_document::{Mode, Pixel};
 use std::simd::prelude::*;
 
 /// Four pixels that stand side by side.

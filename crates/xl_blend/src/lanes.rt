@@ -3,10 +3,10 @@
 //! The sums and products fit 16 bits, and where twice a product does not, its half is rounded.
 ghost use Rattle.std.specs.Prelude.{◌≡◌, ◌+◌, ◌-◌, ◌/◌, min, max, true, map};
 ghost use Rattle.std.specs.Simd.Lanes.{zip2};
-ghost use Rattle.spec_blend.specs.Blend.{blend as blended, mul as product, screen as screened};
+ghost use Rattle.spec_document.specs.Blend.{blend as blended, mul as product, screen as screened};
 ghost use Rattle.xl_blend.specs.Lanes.{AreBytes, has_lanes, means};
 
-use spec_blend::Mode;
+use spec_document::Mode;
 use std::simd::prelude::*;
 
 /// The lesser number of each two lanes.

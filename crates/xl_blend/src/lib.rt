@@ -27,4 +27,4 @@ pub use count::Steps;
 pub use fades::{fade_row, fade_row_by};
 pub use pixels::over;
 pub use rows::over_row;
-pub use spec_blend::{Mode, Pixel};
+pub use spec_document::{Mode, Pixel};

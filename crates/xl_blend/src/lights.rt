@@ -1,6 +1,6 @@
 //! The modes whose formula has several products, with as few of them as give the same.
 ghost use Rattle.std.specs.Prelude.{◌≡◌, ◌+◌, ◌-◌, ◌*◌, ◌≤◌};
-ghost use Rattle.spec_blend.specs.Blend.{mul as product, screen as screened};
+ghost use Rattle.spec_document.specs.Blend.{mul as product, screen as screened};
 
 use crate::words::mul_bytes;
 

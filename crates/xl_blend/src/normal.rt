@@ -1,13 +1,13 @@
 //! Single pixels in the normal mode, by words.
 ghost use Rattle.std.specs.Prelude.{◌≡◌, ◌≤◌};
-ghost use Rattle.spec_blend.specs.Over.{over_normal as laid_normal};
+ghost use Rattle.spec_document.specs.Over.{over_normal as laid_normal};
 ghost use Rattle.xl_blend.specs.Words.{alpha_over, reciprocal_of};
 ghost use Rattle.xl_blend.specs.Shown.{shown};
 
 use crate::bytes::mean_by;
 use crate::reciprocals::reciprocal;
 use crate::words::{alpha, mul_bytes, of_bytes, of_word, wide_of, word};
-use spec_blend::Pixel;
+use spec_document::Pixel;
 
 /// The pixel, with no colour where it has no alpha.
 #[inline(always)]

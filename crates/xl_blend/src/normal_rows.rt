@@ -1,6 +1,6 @@
 //! Pieces of rows in the normal mode, each kind of piece by its own loop.
 ghost use Rattle.std.specs.Prelude.{◌≡◌, ℕ, ◌<◌, ◌≤◌, length, slice_index, slice_index_or, map};
-ghost use Rattle.spec_blend.specs.Over.{clear};
+ghost use Rattle.spec_document.specs.Over.{clear};
 ghost use Rattle.xl_blend.specs.Rows.{over_rows};
 ghost use Rattle.xl_blend.specs.Shown.{shown};
 ghost use Rattle.xl_blend.specs.Words.{alpha_over, reciprocal_of};
@@ -9,7 +9,7 @@ use crate::alphas::{is_clear, is_opaque, reciprocals_of, wholes_of};
 use crate::normal::{over_by, shown_of};
 use crate::opaque_rows::lay_over_opaque;
 use crate::uniform_rows::{are_uniform, lay_uniform};
-use spec_blend::{Mode, Pixel};
+use spec_document::{Mode, Pixel};
 
 /// The most pixels of a piece.
 pub const PIECE: usize = 128;

@@ -1,12 +1,12 @@
 //! Pieces of rows over opaque ones, in any mode.
 ghost use Rattle.std.specs.Prelude.{◌≡◌, ℕ, ◌+◌, ◌≤◌, ◌<◌, true, length, slice_index_or};
-ghost use Rattle.spec_blend.specs.Over.{clear, IsPixel};
+ghost use Rattle.spec_document.specs.Over.{clear, IsPixel};
 ghost use Rattle.xl_blend.specs.Lanes.{has_lanes};
 ghost use Rattle.xl_blend.specs.Rows.{opaque_rows, opaque_so_far};
 
 use crate::fours::{four_at, over_four, put_four};
 use crate::pixels::over_opaque;
-use spec_blend::{Mode, Pixel};
+use spec_document::{Mode, Pixel};
 
 /// Four pixels at a time, as long as there are four. Gives how many are done.
 #[inline(always)]

@@ -1,6 +1,6 @@
 //! One pixel laid over another.
 ghost use Rattle.std.specs.Prelude.{◌≡◌, ◌+◌, ◌≤◌};
-ghost use Rattle.spec_blend.specs.Over.{over as laid_over, over_blended as laid_blended, IsPixel};
+ghost use Rattle.spec_document.specs.Over.{over as laid_over, over_blended as laid_blended, IsPixel};
 ghost use Rattle.xl_blend.specs.Rows.{over_opaque as laid_opaque};
 ghost use Rattle.xl_blend.specs.Words.{reciprocal_of, weight};
 
@@ -9,7 +9,7 @@ use crate::colours::blend;
 use crate::count::Steps;
 use crate::normal::over_normal;
 use crate::words::{alpha, mix_byte, mul_bytes, of_bytes, wide_of};
-use spec_blend::{Mode, Pixel};
+use spec_document::{Mode, Pixel};
 use std::sync::ledger::Ledger;
 
 /// A pixel laid over another in any mode but the normal one.

@@ -5,7 +5,7 @@ ghost use Rattle.xl_blend.specs.Rows.{over_rows};
 use crate::blended_rows::lay_blended;
 use crate::count::Steps;
 use crate::normal_rows::{PIECE, lay_normal};
-use spec_blend::{Mode, Pixel};
+use spec_document::{Mode, Pixel};
 use std::sync::ledger::Ledger;
 
 /// A piece of a row over another.

@@ -1,14 +1,14 @@
 //! Rows of one pixel throughout.
 ghost use Rattle.std.specs.Prelude.{◌≡◌, ℕ, ◌≤◌, ◌<◌, length, slice_index_or, map};
 ghost use Rattle.std.specs.Bool.{OnTrue, OnFalse};
-ghost use Rattle.spec_blend.specs.declared.Pixel.{Pixel};
-ghost use Rattle.spec_blend.specs.Over.{clear};
+ghost use Rattle.spec_document.specs.declared.Pixel.{Pixel};
+ghost use Rattle.spec_document.specs.Over.{clear};
 ghost use Rattle.xl_blend.specs.Rows.{over_rows};
 ghost use Rattle.xl_blend.specs.Uniform.{IsFirstAt, IsUniform};
 
 use crate::pixels::over_pixel;
 use crate::words::{of_word, word};
-use spec_blend::{Mode, Pixel};
+use spec_document::{Mode, Pixel};
 
 /// The pixels of each row that are compared before the comparison may stop.
 const BLOCK: usize = 32;

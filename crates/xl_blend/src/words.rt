@@ -1,10 +1,10 @@
 //! Pixels as words. Loops over words, in place of fields, are compiled to vector instructions.
 ghost use Rattle.std.specs.Prelude.{◌≡◌, ◌≤◌};
-ghost use Rattle.spec_blend.specs.Blend.{mul as product};
-ghost use Rattle.spec_blend.specs.Over.{IsPixel, mean as laid_mean};
+ghost use Rattle.spec_document.specs.Blend.{mul as product};
+ghost use Rattle.spec_document.specs.Over.{IsPixel, mean as laid_mean};
 ghost use Rattle.xl_blend.specs.Words.{word_of, pixel_of};
 
-use spec_blend::Pixel;
+use spec_document::Pixel;
 
 /// The bytes of a pixel as a word, red lowest and alpha highest.
 #[inline(always)]

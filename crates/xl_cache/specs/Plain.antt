@@ -1,7 +1,7 @@
 -- Answers of the code as the plain cache has them.
 use Rattle.std.specs.Prelude.{ℕ, List}
 use Rattle.std.specs.Borrow.{Bor}
-use Rattle.spec_grid.specs.declared.TileAt.{TileAt}
+use Rattle.spec_document.specs.declared.TileAt.{TileAt}
 use Rattle.spec_cache.specs.Slots.{Shown}
 use Rattle.spec_cache.specs.Cache.{Place}
 use Rattle.xl_tree.specs.declared.naming.NodeId.{NodeId}

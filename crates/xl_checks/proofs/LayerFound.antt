@@ -1,7 +1,7 @@
 -- The layer at an id, in a document and in its tree.
 use Rattle.std.proofs.Common.{◌≡◌, ℕ, [], ◌∷◌, refl, sym, ◌∙◌, ap, subst}
 use Rattle.std.specs.Prelude.{Some, None}
-use Rattle.spec_forest.specs.Forest.{Forest, Found, nothing, a_leaf, a_group, find}
+use Rattle.spec_document.specs.Forest.{Forest, Found, nothing, a_leaf, a_group, find}
 use Rattle.spec_document.specs.Document.{Layer, Group}
 use Rattle.spec_edit.specs.declared.EditRefused.TheVariants.{NoNode, IsGroup}
 use Rattle.spec_edit.specs.Refusal.{first, no_node_found, is_group_found}

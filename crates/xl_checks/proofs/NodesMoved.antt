@@ -1,8 +1,8 @@
 -- The layers and groups of a tree whose nodes come, go and move.
 use Rattle.std.proofs.Common.{◌≡◌, ℕ, zero, suc, ◌+◌, max, Bool, true, false, cond, eqb, [], ◌∷◌, ◌++◌, refl, ◌∙◌, ap}
 use Rattle.std.specs.Prelude.{Option, Some, None, option_map}
-use Rattle.spec_forest.specs.Forest.{Forest, none, leaf, group, size, count, levels, first_of, ancestors, stack_at}
-use Rattle.spec_forest.specs.Changes.{above, put_at, with_children, put_into, without}
+use Rattle.spec_document.specs.Forest.{Forest, none, leaf, group, size, count, levels, first_of, ancestors, stack_at}
+use Rattle.spec_document.specs.Changes.{above, put_at, with_children, put_into, without}
 use Rattle.xl_doc.specs.declared.node.Node.{Node}
 use Rattle.xl_doc.specs.Nodes.{nodes_of, layer_of, group_of, MarksAgree}
 use Rattle.xl_doc.proofs.NodesOf.{stack-nodes_of}

@@ -1,7 +1,7 @@
 -- The parent of a new node, in a document and in its tree.
 use Rattle.std.proofs.Common.{◌≡◌, ℕ, false, cond, eqb, [], ◌∷◌, List, ◌∙◌, ap}
 use Rattle.std.specs.Prelude.{Option, Some, None}
-use Rattle.spec_forest.specs.Forest.{Forest, Found, find}
+use Rattle.spec_document.specs.Forest.{Forest, Found, find}
 use Rattle.spec_document.specs.Document.{Layer, Group}
 use Rattle.spec_edit.specs.declared.EditRefused.{EditRefused}
 use Rattle.spec_edit.specs.declared.EditRefused.TheVariants.{NoNode, NotGroup}

@@ -1,7 +1,7 @@
 -- The layers and groups of a tree in which a node is found.
 use Rattle.std.proofs.Common.{◌≡◌, ℕ, Bool, true, false, cond, eqb, ◌∷◌, ◌++◌, refl, sym, ◌∙◌, ap, subst}
 use Rattle.std.specs.Prelude.{Some, None}
-use Rattle.spec_forest.specs.Forest.{Forest, none, leaf, group, ids, Found, nothing, a_leaf, a_group, or_else, find}
+use Rattle.spec_document.specs.Forest.{Forest, none, leaf, group, ids, Found, nothing, a_leaf, a_group, or_else, find}
 use Rattle.spec_document.specs.Document as doc
 use Rattle.spec_edit.specs.declared.EditRefused.TheVariants.{NoNode}
 use Rattle.spec_edit.specs.Refusal.{no_node_found}

@@ -1,6 +1,6 @@
 //! Where a rectangle of a plane begins.
 ghost use Rattle.std.specs.Prelude.{◌≡◌, ◌+◌, ◌≤◌};
-ghost use Rattle.spec_grid.specs.Rect.{part_above_0};
+ghost use Rattle.spec_document.specs.Rect.{part_above_0};
 ghost use Rattle.xl_doc.specs.Sized.{IsSized};
 ghost use Rattle.xl_doc.specs.Written.{IsWithin};
 

@@ -1,12 +1,12 @@
 -- The pieces of a node behind those of the nodes under it.
 use Rattle.std.proofs.Common.{◌≡◌, ℕ, ◌+◌, ◌<◌, Bool, true, false, cond, List, [], ◌∷◌, ◌++◌, refl, sym, ◌∙◌, ap}
 use Rattle.std.proofs.Common.{subst, arith, append-nil}
-use Rattle.spec_forest.specs.Forest.{none, leaf, group}
-use Rattle.spec_blend.specs.declared.Pixel.{Pixel}
-use Rattle.spec_blend.specs.Over.{over}
+use Rattle.spec_document.specs.Forest.{none, leaf, group}
+use Rattle.spec_document.specs.declared.Pixel.{Pixel}
+use Rattle.spec_document.specs.Over.{over}
 use Rattle.spec_document.specs.Document.{Nodes}
-use Rattle.spec_picture.specs.Source.{faded, layer_source}
-use Rattle.spec_picture.specs.Picture.{any_visible, mode_above, laid, stack_pixel}
+use Rattle.spec_document.specs.Source.{faded, layer_source}
+use Rattle.spec_document.specs.Picture.{any_visible, mode_above, laid, stack_pixel}
 use Rattle.xl_doc.specs.declared.node.Node.{Node}
 use Rattle.xl_doc.specs.Nodes.{layer_of, group_of, sheet_of}
 use Rattle.xl_compose.specs.declared.pieces.Piece.{Piece}

@@ -4,15 +4,15 @@ use Rattle.std.proofs.Common.{arith, inl, inr}
 use Rattle.std.specs.Prelude.{Option, Some, None, IsSome, ◌==◌}
 use Rattle.std.specs.List.{AllByRecursion, IsDistinct}
 use Rattle.std.proofs.lemmas.Bool.{ne_eqb}
-use Rattle.spec_forest.specs.Forest.{none, leaf, group, ids, a_group, find, children_of, stack_at}
-use Rattle.spec_forest.specs.Holes.{Hole, here, under_leaf, under_group, in_group, plug}
-use Rattle.spec_forest.proofs.Holes.{into, plug-into}
-use Rattle.spec_forest.proofs.Standing.{Standing, nowhere, at_leaf, at_group, standing, find-at_leaf, find-at_group}
-use Rattle.spec_forest.proofs.Distinct.{Member, member-plug}
-use Rattle.spec_forest.proofs.Outside.{fresh_from}
-use Rattle.spec_grid.specs.declared.TileAt.{TileAt}
+use Rattle.spec_document.specs.Forest.{none, leaf, group, ids, a_group, find, children_of, stack_at}
+use Rattle.spec_document.specs.Holes.{Hole, here, under_leaf, under_group, in_group, plug}
+use Rattle.spec_document.proofs.Holes.{into, plug-into}
+use Rattle.spec_document.proofs.Standing.{Standing, nowhere, at_leaf, at_group, standing, find-at_leaf, find-at_group}
+use Rattle.spec_document.proofs.Distinct.{Member, member-plug}
+use Rattle.spec_document.proofs.Outside.{fresh_from}
+use Rattle.spec_document.specs.declared.TileAt.{TileAt}
 use Rattle.spec_document.specs.Document.{Document, Nodes, Layer, Group}
-use Rattle.spec_picture.specs.Picture.{picture, pixel_of, project}
+use Rattle.spec_document.specs.Picture.{picture, pixel_of, project}
 use Rattle.xl_compose.specs.Added.{AreRight, IsPicture}
 use Rattle.xl_compose.specs.Job.{AreClean}
 use Rattle.xl_compose.specs.JobScratch.{tile_band}

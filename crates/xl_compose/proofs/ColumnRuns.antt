@@ -2,9 +2,9 @@
 use Rattle.std.proofs.Common.{◌≡◌, ℕ, ◌+◌, ◌-◌, ◌*◌, ◌<◌, ◌≤◌, ◌⊎◌, cond, ◌&&◌, nat_lt, List, sym, ◌∙◌, ap, subst, arith, inl, inr}
 use Rattle.std.specs.Prelude.{Option, Some, None, nat_le}
 use Rattle.std.proofs.lemmas.Bool.Decides.{nat_tests}
-use Rattle.spec_blend.specs.declared.Mode.{Mode}
-use Rattle.spec_blend.specs.declared.Pixel.{Pixel}
-use Rattle.spec_blend.specs.Over.{over}
+use Rattle.spec_document.specs.declared.Mode.{Mode}
+use Rattle.spec_document.specs.declared.Pixel.{Pixel}
+use Rattle.spec_document.specs.Over.{over}
 use Rattle.xl_compose.specs.Laid.{pixel}
 use Rattle.xl_compose.specs.Span.{place_by}
 use Rattle.xl_compose.specs.Source.{at_place}

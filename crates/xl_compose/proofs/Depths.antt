@@ -1,7 +1,7 @@
 -- The levels of a stack of a document are those of the tree's.
 use Rattle.std.proofs.Common.{◌≡◌, ℕ, ◌+◌, max, ◌∙◌, ap, refl}
 use Rattle.std.specs.Prelude.{Some, option_map}
-use Rattle.spec_forest.specs.Forest.{Forest, none, leaf, group, levels, stack_at}
+use Rattle.spec_document.specs.Forest.{Forest, none, leaf, group, levels, stack_at}
 use Rattle.spec_document.specs.Document.{Document}
 use Rattle.xl_doc.specs.declared.node.Node.{Node}
 use Rattle.xl_doc.specs.Nodes.{nodes_of}

@@ -1,9 +1,9 @@
 -- What the pieces of nodes weigh, where the pictures of some groups are given.
 use Rattle.std.proofs.Common.{◌≡◌, ℕ, ◌+◌, Bool, true, false, cond, List, [], ◌∷◌, ◌++◌, ◌∙◌, ap, arith, append-nil}
 use Rattle.std.specs.Prelude.{Option, Some, None}
-use Rattle.spec_forest.specs.Forest.{stack_at}
+use Rattle.spec_document.specs.Forest.{stack_at}
 use Rattle.spec_document.specs.Document.{Document, Nodes}
-use Rattle.spec_picture.specs.Picture.{mode_above}
+use Rattle.spec_document.specs.Picture.{mode_above}
 use Rattle.xl_doc.specs.declared.node.Node.{Node}
 use Rattle.xl_doc.specs.Nodes.{sheet_of}
 use Rattle.xl_compose.specs.declared.pieces.Piece.{Piece}

@@ -7,10 +7,10 @@ use Rattle.std.proofs.lemmas.Bool.{cases_order, cases_eq, le-leb, lt-ltb}
 use Rattle.std.proofs.lemmas.List.{get_or-take, get_or-drop, length-drop, length-map}
 use Rattle.std.proofs.lemmas.Nat.{mul-add-lt}
 use borrow.Rule.Slice.PartMut.{put_mid}
-use Rattle.spec_blend.specs.declared.Mode.{Mode}
-use Rattle.spec_blend.specs.declared.Pixel.{Pixel}
-use Rattle.spec_blend.specs.Over.{clear, over}
-use Rattle.spec_picture.specs.Source.{faded}
+use Rattle.spec_document.specs.declared.Mode.{Mode}
+use Rattle.spec_document.specs.declared.Pixel.{Pixel}
+use Rattle.spec_document.specs.Over.{clear, over}
+use Rattle.spec_document.specs.Source.{faded}
 use Rattle.xl_blend.specs.Rows.{faded_row}
 use Rattle.xl_doc.specs.Sheet.{Sheet}
 use Rattle.xl_compose.specs.declared.pieces.Piece.{Piece}

@@ -3,9 +3,9 @@ use Rattle.std.proofs.Common.{◌≡◌, ℕ, zero, suc, ◌+◌, ◌-◌, ◌*�
 use Rattle.std.proofs.Common.{length-append}
 use Rattle.std.specs.Prelude.{flat_map}
 use Rattle.std.proofs.lemmas.List.{get_or_append_left, get_or-append_right}
-use Rattle.spec_blend.specs.declared.Pixel.{Pixel}
-use Rattle.spec_grid.specs.Rect.{count_from}
-use Rattle.spec_picture.specs.Picture.{pixel_bytes}
+use Rattle.spec_document.specs.declared.Pixel.{Pixel}
+use Rattle.spec_document.specs.Rect.{count_from}
+use Rattle.spec_document.specs.Picture.{pixel_bytes}
 use Rattle.xl_compose.specs.Pieces.{kept_pixel}
 
 -- a byte of a row

@@ -1,8 +1,8 @@
 -- What one piece more makes of the pictures.
 use Rattle.std.proofs.Common.{◌≡◌, ℕ, ◌+◌, cond, List, [], ◌∷◌, ◌++◌, refl, ◌∙◌, ap, arith, eq-eqb}
 use Rattle.std.proofs.lemmas.Bool.{ne_eqb}
-use Rattle.spec_blend.specs.declared.Pixel.{Pixel}
-use Rattle.spec_blend.specs.Over.{clear}
+use Rattle.spec_document.specs.declared.Pixel.{Pixel}
+use Rattle.spec_document.specs.Over.{clear}
 use Rattle.xl_compose.specs.declared.pieces.Piece.{Piece}
 use Rattle.xl_compose.specs.declared.pieces.What.{What}
 use Rattle.xl_compose.specs.declared.span.Band.{Band}

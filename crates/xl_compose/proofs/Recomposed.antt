@@ -1,9 +1,9 @@
 -- The stack of a document whose picture is asked for.
 use Rattle.std.proofs.Common.{◌≡◌, ℕ, ◌∙◌, ap, subst}
 use Rattle.std.specs.Prelude.{Option, Some, None, IsSome, option_map}
-use Rattle.spec_forest.specs.Forest.{Forest, stack_at}
+use Rattle.spec_document.specs.Forest.{Forest, stack_at}
 use Rattle.spec_document.specs.Document.{Document}
-use Rattle.spec_picture.specs.Picture.{picture, pixel_of, stack_pixel}
+use Rattle.spec_document.specs.Picture.{picture, pixel_of, stack_pixel}
 use Rattle.xl_doc.specs.declared.node.Node.{Node}
 use Rattle.xl_doc.specs.Nodes.{nodes_of}
 use Rattle.xl_doc.proofs.NodesOf.{stack-nodes_of}

@@ -1,8 +1,8 @@
 -- A row of pixels that is made one after another.
 use Rattle.std.proofs.Common.{◌≡◌, ◌≢◌, ℕ, ◌+◌, ◌<◌, List, length, get_or, set, arith, get_or-set_other}
 use Rattle.std.proofs.Common.{get_or-set_same, below_more}
-use Rattle.spec_blend.specs.declared.Pixel.{Pixel}
-use Rattle.spec_blend.specs.Over.{clear}
+use Rattle.spec_document.specs.declared.Pixel.{Pixel}
+use Rattle.spec_document.specs.Over.{clear}
 
 -- one pixel more
 pub row_step : (row : List Pixel) (i : ℕ) (p : Pixel) (of : ℕ → Pixel) → i < length row

@@ -5,7 +5,7 @@ use Rattle.std.specs.List.{IsDistinct}
 use Rattle.spec_document.specs.declared.Owner.TheVariants as owners
 use Rattle.spec_document.specs.Limits.{AreIds, IsDocument}
 use Rattle.spec_document.specs.Document.{Document}
-use Rattle.spec_forest.specs.Forest.{Forest, none, leaf, group}
+use Rattle.spec_document.specs.Forest.{Forest, none, leaf, group}
 use Rattle.xl_doc.specs.declared.node.Node.{Node}
 use Rattle.xl_doc.specs.Nodes.{nodes_of}
 use Rattle.xl_doc.specs.Sound.{IsSound}

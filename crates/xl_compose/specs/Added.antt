@@ -1,8 +1,8 @@
 -- The pieces that are added for the nodes of a stack.
 use Rattle.std.specs.Prelude.{◌≡◌, ℕ, ◌+◌, ◌*◌, ◌<◌, ◌≤◌, List, length, Option, Some}
-use Rattle.spec_forest.specs.Forest.{none, leaf, group}
+use Rattle.spec_document.specs.Forest.{none, leaf, group}
 use Rattle.spec_document.specs.Document.{Nodes}
-use Rattle.spec_picture.specs.Picture.{stack_pixel}
+use Rattle.spec_document.specs.Picture.{stack_pixel}
 use Rattle.xl_compose.specs.declared.pieces.Piece.{Piece}
 use Rattle.xl_compose.specs.declared.span.Band.{Band}
 use Rattle.xl_compose.specs.Cost.{visible_in}

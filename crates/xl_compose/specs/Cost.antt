@@ -1,8 +1,8 @@
 -- How many steps a picture takes at a point.
 use Rattle.std.specs.Prelude.{ℕ, ◌+◌, ◌*◌, Bool, true, false, List, Option, Some, None}
-use Rattle.spec_forest.specs.Forest.{none, leaf, group, stack_at}
-use Rattle.spec_grid.specs.declared.TileAt.{TileAt}
-use Rattle.spec_grid.specs.Grid.{tile_rect}
+use Rattle.spec_document.specs.Forest.{none, leaf, group, stack_at}
+use Rattle.spec_document.specs.declared.TileAt.{TileAt}
+use Rattle.spec_document.specs.Grid.{tile_rect}
 use Rattle.spec_document.specs.Document.{Document, Nodes}
 
 abbrev pub one_if : Bool → ℕ

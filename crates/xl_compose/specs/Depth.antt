@@ -1,6 +1,6 @@
 -- How many levels a stack of a document has.
 use Rattle.std.specs.Prelude.{ℕ, Option, Some, None}
-use Rattle.spec_forest.specs.Forest.{levels, stack_at}
+use Rattle.spec_document.specs.Forest.{levels, stack_at}
 use Rattle.spec_document.specs.Document.{Document, Nodes}
 
 abbrev pub levels_in : Option Nodes → ℕ

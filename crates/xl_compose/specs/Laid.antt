@@ -1,8 +1,8 @@
 -- A part of a row laid over the row.
 use Rattle.std.specs.Prelude.{◌≡◌, ℕ, ◌+◌, ◌-◌, ◌&&◌, nat_le, nat_lt, List, length, slice_index_or, if◌then◌else◌}
-use Rattle.spec_blend.specs.declared.Mode.{Mode}
-use Rattle.spec_blend.specs.declared.Pixel.{Pixel}
-use Rattle.spec_blend.specs.Over.{over, clear}
+use Rattle.spec_document.specs.declared.Mode.{Mode}
+use Rattle.spec_document.specs.declared.Pixel.{Pixel}
+use Rattle.spec_document.specs.Over.{over, clear}
 
 abbrev pub pixel : List Pixel → ℕ → Pixel
 pixel row k = slice_index_or row k clear

@@ -1,7 +1,7 @@
 -- The pictures of all levels, one after another.
 use Rattle.std.specs.Prelude.{◌≡◌, ℕ, ◌+◌, ◌*◌, ◌<◌, ◌≤◌, ◌⊎◌, List, length}
 use Rattle.std.specs.List.{AllByRecursion}
-use Rattle.spec_blend.specs.declared.Pixel.{Pixel}
+use Rattle.spec_document.specs.declared.Pixel.{Pixel}
 use Rattle.xl_compose.specs.declared.pieces.Piece.{Piece}
 use Rattle.xl_compose.specs.declared.span.Band.{Band}
 use Rattle.xl_compose.specs.Laid.{pixel}

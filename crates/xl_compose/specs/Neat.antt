@@ -1,7 +1,7 @@
 -- Pixels of a picture.
 use Rattle.std.specs.Prelude.{◌≡◌}
-use Rattle.spec_blend.specs.declared.Pixel.{Pixel}
-use Rattle.spec_blend.specs.Over.{clear}
+use Rattle.spec_document.specs.declared.Pixel.{Pixel}
+use Rattle.spec_document.specs.Over.{clear}
 
 -- where there is no alpha, there is no colour
 abbrev pub IsNeat : Pixel → Type 0

@@ -1,6 +1,6 @@
 -- The pieces of one node.
 use Rattle.std.specs.Prelude.{ℕ, Bool, if◌then◌else◌, List, [], ◌∷◌}
-use Rattle.spec_picture.specs.Picture.{mode_above}
+use Rattle.spec_document.specs.Picture.{mode_above}
 use Rattle.xl_doc.specs.declared.node.Node.{Node}
 use Rattle.xl_doc.specs.Nodes.{sheet_of}
 use Rattle.xl_compose.specs.declared.pieces.Piece.{Piece}

@@ -1,9 +1,9 @@
 -- The pixel that the bytes of a layer stand for.
 use Rattle.std.specs.Prelude.{◌≡◌, ℕ, ◌+◌, ◌-◌, ◌*◌, ◌<◌, ◌==◌, if◌then◌else◌, List, length, slice_get, slice_index, slice_index_or}
-use Rattle.spec_blend.specs.declared.Pixel.{Pixel}
-use Rattle.spec_blend.specs.Over.{clear}
+use Rattle.spec_document.specs.declared.Pixel.{Pixel}
+use Rattle.spec_document.specs.Over.{clear}
 use Rattle.spec_document.specs.Document.{base_of_kind, bytes_of_kind, has_alpha}
-use Rattle.spec_picture.specs.Source.{mapped}
+use Rattle.spec_document.specs.Source.{mapped}
 
 -- the pixel of a kind of layer whose bytes are given, after grey or the colour map
 abbrev pub pixel_from : (kind : ℕ) → (colours : List (List ℕ)) → (byte : ℕ → ℕ) → Pixel

@@ -1,11 +1,11 @@
 -- What pieces make of the pictures of all levels at a point.
 use Rattle.std.specs.Prelude.{◌≡◌, ℕ, ◌+◌, ◌*◌, ◌<◌, ◌==◌, if◌then◌else◌, List, [], ◌∷◌, length, flat_map}
 use Rattle.std.specs.List.{AllByRecursion}
-use Rattle.spec_blend.specs.declared.Pixel.{Pixel}
-use Rattle.spec_blend.specs.Over.{over, clear}
-use Rattle.spec_grid.specs.Rect.{count_from}
-use Rattle.spec_picture.specs.Source.{faded}
-use Rattle.spec_picture.specs.Picture.{pixel_bytes}
+use Rattle.spec_document.specs.declared.Pixel.{Pixel}
+use Rattle.spec_document.specs.Over.{over, clear}
+use Rattle.spec_document.specs.Rect.{count_from}
+use Rattle.spec_document.specs.Source.{faded}
+use Rattle.spec_document.specs.Picture.{pixel_bytes}
 use Rattle.xl_compose.specs.declared.pieces.Piece.{Piece}
 use Rattle.xl_compose.specs.declared.pieces.What.{What}
 use Rattle.xl_compose.specs.declared.pieces.What.TheVariants.{Blank, Leaf, Clean, Stack}

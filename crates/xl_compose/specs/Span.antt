@@ -1,7 +1,7 @@
 -- Where a column of the canvas stands in a layer.
 use Rattle.std.specs.Prelude.{ℕ, ◌+◌, ◌-◌, ◌&&◌, nat_le, nat_lt, ℤ, pos, ◌+ℤ◌, ◌-ℤ◌, int_le, int_lt, Option, Some}
 use Rattle.std.specs.Prelude.{None, if◌then◌else◌}
-use Rattle.spec_grid.specs.Rect.{part_above_0}
+use Rattle.spec_document.specs.Rect.{part_above_0}
 
 -- the column, counted from where the layer begins, where it has so many
 abbrev pub place : (first : ℤ) → (len : ℕ) → (column : ℕ) → Option ℕ

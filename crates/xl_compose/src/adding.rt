@@ -1,8 +1,8 @@
 //! The pieces of a stack.
 ghost use Rattle.std.specs.Prelude.{◌≡◌, ◌+◌, ◌≤◌, ◌++◌, ◌∷◌, ℕ, [], List, IfOk, OnOk, OnErr};
-ghost use Rattle.spec_forest.specs.Forest.{levels};
-ghost use Rattle.spec_forest.specs.declared.TheConstants.{MAX_DEPTH};
-ghost use Rattle.spec_picture.specs.Picture.{any_visible};
+ghost use Rattle.spec_document.specs.Forest.{levels};
+ghost use Rattle.spec_document.specs.declared.TheConstants.{MAX_DEPTH};
+ghost use Rattle.spec_document.specs.Picture.{any_visible};
 ghost use Rattle.xl_doc.specs.Nodes.{IsLeaf, MarksAgree, nodes_of};
 ghost use Rattle.xl_compose.specs.declared.span.Band.{Band};
 ghost use Rattle.xl_compose.specs.Added.{AreAdded, AreRight};

@@ -1,7 +1,7 @@
 //! Making jobs.
 ghost use Rattle.std.specs.Prelude.{◌≡◌, ◌+◌, ◌*◌, ◌≤◌, IfOk, IsSome, IsTrue};
-ghost use Rattle.spec_forest.specs.Forest.{stack_at};
-ghost use Rattle.spec_grid.specs.Grid.{is_on_grid};
+ghost use Rattle.spec_document.specs.Forest.{stack_at};
+ghost use Rattle.spec_document.specs.Grid.{is_on_grid};
 ghost use Rattle.xl_compose.specs.Cost.{laid_below, tile_points};
 ghost use Rattle.xl_compose.specs.Job.{AreClean, StandsFor};
 ghost use Rattle.xl_compose.specs.JobScratch.{AreFor, IsTile, tile_band};

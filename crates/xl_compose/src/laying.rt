@@ -1,12 +1,12 @@
 //! Pieces laid one upon another.
 ghost use Rattle.std.specs.Prelude.{◌≡◌, ◌+◌, ◌*◌, ◌<◌, ◌≤◌, ◌⊎◌, ℕ, length};
-ghost use Rattle.spec_blend.specs.Over.{clear, over};
-ghost use Rattle.spec_picture.specs.Source.{faded};
+ghost use Rattle.spec_document.specs.Over.{clear, over};
+ghost use Rattle.spec_document.specs.Source.{faded};
 ghost use Rattle.xl_compose.specs.Laid.{pixel};
 ghost use Rattle.xl_compose.specs.Levels.{AreIn, AreShown, IsIn, IsLaid, points};
 ghost use Rattle.xl_compose.specs.Neat.{IsNeat};
 ghost use Rattle.xl_compose.specs.Pieces.{kept_pixel, weight, weights};
-ghost use Rattle.spec_grid.specs.declared.TheConstants.{MAX_SIDE};
+ghost use Rattle.spec_document.specs.declared.TheConstants.{MAX_SIDE};
 ghost use Rattle.xl_tile.specs.declared.tile.TheConstants.{SCRATCH};
 
 use crate::lay::lay_part;

@@ -1,8 +1,8 @@
 //! The pictures of groups, recomposed.
 ghost use Rattle.std.specs.Prelude.{◌≡◌, ◌*◌, ◌<◌, length, OnOk, IsSome};
-ghost use Rattle.spec_forest.specs.Forest.{stack_at};
-ghost use Rattle.spec_grid.specs.Rect.{part_above_0};
-ghost use Rattle.spec_picture.specs.Picture.{picture_bytes};
+ghost use Rattle.spec_document.specs.Forest.{stack_at};
+ghost use Rattle.spec_document.specs.Rect.{part_above_0};
+ghost use Rattle.spec_document.specs.Picture.{picture_bytes};
 ghost use Rattle.xl_doc.specs.Canvas.{IsInside};
 
 use crate::recompose::picture;

@@ -1,6 +1,6 @@
 //! Jobs: all that is needed to compose the picture of a tile later, beside edits.
 ghost use Rattle.std.specs.Prelude.{◌≡◌, ◌+◌, ◌*◌, ◌≤◌, length, replicate, IfOk, vec_capacity};
-ghost use Rattle.spec_blend.specs.Over.{clear};
+ghost use Rattle.spec_document.specs.Over.{clear};
 ghost use Rattle.xl_compose.specs.Job.{IsDone, planned};
 ghost use Rattle.xl_compose.specs.JobScratch.{IsTile};
 ghost use Rattle.xl_compose.specs.Pieces.{AllFit};

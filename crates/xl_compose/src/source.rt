@@ -1,8 +1,8 @@
 //! The pixels of a layer with its opacity and its mask, and the layer laid over a band of the canvas.
 ghost use Rattle.std.specs.Prelude.{◌≡◌, ◌+◌, ◌*◌, ◌<◌, ◌≤◌, ℕ, length};
-ghost use Rattle.spec_blend.specs.Over.{over};
-ghost use Rattle.spec_grid.specs.Rect.{part_above_0};
-ghost use Rattle.spec_picture.specs.Source.{mask_part};
+ghost use Rattle.spec_document.specs.Over.{over};
+ghost use Rattle.spec_document.specs.Rect.{part_above_0};
+ghost use Rattle.spec_document.specs.Source.{mask_part};
 ghost use Rattle.xl_tiles.specs.Area.{bytes_in};
 ghost use Rattle.xl_tiles.specs.Written.{IsWithin};
 ghost use Rattle.xl_compose.specs.Laid.{pixel};
@@ -10,12 +10,12 @@ ghost use Rattle.xl_compose.specs.Masks.{AreMasks};
 ghost use Rattle.xl_compose.specs.Source.{at_place, sheet_source, sheet_pixel};
 ghost use Rattle.xl_compose.specs.Span.{place_by};
 ghost use Rattle.xl_compose.specs.Neat.{IsNeat};
-ghost use Rattle.spec_grid.specs.declared.TheConstants.{MAX_SIDE};
+ghost use Rattle.spec_document.specs.declared.TheConstants.{MAX_SIDE};
 
 use crate::lay::lay_part;
 use crate::own::own_row;
 use crate::span::{Band, Meeting, SharedPart, overlap};
-use spec_grid::MAX_SIDE;
+use spec_document::MAX_SIDE;
 use std::sync::ledger::Ledger;
 use xl_blend::{Mode, Pixel, Steps, fade_row, fade_row_by};
 use xl_doc::{Layer, Rect};

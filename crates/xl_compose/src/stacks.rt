@@ -1,15 +1,15 @@
 //! Stacks of layers and groups over a band of the canvas.
 ghost use Rattle.std.specs.Prelude.{◌≡◌, ◌+◌, ◌*◌, ◌<◌, ◌≤◌, ℕ, length, true};
-ghost use Rattle.spec_blend.specs.Over.{clear};
-ghost use Rattle.spec_forest.specs.Forest.{levels};
-ghost use Rattle.spec_picture.specs.Source.{faded, layer_source};
-ghost use Rattle.spec_picture.specs.Picture.{any_visible, laid, stack_pixel, mode_above as mode_over};
+ghost use Rattle.spec_document.specs.Over.{clear};
+ghost use Rattle.spec_document.specs.Forest.{levels};
+ghost use Rattle.spec_document.specs.Source.{faded, layer_source};
+ghost use Rattle.spec_document.specs.Picture.{any_visible, laid, stack_pixel, mode_above as mode_over};
 ghost use Rattle.xl_doc.specs.Nodes.{IsLeaf, MarksAgree, layer_of, nodes_of};
 ghost use Rattle.xl_compose.specs.Cost.{one_if, visible_in};
 ghost use Rattle.xl_compose.specs.Laid.{pixel};
 ghost use Rattle.xl_compose.specs.Source.{sheet_source};
 ghost use Rattle.xl_compose.specs.Neat.{IsNeat};
-ghost use Rattle.spec_grid.specs.declared.TheConstants.{MAX_SIDE};
+ghost use Rattle.spec_document.specs.declared.TheConstants.{MAX_SIDE};
 ghost use Rattle.xl_tile.specs.declared.tile.TheConstants.{SCRATCH};
 
 use crate::lay::lay_part;

@@ -1,8 +1,8 @@
 //! The picture of one tile.
 ghost use Rattle.std.specs.Prelude.{◌≡◌, ◌+◌, ◌*◌, ◌≤◌, [], length, IfOk, OnOk, OnErr, IsSome, IsTrue};
-ghost use Rattle.spec_forest.specs.Forest.{stack_at};
-ghost use Rattle.spec_grid.specs.Grid.{is_on_grid};
-ghost use Rattle.spec_picture.specs.Picture.{project};
+ghost use Rattle.spec_document.specs.Forest.{stack_at};
+ghost use Rattle.spec_document.specs.Grid.{is_on_grid};
+ghost use Rattle.spec_document.specs.Picture.{project};
 ghost use Rattle.xl_compose.specs.Cost.{tile_points, visible_below};
 ghost use Rattle.xl_compose.specs.Rows.{row_bytes};
 

@@ -1,7 +1,7 @@
 -- What becomes of a picture, said by the history alone.
 use Rattle.std.proofs.Common.{◌≡◌, ℕ, Bool, true, false, cond, nat_lt, List, refl, sym, ◌∙◌, ap, true≢false}
 use Rattle.std.specs.Prelude.{Option, Some, None, is_some, option_and_then}
-use Rattle.spec_grid.specs.Grid.{is_on_grid}
+use Rattle.spec_document.specs.Grid.{is_on_grid}
 use Rattle.spec_document.specs.Document.{Document}
 use Rattle.spec_cache.specs.declared.Finished.TheVariants.{Installed, Late, Gone}
 use Rattle.spec_cache.specs.Slots.{Slot, Slots, slot_at}

@@ -1,7 +1,7 @@
 -- A core as contracts see it: a document's history and the shelf on which it is saved.
 use Rattle.std.specs.Prelude.{◌≡◌, ℕ, ◌+◌, ◌<◌, ◌≤◌, true, List, [], ◌∷◌, ◌++◌, length, slice_get, Option, Some, None, IsSome}
-use Rattle.spec_grid.specs.Grid.{is_on_grid}
-use Rattle.spec_picture.specs.Picture.{project}
+use Rattle.spec_document.specs.Grid.{is_on_grid}
+use Rattle.spec_document.specs.Picture.{project}
 use Rattle.spec_cache.specs.declared.Finished.{Finished}
 use Rattle.spec_cache.specs.Cache.{Cache, after_take, install}
 use Rattle.spec_history.specs.Machine.{Call, Reply, saved, Saving, has_stack}

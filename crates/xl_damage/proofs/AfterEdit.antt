@@ -2,7 +2,7 @@
 use Rattle.std.specs.Prelude.{◌≡◌, ℕ, ◌+◌, ◌-◌, ◌<◌, ◌^◌, true, max, fold, List, Option, Some, None, if◌then◌else◌, Ok, Err}
 use Rattle.std.proofs.Common.{ap, sym, ◌∙◌, subst, arith}
 use Rattle.std.specs.List.{AllByRecursion}
-use Rattle.spec_forest.specs.Forest.{Forest, ids}
+use Rattle.spec_document.specs.Forest.{Forest, ids}
 use Rattle.spec_document.specs.Document.{Document}
 use Rattle.spec_document.specs.Ids.{next_id}
 use Rattle.spec_damage.proofs.NewEdits.{next_above}

@@ -5,9 +5,9 @@ use Rattle.std.specs.Prelude.{Option, Some, None, is_some, IsSome, slice_get, op
 use Rattle.std.proofs.lemmas.Bool.{ne_eqb}
 use Rattle.std.specs.List.{AllByRecursion}
 use Rattle.std.specs.Option.{option_copied}
-use Rattle.spec_forest.specs.Forest.{Forest, none, leaf, group, Found, nothing, a_leaf, a_group, or_else, find, ids}
-use Rattle.spec_forest.specs.Forest.{ancestors, first_of, children_of, stack_at}
-use Rattle.spec_forest.proofs.Distinct.{IsNot, nothing_from_ids}
+use Rattle.spec_document.specs.Forest.{Forest, none, leaf, group, Found, nothing, a_leaf, a_group, or_else, find, ids}
+use Rattle.spec_document.specs.Forest.{ancestors, first_of, children_of, stack_at}
+use Rattle.spec_document.proofs.Distinct.{IsNot, nothing_from_ids}
 use Rattle.spec_document.specs.Document.{Nodes, Group}
 use Rattle.spec_damage.specs.Damage.{or_lower, bottom_of, first_or, stack_of, stacks_above}
 use Rattle.xl_tree.specs.Places.{first_some}

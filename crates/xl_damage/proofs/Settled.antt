@@ -3,16 +3,16 @@ use Rattle.std.proofs.Common.{◌≡◌, ℕ, ◌≤◌, Bool, true, false, cond
 use Rattle.std.proofs.Common.{◌∙◌, subst, ap, arith, eq-eqb}
 use Rattle.std.specs.Prelude.{Option, Some, None, not, filter, flat_map, map, option_map, unwrap_or}
 use Rattle.std.specs.List.{AllByRecursion, IsDistinct}
-use Rattle.spec_forest.specs.Forest.{group, ids, find, nothing, ancestors}
-use Rattle.spec_forest.specs.Holes.{Hole, here, under_leaf, under_group, in_group, plug}
-use Rattle.spec_forest.proofs.Holes.{plug-into}
-use Rattle.spec_forest.proofs.Standing.{Fresh, groups, ancestors-plug, ancestors-of_group}
-use Rattle.spec_forest.proofs.Distinct.{Member, member-plug}
-use Rattle.spec_forest.proofs.Outside.{fresh_from}
-use Rattle.spec_grid.specs.declared.Rect.{Rect}
-use Rattle.spec_grid.specs.Rect.{is_empty, meet, sheet}
+use Rattle.spec_document.specs.Forest.{group, ids, find, nothing, ancestors}
+use Rattle.spec_document.specs.Holes.{Hole, here, under_leaf, under_group, in_group, plug}
+use Rattle.spec_document.proofs.Holes.{plug-into}
+use Rattle.spec_document.proofs.Standing.{Fresh, groups, ancestors-plug, ancestors-of_group}
+use Rattle.spec_document.proofs.Distinct.{Member, member-plug}
+use Rattle.spec_document.proofs.Outside.{fresh_from}
+use Rattle.spec_document.specs.declared.Rect.{Rect}
+use Rattle.spec_document.specs.Rect.{is_empty, meet, sheet}
 use Rattle.spec_document.specs.Document.{Document, Nodes, Layer, Group}
-use Rattle.spec_picture.specs.Picture.{rect_found}
+use Rattle.spec_document.specs.Picture.{rect_found}
 use Rattle.spec_damage.specs.Damage.{Pair, cut, with_above, joined, stacks_above, stack_of, first_or, or_lower}
 use Rattle.spec_damage.specs.Damage.{bottom_of, bottom_visible, bottom_pairs, extent_pair, extent_if_any, same_id}
 use Rattle.spec_damage.proofs.Entries.{Entry, entries, bottom_id, bottom-entries, Lacks, same-turned}

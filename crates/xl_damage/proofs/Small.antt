@@ -3,18 +3,18 @@ use Rattle.std.proofs.Common.{◌≡◌, ℕ, ◌≤◌, ◌^◌, Bool, true, fa
 use Rattle.std.specs.Prelude.{ℤ, pos, negsuc, ◌≤ℤ◌, ◌+ℤ◌, ◌-ℤ◌, ◌&&◌, not, int_le}
 use Rattle.std.specs.Int.{int_min, int_max}
 use Rattle.std.proofs.lemmas.Int.{ints, int_max_is, int_min_is}
-use Rattle.spec_forest.specs.Forest.{none, leaf, group, Found, nothing, a_leaf, a_group, find}
-use Rattle.spec_grid.specs.declared.Rect.{Rect}
-use Rattle.spec_grid.specs.Rect.{part_above_0, no_rect, sheet, meet, right, bottom, is_empty, lies_on}
+use Rattle.spec_document.specs.Forest.{none, leaf, group, Found, nothing, a_leaf, a_group, find}
+use Rattle.spec_document.specs.declared.Rect.{Rect}
+use Rattle.spec_document.specs.Rect.{part_above_0, no_rect, sheet, meet, right, bottom, is_empty, lies_on}
 use Rattle.spec_document.specs.declared.Base.{Base}
 use Rattle.spec_document.specs.Document.{Document, Nodes, Layer, Group, layer_rect}
 use Rattle.spec_document.specs.Limits.{IsDocument, AreNodes, IsLayer, IsOffset}
 use Rattle.spec_document.proofs.FoundLayers.{IsFound, found_layer}
-use Rattle.spec_picture.specs.Picture.{hull_of, rect_found, extent}
+use Rattle.spec_document.specs.Picture.{hull_of, rect_found, extent}
 use Rattle.xl_grid.specs.Small.{IsNear, IsSmall}
 use Rattle.xl_doc.specs.Extents.{last_end, IsReach}
 use Rattle.xl_doc.proofs.Hulls.{hull_reach}
-use Rattle.spec_grid.specs.declared.TheConstants.{MAX_SIDE}
+use Rattle.spec_document.specs.declared.TheConstants.{MAX_SIDE}
 
 no_reach : IsReach no_rect
 no_reach = record {

@@ -3,8 +3,8 @@ use Rattle.std.proofs.Common.{◌≡◌, ℕ, Bool, true, false, cond, eqb, List
 use Rattle.std.proofs.lemmas.List.{append-nil}
 use Rattle.std.specs.Prelude.{not, filter, flat_map}
 use Rattle.std.specs.List.{list_any}
-use Rattle.spec_grid.specs.declared.Rect.{Rect}
-use Rattle.spec_grid.specs.Rect.{is_empty, meet, sheet}
+use Rattle.spec_document.specs.declared.Rect.{Rect}
+use Rattle.spec_document.specs.Rect.{is_empty, meet, sheet}
 use Rattle.spec_document.specs.Document.{Document}
 use Rattle.spec_damage.specs.Damage.{Pair, cut, with_above, joined, stacks_above}
 use Rattle.xl_tree.specs.declared.naming.NodeId.{NodeId}

@@ -2,8 +2,8 @@
 ghost use Rattle.std.specs.Prelude.{◌≡◌, ◌+ℤ◌, None, true};
 ghost use Rattle.spec_damage.specs.Damage.{moved};
 ghost use Rattle.spec_edit.specs.Refusal.{node, outside_layer};
-ghost use Rattle.spec_grid.specs.Rect.{lies_on, meet, no_rect, sheet};
-ghost use Rattle.spec_picture.specs.Picture.{extent};
+ghost use Rattle.spec_document.specs.Rect.{lies_on, meet, no_rect, sheet};
+ghost use Rattle.spec_document.specs.Picture.{extent};
 ghost use Rattle.xl_doc.specs.Extents.{IsReach};
 ghost use Rattle.xl_grid.specs.Small.{IsNear, IsSmall};
 

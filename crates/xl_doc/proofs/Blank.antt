@@ -2,7 +2,7 @@
 use Rattle.std.proofs.Common.{◌≡◌, ℕ, ◌≤◌, List, [], subst, sym, arith}
 use Rattle.std.specs.Prelude.{None}
 use Rattle.std.specs.List.{IsDistinct}
-use Rattle.spec_forest.specs.Forest.{Forest, none}
+use Rattle.spec_document.specs.Forest.{Forest, none}
 use Rattle.spec_document.specs.declared.Base.{Base}
 use Rattle.spec_document.specs.Document.{Document}
 use Rattle.spec_document.specs.Limits.{AreColours, AreIds, IsDocument, IsSide}

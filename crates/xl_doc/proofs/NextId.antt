@@ -2,7 +2,7 @@
 use Rattle.std.proofs.Common.{ℕ, ◌-◌, ◌^◌, ◌<◌, ◌≤◌, List, [], ◌∷◌, arith}
 use Rattle.std.specs.Prelude.{max, fold}
 use Rattle.std.specs.List.{AllByRecursion}
-use Rattle.spec_forest.specs.Forest.{ids, size}
+use Rattle.spec_document.specs.Forest.{ids, size}
 use Rattle.spec_document.specs.Document.{Document}
 use Rattle.spec_document.specs.Ids.{next_id}
 use Rattle.xl_doc.specs.Numbered.{AreNumbered}

@@ -1,8 +1,8 @@
 -- The layers and groups of a tree, found by their ids.
 use Rattle.std.proofs.Common.{◌≡◌, ℕ, Bool, true, false, cond, refl, ◌∙◌, ap, subst}
 use Rattle.std.specs.Prelude.{Option, Some, None, option_map, ◌==◌}
-use Rattle.spec_forest.specs.Forest.{Forest, none, leaf, group, Found, nothing, a_leaf, a_group, or_else, find}
-use Rattle.spec_forest.specs.Forest.{children_of, stack_at}
+use Rattle.spec_document.specs.Forest.{Forest, none, leaf, group, Found, nothing, a_leaf, a_group, or_else, find}
+use Rattle.spec_document.specs.Forest.{children_of, stack_at}
 use Rattle.spec_document.specs.Document as doc
 use Rattle.xl_doc.specs.declared.node.Node.{Node}
 use Rattle.xl_doc.specs.Nodes.{nodes_of, layer_of, group_of, MarksAgree}

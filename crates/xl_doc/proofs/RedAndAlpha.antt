@@ -1,7 +1,7 @@
 -- The red and the alpha of each pixel, one pixel after another.
 use Rattle.std.proofs.Common.{◌≡◌, ℕ, zero, suc, ◌+◌, ◌*◌, ◌/◌, ◌<◌, ◌≤◌, List, [], ◌∷◌, ◌++◌, length, drop, slice_index, refl, sym, ◌∙◌, ap, arith}
 use Rattle.std.proofs.Common.{append_assoc, append-nil, length-drop}
-use Rattle.spec_picture.specs.Greys.{red_and_alpha}
+use Rattle.spec_document.specs.Greys.{red_and_alpha}
 
 -- the next pixel
 pub next_pixel : (xs : List ℕ) (i : ℕ) → i + 4 ≤ length xs

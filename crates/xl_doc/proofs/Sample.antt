@@ -6,8 +6,8 @@ use Rattle.std.specs.List.{IsDistinct}
 use Rattle.spec_document.specs.declared.Owner.{Owner}
 use Rattle.spec_document.specs.declared.Owner.TheVariants as owners
 use Rattle.spec_document.specs.Limits.{AreBytes, AreIds, AreKept, IsChannel, IsDocument, IsName, IsPlaneOf}
-use Rattle.spec_forest.specs.Forest.{Forest, none, leaf}
-use Rattle.spec_forest.specs.Changes.{put_last}
+use Rattle.spec_document.specs.Forest.{Forest, none, leaf}
+use Rattle.spec_document.specs.Changes.{put_last}
 use Rattle.spec_document.specs.Document.{Document}
 use Rattle.xl_tree.specs.Places.{alone}
 use Rattle.xl_doc.specs.declared.node.Node.{Node}

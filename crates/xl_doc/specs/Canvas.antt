@@ -1,7 +1,7 @@
 -- Rectangles of the canvas.
 use Rattle.std.specs.Prelude.{ℕ, ◌+◌, ◌≤◌, pos, ◌≤ℤ◌}
-use Rattle.spec_grid.specs.declared.Rect.{Rect}
-use Rattle.spec_grid.specs.Rect.{part_above_0}
+use Rattle.spec_document.specs.declared.Rect.{Rect}
+use Rattle.spec_document.specs.Rect.{part_above_0}
 
 -- the rectangle lies inside a canvas of these sides; it may be empty
 pub record IsInside (w h : ℕ) (r : Rect) : Type 0 where

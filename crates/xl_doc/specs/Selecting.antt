@@ -1,6 +1,6 @@
 -- Selections over a canvas.
 use Rattle.std.specs.Prelude.{ℕ, ℤ, pos, negsuc, ◌≤ℤ◌, if◌then◌else◌}
-use Rattle.spec_grid.specs.Rect.{has_point, part_above_0, sheet}
+use Rattle.spec_document.specs.Rect.{has_point, part_above_0, sheet}
 use Rattle.spec_document.specs.Plane.{Plane, byte_at}
 
 -- the byte of a plane at a point, and 0 outside it

@@ -1,5 +1,5 @@
 -- What a document's type keeps.
-use Rattle.spec_forest.specs.Forest.{Forest}
+use Rattle.spec_document.specs.Forest.{Forest}
 use Rattle.spec_document.specs.Document.{Document}
 use Rattle.spec_document.specs.Limits.{IsDocument}
 use Rattle.xl_doc.specs.declared.node.Node.{Node}

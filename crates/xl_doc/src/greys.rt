@@ -1,6 +1,6 @@
 //! The bytes that pixels have in a document of a base, out of RGBA bytes.
 ghost use Rattle.std.specs.Prelude.{◌≡◌, IfOk};
-ghost use Rattle.spec_picture.specs.Greys.{pixels_of_base, red_and_alpha};
+ghost use Rattle.spec_document.specs.Greys.{pixels_of_base, red_and_alpha};
 
 use spec_document::Base;
 use std::alloc::{AllocError, Global};

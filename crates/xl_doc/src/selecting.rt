@@ -2,7 +2,7 @@
 ghost use Rattle.std.specs.Prelude.{◌≡◌, ℕ, ◌+◌, ◌-◌, ◌*◌, ◌<◌, ◌≤◌, pos, negsuc, ◌+ℤ◌, ◌-ℤ◌, ◌≤ℤ◌, length, slice_index};
 ghost use Rattle.spec_document.specs.Plane.{byte_at};
 ghost use Rattle.spec_document.specs.Selection.{selected};
-ghost use Rattle.spec_grid.specs.Rect.{has_point, part_above_0, sheet};
+ghost use Rattle.spec_document.specs.Rect.{has_point, part_above_0, sheet};
 ghost use Rattle.xl_doc.specs.Selecting.{byte_or_0, IsNear};
 ghost use Rattle.xl_tiles.specs.Block.{byte_after};
 

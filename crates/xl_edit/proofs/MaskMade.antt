@@ -1,8 +1,8 @@
 -- Changes of a layer that was found.
 use Rattle.std.proofs.Common.{◌≡◌, ℕ, refl, sym, ◌∙◌, ap}
 use Rattle.std.specs.Prelude.{Some, None}
-use Rattle.spec_forest.specs.Forest.{Found, nothing, a_leaf, a_group}
-use Rattle.spec_forest.specs.Changes.{with_leaf}
+use Rattle.spec_document.specs.Forest.{Found, nothing, a_leaf, a_group}
+use Rattle.spec_document.specs.Changes.{with_leaf}
 use Rattle.spec_document.specs.Document.{Document, Layer, Group}
 use Rattle.spec_document.specs.Limits.{IsDocument}
 use Rattle.spec_edit.specs.Refusal.{node}

@@ -2,8 +2,8 @@
 use Rattle.std.proofs.Common.{◌≡◌, List, ℕ, ◌+◌, ◌<◌, true, false, cond, nat_eq, [], refl, sym, ◌∙◌, ap, arith}
 use Rattle.std.specs.Prelude.{None, Ok}
 use Rattle.std.proofs.lemmas.Bool.{ne_eqb}
-use Rattle.spec_forest.specs.Forest.{Forest, none, leaf, group, ids, Found, nothing, a_leaf, a_group, find}
-use Rattle.spec_forest.proofs.Distinct.{IsNot, nothing_from_ids}
+use Rattle.spec_document.specs.Forest.{Forest, none, leaf, group, ids, Found, nothing, a_leaf, a_group, find}
+use Rattle.spec_document.proofs.Distinct.{IsNot, nothing_from_ids}
 use Rattle.spec_document.specs.Document.{Document, Layer, Group}
 use Rattle.spec_document.proofs.Elements.{all-each}
 use Rattle.spec_edit.specs.Edit.{Edit, IsEdit}

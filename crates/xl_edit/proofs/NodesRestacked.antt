@@ -2,9 +2,9 @@
 use Rattle.std.proofs.Common.{◌≡◌, ℕ, ◌+◌, ◌≤◌, Bool, true, false, cond, eqb, nat_eq, not, List, [], ◌∷◌, refl, sym, ◌∙◌, ap, arith}
 use Rattle.std.specs.Prelude.{Option, Some, None, option_map, unwrap_or, nat_le, ◌||◌}
 use Rattle.std.specs.List.{IsDistinct, list_any}
-use Rattle.spec_forest.specs.Forest.{Forest, none, leaf, group, ids, count, levels, Found, nothing, a_leaf, a_group}
-use Rattle.spec_forest.specs.Forest.{find, stack_at, ancestors}
-use Rattle.spec_forest.specs.Changes.{above, put_into, without, branch_of}
+use Rattle.spec_document.specs.Forest.{Forest, none, leaf, group, ids, count, levels, Found, nothing, a_leaf, a_group}
+use Rattle.spec_document.specs.Forest.{find, stack_at, ancestors}
+use Rattle.spec_document.specs.Changes.{above, put_into, without, branch_of}
 use Rattle.spec_document.specs.Document as doc
 use Rattle.spec_document.specs.Document.{Document}
 use Rattle.spec_edit.specs.declared.EditRefused.TheVariants as refused

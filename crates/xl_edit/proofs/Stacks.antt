@@ -2,10 +2,10 @@
 use Rattle.std.proofs.Common.{◌≡◌, ℕ, ◌+◌, ◌≤◌, Bool, true, false, cond, eqb, nat_eq, List, refl, sym, ◌∙◌, ap, subst, arith}
 use Rattle.std.specs.Prelude.{Option, Some, None, unwrap_or}
 use Rattle.std.specs.List.{IsDistinct}
-use Rattle.spec_forest.specs.Forest.{Forest, ids, levels, Found, nothing, a_leaf, a_group, find}
-use Rattle.spec_forest.specs.Changes.{put_into}
-use Rattle.spec_forest.proofs.Outside.{kind}
-use Rattle.spec_forest.proofs.PutInto.{levels-put}
+use Rattle.spec_document.specs.Forest.{Forest, ids, levels, Found, nothing, a_leaf, a_group, find}
+use Rattle.spec_document.specs.Changes.{put_into}
+use Rattle.spec_document.proofs.Outside.{kind}
+use Rattle.spec_document.proofs.PutInto.{levels-put}
 use Rattle.spec_document.specs.Document as doc
 use Rattle.spec_document.specs.Document.{Nodes}
 use Rattle.spec_edit.specs.declared.EditRefused.TheVariants.{NoNode, TooDeep}

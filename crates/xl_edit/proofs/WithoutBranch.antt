@@ -2,16 +2,16 @@
 use Rattle.std.proofs.Common.{◌≡◌, ℕ, ◌+◌, max, Bool, true, false, cond, eqb, nat_eq, [], refl, sym, ◌∙◌, ap, subst, arith, eq-eqb}
 use Rattle.std.specs.Prelude.{Option, Some, None, option_map, unwrap_or, ◌||◌}
 use Rattle.std.specs.List.{IsDistinct, list_any}
-use Rattle.spec_forest.specs.Forest.{Forest, none, leaf, group, ids, count, levels, Found, nothing, a_leaf, a_group}
-use Rattle.spec_forest.specs.Forest.{or_else, find, children_of, stack_at, ancestors}
-use Rattle.spec_forest.specs.Changes.{without, branch_of}
-use Rattle.spec_forest.specs.Holes.{Hole, here, under_leaf, under_group, in_group, plug}
-use Rattle.spec_forest.proofs.Standing.{Fresh, Standing, nowhere, at_leaf, at_group, standing, find-at_leaf}
-use Rattle.spec_forest.proofs.Standing.{find-at_group, lacks_leaf, lacks_group}
-use Rattle.spec_forest.proofs.Distinct.{Lone, untouched, walks-without, walks-plug, lone_leaf, lone_group}
-use Rattle.spec_forest.proofs.Distinct.{without-at_leaf, without-at_group, branch_of-nowhere, branch_of-at_leaf}
-use Rattle.spec_forest.proofs.Distinct.{branch_of-at_group}
-use Rattle.spec_forest.proofs.Outside.{above_inside}
+use Rattle.spec_document.specs.Forest.{Forest, none, leaf, group, ids, count, levels, Found, nothing, a_leaf, a_group}
+use Rattle.spec_document.specs.Forest.{or_else, find, children_of, stack_at, ancestors}
+use Rattle.spec_document.specs.Changes.{without, branch_of}
+use Rattle.spec_document.specs.Holes.{Hole, here, under_leaf, under_group, in_group, plug}
+use Rattle.spec_document.proofs.Standing.{Fresh, Standing, nowhere, at_leaf, at_group, standing, find-at_leaf}
+use Rattle.spec_document.proofs.Standing.{find-at_group, lacks_leaf, lacks_group}
+use Rattle.spec_document.proofs.Distinct.{Lone, untouched, walks-without, walks-plug, lone_leaf, lone_group}
+use Rattle.spec_document.proofs.Distinct.{without-at_leaf, without-at_group, branch_of-nowhere, branch_of-at_leaf}
+use Rattle.spec_document.proofs.Distinct.{branch_of-at_group}
+use Rattle.spec_document.proofs.Outside.{above_inside}
 use Rattle.xl_tree.specs.Reads.{levels_of}
 use Rattle.xl_edit.specs.Children.{is_at_top, is_child}
 

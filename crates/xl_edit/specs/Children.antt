@@ -1,6 +1,6 @@
 -- The nodes at the top of a forest, and those of a stack.
 use Rattle.std.specs.Prelude.{ℕ, Bool, false, ◌==◌, ◌||◌, Option, Some, None}
-use Rattle.spec_forest.specs.Forest.{Forest, none, leaf, group}
+use Rattle.spec_document.specs.Forest.{Forest, none, leaf, group}
 
 -- whether one of the nodes at the top has this id
 abbrev pub is_at_top : {L G : Type 0} → (id : ℕ) → Forest L G → Bool

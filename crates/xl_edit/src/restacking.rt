@@ -1,8 +1,8 @@
 //! A node that moves to another place, with all below it.
 ghost use Rattle.std.specs.Prelude.{◌≡◌, ◌≤◌, None, Some, IfErr, OnOk};
-ghost use Rattle.spec_forest.specs.Forest.{levels, stack_at};
-ghost use Rattle.spec_forest.specs.Changes.{branch_of, put_into, without};
-ghost use Rattle.spec_forest.specs.declared.TheConstants.{MAX_DEPTH};
+ghost use Rattle.spec_document.specs.Forest.{levels, stack_at};
+ghost use Rattle.spec_document.specs.Changes.{branch_of, put_into, without};
+ghost use Rattle.spec_document.specs.declared.TheConstants.{MAX_DEPTH};
 ghost use Rattle.spec_edit.specs.Edit as edits;
 ghost use Rattle.spec_edit.specs.Refusal.{bad_place, children, inside, no_node, refusal, stands_in};
 ghost use Rattle.xl_doc.specs.Nodes.{nodes_of, MarksAgree};

@@ -5,10 +5,10 @@ use Rattle.std.specs.Prelude.{flat_map, filter}
 use Rattle.std.proofs.lemmas.Grind.{flat_map-append}
 use Rattle.std.proofs.lemmas.List.{map-append}
 use Rattle.std.proofs.lemmas.List.Elements.{filter-append}
-use Rattle.spec_grid.specs.declared.Rect.{Rect}
-use Rattle.spec_grid.specs.declared.TileAt.{TileAt}
-use Rattle.spec_grid.specs.Rect.{count_from, do_meet}
-use Rattle.spec_grid.specs.Grid.{tile_rect, tiles_along}
+use Rattle.spec_document.specs.declared.Rect.{Rect}
+use Rattle.spec_document.specs.declared.TileAt.{TileAt}
+use Rattle.spec_document.specs.Rect.{count_from, do_meet}
+use Rattle.spec_document.specs.Grid.{tile_rect, tiles_along}
 use Rattle.xl_grid.specs.Covering.{row_of, rows_of}
 
 suc_more : (n : ℕ) → suc n + 1 ≡ suc (n + 1)

@@ -1,9 +1,9 @@
 -- The tiles that share a point with a rectangle, in parts.
 use Rattle.std.specs.Prelude.{ℕ, List, map, flat_map, filter}
-use Rattle.spec_grid.specs.declared.Rect.{Rect}
-use Rattle.spec_grid.specs.declared.TileAt.{TileAt}
-use Rattle.spec_grid.specs.Rect.{count_from, do_meet}
-use Rattle.spec_grid.specs.Grid.{tile_rect, tiles_along}
+use Rattle.spec_document.specs.declared.Rect.{Rect}
+use Rattle.spec_document.specs.declared.TileAt.{TileAt}
+use Rattle.spec_document.specs.Rect.{count_from, do_meet}
+use Rattle.spec_document.specs.Grid.{tile_rect, tiles_along}
 
 -- those in the first n columns of a row
 abbrev pub row_of : Rect → (w h row n : ℕ) → List TileAt

@@ -1,6 +1,6 @@
 -- Rectangles whose coordinates and sides are far from the ends of their types.
 use Rattle.std.specs.Prelude.{◌^◌, ◌≤◌, ℤ, pos, negsuc, ◌≤ℤ◌}
-use Rattle.spec_grid.specs.declared.Rect.{Rect}
+use Rattle.spec_document.specs.declared.Rect.{Rect}
 
 -- within 2^20 of zero
 abbrev pub IsNear : ℤ → Type 0

@@ -1,12 +1,12 @@
 ghost use Rattle.std.specs.Prelude.{◌≡◌, ◌++◌, ◌≤◌, ◌<◌, ◌^◌, IfOk, OnOk, IsTrue};
-ghost use Rattle.spec_grid.specs.Grid as tiles;
-ghost use Rattle.spec_grid.specs.Rect.{do_meet};
+ghost use Rattle.spec_document.specs.Grid as tiles;
+ghost use Rattle.spec_document.specs.Rect.{do_meet};
 ghost use Rattle.xl_grid.specs.Covering.{row_of};
 ghost use Rattle.xl_grid.specs.Small.{IsSmall};
 
 use crate::rects::{is_empty, meet};
 use crate::tiling::{grid, tile_rect};
-use spec_grid::{Rect, TileAt};
+use spec_document::{Rect, TileAt};
 use std::alloc::{AllocError, Global};
 
 // Whether a tile shares a point with a rectangle.

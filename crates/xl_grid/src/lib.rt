@@ -7,5 +7,5 @@ mod tiling;
 
 pub use covering::tiles_of;
 pub use rects::{hull, is_empty, meet};
-pub use spec_grid::{MAX_SIDE, Rect, TileAt};
+pub use spec_document::{MAX_SIDE, Rect, TileAt};
 pub use tiling::{TILE_SIDE, grid, tile_rect, tiles_along};

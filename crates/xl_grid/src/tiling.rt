@@ -1,7 +1,7 @@
 ghost use Rattle.std.specs.Prelude.{◌≡◌, ◌≤◌, ◌^◌, IsTrue};
-ghost use Rattle.spec_grid.specs.Grid as tiles;
+ghost use Rattle.spec_document.specs.Grid as tiles;
 
-use spec_grid::{Rect, TileAt};
+use spec_document::{Rect, TileAt};
 
 /// The side of a tile. Those in the last column and row may be smaller.
 pub const TILE_SIDE: u32 = 64;

@@ -3,7 +3,7 @@ use Rattle.std.proofs.Common.{◌≡◌, ℕ, suc, ◌+◌, ◌<◌, List, [], �
 use Rattle.std.proofs.Common.{append-nil, take, drop}
 use Rattle.std.proofs.lemmas.List.{drop_all, take_all}
 use Rattle.std.specs.Prelude.{Ok, Err}
-use Rattle.spec_grid.specs.Grid.{tiles_along}
+use Rattle.spec_document.specs.Grid.{tiles_along}
 use Rattle.xl_fields.specs.declared.refusal.ReadRefusedOrMemory.{ReadRefusedOrMemory}
 use Rattle.xl_hier.specs.declared.beside.Band.{Band}
 use Rattle.xl_hier.specs.declared.frame.Frame.{Frame}

@@ -4,8 +4,8 @@ use Rattle.std.proofs.Common.{append-nil, take_all}
 use Rattle.std.specs.Prelude.{flat_map}
 use Rattle.std.proofs.lemmas.Grind.{flat_map-append}
 use Rattle.std.proofs.lemmas.List.{take_more}
-use Rattle.spec_grid.specs.declared.TileAt.{TileAt}
-use Rattle.spec_grid.specs.Grid.{tiles_along, all_tiles}
+use Rattle.spec_document.specs.declared.TileAt.{TileAt}
+use Rattle.spec_document.specs.Grid.{tiles_along, all_tiles}
 use Rattle.spec_document.specs.Plane.{Plane}
 use Rattle.spec_hierarchy.specs.BytePlanes.{tile_planes, byte_planes}
 use Rattle.xl_rle.specs.Follows.{FollowsEach}

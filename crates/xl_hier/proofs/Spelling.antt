@@ -1,8 +1,8 @@
 -- Planes that are spelled one after another.
 use Rattle.std.proofs.Common.{◌≡◌, ℕ, zero, suc, ◌+◌, ◌≤◌, List, [], ◌∷◌, ◌++◌, length, map, refl, sym, ap, ◌∙◌, subst}
 use Rattle.std.proofs.Common.{arith, append_assoc, append-nil}
-use Rattle.spec_grid.specs.declared.TileAt.{TileAt}
-use Rattle.spec_grid.specs.Rect.{count_from}
+use Rattle.spec_document.specs.declared.TileAt.{TileAt}
+use Rattle.spec_document.specs.Rect.{count_from}
 use Rattle.spec_document.specs.Plane.{Plane}
 use Rattle.spec_rle.specs.declared.TheConstants.{MAX_EXCESS}
 use Rattle.spec_rle.specs.Codes.{Spells}

@@ -1,6 +1,6 @@
 -- The parts of the reading of a plane.
 use Rattle.std.specs.Prelude.{ℕ, ◌+◌, List, Ok}
-use Rattle.spec_grid.specs.Grid.{all_tiles}
+use Rattle.spec_document.specs.Grid.{all_tiles}
 use Rattle.spec_document.specs.Plane.{Plane}
 use Rattle.spec_fields.specs.declared.Kind.TheVariants.{BadHierarchy}
 use Rattle.spec_fields.specs.Reading.{Read, ◌>>=◌}

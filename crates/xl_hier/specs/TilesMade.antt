@@ -1,7 +1,7 @@
 -- The tiles of a plane, one behind another, and where each begins.
 use Rattle.std.specs.Prelude.{◌≡◌, ℕ, List}
 use Rattle.std.specs.List.{concat}
-use Rattle.spec_grid.specs.Grid.{all_tiles}
+use Rattle.spec_document.specs.Grid.{all_tiles}
 use Rattle.spec_document.specs.Plane.{Plane}
 use Rattle.spec_hierarchy.specs.Layout.{places_from, AreTiles}
 

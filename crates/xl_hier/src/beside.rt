@@ -2,7 +2,7 @@
 ghost use Rattle.std.specs.Prelude.{◌≡◌, ◌<◌, ◌^◌, ℕ, [], length, slice_index_or};
 ghost use Rattle.std.specs.Prelude.{All, IfOk};
 ghost use Rattle.std.specs.Arc.{arc_value};
-ghost use Rattle.spec_grid.specs.Grid as grid;
+ghost use Rattle.spec_document.specs.Grid as grid;
 ghost use Rattle.xl_hier.specs.Bands.{BandRead};
 ghost use Rattle.xl_hier.specs.SoFar.{HasRead};
 

@@ -1,5 +1,5 @@
 ghost use Rattle.std.specs.Prelude.{◌≡◌};
-ghost use Rattle.spec_grid.specs.Grid as grid;
+ghost use Rattle.spec_document.specs.Grid as grid;
 ghost use Rattle.xl_hier.specs.Frame.{IsFrame};
 
 use xl_grid::tiles_along;

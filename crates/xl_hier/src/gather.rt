@@ -1,5 +1,5 @@
 ghost use Rattle.std.specs.Prelude.{◌≡◌, ℕ, ◌+◌, ◌-◌, ◌*◌, ◌<◌, ◌≤◌, ◌++◌, length, min, slice_index, OnOk};
-ghost use Rattle.spec_grid.specs.Grid as grid;
+ghost use Rattle.spec_document.specs.Grid as grid;
 ghost use Rattle.spec_hierarchy.specs.Tiles as tiles;
 ghost use Rattle.xl_tile.specs.declared.tile.TheConstants.{SCRATCH};
 

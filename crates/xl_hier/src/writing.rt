@@ -1,6 +1,6 @@
 ghost use Rattle.std.specs.Prelude.{◌≡◌, ◌+◌, ◌*◌, ◌<◌, ◌≤◌, ◌^◌, ◌++◌, [], ◌∷◌, length};
 ghost use Rattle.std.specs.Prelude.{vec_len, IfOk, OnOk, OnErr};
-ghost use Rattle.spec_grid.specs.Grid as grid;
+ghost use Rattle.spec_document.specs.Grid as grid;
 ghost use Rattle.spec_hierarchy.specs.BytePlanes.{byte_planes};
 ghost use Rattle.spec_hierarchy.specs.Holds.{HasPlane};
 ghost use Rattle.spec_hierarchy.specs.Layout.{words, IsWrittenPlane};

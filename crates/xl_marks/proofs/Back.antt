@@ -2,8 +2,8 @@
 use Rattle.std.proofs.Common.{◌≡◌, ℕ, Bool, true, false, cond, not, ◌&&◌, ◌||◌, List, map, filter, refl, sym, ◌∙◌, ap, subst}
 use Rattle.std.specs.Prelude.{Option, Some, is_some}
 use Rattle.std.specs.List.{list_any}
-use Rattle.spec_grid.specs.Rect.{do_meet}
-use Rattle.spec_grid.specs.Grid.{tile_rect}
+use Rattle.spec_document.specs.Rect.{do_meet}
+use Rattle.spec_document.specs.Grid.{tile_rect}
 use Rattle.spec_document.specs.Document.{Document}
 use Rattle.spec_damage.specs.Damage.{Pair}
 use Rattle.spec_cache.specs.Slots.{Slots, blank_slots, mark_slot}

@@ -3,7 +3,7 @@ use Rattle.std.proofs.Common.{◌≡◌, ℕ, suc, ◌+◌, ◌≤◌, Bool, tru
 use Rattle.std.proofs.Common.{length, filter, refl, ◌∙◌, ap, arith, eq-eqb}
 use Rattle.std.specs.List.{AllByRecursion}
 use Rattle.std.proofs.lemmas.Bool.{eqb-true}
-use Rattle.spec_forest.specs.Forest.{none, leaf, group, ids, size}
+use Rattle.spec_document.specs.Forest.{none, leaf, group, ids, size}
 use Rattle.spec_document.specs.Document.{Document, Nodes}
 use Rattle.spec_document.specs.Limits.{IsDocument}
 use Rattle.spec_damage.proofs.Counts.{times, times-append, once_from}

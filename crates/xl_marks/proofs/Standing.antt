@@ -3,7 +3,7 @@ use Rattle.std.proofs.Common.{◌≡◌, ℕ, ◌+◌, ◌≤◌, Bool, true, fa
 use Rattle.std.proofs.Common.{◌∙◌, ap, arith, eq-eqb, true≢false}
 use Rattle.std.specs.Prelude.{Some, is_some}
 use Rattle.std.proofs.lemmas.List.Folds.{list_any-append}
-use Rattle.spec_forest.specs.Forest.{Found, nothing, a_leaf, a_group, none, leaf, group, ids, find, or_else, children_of}
+use Rattle.spec_document.specs.Forest.{Found, nothing, a_leaf, a_group, none, leaf, group, ids, find, or_else, children_of}
 use Rattle.spec_document.specs.Document.{Document, Nodes, Layer, Group}
 use Rattle.spec_document.specs.Limits.{IsDocument}
 use Rattle.spec_damage.proofs.Counts.{times, times-append, once_from, not_found}

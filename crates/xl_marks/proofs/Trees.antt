@@ -1,7 +1,7 @@
 -- Whether a document has a stack, by its tree.
 use Rattle.std.proofs.Common.{◌≡◌, ℕ, refl, sym, ◌∙◌, ap}
 use Rattle.std.specs.Prelude.{Option, Some, None, is_some, option_map}
-use Rattle.spec_forest.specs.Forest.{Forest, stack_at}
+use Rattle.spec_document.specs.Forest.{Forest, stack_at}
 use Rattle.xl_doc.specs.declared.node.Node.{Node}
 use Rattle.xl_doc.specs.Nodes.{nodes_of}
 use Rattle.xl_doc.proofs.NodesOf.{stack-nodes_of}

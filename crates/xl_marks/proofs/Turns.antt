@@ -3,7 +3,7 @@ use Rattle.std.proofs.Common.{◌≡◌, ℕ, ◌+◌, ◌-◌, ◌<◌, ◌≤�
 use Rattle.std.proofs.Common.{ap, subst, arith}
 use Rattle.std.specs.Prelude.{Some}
 use Rattle.std.proofs.lemmas.List.{drop_more, drop_all}
-use Rattle.spec_grid.specs.declared.Rect.{Rect}
+use Rattle.spec_document.specs.declared.Rect.{Rect}
 use Rattle.spec_cache.specs.Slots.{Slots, AreOfCanvas}
 use Rattle.spec_cache.specs.Cache.{Cache, IsCache, slots_of, has_slots, add_stack, drop_stack, mark}
 use Rattle.spec_cache.proofs.Found.{canvas-found}

@@ -1,6 +1,6 @@
 -- The document of the tests.
 use Rattle.std.specs.Prelude.{[], None}
-use Rattle.spec_forest.specs.Forest.{Forest}
+use Rattle.spec_document.specs.Forest.{Forest}
 use Rattle.spec_document.specs.declared.Base.TheVariants.{Rgb}
 use Rattle.spec_document.specs.Document.{Document}
 use Rattle.xl_doc.specs.declared.node.Node.{Node}

@@ -3,7 +3,7 @@ ghost use Rattle.std.specs.Prelude.{◌≡◌, ◌<◌, ◌≤◌, ◌++◌, [],
 ghost use Rattle.std.specs.List.{AllByRecursion};
 ghost use Rattle.spec_damage.specs.Damage as damage;
 ghost use Rattle.spec_edit.specs.Refusal.{refusal};
-ghost use Rattle.spec_forest.specs.Forest.{ids};
+ghost use Rattle.spec_document.specs.Forest.{ids};
 ghost use Rattle.xl_damage.specs.Edits.{edit_of};
 ghost use Rattle.xl_damage.specs.Marks.{IsMade, pairs_of};
 ghost use Rattle.xl_marks.specs.Change.{marked_by};

@@ -7,9 +7,9 @@ ghost use Rattle.xl_ports.specs.Disk.{Between};
 ghost use Rattle.xl_ports.specs.Faults.{HasCause};
 ghost use Rattle.xl_save.specs.Save.{SavesOnly, HasSaved};
 
+use crate::smallest::FileBytes;
 use xl_ports::{Failed, Shelf};
 use xl_save::save_parts;
-use xl_smallest::FileBytes;
 
 /// Saves a file of a document, the smallest one, in the place of the selected one.
 ///

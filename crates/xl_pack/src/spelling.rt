@@ -3,11 +3,11 @@ ghost use Rattle.std.specs.Prelude.{false, true, IfOk};
 ghost use Rattle.spec_document.specs.Limits.{IsDocument};
 ghost use Rattle.xl_pack.specs.Spelled.{IsSpelled};
 
+use crate::smallest::{FileBytes, encode_smallest};
 use std::alloc::{AllocError, Global};
 use xl_compose::Recompose;
 use xl_doc::Document;
 use xl_small::{Small, Telling};
-use xl_smallest::{FileBytes, encode_smallest};
 
 /// A file, how many planes are spelled in it, and the lines of their plans.
 #[derive(Drop)]

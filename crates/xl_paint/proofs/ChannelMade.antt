@@ -1,7 +1,7 @@
 -- A channel that is filled.
 use Rattle.std.proofs.Common.{◌≡◌, ℕ, zero, suc, ◌<◌, ◌≤◌, List, [], ◌∷◌, length, refl, sym, ◌∙◌, ap, subst, arith, get_or, set}
 use Rattle.std.specs.Prelude.{false, pos, None, Ok}
-use Rattle.spec_grid.specs.declared.Rect.{Rect}
+use Rattle.spec_document.specs.declared.Rect.{Rect}
 use Rattle.spec_document.specs.Document.{Document, Channel}
 use Rattle.spec_document.specs.Limits.{IsDocument}
 use Rattle.spec_edit.specs.Edit.{fill_channel}
@@ -10,7 +10,7 @@ use Rattle.spec_edit.specs.Effect.{changed_at, effect, through, with_plane}
 use Rattle.spec_edit.specs.Apply as edits
 use Rattle.xl_tiles.specs.Written.{written}
 use Rattle.xl_paint.specs.Applied.{at, Makes}
-use Rattle.spec_forest.specs.Forest.{Forest}
+use Rattle.spec_document.specs.Forest.{Forest}
 use Rattle.xl_doc.specs.declared.node.Node.{Node}
 use Rattle.xl_doc.specs.Sound.{IsSound}
 use Rattle.xl_paint.specs.Channels.{IsChannelPiece, PaintsChannel}

@@ -4,8 +4,8 @@ use Rattle.std.proofs.Common.{slice_index, refl, sym, ◌∙◌, ap, arith, ℤ,
 use Rattle.std.specs.Prelude.{nat_le, if◌then◌else◌, ◌≤ℤ◌}
 use Rattle.std.proofs.lemmas.Bool.{leb-true, ltb-true, false≢true}
 use Rattle.std.proofs.lemmas.Int.{ints}
-use Rattle.spec_grid.specs.declared.Rect.{Rect}
-use Rattle.spec_grid.specs.Rect.{has_point, part_above_0}
+use Rattle.spec_document.specs.declared.Rect.{Rect}
+use Rattle.spec_document.specs.Rect.{has_point, part_above_0}
 use Rattle.spec_document.specs.Plane.{Plane, byte_at, plane_of}
 use Rattle.spec_document.specs.Document.{Document}
 use Rattle.spec_document.proofs.PlaneLemmas.{byte_at-plane_of, length-plane_of}

@@ -5,8 +5,8 @@ use Rattle.std.proofs.lemmas.Bool.{cases_lt}
 use Rattle.std.proofs.lemmas.List.{append-nil, drop_all, take_all}
 use Rattle.std.proofs.lemmas.Bool.Decides.{nat_tests}
 use Rattle.std.proofs.lemmas.Nat.{mul-add-lt}
-use Rattle.spec_grid.specs.declared.Rect.{Rect}
-use Rattle.spec_grid.specs.Rect.{part_above_0}
+use Rattle.spec_document.specs.declared.Rect.{Rect}
+use Rattle.spec_document.specs.Rect.{part_above_0}
 use Rattle.spec_document.specs.Plane.{Plane, byte_at}
 use Rattle.spec_document.specs.Document.{Document, Layer, has_alpha}
 use Rattle.spec_edit.specs.Effect.{keeps_alpha, filtered}

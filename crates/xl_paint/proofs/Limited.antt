@@ -2,7 +2,7 @@
 use Rattle.std.proofs.Common.{◌≡◌, ℕ, ◌^◌, true, false, nat_eq, List, [], sym, ◌∙◌, ap, subst, arith}
 use Rattle.std.specs.Prelude.{Ok}
 use Rattle.std.specs.List.{IsDistinct}
-use Rattle.spec_forest.specs.Forest.{Forest, ids}
+use Rattle.spec_document.specs.Forest.{Forest, ids}
 use Rattle.spec_document.specs.Document.{Document, Nodes}
 use Rattle.spec_document.specs.Limits.{IsDocument}
 use Rattle.spec_edit.specs.Edit.{Edit, IsEdit}

@@ -2,8 +2,8 @@
 use Rattle.std.proofs.Common.{◌≡◌, ℕ, Bool, true, false, cond, eqb, nat_eq, List, refl, sym, ◌∙◌, ap, subst}
 use Rattle.std.specs.Prelude.{Some}
 use Rattle.std.specs.List.{IsDistinct}
-use Rattle.spec_forest.specs.Forest.{Forest, none, leaf, group, ids, Found, nothing, a_leaf, a_group, find}
-use Rattle.spec_forest.specs.Changes.{with_leaf, with_group}
+use Rattle.spec_document.specs.Forest.{Forest, none, leaf, group, ids, Found, nothing, a_leaf, a_group, find}
+use Rattle.spec_document.specs.Changes.{with_leaf, with_group}
 use Rattle.spec_document.specs.Document as doc
 use Rattle.xl_tree.specs.Reads.{node_of}
 use Rattle.xl_tree.specs.Writes.{with_node}

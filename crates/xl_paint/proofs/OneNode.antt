@@ -1,12 +1,12 @@
 -- Changes of the node with an id, where ids are distinct.
 use Rattle.std.proofs.Common.{◌≡◌, ℕ, Bool, true, false, cond, eqb, nat_eq, ◌∷◌, ◌++◌, refl, sym, ◌∙◌, ap, subst}
 use Rattle.std.specs.List.{IsDistinct}
-use Rattle.spec_forest.specs.Forest.{Forest, none, leaf, group, ids, Found, nothing, a_leaf, a_group, find}
-use Rattle.spec_forest.specs.Changes.{with_leaf, with_group}
-use Rattle.spec_forest.specs.Holes.{Hole, plug}
-use Rattle.spec_forest.proofs.Standing.{Fresh, Standing, nowhere, at_leaf, at_group, standing, find-at_leaf, find-at_group}
-use Rattle.spec_forest.proofs.Distinct.{untouched, walks-with_leaf, walks-with_group, lone_leaf, lone_group}
-use Rattle.spec_forest.proofs.Distinct.{with_leaf-at_leaf, with_leaf-at_group, with_group-at_leaf, with_group-at_group}
+use Rattle.spec_document.specs.Forest.{Forest, none, leaf, group, ids, Found, nothing, a_leaf, a_group, find}
+use Rattle.spec_document.specs.Changes.{with_leaf, with_group}
+use Rattle.spec_document.specs.Holes.{Hole, plug}
+use Rattle.spec_document.proofs.Standing.{Fresh, Standing, nowhere, at_leaf, at_group, standing, find-at_leaf, find-at_group}
+use Rattle.spec_document.proofs.Distinct.{untouched, walks-with_leaf, walks-with_group, lone_leaf, lone_group}
+use Rattle.spec_document.proofs.Distinct.{with_leaf-at_leaf, with_leaf-at_group, with_group-at_leaf, with_group-at_group}
 
 -- two changes come to the same at what is found
 abbrev pub Agree : {L G : Type 0} → (a b : L → L) (c d : G → G) → Found L G → Type 0

@@ -3,10 +3,10 @@ use Rattle.std.proofs.Common.{◌≡◌, ℕ, ◌+◌, ◌-◌, ◌*◌, ◌<◌
 use Rattle.std.proofs.Common.{refl, sym, ◌∙◌, ap, subst, arith}
 use Rattle.std.specs.Prelude.{Option, Some, None, option_map, is_none, Ok}
 use Rattle.std.specs.List.{IsDistinct}
-use Rattle.spec_grid.specs.declared.Rect.{Rect}
-use Rattle.spec_grid.specs.Rect.{part_above_0}
-use Rattle.spec_forest.specs.Forest.{Found, nothing, a_leaf, a_group, find, ids}
-use Rattle.spec_forest.specs.Changes.{with_leaf}
+use Rattle.spec_document.specs.declared.Rect.{Rect}
+use Rattle.spec_document.specs.Rect.{part_above_0}
+use Rattle.spec_document.specs.Forest.{Found, nothing, a_leaf, a_group, find, ids}
+use Rattle.spec_document.specs.Changes.{with_leaf}
 use Rattle.spec_document.specs.Document.{Document, Layer, Group, Channel, is_indexed}
 use Rattle.spec_edit.specs.Edit.{Edit}
 use Rattle.spec_edit.specs.Refusal.{node, refusal}

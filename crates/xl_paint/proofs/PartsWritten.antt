@@ -1,8 +1,8 @@
 -- A document with other bytes in a rectangle of a layer or of its mask is within its limits.
 use Rattle.std.proofs.Common.{◌≡◌, ℕ, ◌+◌, ◌*◌, ◌^◌, ◌≤◌, List, slice_index, refl, sym, ◌∙◌, ap, subst, arith}
 use Rattle.std.specs.Prelude.{Option, Some, None, option_map}
-use Rattle.spec_grid.specs.declared.Rect.{Rect}
-use Rattle.spec_forest.specs.Changes.{with_leaf}
+use Rattle.spec_document.specs.declared.Rect.{Rect}
+use Rattle.spec_document.specs.Changes.{with_leaf}
 use Rattle.spec_document.specs.declared.Base.{Base}
 use Rattle.spec_document.specs.declared.Owner.TheVariants as owners
 use Rattle.spec_document.specs.Plane.{Plane}

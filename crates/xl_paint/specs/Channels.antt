@@ -1,6 +1,6 @@
 -- The bytes that the fill of a channel writes.
 use Rattle.std.specs.Prelude.{◌≡◌, ℕ, false, pos, List, slice_index_or}
-use Rattle.spec_grid.specs.declared.Rect.{Rect}
+use Rattle.spec_document.specs.declared.Rect.{Rect}
 use Rattle.spec_document.specs.Document.{Document, Channel}
 use Rattle.xl_paint.specs.declared.places.Site.{Site}
 use Rattle.xl_paint.specs.Paint.{IsPieceOf, PaintsPlane}

@@ -1,7 +1,7 @@
 -- The bytes of a rectangle of a plane after new ones went into it through the selection.
 use Rattle.std.specs.Prelude.{◌≡◌, ℕ, ◌+◌, ◌-◌, ◌*◌, ◌<◌, ◌≤◌, ◌==◌, ◌&&◌, Bool, if◌then◌else◌, nat_le, ◌+ℤ◌, pos, List, length, slice_index}
-use Rattle.spec_grid.specs.declared.Rect.{Rect}
-use Rattle.spec_grid.specs.Rect.{part_above_0}
+use Rattle.spec_document.specs.declared.Rect.{Rect}
+use Rattle.spec_document.specs.Rect.{part_above_0}
 use Rattle.spec_document.specs.Plane.{Plane, byte_at}
 use Rattle.spec_document.specs.Document.{Document}
 use Rattle.spec_document.specs.Limits.{IsOffset}

@@ -1,7 +1,7 @@
 -- The bytes that a filter leaves.
 use Rattle.std.specs.Prelude.{◌≡◌, ℕ, ◌+◌, ◌-◌, ◌*◌, ◌<◌, if◌then◌else◌, cond, nat_lt, List, length, slice_index}
-use Rattle.spec_grid.specs.declared.Rect.{Rect}
-use Rattle.spec_grid.specs.Rect.{part_above_0}
+use Rattle.spec_document.specs.declared.Rect.{Rect}
+use Rattle.spec_document.specs.Rect.{part_above_0}
 use Rattle.spec_document.specs.Plane.{Plane, byte_at}
 use Rattle.spec_document.specs.Document.{Document, Layer, has_alpha}
 use Rattle.spec_edit.specs.Effect.{paint, filtered}

@@ -1,6 +1,6 @@
 -- The bytes that an edit writes into the pixels or the mask of a layer.
 use Rattle.std.specs.Prelude.{◌≡◌, ℕ, ◌+◌, ◌*◌, false, List, length, slice_index, Option, Some, None, option_map}
-use Rattle.spec_grid.specs.declared.Rect.{Rect}
+use Rattle.spec_document.specs.declared.Rect.{Rect}
 use Rattle.spec_document.specs.Plane.{Plane, byte_at}
 use Rattle.spec_document.specs.Document.{Document, Layer, Channel, is_indexed}
 use Rattle.spec_edit.specs.Refusal.{node}

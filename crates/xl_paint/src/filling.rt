@@ -3,7 +3,7 @@ ghost use Rattle.std.specs.Prelude.{◌≡◌, ◌*◌, ◌≤◌, true, length,
 ghost use Rattle.xl_paint.specs.Filling.{but_alpha_in, byte_in, in_rows, AreRows, IsNearby};
 ghost use Rattle.xl_paint.specs.Paint.{PaintsPlane};
 ghost use Rattle.xl_tiles.specs.Written.{IsWithin};
-ghost use Rattle.spec_grid.specs.declared.TheConstants.{MAX_SIDE};
+ghost use Rattle.spec_document.specs.declared.TheConstants.{MAX_SIDE};
 
 use crate::alpha::with_old_alpha;
 use crate::places::Site;

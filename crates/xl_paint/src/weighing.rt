@@ -1,12 +1,12 @@
 //! Rectangles of planes whose new bytes go through the selection.
 ghost use Rattle.std.specs.Prelude.{◌≡◌, ℕ, ◌+◌, ◌*◌, ◌<◌, ◌≤◌, ◌+ℤ◌, pos, length, vec_len, slice_index, IfOk, is_none};
-ghost use Rattle.spec_grid.specs.Rect.{part_above_0};
+ghost use Rattle.spec_document.specs.Rect.{part_above_0};
 ghost use Rattle.xl_doc.specs.Selecting.{IsNear};
 ghost use Rattle.xl_paint.specs.Filling.{weight_at, byte_in, in_rows, AreRows, HasRows, IsNearby};
 ghost use Rattle.xl_tiles.specs.Area.{bytes_in};
 ghost use Rattle.xl_tiles.specs.Sized.{IsSized};
 ghost use Rattle.xl_tiles.specs.Written.{IsWithin};
-ghost use Rattle.spec_grid.specs.declared.TheConstants.{MAX_SIDE};
+ghost use Rattle.spec_document.specs.declared.TheConstants.{MAX_SIDE};
 
 use crate::mixing::{mix_at, spread, threshold};
 use crate::places::Site;

@@ -3,7 +3,7 @@ use Rattle.std.proofs.Common.{◌≡◌, ℕ, ◌+◌, Bool, true, false, cond, 
 use Rattle.std.proofs.Common.{arith, append_assoc, append-nil}
 use Rattle.std.specs.Prelude.{◌==◌, Option, Some, None}
 use Rattle.spec_document.specs.Document.{Document}
-use Rattle.spec_grid.specs.declared.TileAt.{TileAt}
+use Rattle.spec_document.specs.declared.TileAt.{TileAt}
 use Rattle.spec_history.specs.Machine.{edit, undo, redo, tile, peek, top, Reply, tile_of, stale, saved, save_fault}
 use Rattle.spec_history.specs.Machine.{save_memory, latest, document_at}
 use Rattle.spec_history.specs.History.{Entry, Kind, asked, starts, ends, EndsWith}

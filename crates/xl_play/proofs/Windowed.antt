@@ -6,8 +6,8 @@ use Rattle.std.specs.declared.alloc.AllocError.{AllocError}
 use Rattle.std.specs.declared.alloc.Global.{Global}
 use Rattle.std.specs.List.{AllByRecursion}
 use Rattle.std.proofs.lemmas.List.Concat.{flat_map-append, flat_map-cons}
-use Rattle.spec_grid.specs.declared.TileAt.{TileAt}
-use Rattle.spec_grid.specs.Grid.{is_on_grid}
+use Rattle.spec_document.specs.declared.TileAt.{TileAt}
+use Rattle.spec_document.specs.Grid.{is_on_grid}
 use Rattle.spec_document.specs.Document.{Document}
 use Rattle.spec_filters.specs.declared.FilterState.{FilterState}
 use Rattle.spec_history.specs.Machine.{Call, edit, undo, redo, tile, peek, top, Reply, tile_of, no_stack, outside_tile, latest}

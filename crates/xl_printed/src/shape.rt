@@ -1,6 +1,6 @@
 ghost use Rattle.std.specs.Prelude.{◌≡◌, ◌<◌, ◌≤◌, ◌^◌, ◌∷◌, [], ◌++◌, length, map, IfOk, MatchOption};
 ghost use Rattle.std.specs.List.{AllByRecursion};
-ghost use Rattle.spec_grid.specs.Rect.{count_from};
+ghost use Rattle.spec_document.specs.Rect.{count_from};
 ghost use Rattle.spec_text.specs.Text.{calls_of};
 ghost use Rattle.spec_audit.specs.Output as output;
 ghost use Rattle.spec_audit.specs.Output.{IsShaped, HasFewCalls};

@@ -9,7 +9,7 @@ use Rattle.spec_filters.specs.declared.FilterState.{FilterState}
 use Rattle.spec_flat.specs.Flat.{at, flat_bytes, flat_edits, layer_edit, top_ids}
 use Rattle.spec_flat.specs.Flattened.{BecomesFlat, flat_document}
 use Rattle.spec_flat.specs.Undone.{last_document}
-use Rattle.spec_grid.specs.Rect.{sheet}
+use Rattle.spec_document.specs.Rect.{sheet}
 use Rattle.spec_history.specs.Machine.{Call, edit, Reply, changed, answer, document_at, initial, made}
 use Rattle.spec_history.specs.History.{asked, replay}
 use Rattle.spec_history.specs.Kept.{IsLegal}

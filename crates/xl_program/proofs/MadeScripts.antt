@@ -4,7 +4,7 @@ use Rattle.std.proofs.Common.{filter, refl, ap, sym, ◌∙◌, arith, subst, fl
 use Rattle.std.specs.List.{AllByRecursion}
 use Rattle.std.proofs.lemmas.List.Concat.{flat_map-cons}
 use Rattle.spec_document.specs.Limits.{AreBytes}
-use Rattle.spec_grid.specs.Rect.{count_from}
+use Rattle.spec_document.specs.Rect.{count_from}
 use Rattle.spec_script.specs.Script.{Line, save, is_call}
 use Rattle.spec_script.specs.Fits.{IsFit, dropped_by, AreFit, EachFit, FitsFilters, count_calls}
 use Rattle.spec_generated.specs.Draws.{Draws, draw, times, for_each}

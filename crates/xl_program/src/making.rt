@@ -4,7 +4,7 @@ ghost use Rattle.spec_document.specs.Limits.{IsDocument};
 ghost use Rattle.spec_generated.specs.Generated.{document, script};
 ghost use Rattle.spec_generated.specs.Summary.{summary_of};
 ghost use Rattle.spec_layout.specs.Layout.{Written};
-ghost use Rattle.spec_picture.specs.Picture.{picture_bytes};
+ghost use Rattle.spec_document.specs.Picture.{picture_bytes};
 ghost use Rattle.spec_saves.specs.Names.{save_faults};
 ghost use Rattle.spec_script.specs.Fits.{FitsFilters};
 ghost use Rattle.spec_text.specs.Text.{digest_of};

@@ -8,12 +8,12 @@ use Rattle.std.specs.Prelude.{FitsSigned}
 use Rattle.std.proofs.lemmas.Nat.{from_be_bytes-to_be_bytes_4}
 use Rattle.std.proofs.lemmas.Int.{to_z-of_z, ints}
 use Rattle.std.proofs.Math.Seq.{drop-append-add, take-append_seam}
-use Rattle.spec_blend.specs.declared.Mode.{Mode}
-use Rattle.spec_blend.specs.declared.Mode.TheVariants.{Normal, Multiply, Screen, Overlay, Difference, Addition}
-use Rattle.spec_blend.specs.declared.Mode.TheVariants.{Subtract, DarkenOnly, LightenOnly, Divide, Dodge, Burn}
-use Rattle.spec_blend.specs.declared.Mode.TheVariants.{HardLight, SoftLight, GrainExtract, GrainMerge}
-use Rattle.spec_blend.specs.Blend.{mode_code, mode_of_code}
-use Rattle.spec_grid.specs.Rect.{count_from}
+use Rattle.spec_document.specs.declared.Mode.{Mode}
+use Rattle.spec_document.specs.declared.Mode.TheVariants.{Normal, Multiply, Screen, Overlay, Difference, Addition}
+use Rattle.spec_document.specs.declared.Mode.TheVariants.{Subtract, DarkenOnly, LightenOnly, Divide, Dodge, Burn}
+use Rattle.spec_document.specs.declared.Mode.TheVariants.{HardLight, SoftLight, GrainExtract, GrainMerge}
+use Rattle.spec_document.specs.Blend.{mode_code, mode_of_code}
+use Rattle.spec_document.specs.Rect.{count_from}
 use Rattle.spec_document.specs.declared.TheConstants.{MAX_OFFSET}
 use Rattle.spec_document.specs.Limits.{IsColour, IsOffset}
 use Rattle.spec_fields.specs.Field.{word_value}

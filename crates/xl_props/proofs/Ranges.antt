@@ -5,7 +5,7 @@ use Rattle.std.specs.Prelude.{◌==◌, nat_le, nat_lt, Option, Some, None, opti
 use Rattle.std.specs.List.{AllByRecursion}
 use Rattle.std.proofs.lemmas.Bool.{leb-true, ltb-true, eqb-true}
 use Rattle.std.proofs.lemmas.List.{length-take, length-drop, reverse-append}
-use Rattle.spec_grid.specs.Rect.{count_from}
+use Rattle.spec_document.specs.Rect.{count_from}
 use Rattle.spec_document.specs.declared.Owner.{Owner}
 use Rattle.spec_document.specs.declared.Owner.TheVariants.{Image, Layer, Channel, Mask}
 use Rattle.spec_document.specs.Limits.{interprets, is_unit, is_unit_length, IsColour, is_offset, IsKept}

@@ -10,7 +10,7 @@ ghost use Rattle.xl_props.specs.Known.{AreFewColours};
 
 use crate::colour_list::ColourMap;
 use crate::path_list::Path;
-use spec_blend::Mode;
+use spec_document::Mode;
 use spec_document::numbers::{COLOUR_MAP, COMPRESSION, ITEM_PATH, MODE, OFFSETS, OPACITY};
 use std::alloc::AllocError;
 use xl_blend::code_of;

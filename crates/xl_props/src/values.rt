@@ -6,7 +6,7 @@ ghost use Rattle.spec_document.specs.declared.TheConstants.{MAX_COLOURS, MAX_PAY
 use crate::colour_list::ColourMap;
 use crate::path_list::Path;
 use crate::words::{int, word};
-use spec_blend::Mode;
+use spec_document::Mode;
 use std::alloc::{AllocError, Global};
 use xl_blend::mode_of;
 

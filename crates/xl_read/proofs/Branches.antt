@@ -2,7 +2,7 @@
 use Rattle.std.proofs.Common.{◌≡◌, ℕ, ◌+◌, ◌*◌, ◌<◌, ◌≤◌, ◌^◌, true, List, ◌∙◌, ap}
 use Rattle.std.specs.Prelude.{Option, Ok, ◌==◌, nat_le, nat_lt}
 use Rattle.std.proofs.lemmas.Bool.{eq-eqb, le-leb, lt-ltb}
-use Rattle.spec_forest.specs.Forest.{none, leaf, group, size}
+use Rattle.spec_document.specs.Forest.{none, leaf, group, size}
 use Rattle.spec_document.specs.Plane.{Plane}
 use Rattle.spec_document.specs.Document.{Document, Channel, bytes_of_kind, area}
 use Rattle.spec_fields.specs.declared.Kind.TheVariants.{BadSize, GroupMask, BadHierarchy, TooLarge}

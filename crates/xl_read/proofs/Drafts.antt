@@ -3,9 +3,9 @@ use Rattle.std.proofs.Common.{◌≡◌, ℕ, ◌+◌, ◌*◌, ◌≤◌, ◌^�
 use Rattle.std.proofs.Common.{subst, arith, length-append}
 use Rattle.std.specs.Prelude.{Some}
 use Rattle.std.proofs.lemmas.List.Sums.{sum_by-append}
-use Rattle.spec_forest.specs.Forest.{size}
-use Rattle.spec_forest.specs.Changes.{put_last}
-use Rattle.spec_forest.proofs.Totals.{total-put_last}
+use Rattle.spec_document.specs.Forest.{size}
+use Rattle.spec_document.specs.Changes.{put_last}
+use Rattle.spec_document.proofs.Totals.{total-put_last}
 use Rattle.spec_file.proofs.ForestGrows.{size-put_last}
 use Rattle.xl_read.proofs.Placed.{size-nodes_of}
 use Rattle.spec_document.specs.Document.{Document, Nodes, Channel, plane_area, mask_area, nodes_area, area, kept_bytes}

@@ -1,7 +1,7 @@
 -- A plane that was read has the sides and the bytes per pixel that it was read by.
 use Rattle.std.proofs.Common.{◌≡◌, ℕ, ◌+◌, List}
 use Rattle.std.specs.Prelude.{Ok}
-use Rattle.spec_grid.specs.Grid.{all_tiles}
+use Rattle.spec_document.specs.Grid.{all_tiles}
 use Rattle.spec_document.specs.Plane.{Plane}
 use Rattle.spec_fields.specs.declared.Kind.TheVariants.{BadHierarchy}
 use Rattle.spec_fields.proofs.Back.{bind_back}

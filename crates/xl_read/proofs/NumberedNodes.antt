@@ -1,7 +1,7 @@
 -- The nodes of what a file of bytes holds are numbered.
 use Rattle.std.proofs.Common.{ℕ, ◌+◌, ◌*◌, ◌≤◌, List, [], ◌∷◌, length, ap, sym, subst, arith}
 use Rattle.std.specs.List.{AllByRecursion}
-use Rattle.spec_forest.specs.Forest.{size, ids}
+use Rattle.spec_document.specs.Forest.{size, ids}
 use Rattle.spec_document.specs.Document.{Document}
 use Rattle.spec_document.specs.Limits.{AreBytes}
 use Rattle.spec_file.specs.Reading.{blank}

@@ -2,8 +2,8 @@
 use Rattle.std.proofs.Common.{◌≡◌, ℕ, ◌<◌, ◌≤◌, true, false, List, length, refl, sym, ◌∙◌, ap, arith}
 use Rattle.std.specs.Prelude.{Option, Some, None, is_some, nat_lt, Ok, Err}
 use Rattle.std.proofs.lemmas.Bool.{lt-ltb, le-ltb}
-use Rattle.spec_forest.specs.Forest.{none}
-use Rattle.spec_forest.specs.Changes.{put_last}
+use Rattle.spec_document.specs.Forest.{none}
+use Rattle.spec_document.specs.Changes.{put_last}
 use Rattle.spec_document.specs.Document.{Document, Nodes}
 use Rattle.spec_fields.specs.declared.Kind.TheVariants.{BadPath}
 use Rattle.spec_fields.specs.declared.ReadRefused.{ReadRefused}

@@ -1,8 +1,8 @@
 -- What a tree of nodes stands for when a branch is put into it.
 use Rattle.std.proofs.Common.{◌≡◌, ℕ, zero, suc, ◌+◌, List, [], ◌∷◌, refl, ◌∙◌, ap, subst}
 use Rattle.std.specs.Prelude.{Option, Some, None, option_map}
-use Rattle.spec_forest.specs.Forest.{Forest, none, leaf, group, size}
-use Rattle.spec_forest.specs.Changes.{above, put_last}
+use Rattle.spec_document.specs.Forest.{Forest, none, leaf, group, size}
+use Rattle.spec_document.specs.Changes.{above, put_last}
 use Rattle.xl_doc.specs.declared.node.Node.{Node}
 use Rattle.xl_doc.specs.Nodes.{layer_of, group_of, nodes_of, MarksAgree}
 

@@ -3,10 +3,10 @@ use Rattle.std.proofs.Common.{◌≡◌, ℕ, ◌+◌, ◌<◌, ◌≤◌, Bool,
 use Rattle.std.specs.Prelude.{Option, Some, None, option_map, is_some, IsSome}
 use Rattle.std.specs.List.{AllByRecursion}
 use Rattle.std.proofs.lemmas.Bool.{ne_eqb}
-use Rattle.spec_forest.specs.Forest.{Forest, none, ids, size}
-use Rattle.spec_forest.specs.Changes.{put_last}
-use Rattle.spec_forest.proofs.Distinct.{IsNot, all-left, all-right, nothing_from_ids}
-use Rattle.spec_forest.proofs.Runs.{all-join}
+use Rattle.spec_document.specs.Forest.{Forest, none, ids, size}
+use Rattle.spec_document.specs.Changes.{put_last}
+use Rattle.spec_document.proofs.Distinct.{IsNot, all-left, all-right, nothing_from_ids}
+use Rattle.spec_document.proofs.Runs.{all-join}
 use Rattle.spec_file.proofs.ForestGrows.{size-put_last, ids-put_last}
 use Rattle.xl_tree.specs.Ids.{IsNew}
 use Rattle.xl_tree.specs.Places.{alone}

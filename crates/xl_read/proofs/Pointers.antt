@@ -2,7 +2,7 @@
 use Rattle.std.proofs.Common.{◌≡◌, ◌≢◌, ℕ, zero, suc, ◌+◌, ◌-◌, ◌*◌, ◌<◌, List, ◌∙◌, ap, arith}
 use Rattle.std.specs.Prelude.{Ok, Err, ◌==◌}
 use Rattle.std.proofs.lemmas.Bool.{ne_eqb}
-use Rattle.spec_forest.specs.Forest.{size}
+use Rattle.spec_document.specs.Forest.{size}
 use Rattle.spec_document.specs.Document.{Document}
 use Rattle.spec_fields.specs.declared.Kind.TheVariants.{TooMany}
 use Rattle.spec_fields.specs.declared.ReadRefused.{ReadRefused}
@@ -12,7 +12,7 @@ use Rattle.spec_fields.proofs.Steps.{onward, chosen_false}
 use Rattle.spec_file.specs.Layers.{Upto, node_at, nodes_at}
 use Rattle.spec_file.specs.Channels.{channel_at, channels_at}
 use Rattle.spec_file.specs.declared.TheConstants.{CHANNEL_POINTERS}
-use Rattle.spec_forest.specs.declared.TheConstants.{MAX_NODES}
+use Rattle.spec_document.specs.declared.TheConstants.{MAX_NODES}
 
 -- what was read fails
 failed : {A B : Type 0} (read : Read A) (refused : ReadRefused) (rest : A → Read B) → read ≡ Err refused

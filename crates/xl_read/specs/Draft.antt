@@ -3,8 +3,8 @@ use Rattle.std.specs.Prelude.{◌≡◌, ℕ, ◌+◌, ◌≤◌, Some, List}
 use Rattle.spec_document.specs.Document.{Document, Nodes, plane_area, mask_area, area, kept_bytes, channel_kept, all_kept}
 use Rattle.spec_document.specs.Limits.{IsSide}
 use Rattle.spec_document.specs.declared.TheConstants.{MAX_AREA, MAX_KEPT_BYTES}
-use Rattle.spec_forest.specs.Forest.{size}
-use Rattle.spec_forest.specs.Changes.{put_last}
+use Rattle.spec_document.specs.Forest.{size}
+use Rattle.spec_document.specs.Changes.{put_last}
 use Rattle.xl_tree.specs.Places.{alone}
 use Rattle.xl_doc.specs.declared.node.Node.{Node}
 use Rattle.xl_doc.specs.declared.node.Body.{Body}

@@ -1,7 +1,7 @@
 -- What the tree of a document keeps while it is read.
 use Rattle.std.specs.Prelude.{◌≤◌}
 use Rattle.std.specs.List.{AllByRecursion}
-use Rattle.spec_forest.specs.Forest.{Forest, ids, size}
+use Rattle.spec_document.specs.Forest.{Forest, ids, size}
 use Rattle.xl_doc.specs.declared.node.Node.{Node}
 use Rattle.xl_doc.specs.Nodes.{MarksAgree}
 

@@ -1,12 +1,12 @@
 -- The limits that a layer keeps before it is put in.
 use Rattle.std.specs.Prelude.{◌≡◌, ℕ, ◌+◌, ◌*◌, ◌<◌, ◌≤◌, length, Option, Some, None, IsSome}
-use Rattle.spec_forest.specs.Forest.{none, size}
-use Rattle.spec_forest.specs.Changes.{put_last}
+use Rattle.spec_document.specs.Forest.{none, size}
+use Rattle.spec_document.specs.Changes.{put_last}
 use Rattle.spec_document.specs.Document.{Document, Channel, mask_area, channel_kept, area, all_kept}
 use Rattle.spec_file.specs.Layers.{Head}
 use Rattle.spec_file.specs.Placing.{path_to}
 use Rattle.xl_read.specs.Head.{head_kept}
-use Rattle.spec_forest.specs.declared.TheConstants.{MAX_NODES, MAX_DEPTH}
+use Rattle.spec_document.specs.declared.TheConstants.{MAX_NODES, MAX_DEPTH}
 use Rattle.spec_document.specs.declared.TheConstants.{MAX_AREA, MAX_KEPT_BYTES}
 
 -- a mask has these sides

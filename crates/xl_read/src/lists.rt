@@ -1,5 +1,5 @@
 ghost use Rattle.std.specs.Prelude.{◌≡◌, ◌≤◌, ◌^◌, length, OnOk, IfOk};
-ghost use Rattle.spec_forest.specs.Forest.{size};
+ghost use Rattle.spec_document.specs.Forest.{size};
 ghost use Rattle.spec_file.specs.declared.TheConstants.{FILE_LIMIT};
 ghost use Rattle.spec_file.specs.Layers.{nodes_at};
 ghost use Rattle.spec_file.specs.Channels.{channels_at};

@@ -1,8 +1,8 @@
 -- What is drawn of several things, one after another.
 use Rattle.std.proofs.Common.{◌≡◌, ℕ, ◌+◌, List, [], ◌∷◌, ◌++◌, refl, sym, ap, ◌∙◌}
 use Rattle.std.specs.Prelude.{pos, None, slice_index_or}
-use Rattle.spec_blend.specs.declared.Mode.TheVariants.{Normal}
-use Rattle.spec_grid.specs.Rect.{count_from}
+use Rattle.spec_document.specs.declared.Mode.TheVariants.{Normal}
+use Rattle.spec_document.specs.Rect.{count_from}
 use Rattle.spec_document.specs.Document.{Document}
 use Rattle.spec_edit.specs.Edit as edits
 use Rattle.spec_history.specs.Machine as machine

@@ -2,11 +2,11 @@
 use Rattle.std.proofs.Common.{◌≡◌, ℕ, zero, suc, ◌+◌, ◌<◌, ◌≤◌, List, [], ◌∷◌, ◌++◌, length, refl, sym, subst, ap, ◌∙◌, arith}
 use Rattle.std.specs.Prelude.{Some, option_map}
 use Rattle.std.specs.List.{AllByRecursion}
-use Rattle.spec_forest.specs.Forest.{Forest, none, leaf, group, count, find, ids, nothing, size}
-use Rattle.spec_forest.specs.Changes.{above, put_last}
-use Rattle.spec_forest.proofs.Changed.{size-above}
-use Rattle.spec_forest.proofs.Distinct.{IsNot, ids-above, nothing_from_ids}
-use Rattle.spec_forest.proofs.Runs.{all-join}
+use Rattle.spec_document.specs.Forest.{Forest, none, leaf, group, count, find, ids, nothing, size}
+use Rattle.spec_document.specs.Changes.{above, put_last}
+use Rattle.spec_document.proofs.Changed.{size-above}
+use Rattle.spec_document.proofs.Distinct.{IsNot, ids-above, nothing_from_ids}
+use Rattle.spec_document.proofs.Runs.{all-join}
 use Rattle.spec_generated.specs.Generated.{leaves_from}
 
 -- what is put last in the group at the end

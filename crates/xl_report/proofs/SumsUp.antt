@@ -2,7 +2,7 @@
 use Rattle.std.proofs.Common.{◌≡◌, ℕ, List, [], ◌∷◌, ◌++◌, ◌∙◌, ap, append_assoc}
 use Rattle.std.specs.Prelude.{codes}
 use Rattle.spec_document.specs.Document.{Document}
-use Rattle.spec_picture.specs.Picture.{picture_bytes}
+use Rattle.spec_document.specs.Picture.{picture_bytes}
 use Rattle.spec_text.specs.Text.{digest_of}
 use Rattle.spec_generated.specs.Summary.{summary_of}
 

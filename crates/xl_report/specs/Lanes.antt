@@ -1,7 +1,7 @@
 -- Bands of 64 rows, one after another.
 use Rattle.std.specs.Prelude.{◌≡◌, ◌≤◌, ℕ, ◌+◌, ◌-◌, ◌*◌, min, List, length, take}
 use Rattle.spec_document.specs.Document.{Document}
-use Rattle.spec_picture.specs.Picture.{picture_bytes}
+use Rattle.spec_document.specs.Picture.{picture_bytes}
 use Rattle.xl_compose.specs.Depth.{Reach, levels_below}
 
 -- the row at which the band of a place begins, where the first one begins at `first`; behind the last row it is the height

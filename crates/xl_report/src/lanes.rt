@@ -1,6 +1,6 @@
 //! Bands of a picture that are composed beside one another.
 ghost use Rattle.std.specs.Prelude.{◌≡◌, ◌+◌, ◌*◌, ◌<◌, ◌≤◌, ℕ, length, take, IfOk, slice_index_or};
-ghost use Rattle.spec_picture.specs.Picture.{picture_bytes};
+ghost use Rattle.spec_document.specs.Picture.{picture_bytes};
 ghost use Rattle.xl_compose.specs.Depth.{levels_below};
 ghost use Rattle.xl_report.specs.Lanes.{row_of, HasRoom, IsBand};
 

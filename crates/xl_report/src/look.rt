@@ -1,7 +1,7 @@
 //! What is drawn of a layer.
 ghost use Rattle.std.specs.Prelude.{◌≡◌, ◌<◌, length, slice_index_or, IfOk};
 ghost use Rattle.std.specs.List.{AllByRecursion};
-ghost use Rattle.spec_blend.specs.declared.Mode.TheVariants.{Normal};
+ghost use Rattle.spec_document.specs.declared.Mode.TheVariants.{Normal};
 ghost use Rattle.spec_generated.specs.Draws.{times};
 ghost use Rattle.spec_generated.specs.Generated.{look, modes};
 ghost use Rattle.xl_report.specs.Drawing.{IsDrawn};

@@ -1,6 +1,6 @@
 //! The lines of the sessions that are made from a seed.
 ghost use Rattle.std.specs.Prelude.{◌≡◌, ◌<◌, IfOk, OnOk};
-ghost use Rattle.spec_grid.specs.Rect.{count_from};
+ghost use Rattle.spec_document.specs.Rect.{count_from};
 ghost use Rattle.spec_generated.specs.Draws.{for_each, times};
 ghost use Rattle.spec_generated.specs.Generated.{fill, fills_and_tile, layer_of_session, session_lines, tile};
 ghost use Rattle.xl_report.specs.Drawing.{AddsDrawn, IsDrawn};

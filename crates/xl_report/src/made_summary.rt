@@ -1,7 +1,7 @@
 //! The line that sums up a run of a script that was made from a seed.
 ghost use Rattle.std.specs.Prelude.{◌≡◌, IfOk, string_bytes};
 ghost use Rattle.spec_document.specs.Document.{Document};
-ghost use Rattle.spec_picture.specs.Picture.{picture_bytes};
+ghost use Rattle.spec_document.specs.Picture.{picture_bytes};
 ghost use Rattle.spec_text.specs.Text.{digest_of};
 ghost use Rattle.spec_generated.specs.Summary.{summary_of};
 

@@ -1,6 +1,6 @@
 //! The picture of a document, written as a PAM.
 ghost use Rattle.std.specs.Prelude.{◌≡◌, ℕ, ◌-◌, ◌<◌, ◌≤◌, length, IfOk, string_bytes, slice_index_or};
-ghost use Rattle.spec_picture.specs.Picture.{picture_bytes};
+ghost use Rattle.spec_document.specs.Picture.{picture_bytes};
 ghost use Rattle.spec_report.specs.Pam.{pam as pam_of, pam_head};
 ghost use Rattle.xl_ports.specs.Sink.{Writes};
 ghost use Rattle.xl_report.specs.Lanes.{row_of, HasRoom, IsBand};

@@ -5,8 +5,8 @@ use Rattle.std.specs.List.{AllByRecursion}
 use Rattle.spec_document.specs.Document.{Document}
 use Rattle.spec_edit.specs.Apply.{At, Refused, apply_group}
 use Rattle.spec_edit.specs.Edit.{Edit}
-use Rattle.spec_grid.specs.declared.TileAt.{TileAt}
-use Rattle.spec_grid.specs.Grid.{is_on_grid}
+use Rattle.spec_document.specs.declared.TileAt.{TileAt}
+use Rattle.spec_document.specs.Grid.{is_on_grid}
 use Rattle.spec_history.specs.Machine.{Call, edit, undo, redo, tile, peek, top, Reply, tile_of, stale, no_stack}
 use Rattle.spec_history.specs.Machine.{outside_tile, saved, save_fault, save_memory, State, Saving, Done, Answer}
 use Rattle.spec_history.specs.Machine.{stays, made, names, moved, again, latest, document_at, has_stack, tile_reply}

@@ -5,7 +5,7 @@ use Rattle.std.specs.Prelude.{◌&&◌, Result, Ok, Err, IfOk, drop, slice_get, 
 use Rattle.std.proofs.lemmas.Bool.{cond-true, eqb-true}
 use Rattle.std.proofs.Math.Bool.{and-false}
 use Rattle.spec_document.specs.Document.{Document}
-use Rattle.spec_grid.specs.Rect.{count_from}
+use Rattle.spec_document.specs.Rect.{count_from}
 use Rattle.spec_history.specs.Machine as machine
 use Rattle.spec_history.specs.Machine.{Reply, State, tile_of, initial}
 use Rattle.spec_history.specs.History.{Entry, Kind, asked, starts, ends, is_end_kind, mine, next_index, after_entry, MayBe, RunFrom}

@@ -1,6 +1,6 @@
 -- The printed lines of a session, made from its entries and the digests of the tiles that it was shown.
 use Rattle.std.specs.Prelude.{ℕ, if◌then◌else◌, drop, List, [], ◌∷◌, ◌++◌, flat_map, slice_get, unwrap_or}
-use Rattle.spec_grid.specs.Rect.{count_from}
+use Rattle.spec_document.specs.Rect.{count_from}
 use Rattle.spec_history.specs.Machine.{Reply, changed, refused, moved, nothing_to_undo, nothing_to_redo, not_top}
 use Rattle.spec_history.specs.Machine.{tile_of, stale, no_stack, outside_tile, top_is, saved, save_fault, save_memory}
 use Rattle.spec_history.specs.Machine.{history_full}

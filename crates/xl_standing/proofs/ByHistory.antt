@@ -1,7 +1,7 @@
 -- Which tile is clean, said by the history alone.
 use Rattle.std.proofs.Common.{◌≡◌, ℕ, ◌≤◌, Bool, true, false, not, List, refl, sym, ◌∙◌, ap, subst, true≢false}
 use Rattle.std.specs.Prelude.{Option, Some, None, is_some, IfSome, IsSomeAnd, option_map, option_and_then, unwrap_or}
-use Rattle.spec_grid.specs.declared.TileAt.{TileAt}
+use Rattle.spec_document.specs.declared.TileAt.{TileAt}
 use Rattle.spec_document.specs.Document.{Document}
 use Rattle.spec_cache.specs.Slots.{Slot, shown_by}
 use Rattle.spec_cache.specs.Cache as cache

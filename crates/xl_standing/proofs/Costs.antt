@@ -1,8 +1,8 @@
 -- How many steps a call takes at most.
 use Rattle.std.proofs.Common.{◌≡◌, ℕ, ◌+◌, ◌≤◌, Bool, true, false, List, refl, sym, ap, ◌∙◌, arith, mul-le-mul_right}
 use Rattle.std.specs.Prelude.{Option, Some, None}
-use Rattle.spec_forest.specs.Forest.{none, leaf, group, stack_at}
-use Rattle.spec_grid.specs.declared.TileAt.{TileAt}
+use Rattle.spec_document.specs.Forest.{none, leaf, group, stack_at}
+use Rattle.spec_document.specs.declared.TileAt.{TileAt}
 use Rattle.spec_document.specs.Document.{Document, Nodes}
 use Rattle.spec_cache.specs.Cache.{Cache, Place, clean_tile, next_place, with_last, after_take}
 use Rattle.spec_history.specs.Machine as machine

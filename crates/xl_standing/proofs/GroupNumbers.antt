@@ -7,8 +7,8 @@ use Rattle.spec_cache.specs.Cache.{kept}
 use Rattle.spec_history.specs.Machine.{Call, moved, not_top, no_stack, outside_tile, tile_of, names, has_stack}
 use Rattle.xl_standing.specs.Steps.{Step}
 use Rattle.spec_damage.specs.Damage.{Pair}
-use Rattle.spec_grid.specs.declared.TileAt.{TileAt}
-use Rattle.spec_grid.specs.Grid.{is_on_grid}
+use Rattle.spec_document.specs.declared.TileAt.{TileAt}
+use Rattle.spec_document.specs.Grid.{is_on_grid}
 use Rattle.spec_world.specs.Events.{peek_reply}
 use Rattle.xl_marks.specs.Group.{damage_along}
 use Rattle.xl_standing.specs.Now.{Now, Response, response, stays, at_now, made_now, taken_back, undone_of, redone_of}

@@ -1,7 +1,7 @@
 -- The stacks of a document are those of its tree.
 use Rattle.std.proofs.Common.{◌≡◌, ℕ, refl, ◌∙◌, ap}
 use Rattle.std.specs.Prelude.{Option, Some, None, option_map, is_some}
-use Rattle.spec_forest.specs.Forest.{Forest, stack_at}
+use Rattle.spec_document.specs.Forest.{Forest, stack_at}
 use Rattle.xl_doc.specs.declared.node.Node.{Node}
 use Rattle.xl_doc.specs.Nodes.{nodes_of}
 use Rattle.xl_doc.proofs.NodesOf.{stack-nodes_of}

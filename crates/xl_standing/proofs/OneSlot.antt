@@ -5,8 +5,8 @@ use Rattle.std.specs.Prelude.{Option, Some, None, option_map, option_and_then, u
 use Rattle.std.specs.List.{AllByRecursion}
 use Rattle.std.proofs.lemmas.Bool.Decides.{nat_tests}
 use Rattle.std.proofs.lemmas.Nat.{div-add-mod'}
-use Rattle.spec_grid.specs.declared.TileAt.{TileAt}
-use Rattle.spec_grid.specs.Grid.{tiles_along, is_on_grid, same_tile}
+use Rattle.spec_document.specs.declared.TileAt.{TileAt}
+use Rattle.spec_document.specs.Grid.{tiles_along, is_on_grid, same_tile}
 use Rattle.spec_cache.specs.Slots.{Slot, Slots, AreOfCanvas, slot_at, tile_numbered, tiled_from, change_slot, fill_slot}
 use Rattle.spec_cache.specs.Cache.{Held, Cache, AreInOrder, IsCache, slots_in, slot_of, is_clean, change_held, change_stack}
 use Rattle.spec_cache.proofs.Found.{canvas-found}

@@ -5,7 +5,7 @@ use Rattle.std.specs.List.{AllByRecursion}
 use Rattle.spec_document.specs.Document.{Document}
 use Rattle.spec_document.specs.Limits.{IsDocument}
 use Rattle.spec_document.proofs.Elements.{all-each}
-use Rattle.spec_forest.specs.Forest.{ids, size}
+use Rattle.spec_document.specs.Forest.{ids, size}
 use Rattle.spec_history.specs.History.{Entry}
 use Rattle.spec_history.proofs.Growing.{IsLegal-empty}
 use Rattle.spec_world.proofs.AllRight.{standing-start}

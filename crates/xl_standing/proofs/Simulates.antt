@@ -4,8 +4,8 @@ use Rattle.std.proofs.Common.{map, take, refl, sym, ◌∙◌, ap, subst, arith,
 use Rattle.std.specs.Prelude.{Option, Some, None, Result, Ok, Err, slice_get, option_to_list}
 use Rattle.std.specs.List.{AllByRecursion}
 use Rattle.std.proofs.lemmas.List.{take-map}
-use Rattle.spec_grid.specs.declared.TileAt.{TileAt}
-use Rattle.spec_grid.specs.Grid.{is_on_grid}
+use Rattle.spec_document.specs.declared.TileAt.{TileAt}
+use Rattle.spec_document.specs.Grid.{is_on_grid}
 use Rattle.spec_document.specs.Document.{Document}
 use Rattle.spec_document.proofs.Elements.{all-take}
 use Rattle.spec_edit.specs.Edit.{Edit}

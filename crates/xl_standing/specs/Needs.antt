@@ -1,6 +1,6 @@
 -- What a call needs: steps, and memory.
 use Rattle.std.specs.Prelude.{◌≡◌, ℕ, ◌*◌, true}
-use Rattle.spec_grid.specs.declared.TileAt.{TileAt}
+use Rattle.spec_document.specs.declared.TileAt.{TileAt}
 use Rattle.spec_document.specs.Document.{Document}
 use Rattle.spec_cache.specs.Cache.{Cache, is_clean, clean_tile}
 use Rattle.spec_history.specs.Machine as machine

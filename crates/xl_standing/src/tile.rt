@@ -2,10 +2,10 @@
 ghost use Rattle.std.specs.Prelude.{◌≡◌, ◌+◌, ◌≤◌, true, false, is_some, IfSome, IsSome, IsTrue, OnOk, OnErr};
 ghost use Rattle.spec_cache.specs.Cache.{clean_tile, is_clean, kept, change_stack};
 ghost use Rattle.spec_cache.specs.Slots.{change_slot};
-ghost use Rattle.spec_forest.specs.Forest.{stack_at};
-ghost use Rattle.spec_grid.specs.Grid.{is_on_grid};
+ghost use Rattle.spec_document.specs.Forest.{stack_at};
+ghost use Rattle.spec_document.specs.Grid.{is_on_grid};
 ghost use Rattle.spec_history.specs.Machine.{has_stack as document_has_stack};
-ghost use Rattle.spec_picture.specs.Picture.{project};
+ghost use Rattle.spec_document.specs.Picture.{project};
 ghost use Rattle.spec_world.specs.Events.{peek_reply, show_slot};
 ghost use Rattle.xl_standing.specs.Jobs.{is_marked};
 ghost use Rattle.xl_standing.specs.Needs.{tile_cost};

@@ -2,9 +2,9 @@
 use Rattle.std.proofs.Common.{◌≡◌, ℕ, ◌≤◌, true, List, ◌++◌, Option, Some, None, refl, sym, ap, ◌∙◌, subst, arith, inl}
 use Rattle.std.specs.Prelude.{Result, Ok, Err, IfOk, IfSome}
 use mathlib.Core.List.{IsPrefix}
-use Rattle.spec_grid.specs.Grid.{is_on_grid}
+use Rattle.spec_document.specs.Grid.{is_on_grid}
 use Rattle.spec_document.specs.Document.{Document}
-use Rattle.spec_picture.specs.Picture.{project}
+use Rattle.spec_document.specs.Picture.{project}
 use Rattle.spec_history.specs.Machine.{has_stack}
 use Rattle.spec_history.specs.History.{Entry, latest_of, document_of}
 use Rattle.spec_history.specs.Kept.{IsLegal}

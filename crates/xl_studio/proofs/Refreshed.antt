@@ -3,10 +3,10 @@ use Rattle.std.proofs.Common.{◌≡◌, ℕ, ◌+◌, ◌≤◌, true, List, sy
 use Rattle.std.specs.Prelude.{Option, Some, None, Result, Ok, Err, not, ◌&&◌, IfOk, IfSome}
 use Rattle.std.proofs.lemmas.Bool.{and_parts}
 use mathlib.Core.List.{IsPrefix}
-use Rattle.spec_grid.specs.declared.TileAt.{TileAt}
-use Rattle.spec_grid.specs.Grid.{is_on_grid}
+use Rattle.spec_document.specs.declared.TileAt.{TileAt}
+use Rattle.spec_document.specs.Grid.{is_on_grid}
 use Rattle.spec_document.specs.Document.{Document}
-use Rattle.spec_picture.specs.Picture.{project}
+use Rattle.spec_document.specs.Picture.{project}
 use Rattle.spec_cache.specs.declared.Finished.{Finished}
 use Rattle.spec_cache.specs.Cache.{Cache, is_clean}
 use Rattle.spec_history.specs.Machine as machine

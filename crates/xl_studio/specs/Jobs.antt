@@ -1,6 +1,6 @@
 -- A seat's job.
 use Rattle.std.specs.Prelude.{◌≡◌, ◌≤◌, true, List, Option, Some, None, Result, Ok, Err, option_map, IfSome}
-use Rattle.spec_grid.specs.Grid.{is_on_grid}
+use Rattle.spec_document.specs.Grid.{is_on_grid}
 use Rattle.spec_document.specs.Document.{Document}
 use Rattle.spec_history.specs.Machine.{has_stack}
 use Rattle.spec_history.specs.History.{latest_of, document_of}

@@ -1,6 +1,6 @@
 -- A tile that is composed outside the turn, before the call that asks for it.
 use Rattle.std.specs.Prelude.{◌≡◌, ℕ, ◌+◌, ◌≤◌}
-use Rattle.spec_grid.specs.declared.TileAt.{TileAt}
+use Rattle.spec_document.specs.declared.TileAt.{TileAt}
 use Rattle.spec_cache.specs.declared.Finished.{Finished}
 use Rattle.spec_history.specs.Machine as machine
 use Rattle.spec_history.specs.History.{document_of}

@@ -8,7 +8,7 @@ use Rattle.spec_hierarchy.specs.Holds.{HasSpelled}
 use Rattle.spec_hierarchy.specs.Reading.{tile_at}
 use Rattle.spec_hierarchy.specs.Tiles.{interleaved}
 use Rattle.spec_hierarchy.proofs.PlanesBack.{tile_has}
-use Rattle.xl_codes.specs.Codes.{AreCodes}
+use Rattle.xl_tile.specs.Codes.{AreCodes}
 use Rattle.xl_tile.specs.Coded.{IsCoded}
 use Rattle.xl_tile.specs.Packed.{packed, IsPacked}
 use Rattle.xl_tile.proofs.PackedTiles.{in_runs, unpacked}

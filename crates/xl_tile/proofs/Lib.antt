@@ -1,4 +1,5 @@
 pub mod Blocks
+pub mod CodePlanes
 pub mod Coded
 pub mod Decoded
 pub mod JoinedBlocks

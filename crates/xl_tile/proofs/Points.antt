@@ -2,7 +2,7 @@
 use Rattle.std.proofs.Common.{◌≡◌, ℕ, zero, suc, ◌+◌, ◌*◌, ◌<◌, List, length, map}
 use Rattle.std.proofs.Common.{slice_index, refl, sym, ap, ◌∙◌, arith}
 use Rattle.std.specs.Prelude.{flat_map}
-use Rattle.spec_grid.specs.Rect.{count_from}
+use Rattle.spec_document.specs.Rect.{count_from}
 use Rattle.spec_document.specs.Plane.{Plane, bytes_over}
 use Rattle.spec_document.proofs.PlaneLemmas.{index-bytes_over, length-pieces}
 use Rattle.spec_document.proofs.SamePlane.{plane-ext}

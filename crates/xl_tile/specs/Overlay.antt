@@ -4,7 +4,7 @@ use Rattle.std.specs.Arc.{arc_value}
 use Rattle.std.specs.declared.sync.Arc.{Arc}
 use Rattle.spec_document.specs.Plane.{bytes_over}
 use Rattle.xl_tile.specs.Block.{pixel_byte}
-use Rattle.spec_grid.specs.declared.TheConstants.{MAX_SIDE}
+use Rattle.spec_document.specs.declared.TheConstants.{MAX_SIDE}
 use Rattle.xl_tile.specs.declared.overlay.Overlay.{Overlay}
 use Rattle.xl_tile.specs.declared.overlay.Patch.{Patch}
 

@@ -1,6 +1,6 @@
 ghost use Rattle.std.specs.Prelude.{◌≡◌, ℕ, ◌+◌, ◌-◌, ◌*◌, ◌<◌, ◌≤◌, ◌^◌, length, slice_index};
 ghost use Rattle.xl_tile.specs.Block.{byte_after, pixel_byte};
-ghost use Rattle.spec_grid.specs.declared.TheConstants.{MAX_SIDE};
+ghost use Rattle.spec_document.specs.declared.TheConstants.{MAX_SIDE};
 
 /// A column and a row among rows of `stride` pixels.
 #[derive(Clone, Copy)]

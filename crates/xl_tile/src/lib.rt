@@ -2,6 +2,7 @@
 #![tactic(auto)]
 
 mod block;
+mod codes;
 mod join;
 mod overlay;
 mod packed;
@@ -13,8 +14,8 @@ mod stored;
 mod tile;
 
 pub use block::{Block, Spot};
+pub use codes::know_bytes;
 pub use overlay::Overlay;
 pub use rows::piece;
 pub use shares::are_shares;
 pub use tile::{MAX_TILE, SCRATCH, TileRef};
-pub use xl_codes::know_bytes;

@@ -4,7 +4,7 @@ ghost use Rattle.std.specs.Prelude.{◌≡◌, ℕ, ◌+◌, ◌-◌, ◌*◌, �
 ghost use Rattle.spec_hierarchy.specs.Tiles.{interleaved};
 ghost use Rattle.xl_tile.specs.Block.{byte_after, pixel_byte};
 ghost use Rattle.xl_tile.specs.Joined.{pieces};
-ghost use Rattle.spec_grid.specs.declared.TheConstants.{MAX_SIDE};
+ghost use Rattle.spec_document.specs.declared.TheConstants.{MAX_SIDE};
 
 use crate::block::{Block, Spot, row_start};
 use crate::join::join_pixels;

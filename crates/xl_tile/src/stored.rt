@@ -4,13 +4,14 @@ ghost use Rattle.std.specs.Prelude.{take, vec_len, IfOk, IfSome};
 ghost use Rattle.std.specs.Arc.{arc_value};
 ghost use Rattle.spec_document.specs.Limits.{AreBytes};
 ghost use Rattle.spec_hierarchy.specs.Reading.{tile_at};
-ghost use Rattle.spec_grid.specs.declared.TheConstants.{MAX_SIDE};
+ghost use Rattle.spec_document.specs.declared.TheConstants.{MAX_SIDE};
 ghost use Rattle.xl_fields.specs.Gives.{Gives};
 ghost use Rattle.xl_tile.specs.Block.{pixel_byte};
 ghost use Rattle.xl_tile.specs.Coded.{IsCoded};
 ghost use Rattle.xl_tile.specs.declared.tile.TheConstants.{MAX_TILE, SCRATCH};
 
 use crate::block::{Block, Spot, copy_block};
+use crate::codes::{codes_at, know_bytes};
 use crate::packed::{check_tile, plain_bytes, unpack, unpack_planes};
 use crate::planes::join_block;
 use crate::shares::are_shares;
@@ -19,7 +20,6 @@ use std::alloc::{AllocError, Global};
 use std::marker::Model;
 use std::sync::Arc;
 use xl_bytes::Part;
-use xl_codes::{codes_at, know_bytes};
 use xl_fields::ReadRefusedOrMemory;
 
 /// The bytes of a tile, its pixels row by row, at an offset of bytes that are shared: a file, which has them plain or in

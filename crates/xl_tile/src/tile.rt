@@ -2,13 +2,14 @@ ghost use Rattle.std.specs.Prelude.{◌≡◌, ℕ, ◌+◌, ◌*◌, ◌≤◌,
 ghost use Rattle.std.specs.Arc.{arc_value};
 ghost use Rattle.spec_document.specs.Limits.{AreBytes};
 ghost use Rattle.spec_hierarchy.specs.Reading.{tile_at};
-ghost use Rattle.spec_grid.specs.declared.TheConstants.{MAX_SIDE};
+ghost use Rattle.spec_document.specs.declared.TheConstants.{MAX_SIDE};
 ghost use Rattle.xl_fields.specs.Gives.{Gives};
 ghost use Rattle.xl_tile.specs.Block.{pixel_byte};
 ghost use Rattle.xl_tile.specs.Coded.{IsCoded};
 ghost use Rattle.xl_tile.specs.Overlay.{overlaid, Fits};
 
 use crate::block::{Block, Spot, copy_block};
+use crate::codes::know_bytes;
 use crate::overlay::{Overlay, Patch};
 use crate::shares::are_shares;
 use crate::stored::Stored;
@@ -16,7 +17,6 @@ use std::alloc::{AllocError, Global};
 use std::marker::Model;
 use std::sync::Arc;
 use xl_bytes::Part;
-use xl_codes::know_bytes;
 use xl_fields::ReadRefusedOrMemory;
 
 /// The most bytes of a tile: 64 by 64 pixels of four bytes.

@@ -5,9 +5,9 @@ use Rattle.std.specs.Prelude.{filter, flat_map, ◌&&◌}
 use Rattle.std.proofs.lemmas.Bool.{eq-eqb}
 use Rattle.std.proofs.lemmas.Grind.{flat_map-append}
 use Rattle.std.proofs.lemmas.List.Elements.{filter-append}
-use Rattle.spec_grid.specs.declared.TileAt.{TileAt}
-use Rattle.spec_grid.specs.Rect.{count_from}
-use Rattle.spec_grid.specs.Grid.{all_tiles}
+use Rattle.spec_document.specs.declared.TileAt.{TileAt}
+use Rattle.spec_document.specs.Rect.{count_from}
+use Rattle.spec_document.specs.Grid.{all_tiles}
 use Rattle.spec_document.specs.Plane.{Plane}
 use Rattle.spec_fields.proofs.Steps.{chosen_true}
 use Rattle.xl_tiles.specs.Table.{plane_by}

@@ -1,7 +1,7 @@
 -- Byte c of each pixel of a tile is a plane of it.
 use Rattle.std.proofs.Common.{◌≡◌, ℕ, ◌+◌, ◌*◌, ◌<◌, List, length, slice_index, ap, ◌∙◌, arith}
 use Rattle.std.proofs.lemmas.Nat.{mul-add-lt}
-use Rattle.spec_grid.specs.declared.TileAt.{TileAt}
+use Rattle.spec_document.specs.declared.TileAt.{TileAt}
 use Rattle.spec_document.specs.Plane.{Plane, byte_at, bytes_over}
 use Rattle.spec_document.proofs.PlaneLemmas.{index-bytes_over}
 use Rattle.spec_hierarchy.specs.Tiles.{tile_width, tile_height, tile_bytes, tile_plane}

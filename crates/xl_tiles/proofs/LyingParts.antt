@@ -2,8 +2,8 @@
 use Rattle.std.proofs.Common.{◌≡◌, ℕ, ◌+◌, ◌-◌, ◌*◌, ◌<◌, ◌≤◌, min, List, length}
 use Rattle.std.proofs.Common.{sym, subst, arith}
 use Rattle.std.proofs.lemmas.Nat.{mul-le}
-use Rattle.spec_grid.specs.Grid.{tiles_along}
-use Rattle.spec_grid.specs.declared.TheConstants.{MAX_SIDE}
+use Rattle.spec_document.specs.Grid.{tiles_along}
+use Rattle.spec_document.specs.declared.TheConstants.{MAX_SIDE}
 use Rattle.spec_hierarchy.specs.Tiles.{tile_bytes}
 use Rattle.xl_tile.specs.Overlay.{overlaid, Fits}
 use Rattle.xl_tile.specs.declared.overlay.Overlay.{Overlay}

@@ -1,7 +1,7 @@
 -- A plane that is written whole.
 use Rattle.std.proofs.Common.{◌≡◌, ℕ, ◌+◌, ◌*◌, Bool, true, cond, List, slice_index, length, refl, ap, ◌∙◌, arith, pos}
 use Rattle.std.proofs.lemmas.Bool.Decides.{nat_tests}
-use Rattle.spec_grid.specs.Rect.{has_point, sheet}
+use Rattle.spec_document.specs.Rect.{has_point, sheet}
 use Rattle.spec_document.specs.Plane.{Plane, byte_at}
 use Rattle.spec_document.proofs.PlaneLemmas.{byte_at-plane_of}
 use Rattle.spec_document.proofs.SamePlane.{plane-ext}

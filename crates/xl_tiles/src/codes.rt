@@ -1,5 +1,5 @@
 ghost use Rattle.std.specs.Prelude.{◌≡◌, ◌<◌, IfOk, IfSome};
-ghost use Rattle.spec_grid.specs.Grid as grid;
+ghost use Rattle.spec_document.specs.Grid as grid;
 ghost use Rattle.spec_hierarchy.specs.BytePlanes.{tile_planes};
 ghost use Rattle.spec_hierarchy.specs.Layout.{AreSpelled};
 ghost use Rattle.spec_hierarchy.specs.Tiles.{tile_bytes};

@@ -1,7 +1,7 @@
 ghost use Rattle.std.specs.Prelude.{◌≡◌, ℕ, ◌+◌, ◌-◌, ◌*◌, ◌<◌, ◌≤◌, [], length, min, slice_index, slice_index_or};
 ghost use Rattle.std.specs.Prelude.{slice_set, IfOk, IfSome, OnOk, IfErr, OnErr};
-ghost use Rattle.spec_grid.specs.Grid as grid;
-ghost use Rattle.spec_grid.specs.Rect.{part_above_0};
+ghost use Rattle.spec_document.specs.Grid as grid;
+ghost use Rattle.spec_document.specs.Rect.{part_above_0};
 ghost use Rattle.spec_document.specs.Limits.{IsSide, AreBytes};
 ghost use Rattle.spec_document.specs.Plane.{byte_at, plane_of};
 ghost use Rattle.spec_hierarchy.specs.BytePlanes.{tile_planes};

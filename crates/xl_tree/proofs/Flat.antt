@@ -4,7 +4,7 @@ use Rattle.std.proofs.Common.{length, take, drop, refl, sym, ◌∙◌, ap, arit
 use Rattle.std.proofs.Math.Seq.{take-append_seam}
 use Rattle.std.proofs.lemmas.Bool.{lt-ltb}
 use Rattle.std.proofs.lemmas.Bool.Decides.{nat_tests}
-use Rattle.spec_forest.specs.Forest.{Forest, none, leaf, group, size}
+use Rattle.spec_document.specs.Forest.{Forest, none, leaf, group, size}
 use Rattle.xl_tree.specs.declared.entries.NodeEntry.{NodeEntry}
 use Rattle.xl_tree.specs.Flat.{flat, below, forest_from, forest_of}
 

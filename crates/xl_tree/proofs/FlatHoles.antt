@@ -3,8 +3,8 @@ use Rattle.std.proofs.Common.{◌≡◌, ℕ, suc, ◌+◌, Bool, true, false, L
 use Rattle.std.proofs.Common.{◌∙◌, ap, arith, length-append}
 use Rattle.std.specs.List.{insert}
 use Rattle.std.proofs.lemmas.List.{take_at, drop_at, append_assoc, append-nil}
-use Rattle.spec_forest.specs.Forest.{Forest, none}
-use Rattle.spec_forest.specs.Holes.{Hole, here, under_leaf, under_group, in_group, plug, depth, passed}
+use Rattle.spec_document.specs.Forest.{Forest, none}
+use Rattle.spec_document.specs.Holes.{Hole, here, under_leaf, under_group, in_group, plug, depth, passed}
 use Rattle.xl_tree.specs.declared.entries.NodeEntry.{NodeEntry}
 use Rattle.xl_tree.specs.Flat.{flat}
 use Rattle.xl_tree.proofs.Flat.{length-flat}

@@ -5,11 +5,11 @@ use Rattle.std.proofs.lemmas.Bool.{lt-ltb}
 use Rattle.std.proofs.lemmas.Bool.Decides.{nat_tests}
 use Rattle.std.proofs.lemmas.List.{take_more, append-nil, append_assoc, take_at}
 use Rattle.std.specs.Prelude.{Some, unwrap_or}
-use Rattle.spec_forest.specs.Forest.{Forest, none, leaf, group, levels, ancestors}
-use Rattle.spec_forest.specs.Holes.{Hole, here, under_leaf, under_group, in_group, plug, depth}
-use Rattle.spec_forest.proofs.Holes.{depth_below_levels}
-use Rattle.spec_forest.proofs.Standing.{Standing, nowhere, at_leaf, at_group, standing, groups, ancestors-nowhere}
-use Rattle.spec_forest.proofs.Standing.{ancestors-plug, ancestors-of_leaf, ancestors-of_group}
+use Rattle.spec_document.specs.Forest.{Forest, none, leaf, group, levels, ancestors}
+use Rattle.spec_document.specs.Holes.{Hole, here, under_leaf, under_group, in_group, plug, depth}
+use Rattle.spec_document.proofs.Holes.{depth_below_levels}
+use Rattle.spec_document.proofs.Standing.{Standing, nowhere, at_leaf, at_group, standing, groups, ancestors-nowhere}
+use Rattle.spec_document.proofs.Standing.{ancestors-plug, ancestors-of_leaf, ancestors-of_group}
 use Rattle.xl_tree.specs.declared.entries.NodeEntry.{NodeEntry}
 use Rattle.xl_tree.specs.Flat.{flat, forest_of, from_id}
 use Rattle.xl_tree.specs.Kept.{AreSiblings}

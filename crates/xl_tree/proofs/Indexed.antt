@@ -3,7 +3,7 @@ use Rattle.std.proofs.Common.{◌≡◌, ℕ, zero, suc, ◌+◌, ◌<◌, Bool,
 use Rattle.std.proofs.Common.{get_or, set, take, drop, refl, sym, ◌∙◌, ap, arith, rules}
 use Rattle.std.proofs.lemmas.List.{take_more}
 use Rattle.std.specs.Prelude.{Option, Some, None, option_map}
-use Rattle.spec_forest.specs.Forest.{Forest, none, leaf, group}
+use Rattle.spec_document.specs.Forest.{Forest, none, leaf, group}
 use Rattle.xl_tree.specs.declared.entries.NodeEntry.{NodeEntry}
 use Rattle.xl_tree.specs.Flat.{flat, from_id}
 use Rattle.xl_tree.specs.declared.index.Index.{Index}

@@ -4,13 +4,13 @@ use Rattle.std.proofs.Common.{get_or, map, take, drop, refl, sym, ◌∙◌, sub
 use Rattle.std.proofs.lemmas.List.{append_assoc, take_at, drop_at, take-append-le, drop-append-le, length-drop, get_or_at}
 use Rattle.std.specs.Prelude.{Some}
 use Rattle.std.specs.List.{IsDistinct, insert}
-use Rattle.spec_forest.specs.Forest.{Forest, none, leaf, group, size, levels, ids, find}
-use Rattle.spec_forest.specs.Changes.{above, put_into, without, branch_of}
-use Rattle.spec_forest.specs.Holes.{Hole, plug, depth, passed}
-use Rattle.spec_forest.proofs.Holes.{size-plug, levels-plug, depth_below_levels, passed_within}
-use Rattle.spec_forest.proofs.Standing.{find-at_leaf, find-at_group}
-use Rattle.spec_forest.proofs.Distinct.{lone_leaf, lone_group, without-at_leaf, without-at_group, branch_of-at_leaf}
-use Rattle.spec_forest.proofs.Distinct.{branch_of-at_group}
+use Rattle.spec_document.specs.Forest.{Forest, none, leaf, group, size, levels, ids, find}
+use Rattle.spec_document.specs.Changes.{above, put_into, without, branch_of}
+use Rattle.spec_document.specs.Holes.{Hole, plug, depth, passed}
+use Rattle.spec_document.proofs.Holes.{size-plug, levels-plug, depth_below_levels, passed_within}
+use Rattle.spec_document.proofs.Standing.{find-at_leaf, find-at_group}
+use Rattle.spec_document.proofs.Distinct.{lone_leaf, lone_group, without-at_leaf, without-at_group, branch_of-at_leaf}
+use Rattle.spec_document.proofs.Distinct.{branch_of-at_group}
 use Rattle.xl_tree.specs.declared.entries.NodeEntry.{NodeEntry}
 use Rattle.xl_tree.specs.Flat.{flat, forest_of}
 use Rattle.xl_tree.specs.Kept.{AreSiblings}
@@ -24,7 +24,7 @@ use Rattle.xl_tree.proofs.Placed.{Spot, a_leaf_at, a_group_at, spot}
 use Rattle.xl_tree.proofs.PutLast.{flat-alone, size-alone}
 use Rattle.xl_tree.proofs.Shifted.{map-down, map-up, shallow-flat}
 use Rattle.xl_tree.proofs.Taken.{siblings}
-use Rattle.spec_forest.specs.declared.TheConstants.{MAX_NODES}
+use Rattle.spec_document.specs.declared.TheConstants.{MAX_NODES}
 
 module _ {N : Type 0} where
   pub flat-above : (level : ℕ) (a b : Forest N N) → flat level (above a b) ≡ flat level a ++ flat level b

@@ -4,15 +4,15 @@ use Rattle.std.specs.List.{AllByRecursion, IsDistinct}
 use Rattle.std.proofs.lemmas.Map.Keys.{IsDistinct-cons}
 use Rattle.std.specs.Prelude.{Option, Some, None, option_map}
 use Rattle.std.proofs.lemmas.List.{append-nil}
-use Rattle.spec_forest.specs.Forest.{Forest, none, leaf, group, ids, nothing, find}
-use Rattle.spec_forest.specs.Changes.{above, put_into, put_last, without, branch_of, with_leaf}
-use Rattle.spec_forest.specs.Holes.{Hole, plug}
-use Rattle.spec_forest.specs.Runs.{HasRun}
-use Rattle.spec_forest.proofs.Runs.{all-join, run-distinct, parts-distinct, run-all, rest-all, all-run, rest-distinct}
-use Rattle.spec_forest.proofs.Distinct.{IsNot, distinct-left, ids-above}
-use Rattle.spec_forest.proofs.Holes.{hole_last, plug-hole_last, put_last-hole}
-use Rattle.spec_forest.proofs.Changed.{run_in_hole, ids-taken, ids-with_leaf, ids-with_group}
-use Rattle.spec_forest.proofs.Standing.{lacks_leaf, lacks_group}
+use Rattle.spec_document.specs.Forest.{Forest, none, leaf, group, ids, nothing, find}
+use Rattle.spec_document.specs.Changes.{above, put_into, put_last, without, branch_of, with_leaf}
+use Rattle.spec_document.specs.Holes.{Hole, plug}
+use Rattle.spec_document.specs.Runs.{HasRun}
+use Rattle.spec_document.proofs.Runs.{all-join, run-distinct, parts-distinct, run-all, rest-all, all-run, rest-distinct}
+use Rattle.spec_document.proofs.Distinct.{IsNot, distinct-left, ids-above}
+use Rattle.spec_document.proofs.Holes.{hole_last, plug-hole_last, put_last-hole}
+use Rattle.spec_document.proofs.Changed.{run_in_hole, ids-taken, ids-with_leaf, ids-with_group}
+use Rattle.spec_document.proofs.Standing.{lacks_leaf, lacks_group}
 use Rattle.xl_tree.specs.declared.entries.NodeEntry.{NodeEntry}
 use Rattle.xl_tree.specs.Flat.{forest_of}
 use Rattle.xl_tree.specs.Ids.{AreOwn, IsNew}

@@ -3,11 +3,11 @@ use Rattle.std.proofs.Common.{◌≡◌, ℕ, zero, suc, ◌+◌, ◌-◌, ◌<�
 use Rattle.std.proofs.Common.{◌∙◌, ap, add-one, arith}
 use Rattle.std.proofs.lemmas.List.{drop_more}
 use Rattle.std.specs.Prelude.{Option, Some, None, option_map, is_some, IsSome}
-use Rattle.spec_forest.specs.Forest.{Forest, none, leaf, group, size}
-use Rattle.spec_forest.specs.Changes.{put_last}
-use Rattle.spec_forest.specs.Holes.{plug, passed, in_group, under_leaf, under_group}
-use Rattle.spec_forest.proofs.Holes.{hole_last, passed-at_end, put_last-hole}
-use Rattle.spec_forest.specs.Holes.{from_place}
+use Rattle.spec_document.specs.Forest.{Forest, none, leaf, group, size}
+use Rattle.spec_document.specs.Changes.{put_last}
+use Rattle.spec_document.specs.Holes.{plug, passed, in_group, under_leaf, under_group}
+use Rattle.spec_document.proofs.Holes.{hole_last, passed-at_end, put_last-hole}
+use Rattle.spec_document.specs.Holes.{from_place}
 use Rattle.xl_tree.specs.Places.{end_at}
 
 twice : {A B C : Type 0} (f : A → B) (g : B → C) (o : Option A) → option_map g (option_map f o) ≡ option_map (λ x. g (f x)) o

@@ -4,14 +4,14 @@ use Rattle.std.proofs.Common.{length, get_or, set, refl, sym, ◌∙◌, subst, 
 use Rattle.std.proofs.lemmas.List.{get_or_at, set_at}
 use Rattle.std.specs.Prelude.{Some, None, option_map}
 use Rattle.std.specs.List.{IsDistinct}
-use Rattle.spec_forest.specs.Forest.{Forest, none, leaf, group, size, levels, ids, nothing, find}
-use Rattle.spec_forest.specs.Changes.{with_group}
-use Rattle.spec_forest.specs.Holes.{Hole, here, under_leaf, under_group, in_group, plug, depth, passed}
-use Rattle.spec_forest.proofs.Holes.{size-plug, levels-plug, passed_within, depth_below_levels}
-use Rattle.spec_forest.proofs.Standing.{Fresh, Standing, nowhere, at_leaf, at_group, standing, lacks_leaf, lacks_group}
-use Rattle.spec_forest.proofs.Standing.{find-at_leaf, find-at_group}
-use Rattle.spec_forest.proofs.Distinct.{lone_leaf, lone_group, with_leaf-at_leaf, with_leaf-at_group}
-use Rattle.spec_forest.proofs.Distinct.{with_group-at_leaf, with_group-at_group}
+use Rattle.spec_document.specs.Forest.{Forest, none, leaf, group, size, levels, ids, nothing, find}
+use Rattle.spec_document.specs.Changes.{with_group}
+use Rattle.spec_document.specs.Holes.{Hole, here, under_leaf, under_group, in_group, plug, depth, passed}
+use Rattle.spec_document.proofs.Holes.{size-plug, levels-plug, passed_within, depth_below_levels}
+use Rattle.spec_document.proofs.Standing.{Fresh, Standing, nowhere, at_leaf, at_group, standing, lacks_leaf, lacks_group}
+use Rattle.spec_document.proofs.Standing.{find-at_leaf, find-at_group}
+use Rattle.spec_document.proofs.Distinct.{lone_leaf, lone_group, with_leaf-at_leaf, with_leaf-at_group}
+use Rattle.spec_document.proofs.Distinct.{with_group-at_leaf, with_group-at_group}
 use Rattle.xl_tree.specs.declared.entries.NodeEntry.{NodeEntry}
 use Rattle.xl_tree.specs.Flat.{flat, forest_of}
 use Rattle.xl_tree.specs.Kept.{AreSiblings}

@@ -2,11 +2,11 @@
 use Rattle.std.proofs.Common.{◌≡◌, ℕ, ◌+◌, ◌<◌, ◌≤◌, Bool, true, false, List, [], ◌∷◌, length, refl, sym, ◌∙◌, ap, arith}
 use Rattle.std.specs.Prelude.{Option, Some, None, option_map}
 use Rattle.std.specs.List.{insert}
-use Rattle.spec_forest.specs.Forest.{Forest, none, size, levels}
-use Rattle.spec_forest.specs.Changes.{put_last}
-use Rattle.spec_forest.specs.Holes.{Hole, plug, depth, passed}
-use Rattle.spec_forest.proofs.Holes.{hole_last, plug-hole_last, depth-hole_last, put_last-hole, size-plug, levels-plug}
-use Rattle.spec_forest.proofs.Holes.{passed_within}
+use Rattle.spec_document.specs.Forest.{Forest, none, size, levels}
+use Rattle.spec_document.specs.Changes.{put_last}
+use Rattle.spec_document.specs.Holes.{Hole, plug, depth, passed}
+use Rattle.spec_document.proofs.Holes.{hole_last, plug-hole_last, depth-hole_last, put_last-hole, size-plug, levels-plug}
+use Rattle.spec_document.proofs.Holes.{passed_within}
 use Rattle.xl_tree.specs.declared.entries.NodeEntry.{NodeEntry}
 use Rattle.xl_tree.specs.Flat.{flat, forest_of}
 use Rattle.xl_tree.specs.Kept.{AreSiblings}
@@ -15,7 +15,7 @@ use Rattle.xl_tree.proofs.Flat.{forest_of_is}
 use Rattle.xl_tree.proofs.FlatHoles.{entry_of, insert-plug}
 use Rattle.xl_tree.proofs.Paths.{end_at-hole}
 use Rattle.xl_tree.proofs.Taken.{siblings}
-use Rattle.spec_forest.specs.declared.TheConstants.{MAX_NODES}
+use Rattle.spec_document.specs.declared.TheConstants.{MAX_NODES}
 
 module _ {N : Type 0} where
   pub flat-alone : (level id : ℕ) (mark : Bool) (node : N) → flat level (alone mark id node) ≡ entry_of level id mark node ∷ []

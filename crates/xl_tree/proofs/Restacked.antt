@@ -6,12 +6,12 @@ use Rattle.std.specs.Result.{IsErrAnd}
 use Rattle.xl_tree.specs.declared.naming.NodeId.{NodeId}
 use Rattle.std.specs.Prelude.{Option, Some, None, Result, Ok, Err, option_map, unwrap_or, ◌||◌}
 use Rattle.std.specs.List.{IsDistinct, list_any}
-use Rattle.spec_forest.specs.Forest.{Forest, leaf, group, size, levels, ids, Found, nothing, a_leaf, a_group, or_else}
-use Rattle.spec_forest.specs.Forest.{find, ancestors}
-use Rattle.spec_forest.specs.Changes.{above, without, branch_of}
-use Rattle.spec_forest.proofs.Holes.{passed_within, size-plug, depth_below_levels}
-use Rattle.spec_forest.proofs.Distinct.{lone_leaf, lone_group, without-at_leaf, without-at_group, distinct-plug, fewer_under}
-use Rattle.spec_forest.proofs.Outside.{kind, kind-plug, above_inside}
+use Rattle.spec_document.specs.Forest.{Forest, leaf, group, size, levels, ids, Found, nothing, a_leaf, a_group, or_else}
+use Rattle.spec_document.specs.Forest.{find, ancestors}
+use Rattle.spec_document.specs.Changes.{above, without, branch_of}
+use Rattle.spec_document.proofs.Holes.{passed_within, size-plug, depth_below_levels}
+use Rattle.spec_document.proofs.Distinct.{lone_leaf, lone_group, without-at_leaf, without-at_group, distinct-plug, fewer_under}
+use Rattle.spec_document.proofs.Outside.{kind, kind-plug, above_inside}
 use Rattle.xl_tree.specs.declared.entries.NodeEntry.{NodeEntry}
 use Rattle.xl_tree.specs.declared.refused.TreeRefused.{TreeRefused}
 use Rattle.xl_tree.specs.declared.refused.TreeRefused.TheVariants.{Inside}

@@ -5,11 +5,11 @@ use Rattle.std.proofs.lemmas.Bool.{ne_eqb}
 use Rattle.std.proofs.lemmas.Bool.Decides.{nat_tests}
 use Rattle.std.proofs.lemmas.List.{drop_more, drop_all, append_assoc, append-nil, take_at}
 use Rattle.std.specs.Prelude.{Some}
-use Rattle.spec_forest.specs.Forest.{Forest, none, leaf, group, size, levels, Found, nothing, a_leaf, a_group, or_else}
-use Rattle.spec_forest.specs.Forest.{find, children_of, stack_at}
-use Rattle.spec_forest.specs.Holes.{Hole, here, under_leaf, under_group, in_group, plug, depth}
-use Rattle.spec_forest.proofs.Holes.{depth_below_levels, passed_within}
-use Rattle.spec_forest.proofs.Standing.{Fresh, Standing, nowhere, at_leaf, at_group, standing, find-at_leaf, find-at_group}
+use Rattle.spec_document.specs.Forest.{Forest, none, leaf, group, size, levels, Found, nothing, a_leaf, a_group, or_else}
+use Rattle.spec_document.specs.Forest.{find, children_of, stack_at}
+use Rattle.spec_document.specs.Holes.{Hole, here, under_leaf, under_group, in_group, plug, depth}
+use Rattle.spec_document.proofs.Holes.{depth_below_levels, passed_within}
+use Rattle.spec_document.proofs.Standing.{Fresh, Standing, nowhere, at_leaf, at_group, standing, find-at_leaf, find-at_group}
 use Rattle.xl_tree.specs.declared.entries.NodeEntry.{NodeEntry}
 use Rattle.xl_tree.specs.Flat.{flat, below, forest_of, from_id}
 use Rattle.xl_tree.specs.Kept.{AreSiblings}

@@ -3,7 +3,7 @@ use Rattle.std.proofs.Common.{◌≡◌, ℕ, zero, suc, ◌+◌, ◌-◌, ◌<�
 use Rattle.std.proofs.Common.{get_or, set, map, take, drop, refl, sym, ◌∙◌, ap, arith}
 use Rattle.std.proofs.lemmas.List.{map-append, get_or_at, set_at, drop_more, map_more, length-map, length-take-le}
 use Rattle.std.proofs.lemmas.List.{append_assoc, get_or-take}
-use Rattle.spec_forest.specs.Forest.{Forest, none, leaf, group, levels}
+use Rattle.spec_document.specs.Forest.{Forest, none, leaf, group, levels}
 use Rattle.xl_tree.specs.declared.entries.NodeEntry.{NodeEntry}
 use Rattle.xl_tree.specs.Flat.{flat}
 use Rattle.xl_tree.specs.Moves.{shifted, AreShallow}

@@ -5,13 +5,13 @@ use Rattle.std.proofs.lemmas.Bool.{ne_eqb}
 use Rattle.std.specs.Prelude.{Some, None, option_map, unwrap_or}
 use Rattle.xl_tree.specs.Places.{first_some}
 use Rattle.std.specs.List.{IsDistinct}
-use Rattle.spec_forest.specs.Forest.{Forest, group, size, count, ids, find, stack_at, children_of}
-use Rattle.spec_forest.specs.Changes.{above, put_at, with_children}
-use Rattle.spec_forest.specs.Holes.{Hole, here, in_group, plug, depth, passed, from_place}
-use Rattle.spec_forest.proofs.Holes.{into, plug-into, depth-into, passed-into, hole_at, plug-hole_at, depth-hole_at}
-use Rattle.spec_forest.proofs.Holes.{passed-hole_at, put_at-hole}
-use Rattle.spec_forest.proofs.Standing.{Standing, nowhere, at_leaf, at_group, standing, find-at_group}
-use Rattle.spec_forest.proofs.Distinct.{lone_group, with_children-at_group}
+use Rattle.spec_document.specs.Forest.{Forest, group, size, count, ids, find, stack_at, children_of}
+use Rattle.spec_document.specs.Changes.{above, put_at, with_children}
+use Rattle.spec_document.specs.Holes.{Hole, here, in_group, plug, depth, passed, from_place}
+use Rattle.spec_document.proofs.Holes.{into, plug-into, depth-into, passed-into, hole_at, plug-hole_at, depth-hole_at}
+use Rattle.spec_document.proofs.Holes.{passed-hole_at, put_at-hole}
+use Rattle.spec_document.proofs.Standing.{Standing, nowhere, at_leaf, at_group, standing, find-at_group}
+use Rattle.spec_document.proofs.Distinct.{lone_group, with_children-at_group}
 use Rattle.xl_tree.specs.declared.entries.NodeEntry.{NodeEntry}
 use Rattle.xl_tree.specs.Flat.{flat, below, forest_of, from_id}
 use Rattle.xl_tree.specs.Kept.{AreSiblings}

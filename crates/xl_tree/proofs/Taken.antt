@@ -1,11 +1,11 @@
 -- A stack taken apart at its first entry.
 use Rattle.std.proofs.Common.{◌≡◌, ℕ, suc, ◌+◌, ◌≤◌, true, false, List, ◌∷◌, ◌++◌, length, take, drop, sym, subst, ◌∙◌, ap, arith}
-use Rattle.spec_forest.specs.Forest.{Forest, none, leaf, group, size, levels}
+use Rattle.spec_document.specs.Forest.{Forest, none, leaf, group, size, levels}
 use Rattle.xl_tree.specs.declared.entries.NodeEntry.{NodeEntry}
 use Rattle.xl_tree.specs.Flat.{flat, below, forest_of}
 use Rattle.xl_tree.specs.Kept.{AreSiblings}
 use Rattle.xl_tree.proofs.Flat.{length-flat, take-flat_group, drop-flat_group, forest_of_is, flat_is, size-forest_of}
-use Rattle.spec_forest.specs.declared.TheConstants.{MAX_NODES}
+use Rattle.spec_document.specs.declared.TheConstants.{MAX_NODES}
 
 module _ {N : Type 0} where
   -- siblings, by their forest

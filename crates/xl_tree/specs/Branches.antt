@@ -1,8 +1,8 @@
 -- What a branch holds.
 use Rattle.std.specs.Prelude.{ℕ, refl}
 use Rattle.std.specs.Coded.{Coded, code_by, coded×, coded_ℕ}
-use Rattle.spec_forest.specs.Forest.{Forest}
-use Rattle.spec_forest.specs.Code.{coded_forest}
+use Rattle.spec_document.specs.Forest.{Forest}
+use Rattle.spec_document.specs.ForestCode.{coded_forest}
 
 -- the nodes, and room for so many
 pub record Held (N : Type 0) : Type 0 where

@@ -2,7 +2,7 @@
 use Rattle.std.specs.Prelude.{ℕ, max, zero, suc, Bool, true, false, nat_lt, List, [], ◌∷◌, ◌++◌, length, take, drop}
 use Rattle.std.specs.Prelude.{◌==◌, if◌then◌else◌}
 use Rattle.std.specs.List.{prefix_len}
-use Rattle.spec_forest.specs.Forest.{Forest, none, leaf, group}
+use Rattle.spec_document.specs.Forest.{Forest, none, leaf, group}
 use Rattle.xl_tree.specs.declared.entries.NodeEntry.{NodeEntry}
 
 -- the entries of a forest in preorder

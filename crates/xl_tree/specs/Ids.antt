@@ -1,7 +1,7 @@
 -- The ids of entries and of nodes.
 use Rattle.std.specs.Prelude.{◌≡◌, ℕ, ◌≤◌, nat_eq, List, map}
 use Rattle.std.specs.List.{AllByRecursion, IsDistinct}
-use Rattle.spec_forest.specs.Forest.{Forest, find, nothing}
+use Rattle.spec_document.specs.Forest.{Forest, find, nothing}
 use Rattle.xl_tree.specs.declared.entries.NodeEntry.{NodeEntry}
 
 -- in their order

@@ -7,7 +7,7 @@ use Rattle.std.specs.declared.vec.Vec.{Vec}
 use Rattle.xl_tree.specs.declared.entries.NodeEntry.{NodeEntry}
 use Rattle.xl_tree.specs.declared.index.Index.{Index}
 use Rattle.xl_tree.specs.declared.index.Place.{Place}
-use Rattle.spec_forest.specs.declared.TheConstants.{MAX_NODES}
+use Rattle.spec_document.specs.declared.TheConstants.{MAX_NODES}
 
 -- the place of the first entry with an id
 abbrev pub place_in : {N : Type 0} → (id : ℕ) → List (NodeEntry N) → Option ℕ

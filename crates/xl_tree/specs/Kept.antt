@@ -2,13 +2,13 @@
 use Rattle.std.specs.Prelude.{◌≡◌, ℕ, ◌+◌, ◌≤◌, List, length}
 use Rattle.std.specs.Vec.{vec_capacity}
 use Rattle.std.specs.declared.vec.Vec.{Vec}
-use Rattle.spec_forest.specs.Forest.{ids, levels}
+use Rattle.spec_document.specs.Forest.{ids, levels}
 use Rattle.xl_tree.specs.declared.entries.NodeEntry.{NodeEntry}
 use Rattle.xl_tree.specs.declared.index.Index.{Index}
 use Rattle.xl_tree.specs.Flat.{flat, forest_of}
 use Rattle.xl_tree.specs.Ids.{AreOwn}
 use Rattle.xl_tree.specs.Index.{IsIndex}
-use Rattle.spec_forest.specs.declared.TheConstants.{MAX_NODES, MAX_DEPTH}
+use Rattle.spec_document.specs.declared.TheConstants.{MAX_NODES, MAX_DEPTH}
 
 -- these are the entries of siblings at a level, in preorder, with all below them, within the limits
 pub record AreSiblings {N : Type 0} (level : ℕ) (entries : List (NodeEntry N)) : Type 0 where

@@ -1,7 +1,7 @@
 -- Entries that move.
 use Rattle.std.specs.Prelude.{ℕ, ◌+◌, ◌-◌, ◌≤◌, List}
 use Rattle.std.specs.List.{AllByRecursion}
-use Rattle.spec_forest.specs.declared.TheConstants.{MAX_DEPTH}
+use Rattle.spec_document.specs.declared.TheConstants.{MAX_DEPTH}
 use Rattle.xl_tree.specs.declared.entries.NodeEntry.{NodeEntry}
 
 -- an entry that moves with its stack from one level to another

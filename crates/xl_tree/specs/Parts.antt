@@ -1,6 +1,6 @@
 -- The parts of a stack, and the stack again.
 use Rattle.std.specs.Prelude.{◌≡◌, ℕ, ◌+◌}
-use Rattle.spec_forest.specs.Forest.{Forest, none, leaf, group, size}
+use Rattle.spec_document.specs.Forest.{Forest, none, leaf, group, size}
 use Rattle.xl_tree.specs.declared.stacks.Split.{Split}
 use Rattle.xl_tree.specs.declared.stacks.Split.TheVariants as split
 

@@ -1,7 +1,7 @@
 -- Places in a forest, counted from the top.
 use Rattle.std.specs.Prelude.{ℕ, zero, suc, ◌+◌, ◌==◌, if◌then◌else◌, Bool, true, false, List, [], ◌∷◌, Option, Some}
 use Rattle.std.specs.Prelude.{None, option_map}
-use Rattle.spec_forest.specs.Forest.{Forest, none, leaf, group, size}
+use Rattle.spec_document.specs.Forest.{Forest, none, leaf, group, size}
 
 -- how many nodes come, in preorder, before what is put last in the group that a path names
 abbrev pub end_at : {L G : Type 0} → (path : List ℕ) → Forest L G → Option ℕ

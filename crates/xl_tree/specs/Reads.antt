@@ -1,8 +1,8 @@
 -- What a tree tells of one node or one stack.
 use Rattle.std.specs.Prelude.{◌≡◌, ℕ, ◌+◌, Bool, false, if◌then◌else◌, Option, Some, None}
-use Rattle.spec_forest.specs.Forest.{Forest, none, leaf, group, size, levels, Found, nothing, a_leaf, a_group}
+use Rattle.spec_document.specs.Forest.{Forest, none, leaf, group, size, levels, Found, nothing, a_leaf, a_group}
 use Rattle.xl_tree.specs.declared.entries.NodeEntry.{NodeEntry}
-use Rattle.spec_forest.specs.Holes.{from_place}
+use Rattle.spec_document.specs.Holes.{from_place}
 use Rattle.xl_tree.specs.Places.{first_some}
 
 -- a node with this entry and these children was found

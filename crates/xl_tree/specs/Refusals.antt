@@ -2,8 +2,8 @@
 use Rattle.std.specs.Prelude.{ℕ, ◌==◌, ◌||◌, Bool, false, nat_le, if◌then◌else◌, Option, Some, None, option_map}
 use Rattle.std.specs.Prelude.{unwrap_or, Result, Ok, Err}
 use Rattle.std.specs.List.{list_any}
-use Rattle.spec_forest.specs.Forest.{Forest, count, Found, nothing, a_leaf, a_group, find, stack_at, ancestors}
-use Rattle.spec_forest.specs.Changes.{without}
+use Rattle.spec_document.specs.Forest.{Forest, count, Found, nothing, a_leaf, a_group, find, stack_at, ancestors}
+use Rattle.spec_document.specs.Changes.{without}
 use Rattle.xl_tree.specs.declared.refused.TreeRefused.{TreeRefused}
 use Rattle.xl_tree.specs.declared.refused.TreeRefused.TheVariants.{NoNode, NotGroup, Inside, BadPlace}
 use Rattle.xl_tree.specs.Places.{first_some}

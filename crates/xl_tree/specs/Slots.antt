@@ -1,8 +1,8 @@
 -- Where something may be put into a forest.
 use Rattle.std.specs.Prelude.{◌≡◌, ℕ, ◌==◌, if◌then◌else◌, Some}
-use Rattle.spec_forest.specs.Forest.{Forest, stack_at}
-use Rattle.spec_forest.specs.Changes.{above, put_into, with_children}
-use Rattle.spec_forest.specs.Holes.{Hole, plug, depth, passed}
+use Rattle.spec_document.specs.Forest.{Forest, stack_at}
+use Rattle.spec_document.specs.Changes.{above, put_into, with_children}
+use Rattle.spec_document.specs.Holes.{Hole, plug, depth, passed}
 
 -- the nodes of a stack are changed
 abbrev pub with_stack : {L G : Type 0} → (stack : ℕ) → (Forest L G → Forest L G) → Forest L G → Forest L G

@@ -1,7 +1,7 @@
 -- Changes of a forest.
 use Rattle.std.specs.Prelude.{ℕ}
-use Rattle.spec_forest.specs.Forest.{Forest}
-use Rattle.spec_forest.specs.Changes.{with_leaf, with_group}
+use Rattle.spec_document.specs.Forest.{Forest}
+use Rattle.spec_document.specs.Changes.{with_leaf, with_group}
 
 -- the leaf or the group with this id has something else in it
 abbrev pub with_node : {N : Type 0} → (id : ℕ) → N → Forest N N → Forest N N

@@ -1,11 +1,11 @@
 ghost use Rattle.std.specs.Prelude.{◌≡◌, ◌≤◌, ◌<◌, [], ◌∷◌, ◌++◌, length, map, unwrap_or};
-ghost use Rattle.spec_forest.specs.Forest.{ancestors};
+ghost use Rattle.spec_document.specs.Forest.{ancestors};
 ghost use Rattle.xl_tree.specs.Above.{groups_before};
 
 use crate::entries::NodeEntry;
 use crate::forest::Tree;
 use crate::naming::NodeId;
-use spec_forest::MAX_DEPTH;
+use spec_document::MAX_DEPTH;
 use std::marker::Model;
 
 /// How many groups there is room for: one more than a node may be in.
@@ -20,7 +20,7 @@ pub struct Ancestors {
 
 impl Model for Ancestors {
     ghost use Rattle.std.specs.Prelude.{◌≡◌, ◌≤◌, List, length, take};
-    ghost use Rattle.spec_forest.specs.declared.TheConstants.{MAX_DEPTH};
+    ghost use Rattle.spec_document.specs.declared.TheConstants.{MAX_DEPTH};
     ghost use Rattle.xl_tree.specs.declared.naming.NodeId.{NodeId};
 
     ghost Value = { List NodeId };

@@ -1,5 +1,5 @@
 ghost use Rattle.std.specs.Prelude.{◌≡◌, IfOk};
-ghost use Rattle.spec_forest.specs.Forest.{none};
+ghost use Rattle.spec_document.specs.Forest.{none};
 
 use crate::entries::NodeEntry;
 use std::alloc::{AllocError, Global};
@@ -14,7 +14,7 @@ pub struct Branch<N> {
 
 impl<N> Model for Branch<N> {
     ghost use Rattle.std.specs.Prelude.{◌≤◌};
-    ghost use Rattle.spec_forest.specs.Forest.{ids};
+    ghost use Rattle.spec_document.specs.Forest.{ids};
     ghost use Rattle.std.specs.Vec.{vec_capacity};
     ghost use Rattle.xl_tree.specs.Branches.{Held, held_code};
 

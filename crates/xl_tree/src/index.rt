@@ -4,7 +4,7 @@ ghost use Rattle.xl_tree.specs.Index.{HasPlace, IsAscending, IsGap, IsIndex, pla
 ghost use Rattle.xl_tree.specs.Places.{first_some};
 
 use crate::entries::NodeEntry;
-use spec_forest::MAX_NODES;
+use spec_document::MAX_NODES;
 use std::alloc::{AllocError, Global};
 use std::marker::Model;
 

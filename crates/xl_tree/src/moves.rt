@@ -1,6 +1,6 @@
 ghost use Rattle.std.specs.Prelude.{◌≡◌, ◌+◌, ◌-◌, ◌<◌, ◌≤◌, ◌++◌, [], drop, length, map, take, vec_len};
 ghost use Rattle.std.specs.Vec.{vec_capacity};
-ghost use Rattle.spec_forest.specs.declared.TheConstants.{MAX_DEPTH};
+ghost use Rattle.spec_document.specs.declared.TheConstants.{MAX_DEPTH};
 ghost use Rattle.xl_tree.specs.Moves.{AreShallow, shifted};
 
 use crate::entries::NodeEntry;

@@ -1,8 +1,8 @@
 ghost use Rattle.std.specs.Prelude.{◌≡◌, ◌≤◌};
-ghost use Rattle.spec_forest.specs.Forest.{size};
-ghost use Rattle.spec_forest.specs.Holes.{from_place};
+ghost use Rattle.spec_document.specs.Forest.{size};
+ghost use Rattle.spec_document.specs.Holes.{from_place};
 ghost use Rattle.xl_tree.specs.Places.{end_at};
-ghost use Rattle.spec_forest.specs.declared.TheConstants.{MAX_NODES};
+ghost use Rattle.spec_document.specs.declared.TheConstants.{MAX_NODES};
 
 use crate::stacks::{Split, Stack};
 

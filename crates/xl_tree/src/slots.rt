@@ -1,12 +1,12 @@
 ghost use Rattle.std.specs.Prelude.{◌≡◌, ◌-◌, ◌≤◌, nat_eq, IfOk};
 ghost use Rattle.std.specs.List.{IsDistinct};
-ghost use Rattle.spec_forest.specs.Forest.{count, ids, size};
-ghost use Rattle.spec_forest.specs.Holes.{from_place};
+ghost use Rattle.spec_document.specs.Forest.{count, ids, size};
+ghost use Rattle.spec_document.specs.Holes.{from_place};
 ghost use Rattle.xl_tree.specs.Flat.{forest_of};
 ghost use Rattle.xl_tree.specs.Kept.{AreSiblings};
 ghost use Rattle.xl_tree.specs.Refusals.{no_stack, past, put_refusal, refusal_of};
 ghost use Rattle.xl_tree.specs.Slots.{IsSlot, IsStackAt};
-ghost use Rattle.spec_forest.specs.declared.TheConstants.{MAX_NODES};
+ghost use Rattle.spec_document.specs.declared.TheConstants.{MAX_NODES};
 
 use crate::entries::{NodeEntry, deeper, from_id};
 use crate::naming::NodeId;

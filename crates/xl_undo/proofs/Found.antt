@@ -1,7 +1,7 @@
 -- What a document has at an id is what its tree has there.
 use Rattle.std.proofs.Common.{◌≡◌, ℕ, ◌+◌, ◌≤◌, Bool, true, false, cond, refl, sym, subst, arith}
 use Rattle.std.specs.Prelude.{◌==◌, Option}
-use Rattle.spec_forest.specs.Forest.{Forest, none, leaf, group, Found, nothing, a_leaf, a_group, or_else, find}
+use Rattle.spec_document.specs.Forest.{Forest, none, leaf, group, Found, nothing, a_leaf, a_group, or_else, find}
 use Rattle.spec_document.specs.Document.{Layer, Group}
 use Rattle.xl_tree.specs.Reads.{node_of}
 use Rattle.xl_doc.specs.declared.node.Node.{Node}

@@ -1,6 +1,6 @@
 -- What a document has at an id, by the node that its tree has there.
 use Rattle.std.specs.Prelude.{◌≡◌, Option, Some, None}
-use Rattle.spec_forest.specs.Forest.{Found, nothing, a_leaf, a_group}
+use Rattle.spec_document.specs.Forest.{Found, nothing, a_leaf, a_group}
 use Rattle.spec_document.specs.Document.{Layer, Group}
 use Rattle.xl_doc.specs.declared.node.Node.{Node}
 use Rattle.xl_doc.specs.declared.node.Body.{Body}

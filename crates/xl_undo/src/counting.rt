@@ -5,7 +5,7 @@ ghost use Rattle.spec_document.specs.Document as sheet;
 ghost use Rattle.spec_undo.specs.Planes.{are_alike, changed_tiles as changed_planes, tile_count};
 ghost use Rattle.spec_undo.specs.Changed as doc;
 ghost use Rattle.spec_undo.specs.Changed.{tiles_alone};
-ghost use Rattle.spec_forest.specs.Forest.{Found};
+ghost use Rattle.spec_document.specs.Forest.{Found};
 ghost use Rattle.xl_doc.specs.Nodes.{MarksAgree, nodes_of};
 ghost use Rattle.xl_undo.specs.Held.{held};
 ghost use Rattle.xl_undo.specs.Seen.{IsLayerOf, IsSeen};

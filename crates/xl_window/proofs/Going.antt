@@ -7,7 +7,7 @@ use Rattle.spec_history.specs.History.{asked, next_index}
 use Rattle.spec_world.specs.World.{World, free_entries}
 use Rattle.spec_world.specs.Events as events
 use Rattle.spec_world.specs.Events.{Outcome}
-use Rattle.spec_grid.specs.declared.TileAt.{TileAt}
+use Rattle.spec_document.specs.declared.TileAt.{TileAt}
 use Rattle.xl_core.specs.Editing.{Editing, world, IsSubmitted, IsAsBefore}
 use Rattle.xl_core.specs.History.{History}
 use Rattle.xl_window.specs.declared.refused.WindowRefusedOrMemory.TheVariants.{Refused}

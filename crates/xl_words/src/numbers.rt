@@ -2,7 +2,7 @@ ghost use Rattle.std.specs.Prelude.{◌≡◌, ◌<◌, ◌≤◌, ◌^◌, IfSo
 ghost use Rattle.spec_script.specs.Words as grammar;
 ghost use Rattle.xl_words.specs.Numbers.{below, below_zero};
 
-use spec_grid::MAX_SIDE;
+use spec_document::MAX_SIDE;
 
 // Numbers of 32 bits, and places and sides of rectangles, are below these.
 const WORD_LIMIT: u64 = 1 << 32;

@@ -4,7 +4,7 @@ ghost use Rattle.xl_words.specs.Reads.{Reads};
 
 use crate::cause::Cause;
 use crate::operand::Operand;
-use spec_grid::Rect;
+use spec_document::Rect;
 
 /// A rectangle: its top left corner and its sides, in pixels.
 pub fn rect(x: Operand<'_>, y: Operand<'_>, w: Operand<'_>, h: Operand<'_>) -> Result<Rect, Cause>

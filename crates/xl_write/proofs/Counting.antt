@@ -1,6 +1,6 @@
 -- How many layers and groups a document has, as code counts them, and that they can be written.
 use Rattle.std.proofs.Common.{◌≡◌, ℕ, List, [], length, refl, sym, ap, ◌∙◌, arith}
-use Rattle.spec_forest.specs.Forest.{Forest, none, leaf, group, size}
+use Rattle.spec_document.specs.Forest.{Forest, none, leaf, group, size}
 use Rattle.spec_document.specs.Document.{Document}
 use Rattle.spec_document.specs.Limits.{IsDocument}
 use Rattle.spec_layout.specs.Layout.{items}

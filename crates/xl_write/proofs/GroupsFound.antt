@@ -4,8 +4,8 @@ use Rattle.std.proofs.Common.{sym, ◌∙◌, subst, eq-eqb, arith}
 use Rattle.std.specs.Prelude.{Option, Some, IsSome, ◌==◌}
 use Rattle.std.specs.List.{AllByRecursion, IsDistinct}
 use Rattle.std.proofs.lemmas.Bool.{ne_eqb, eqb-false}
-use Rattle.spec_forest.specs.Forest.{none, leaf, group, Found, nothing, a_leaf, a_group, or_else, find, ids, children_of}
-use Rattle.spec_forest.proofs.Distinct.{Member, IsNot, member-left, member-right, nothing_from_ids, distinct-left, distinct-right}
+use Rattle.spec_document.specs.Forest.{none, leaf, group, Found, nothing, a_leaf, a_group, or_else, find, ids, children_of}
+use Rattle.spec_document.proofs.Distinct.{Member, IsNot, member-left, member-right, nothing_from_ids, distinct-left, distinct-right}
 use Rattle.spec_document.specs.Document.{Document, Nodes, Layer, Group}
 use Rattle.spec_document.specs.Limits.{IsDocument}
 use Rattle.xl_write.specs.Groups.{IsGroupOf, AreGroupsOf}

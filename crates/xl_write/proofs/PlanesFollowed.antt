@@ -4,7 +4,7 @@ use Rattle.std.proofs.Common.{append-nil}
 use Rattle.std.specs.Prelude.{flat_map, Option, Some, None}
 use Rattle.std.proofs.lemmas.List.{map_more}
 use Rattle.std.proofs.lemmas.List.Concat.{flat_map-append}
-use Rattle.spec_forest.specs.Forest.{leaf, group}
+use Rattle.spec_document.specs.Forest.{leaf, group}
 use Rattle.spec_document.specs.Plane.{Plane}
 use Rattle.spec_document.specs.Document.{Document, Nodes, Layer, Group, Channel}
 use Rattle.spec_hierarchy.specs.BytePlanes.{byte_planes}

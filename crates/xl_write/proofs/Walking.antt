@@ -1,7 +1,7 @@
 -- The walk through the nodes of a document, node by node.
 use Rattle.std.proofs.Common.{◌≡◌, ℕ, suc, ◌+◌, ◌-◌, List, [], ◌∷◌, ◌++◌, length, take, ap, ◌∙◌, subst, arith, length-append}
 use Rattle.std.proofs.lemmas.List.{take_at}
-use Rattle.spec_forest.specs.Forest.{leaf, group}
+use Rattle.spec_document.specs.Forest.{leaf, group}
 use Rattle.spec_document.specs.Document.{Document, Nodes, Layer, Group}
 use Rattle.spec_layout.specs.Layout.{Item, IsItem, layer_item, group_as_item, items_from}
 use Rattle.xl_layout.proofs.Lengths.{item_costs-append}

@@ -1,6 +1,6 @@
 -- The groups of a document, whose pictures are written beside their layers.
 use Rattle.std.specs.Prelude.{◌≢◌, ℕ, IsSome}
-use Rattle.spec_forest.specs.Forest.{none, leaf, group, stack_at}
+use Rattle.spec_document.specs.Forest.{none, leaf, group, stack_at}
 use Rattle.spec_document.specs.Document.{Document, Nodes}
 
 -- the id names a group of the document

@@ -2,10 +2,10 @@
 ghost use Rattle.std.specs.Prelude.{◌≡◌, ◌*◌, ◌≤◌, length, IfOk};
 ghost use Rattle.spec_document.specs.Document.{bytes_of_kind, picture_kind};
 ghost use Rattle.spec_document.specs.Limits.{IsSide};
-ghost use Rattle.spec_grid.specs.Rect.{part_above_0};
+ghost use Rattle.spec_document.specs.Rect.{part_above_0};
 ghost use Rattle.spec_layout.specs.Layout as layout;
-ghost use Rattle.spec_picture.specs.Greys.{pixels_of_base};
-ghost use Rattle.spec_picture.specs.Picture.{picture_bytes};
+ghost use Rattle.spec_document.specs.Greys.{pixels_of_base};
+ghost use Rattle.spec_document.specs.Picture.{picture_bytes};
 ghost use Rattle.xl_doc.specs.Canvas.{IsInside};
 ghost use Rattle.xl_write.specs.Groups.{IsGroupOf};
 

@@ -1,6 +1,6 @@
 use Rattle.std.proofs.Common.{refl, sym, ap}
 use Rattle.std.specs.Prelude.{Some}
-use Rattle.spec_forest.specs.Forest.{none}
+use Rattle.spec_document.specs.Forest.{none}
 use Rattle.spec_document.specs.declared.Base.TheVariants.{Rgb}
 use Rattle.xl_doc.specs.Nodes.{nodes_of}
 use Rattle.xl_doc.specs.Sample.{hat}

@@ -2,7 +2,7 @@ use Rattle.std.proofs.Common.{◌<◌, [], sym, ◌∙◌, ap, subst}
 use Rattle.std.specs.Prelude.{None}
 use Rattle.std.specs.List.{AllByRecursion}
 use Rattle.spec_document.specs.Document.{Document}
-use Rattle.spec_forest.specs.Forest.{ids}
+use Rattle.spec_document.specs.Forest.{ids}
 use Rattle.document_rows.proofs.marks.no_damage.Goals as goal
 
 pub add-requires-clause-above : goal.add-requires-clause-above

@@ -1,6 +1,6 @@
 -- A job of the last version is that version's picture.
 use Rattle.std.proofs.Common.{◌≡◌, true, rules}
-use Rattle.spec_grid.specs.Grid.{is_on_grid}
+use Rattle.spec_document.specs.Grid.{is_on_grid}
 use Rattle.spec_history.specs.Machine.{has_stack}
 use Rattle.xl_standing.specs.History.{document}
 use Rattle.kept_rows.specs.Asked.{IsOfLast}

@@ -1,5 +1,5 @@
 use Rattle.std.proofs.Common.{◌≡◌, ℕ, ◌<◌, ◌≤◌, slice_index_or}
-use Rattle.spec_blend.specs.Over.{clear}
+use Rattle.spec_document.specs.Over.{clear}
 use Rattle.xl_blend.specs.Words.{alpha_over}
 use Rattle.xl_blend.proofs.alphas.wholes_of.Given as goal
 

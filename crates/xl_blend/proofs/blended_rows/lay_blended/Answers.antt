@@ -1,6 +1,6 @@
 use Rattle.std.proofs.Common.{slice_index_or, ◌∙◌, sym, arith}
 use Rattle.std.proofs.lemmas.List.{map-id}
-use Rattle.spec_blend.specs.Over.{clear}
+use Rattle.spec_document.specs.Over.{clear}
 use Rattle.xl_blend.proofs.SoFar.{map-zip_first, map-zip_same}
 use Rattle.xl_blend.proofs.Laid.{blended_by_clear, blended_over_opaque, other_rows}
 use Rattle.xl_blend.proofs.blended_rows.lay_blended.Goals as goal

@@ -1,6 +1,6 @@
 use Rattle.std.proofs.Common.{◌≡◌, ℕ, ◌<◌, ◌≤◌, length, slice_index_or}
-use Rattle.spec_blend.specs.declared.Pixel.{Pixel}
-use Rattle.spec_blend.specs.Over.{over_blended, clear}
+use Rattle.spec_document.specs.declared.Pixel.{Pixel}
+use Rattle.spec_document.specs.Over.{over_blended, clear}
 use Rattle.xl_blend.specs.Rows.{blended_rows}
 use Rattle.xl_blend.specs.Words.{weight}
 use Rattle.xl_blend.proofs.SoFar.{so_far}

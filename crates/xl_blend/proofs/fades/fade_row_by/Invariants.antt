@@ -1,5 +1,5 @@
 use Rattle.std.proofs.Common.{◌≡◌, ℕ}
-use Rattle.spec_blend.specs.declared.Pixel.{Pixel}
+use Rattle.spec_document.specs.declared.Pixel.{Pixel}
 use Rattle.xl_blend.specs.Rows.{faded, faded_row_by}
 use Rattle.xl_blend.proofs.SoFar.{so_far}
 use Rattle.xl_blend.proofs.fades.fade_row_by.Given as goal

@@ -1,7 +1,7 @@
 use Rattle.std.proofs.Common.{◌≡◌, ℕ, ◌-◌, min, ◌∙◌, sym, arith}
 use Rattle.std.specs.Simd.Lanes.{zip2}
 use lib.ListN.{replicate}
-use Rattle.spec_blend.specs.Blend.{blend}
+use Rattle.spec_document.specs.Blend.{blend}
 use Rattle.xl_blend.proofs.LaneWise.{both, first, second, splat, agreed, small}
 use Rattle.xl_blend.proofs.LaneArithmetic.{add16, normal16, multiply16, screen_cut, difference16, addition16, subtract16}
 use Rattle.xl_blend.proofs.LaneArithmetic.{darken16, lighten16, extract16, merge16}

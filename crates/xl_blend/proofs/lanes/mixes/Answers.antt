@@ -2,8 +2,8 @@ use Rattle.std.proofs.Common.{◌≡◌, ℕ, length, ◌∙◌, sym, arith}
 use Rattle.std.specs.Simd.Lanes.{zip2}
 use Rattle.std.proofs.lemmas.Simd.{length-zip2}
 use lib.ListN.{replicate}
-use Rattle.spec_blend.specs.Over.{mean}
-use Rattle.spec_blend.proofs.OverLemmas.{mean-is_byte}
+use Rattle.spec_document.specs.Over.{mean}
+use Rattle.spec_document.proofs.OverLemmas.{mean-is_byte}
 use Rattle.xl_blend.proofs.LaneWise.{mapped, both, first, second, splat, agreed_three, small_three}
 use Rattle.xl_blend.proofs.LaneArithmetic.{add16, sub16, mul16, part16, rest16, mixed16, mean16}
 use Rattle.xl_blend.proofs.lanes.mixes.Goals as goal

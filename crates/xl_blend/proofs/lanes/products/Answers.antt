@@ -1,6 +1,6 @@
 use Rattle.std.proofs.Common.{◌∙◌, sym, arith}
-use Rattle.spec_blend.specs.Blend.{mul}
-use Rattle.spec_blend.proofs.OverLemmas.{mul-le_right}
+use Rattle.spec_document.specs.Blend.{mul}
+use Rattle.spec_document.proofs.OverLemmas.{mul-le_right}
 use Rattle.xl_blend.proofs.LaneWise.{mapped, both, first, second, splat, agreed, small}
 use Rattle.xl_blend.proofs.LaneArithmetic.{part16, product16}
 use Rattle.xl_blend.proofs.lanes.products.Goals as goal

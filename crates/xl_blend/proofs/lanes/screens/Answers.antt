@@ -1,5 +1,5 @@
 use Rattle.std.proofs.Common.{◌∙◌, sym, arith}
-use Rattle.spec_blend.specs.Blend.{screen}
+use Rattle.spec_document.specs.Blend.{screen}
 use Rattle.xl_blend.proofs.LaneWise.{both, first, second, agreed, small}
 use Rattle.xl_blend.proofs.LaneArithmetic.{screen16}
 use Rattle.xl_blend.proofs.lanes.screens.Goals as goal

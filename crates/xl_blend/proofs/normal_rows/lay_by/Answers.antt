@@ -1,5 +1,5 @@
 use Rattle.std.proofs.Common.{◌≡◌, slice_index_or, ◌∙◌, sym, arith}
-use Rattle.spec_blend.specs.Over.{clear}
+use Rattle.spec_document.specs.Over.{clear}
 use Rattle.xl_blend.specs.Words.{alpha_over}
 use Rattle.xl_blend.proofs.SoFar.{so_far-none, so_far-more, so_far-all, rest-more}
 use Rattle.xl_blend.proofs.normal_rows.lay_by.Goals as goal

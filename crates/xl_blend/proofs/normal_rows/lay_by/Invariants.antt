@@ -1,7 +1,7 @@
 use Rattle.std.proofs.Common.{◌≡◌, ℕ, ◌<◌, ◌≤◌, length, slice_index_or}
-use Rattle.spec_blend.specs.declared.Mode.TheVariants.{Normal}
-use Rattle.spec_blend.specs.declared.Pixel.{Pixel}
-use Rattle.spec_blend.specs.Over.{over, clear}
+use Rattle.spec_document.specs.declared.Mode.TheVariants.{Normal}
+use Rattle.spec_document.specs.declared.Pixel.{Pixel}
+use Rattle.spec_document.specs.Over.{over, clear}
 use Rattle.xl_blend.specs.Rows.{over_rows}
 use Rattle.xl_blend.specs.Words.{alpha_over}
 use Rattle.xl_blend.proofs.SoFar.{so_far}

@@ -1,6 +1,6 @@
 use Rattle.std.proofs.Common.{slice_index_or, ◌∙◌, ap, sym, map, arith}
 use Rattle.std.proofs.lemmas.List.{map-id}
-use Rattle.spec_blend.specs.Over.{clear}
+use Rattle.spec_document.specs.Over.{clear}
 use Rattle.xl_blend.specs.Shown.{shown}
 use Rattle.xl_blend.proofs.SoFar.{map-zip_first, map-zip_second, map-zip_same}
 use Rattle.xl_blend.proofs.Laid.{over_by_opaque, over_by_clear, over_clear, normal_over_opaque}

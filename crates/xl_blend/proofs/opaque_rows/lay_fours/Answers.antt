@@ -1,6 +1,6 @@
 use Rattle.std.proofs.Common.{◌∙◌, slice_index_or, ap, arith, rules}
-use Rattle.spec_blend.specs.declared.Pixel.{Pixel}
-use Rattle.spec_blend.specs.Over.{clear, IsPixel}
+use Rattle.spec_document.specs.declared.Pixel.{Pixel}
+use Rattle.spec_document.specs.Over.{clear, IsPixel}
 use Rattle.xl_blend.specs.declared.fours.Four.{Four}
 use Rattle.xl_blend.specs.Rows.{over_opaque}
 use Rattle.xl_blend.proofs.SoFar.{so_far-none, so_far-four, four_more}

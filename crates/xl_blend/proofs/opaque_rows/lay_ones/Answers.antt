@@ -1,5 +1,5 @@
 use Rattle.std.proofs.Common.{◌≤◌, ◌∙◌, slice_index_or, sym, arith, refl, below_more}
-use Rattle.spec_blend.specs.Over.{clear, IsPixel}
+use Rattle.spec_document.specs.Over.{clear, IsPixel}
 use Rattle.xl_blend.proofs.SoFar.{so_far-more, so_far-all}
 use Rattle.xl_blend.proofs.opaque_rows.lay_ones.Goals as goal
 

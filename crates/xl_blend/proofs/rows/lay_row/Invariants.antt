@@ -1,6 +1,6 @@
 use Rattle.std.proofs.Common.{◌≡◌, ◌-◌, ◌≤◌, length}
-use Rattle.spec_blend.specs.declared.Pixel.{Pixel}
-use Rattle.spec_blend.specs.Over.{over}
+use Rattle.spec_document.specs.declared.Pixel.{Pixel}
+use Rattle.spec_document.specs.Over.{over}
 use Rattle.xl_blend.specs.Rows.{over_rows}
 use Rattle.xl_blend.proofs.SoFar.{so_far}
 use Rattle.xl_blend.proofs.rows.lay_row.Given as goal

@@ -1,6 +1,6 @@
 use Rattle.std.proofs.Common.{◌≡◌, ℕ, ◌/◌, ◌%◌, ◌∙◌, refl, sym, arith}
-use Rattle.spec_blend.specs.declared.Pixel.{Pixel}
-use Rattle.spec_blend.specs.Over.{IsPixel}
+use Rattle.spec_document.specs.declared.Pixel.{Pixel}
+use Rattle.spec_document.specs.Over.{IsPixel}
 use Rattle.xl_blend.specs.Words.{word_of, pixel_of}
 use Rattle.xl_blend.proofs.SoFar.{mapped_so_far-none, mapped_so_far-more, mapped_so_far-all}
 use Rattle.xl_blend.proofs.uniform_rows.fill.Goals as goal

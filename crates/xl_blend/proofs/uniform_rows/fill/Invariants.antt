@@ -1,5 +1,5 @@
 use Rattle.std.proofs.Common.{◌≡◌, map}
-use Rattle.spec_blend.specs.declared.Pixel.{Pixel}
+use Rattle.spec_document.specs.declared.Pixel.{Pixel}
 use Rattle.xl_blend.proofs.SoFar.{mapped_so_far}
 use Rattle.xl_blend.proofs.uniform_rows.fill.Given as goal
 

@@ -1,6 +1,6 @@
 use Rattle.std.proofs.Common.{◌∙◌, sym, arith}
-use Rattle.spec_blend.specs.declared.Pixel.{Pixel}
-use Rattle.spec_blend.specs.Over.{clear}
+use Rattle.spec_document.specs.declared.Pixel.{Pixel}
+use Rattle.spec_document.specs.Over.{clear}
 use Rattle.xl_blend.proofs.SoFar.{map-zip_first}
 use Rattle.xl_blend.proofs.uniform_rows.lay_uniform.Goals as goal
 

@@ -1,5 +1,5 @@
 use Rattle.std.proofs.Common.{arith, ◌*◌, ◌+◌, ◌-◌}
-use Rattle.spec_blend.proofs.OverLemmas.{mean-is_byte}
+use Rattle.spec_document.proofs.OverLemmas.{mean-is_byte}
 use Rattle.xl_blend.proofs.Weighed.{rounded, weighed}
 use Rattle.xl_blend.proofs.words.mix_byte.Goals as goal
 

@@ -2,13 +2,13 @@
 use Rattle.std.proofs.Common.{rules, ◌≡◌, ◌+◌, ◌*◌, ◌==◌, List, [], ◌∷◌, ◌++◌, Some, None, sym, ◌∙◌}
 use Rattle.std.specs.Prelude.{Option}
 use Rattle.std.proofs.lemmas.Result.{IfErr-weaker}
-use Rattle.spec_forest.specs.Forest.{size}
+use Rattle.spec_document.specs.Forest.{size}
 use Rattle.spec_document.specs.Document.{area, base_code, base_of_kind}
 use Rattle.spec_edit.specs.declared.EditRefused.{EditRefused}
 use Rattle.spec_edit.specs.declared.EditRefused.TheVariants.{OtherType}
 use Rattle.spec_edit.specs.Refusal.{first, unless, offset_range, no_parent, not_group, bad_place, bad_name, too_deep}
 use Rattle.spec_edit.specs.Refusal.{too_many, too_large}
-use Rattle.spec_forest.specs.declared.TheConstants.{MAX_NODES}
+use Rattle.spec_document.specs.declared.TheConstants.{MAX_NODES}
 use Rattle.xl_checks.proofs.RulesInTurn.{then_first, stops}
 use Rattle.xl_checks.proofs.checks.check_new_layer.Goals as goal
 

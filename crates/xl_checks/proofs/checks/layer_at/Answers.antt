@@ -1,7 +1,7 @@
 -- What the tree answers is said of the document's nodes.
 use Rattle.std.proofs.Common.{◌≡◌, sym, ◌∙◌, ap, Some, None}
 use Rattle.std.specs.Option.{option_copied}
-use Rattle.spec_forest.specs.Forest.{find}
+use Rattle.spec_document.specs.Forest.{find}
 use Rattle.xl_tree.specs.Reads.{node_of}
 use Rattle.xl_checks.proofs.LayerFound.{absent_refused, group_refused, leaf_found}
 use Rattle.xl_checks.proofs.checks.layer_at.Goals as goal

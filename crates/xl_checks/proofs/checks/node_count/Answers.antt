@@ -1,5 +1,5 @@
 use Rattle.std.proofs.Common.{sym, ◌∙◌, ap}
-use Rattle.spec_forest.specs.Forest.{size}
+use Rattle.spec_document.specs.Forest.{size}
 use Rattle.spec_document.specs.Document.{Document}
 use Rattle.xl_checks.proofs.NodesMoved.{size-nodes_of}
 use Rattle.xl_checks.proofs.checks.node_count.Goals as goal

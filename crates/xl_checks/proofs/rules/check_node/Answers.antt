@@ -1,7 +1,7 @@
 -- What the tree answers is said of the document's nodes.
 use Rattle.std.proofs.Common.{◌≡◌, sym, ◌∙◌, ap, Some, None}
 use Rattle.std.specs.Option.{option_copied}
-use Rattle.spec_forest.specs.Forest.{find}
+use Rattle.spec_document.specs.Forest.{find}
 use Rattle.spec_edit.specs.Refusal.{no_node_found}
 use Rattle.xl_tree.specs.Reads.{node_of}
 use Rattle.xl_checks.proofs.Seen.{no_node_seen, node_seen}

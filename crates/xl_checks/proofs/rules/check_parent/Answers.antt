@@ -1,7 +1,7 @@
 -- What the tree answers is said of the document's nodes.
 use Rattle.std.proofs.Common.{rules, ◌≡◌, false, eqb, [], ◌∷◌, sym, ◌∙◌, ap, subst, Some, None}
 use Rattle.std.specs.Option.{option_copied}
-use Rattle.spec_forest.specs.Forest.{find}
+use Rattle.spec_document.specs.Forest.{find}
 use Rattle.spec_document.specs.Document.{Document}
 use Rattle.spec_edit.specs.declared.EditRefused.TheVariants.{NoNode, NotGroup}
 use Rattle.spec_edit.specs.Refusal.{first, no_parent, not_group}

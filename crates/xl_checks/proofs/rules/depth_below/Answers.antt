@@ -2,7 +2,7 @@
 use Rattle.std.proofs.Common.{rules, ◌≡◌, ◌+◌, ℕ, false, cond, eqb, List, [], length, refl, sym, ◌∙◌, ap}
 use Rattle.std.proofs.lemmas.List.{length-map}
 use Rattle.std.specs.Prelude.{Option, Some, None, option_map, unwrap_or}
-use Rattle.spec_forest.specs.Forest.{ancestors}
+use Rattle.spec_document.specs.Forest.{ancestors}
 use Rattle.spec_document.specs.Document.{Document}
 use Rattle.spec_edit.specs.Refusal.{depth_below}
 use Rattle.xl_tree.specs.declared.naming.NodeId.{NodeId}

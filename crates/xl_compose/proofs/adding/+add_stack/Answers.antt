@@ -1,7 +1,7 @@
 use Rattle.std.proofs.Common.{◌≡◌, ◌+◌, ◌++◌, ◌∷◌, [], List, subst, sym, ◌∙◌, ap, arith}
-use Rattle.spec_picture.specs.Picture.{any_visible}
+use Rattle.spec_document.specs.Picture.{any_visible}
 use Rattle.xl_doc.specs.Nodes.{nodes_of, layer_of, group_of}
-use Rattle.spec_forest.specs.Forest.{none, leaf, group}
+use Rattle.spec_document.specs.Forest.{none, leaf, group}
 use Rattle.xl_compose.specs.declared.pieces.Piece.{Piece}
 use Rattle.xl_compose.specs.Added.{AreAdded}
 use Rattle.xl_compose.specs.NodePieces.{leaf_pieces, stack_piece}

@@ -1,4 +1,4 @@
-use Rattle.spec_forest.specs.Forest.{size}
+use Rattle.spec_document.specs.Forest.{size}
 use Rattle.xl_compose.proofs.adding.+add_stack.Given as goal
 
 abbrev pub decreases-add_stack : goal.decreases-add_stack

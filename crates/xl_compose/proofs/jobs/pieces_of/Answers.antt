@@ -1,7 +1,7 @@
 use Rattle.std.proofs.Common.{◌≡◌, ◌+◌, ◌≤◌, nat_eq, sym, ◌∙◌, ap, arith}
 use Rattle.std.specs.Prelude.{Some, option_map}
 use Rattle.std.specs.List.{AllByRecursion, IsDistinct}
-use Rattle.spec_forest.specs.Forest.{ids, stack_at}
+use Rattle.spec_document.specs.Forest.{ids, stack_at}
 use Rattle.xl_doc.specs.Nodes.{nodes_of}
 use Rattle.xl_doc.proofs.NodesOf.{agrees_in, stack-nodes_of}
 use Rattle.xl_compose.specs.Added.{AreAdded}

@@ -1,5 +1,5 @@
 use Rattle.std.proofs.Common.{◌≡◌, ℕ, ◌<◌, List, get_or}
-use Rattle.spec_blend.specs.Over.{clear}
+use Rattle.spec_document.specs.Over.{clear}
 use Rattle.xl_compose.specs.Own.{pixel_at}
 use Rattle.xl_compose.proofs.own.rgba_row.Given as goal
 

@@ -1,6 +1,6 @@
 use Rattle.std.proofs.Common.{◌≡◌, ◌*◌, ◌≤◌, length, refl, replicate, ◌∙◌, ap, arith}
 use Rattle.std.proofs.lemmas.List.{length-replicate}
-use Rattle.spec_blend.specs.Over.{clear}
+use Rattle.spec_document.specs.Over.{clear}
 use Rattle.xl_compose.specs.Levels.{points}
 use Rattle.xl_compose.specs.Pieces.{composed}
 use Rattle.xl_compose.proofs.JobPieces.{all_clear, composed_is, first_in, fit_in}

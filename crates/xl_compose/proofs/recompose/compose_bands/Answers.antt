@@ -1,10 +1,10 @@
 use Rattle.std.proofs.Common.{◌≡◌, ℕ, ◌+◌, ◌*◌, ◌≤◌, List, length, min, ap, sym, ◌∙◌, arith, refl, mul_comm}
 use Rattle.std.specs.Prelude.{Some, flat_map}
-use Rattle.spec_forest.specs.Forest.{levels, stack_at}
-use Rattle.spec_grid.specs.Rect.{count_from}
+use Rattle.spec_document.specs.Forest.{levels, stack_at}
+use Rattle.spec_document.specs.Rect.{count_from}
 use Rattle.xl_doc.specs.Nodes.{nodes_of}
 use Rattle.xl_doc.proofs.NodesOf.{agrees_in}
-use Rattle.spec_picture.specs.Picture.{picture, stack_pixel, picture_bytes, pixel_bytes}
+use Rattle.spec_document.specs.Picture.{picture, stack_pixel, picture_bytes, pixel_bytes}
 use Rattle.xl_compose.specs.Cost.{visible_in, visible_below}
 use Rattle.xl_compose.specs.Depth.{levels_below}
 use Rattle.xl_compose.proofs.Depths.{levels_are}
@@ -12,7 +12,7 @@ use Rattle.xl_compose.proofs.Costs.{band_cost}
 use Rattle.xl_compose.proofs.Recomposed.{some_stack, picture_is, count_is}
 use Rattle.xl_compose.proofs.PictureRows.{bands_more, rows_all, rows_fit, natural_is}
 use Rattle.xl_compose.proofs.recompose.compose_bands.Goals as goal
-use Rattle.spec_grid.specs.declared.TheConstants.{MAX_SIDE}
+use Rattle.spec_document.specs.declared.TheConstants.{MAX_SIDE}
 
 pub unwrap-nodes-requires : goal.unwrap-nodes-requires
 unwrap-nodes-requires g c =

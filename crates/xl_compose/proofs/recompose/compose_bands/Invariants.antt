@@ -1,5 +1,5 @@
 use Rattle.std.proofs.Common.{◌≡◌, ◌+◌, ◌*◌, ◌≤◌, min, take}
-use Rattle.spec_picture.specs.Picture.{picture_bytes}
+use Rattle.spec_document.specs.Picture.{picture_bytes}
 use Rattle.xl_compose.specs.Cost.{visible_below}
 use Rattle.xl_compose.proofs.recompose.compose_bands.Given as goal
 

@@ -1,5 +1,5 @@
 use Rattle.std.proofs.Common.{◌+◌, ◌*◌, ◌∙◌}
-use Rattle.spec_blend.specs.Over.{over}
+use Rattle.spec_document.specs.Over.{over}
 use Rattle.xl_compose.specs.Laid.{pixel}
 use Rattle.xl_compose.specs.Span.{place_by}
 use Rattle.xl_compose.specs.Source.{at_place, sheet_pixel}

@@ -1,5 +1,5 @@
 use Rattle.std.proofs.Common.{◌≡◌, suc, ◌+◌, ◌*◌, ◌≤◌, length, length-take-le, mul-le-mul_right, ◌∙◌, subst, arith}
-use Rattle.spec_grid.specs.Rect.{part_above_0}
+use Rattle.spec_document.specs.Rect.{part_above_0}
 use Rattle.xl_compose.specs.Source.{sheet_pixel}
 use Rattle.xl_compose.proofs.BandRows.{AreLaidTo, none_laid, row_laid}
 use Rattle.xl_compose.proofs.Costs.{row_cost}

@@ -1,5 +1,5 @@
 use Rattle.std.proofs.Common.{◌≡◌, ◌+◌, ◌*◌, length}
-use Rattle.spec_grid.specs.Rect.{part_above_0}
+use Rattle.spec_document.specs.Rect.{part_above_0}
 use Rattle.xl_compose.specs.Source.{sheet_pixel}
 use Rattle.xl_compose.proofs.BandRows.{AreLaidTo}
 use Rattle.xl_compose.proofs.source.lay_rows.Given as goal

@@ -1,7 +1,7 @@
 use Rattle.std.proofs.Common.{◌≡◌, ◌+◌, ◌*◌, length, ◌∙◌, ap, sym, arith}
 use Rattle.std.proofs.lemmas.Nat.{mul-add-lt}
-use Rattle.spec_picture.specs.Picture.{laid, mode_above as mode_over}
-use Rattle.spec_picture.specs.Source.{faded}
+use Rattle.spec_document.specs.Picture.{laid, mode_above as mode_over}
+use Rattle.spec_document.specs.Source.{faded}
 use Rattle.xl_doc.specs.Nodes.{nodes_of}
 use Rattle.xl_compose.specs.Cost.{visible_in}
 use Rattle.xl_compose.proofs.Costs.{group_cost}

@@ -1,4 +1,4 @@
-use Rattle.spec_forest.specs.Forest.{size}
+use Rattle.spec_document.specs.Forest.{size}
 use Rattle.xl_compose.proofs.stacks.+lay_stack.Given as goal
 
 abbrev pub decreases-lay_stack : goal.decreases-lay_stack

@@ -1,5 +1,5 @@
 use Rattle.std.proofs.Common.{◌≡◌, ℕ, ◌<◌, get_or}
-use Rattle.spec_blend.specs.Over.{clear}
+use Rattle.spec_document.specs.Over.{clear}
 use Rattle.xl_compose.proofs.stacks.clear_row.Given as goal
 
 abbrev pub invariant-loop-k : goal.invariant-loop-k

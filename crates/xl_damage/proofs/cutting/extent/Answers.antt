@@ -1,10 +1,10 @@
 use Rattle.std.proofs.Common.{◌≡◌, sym, ◌∙◌, ap, subst}
 use Rattle.std.specs.Prelude.{Some, None, IsSome}
 use Rattle.std.specs.Option.{option_copied}
-use Rattle.spec_forest.specs.Forest.{find, stack_at}
-use Rattle.spec_grid.specs.Rect.{meet, sheet}
+use Rattle.spec_document.specs.Forest.{find, stack_at}
+use Rattle.spec_document.specs.Rect.{meet, sheet}
 use Rattle.spec_document.specs.Document.{Document}
-use Rattle.spec_picture.specs.Picture.{extent, rect_found}
+use Rattle.spec_document.specs.Picture.{extent, rect_found}
 use Rattle.xl_grid.specs.Small.{IsSmall}
 use Rattle.xl_tree.specs.Reads.{node_of}
 use Rattle.xl_doc.specs.Nodes.{nodes_of, IsLeaf, IsGroup}

@@ -1,5 +1,5 @@
 use Rattle.std.proofs.Common.{sym, ◌∙◌, ap, subst}
-use Rattle.spec_grid.specs.Rect.{lies_on}
+use Rattle.spec_document.specs.Rect.{lies_on}
 use Rattle.xl_grid.specs.Small.{IsSmall}
 use Rattle.xl_damage.proofs.Small.{lies, own_small, placed_small}
 use Rattle.xl_damage.proofs.cutting.layer_part.Goals as goal

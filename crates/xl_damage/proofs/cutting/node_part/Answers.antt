@@ -1,9 +1,9 @@
 use Rattle.std.proofs.Common.{◌≡◌, Bool, true, false, refl, sym, ◌∙◌, ap, subst}
 use Rattle.std.specs.Prelude.{Option, Some, None, ◌+ℤ◌}
 use Rattle.std.specs.Option.{option_copied}
-use Rattle.spec_forest.specs.Forest.{Found, find}
+use Rattle.spec_document.specs.Forest.{Found, find}
 use Rattle.spec_document.specs.Document.{Layer, Group}
-use Rattle.spec_grid.specs.Rect.{lies_on}
+use Rattle.spec_document.specs.Rect.{lies_on}
 use Rattle.spec_edit.specs.declared.EditRefused.{EditRefused}
 use Rattle.spec_edit.specs.declared.EditRefused.TheVariants.{OutsideLayer}
 use Rattle.spec_edit.specs.Refusal.{unless, of_leaf}

@@ -2,7 +2,7 @@ use Rattle.std.proofs.Common.{◌≡◌, true, false, ◌++◌, ◌∷◌, [], n
 use Rattle.std.proofs.lemmas.Bool.{ne_eqb}
 use Rattle.std.specs.Prelude.{is_some}
 use Rattle.spec_damage.specs.Damage as damage
-use Rattle.spec_forest.specs.Forest.{find}
+use Rattle.spec_document.specs.Forest.{find}
 use Rattle.xl_tree.specs.Reads.{node_of}
 use Rattle.xl_damage.specs.Marks.{numbers}
 use Rattle.xl_damage.proofs.Nodes.{above_image, above_absent, above_known, some-copied, take_all, numbers-last}

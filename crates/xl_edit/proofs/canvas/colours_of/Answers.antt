@@ -1,7 +1,7 @@
 -- One colour more.
 use Rattle.std.proofs.Common.{ℕ, ◌*◌, List, [], ◌∷◌, ◌++◌, sym, ◌∙◌, ap, map, take, drop}
-use Rattle.spec_grid.specs.Rect.{count_from}
-use Rattle.spec_grid.proofs.Counted.{counted_more}
+use Rattle.spec_document.specs.Rect.{count_from}
+use Rattle.spec_document.proofs.Counted.{counted_more}
 use Rattle.xl_edit.proofs.canvas.colours_of.Goals as goal
 
 pub loop-i-preserved : goal.loop-i-preserved

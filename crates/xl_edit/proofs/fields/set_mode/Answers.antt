@@ -1,8 +1,8 @@
 -- The mode is that of the code.
 use Rattle.std.proofs.Common.{rules, ◌≡◌, None, refl, ap, subst}
 use Rattle.std.specs.Prelude.{unwrap_or}
-use Rattle.spec_blend.specs.declared.Mode.{Mode}
-use Rattle.spec_blend.specs.declared.Mode.TheVariants.{Normal}
+use Rattle.spec_document.specs.declared.Mode.{Mode}
+use Rattle.spec_document.specs.declared.Mode.TheVariants.{Normal}
 use Rattle.spec_edit.specs.Edit as edits
 use Rattle.spec_edit.specs.Refusal.{refusal}
 use Rattle.xl_edit.specs.Fields.{with_field}

@@ -1,7 +1,7 @@
 -- The place is near the canvas.
 use Rattle.std.proofs.Common.{rules, ◌≡◌, None, to_z, of_z, w32, refl, sym, subst}
 use Rattle.std.specs.Prelude.{ℤ}
-use Rattle.spec_forest.specs.Changes.{with_leaf}
+use Rattle.spec_document.specs.Changes.{with_leaf}
 use Rattle.spec_document.specs.Document.{Layer}
 use Rattle.spec_edit.specs.Edit as edits
 use Rattle.spec_edit.specs.Refusal.{refusal}

@@ -1,6 +1,6 @@
 -- The tree is the document's, before and after.
 use Rattle.std.proofs.Common.{refl}
-use Rattle.spec_forest.specs.Changes.{without}
+use Rattle.spec_document.specs.Changes.{without}
 use Rattle.spec_edit.specs.Edit as edits
 use Rattle.xl_edit.proofs.Accepted.{limits_after, limits_kept}
 use Rattle.xl_paint.proofs.Limited.{distinct_in, sound_kept}

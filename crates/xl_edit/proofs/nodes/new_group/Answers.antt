@@ -1,6 +1,6 @@
 -- The node that is put in is the group that the edit makes.
 use Rattle.std.proofs.Common.{refl, sym, ◌∙◌, ap, subst}
-use Rattle.spec_forest.specs.Changes.{put_into}
+use Rattle.spec_document.specs.Changes.{put_into}
 use Rattle.spec_document.specs.Document.{Nodes}
 use Rattle.spec_edit.specs.Edit as edits
 use Rattle.spec_edit.specs.Effect.{group_made}

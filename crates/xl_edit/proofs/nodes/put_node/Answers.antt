@@ -1,6 +1,6 @@
 -- The tree is the document's, before and after.
 use Rattle.std.proofs.Common.{refl}
-use Rattle.spec_forest.specs.Changes.{put_into}
+use Rattle.spec_document.specs.Changes.{put_into}
 use Rattle.xl_edit.specs.Nodes.{one_node}
 use Rattle.xl_edit.proofs.Accepted.{limits_kept}
 use Rattle.xl_paint.proofs.Limited.{distinct_in}

@@ -1,9 +1,9 @@
 -- The tree takes the node, since the document's rules allow it.
 use Rattle.std.proofs.Common.{◌≡◌, ℕ, ◌<◌, cond, sym, ◌∙◌, ap, subst}
 use Rattle.std.specs.Prelude.{Ok, Err, is_ok}
-use Rattle.spec_forest.specs.Forest.{Forest}
-use Rattle.spec_forest.specs.Changes.{put_into}
-use Rattle.spec_forest.specs.declared.TheConstants.{MAX_NODES}
+use Rattle.spec_document.specs.Forest.{Forest}
+use Rattle.spec_document.specs.Changes.{put_into}
+use Rattle.spec_document.specs.declared.TheConstants.{MAX_NODES}
 use Rattle.xl_tree.specs.Places.{alone}
 use Rattle.xl_tree.specs.Refusals.{answer_with}
 use Rattle.xl_doc.specs.declared.node.Node.{Node}

@@ -1,7 +1,7 @@
 -- The tree gives up the node, which is there.
 use Rattle.std.proofs.Common.{◌≡◌, cond, sym, ◌∙◌, ap, subst}
 use Rattle.std.specs.Prelude.{Ok, Err, is_ok}
-use Rattle.spec_forest.specs.Changes.{without}
+use Rattle.spec_document.specs.Changes.{without}
 use Rattle.xl_tree.specs.Refusals.{answer_of}
 use Rattle.xl_doc.specs.Nodes.{nodes_of, MarksAgree}
 use Rattle.xl_checks.proofs.NodesMoved.{nodes-without, marks-without}

@@ -1,9 +1,9 @@
 -- The levels that the tree tells are those of the document's branch.
 use Rattle.std.proofs.Common.{◌≡◌, ℕ, ◌≤◌, refl, sym, ◌∙◌, ap, subst, arith}
 use Rattle.std.specs.Prelude.{None}
-use Rattle.spec_forest.specs.Forest.{levels, find}
-use Rattle.spec_forest.specs.Changes.{branch_of}
-use Rattle.spec_forest.proofs.Changed.{levels-branch_of}
+use Rattle.spec_document.specs.Forest.{levels, find}
+use Rattle.spec_document.specs.Changes.{branch_of}
+use Rattle.spec_document.proofs.Changed.{levels-branch_of}
 use Rattle.spec_document.specs.Document.{Document}
 use Rattle.spec_edit.specs.Refusal.{no_node}
 use Rattle.xl_paint.proofs.Limited.{distinct_in}

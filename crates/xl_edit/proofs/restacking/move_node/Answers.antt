@@ -1,8 +1,8 @@
 -- The tree moves the node, since the document's rules allow it.
 use Rattle.std.proofs.Common.{◌≡◌, cond, sym, ◌∙◌, ap, subst, arith}
 use Rattle.std.specs.Prelude.{Ok, Err, is_ok}
-use Rattle.spec_forest.specs.Forest.{Forest}
-use Rattle.spec_forest.specs.Changes.{branch_of, put_into, without}
+use Rattle.spec_document.specs.Forest.{Forest}
+use Rattle.spec_document.specs.Changes.{branch_of, put_into, without}
 use Rattle.xl_tree.specs.Refusals.{answer_of}
 use Rattle.xl_doc.specs.declared.node.Node.{Node}
 use Rattle.xl_doc.specs.Nodes.{nodes_of, MarksAgree}

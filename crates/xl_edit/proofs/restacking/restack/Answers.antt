@@ -1,7 +1,7 @@
 -- The tree is the document's, before and after.
 use Rattle.std.proofs.Common.{◌≡◌, refl, sym, subst}
 use Rattle.std.specs.Prelude.{None}
-use Rattle.spec_forest.specs.Changes.{branch_of, put_into, without}
+use Rattle.spec_document.specs.Changes.{branch_of, put_into, without}
 use Rattle.spec_document.specs.Document.{Document, Nodes}
 use Rattle.spec_edit.specs.Edit as edits
 use Rattle.xl_tree.specs.Refusals.{restack_refusal}

@@ -1,6 +1,6 @@
 use Rattle.std.proofs.Common.{◌++◌, ◌∙◌, sym, ap}
 use Rattle.xl_grid.specs.Covering.{row_of}
-use Rattle.spec_grid.specs.Grid.{tiles_along}
+use Rattle.spec_document.specs.Grid.{tiles_along}
 use Rattle.xl_grid.proofs.AddedTiles.{row_more}
 use Rattle.xl_grid.proofs.covering.tiles_of.Goals as goal
 

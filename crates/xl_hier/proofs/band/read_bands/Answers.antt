@@ -1,7 +1,7 @@
 use Rattle.std.proofs.Common.{◌<◌, arith}
 use Rattle.std.specs.Arc.{arc_value}
 use Rattle.std.proofs.lemmas.Result.{err_from_is_err_and}
-use Rattle.spec_grid.specs.Grid.{tiles_along}
+use Rattle.spec_document.specs.Grid.{tiles_along}
 use Rattle.xl_hier.proofs.BandsRead.{none_read, band_next, band_fault}
 use Rattle.xl_hier.proofs.band.read_bands.Goals as goal
 

@@ -1,7 +1,7 @@
 use Rattle.std.proofs.Common.{◌≡◌, List, [], get_or, length, sym, ap, subst, ◌∙◌, arith}
 use Rattle.std.specs.Arc.{arc_value}
 use Rattle.std.proofs.lemmas.Result.{err_from_is_err_and}
-use Rattle.spec_grid.specs.Grid.{tiles_along}
+use Rattle.spec_document.specs.Grid.{tiles_along}
 use Rattle.xl_hier.specs.declared.beside.Band.{Band}
 use Rattle.xl_hier.specs.Bands.{BandRead}
 use Rattle.xl_hier.proofs.Joined.{written_items, none_joined, joined_more, joined_fault}

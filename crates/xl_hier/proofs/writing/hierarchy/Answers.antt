@@ -1,7 +1,7 @@
 use Rattle.std.proofs.Common.{◌≡◌, ◌+◌, ◌*◌, ◌<◌, ◌≤◌, ◌^◌, ◌++◌, ℕ, List, ap, ◌∙◌, arith}
 use Rattle.std.proofs.lemmas.Nat.{mul-le}
-use Rattle.spec_grid.specs.Grid.{tiles_along}
-use Rattle.spec_grid.specs.declared.TheConstants.{MAX_SIDE}
+use Rattle.spec_document.specs.Grid.{tiles_along}
+use Rattle.spec_document.specs.declared.TheConstants.{MAX_SIDE}
 use Rattle.xl_hier.specs.declared.writing.TheConstants.{FIRST_TILE_BELOW}
 use Rattle.xl_hier.proofs.Filling.{few_tiles}
 use Rattle.xl_hier.proofs.Whole.{laid_out}

@@ -1,5 +1,5 @@
 use Rattle.std.proofs.Common.{map}
-use Rattle.spec_grid.specs.Rect.{count_from}
+use Rattle.spec_document.specs.Rect.{count_from}
 use Rattle.spec_hierarchy.specs.Tiles.{tile_plane}
 use Rattle.xl_rle.specs.Follows.{FollowsEach}
 use Rattle.xl_hier.proofs.Spelling.{Spelling}

@@ -1,4 +1,4 @@
-use Rattle.spec_forest.specs.Forest.{size}
+use Rattle.spec_document.specs.Forest.{size}
 use Rattle.xl_marks.proofs.stacks.+add_groups.Given as goal
 
 abbrev pub decreases-add_groups : goal.decreases-add_groups

@@ -3,7 +3,7 @@ use Rattle.std.proofs.Common.{◌≡◌, ℕ, List, ◌+◌, ◌-◌, ◌*◌, �
 use Rattle.std.proofs.lemmas.Nat.{mul-add-lt}
 use Rattle.spec_document.specs.Plane.{byte_at}
 use Rattle.spec_edit.specs.Effect.{mixed}
-use Rattle.spec_grid.specs.Rect.{part_above_0}
+use Rattle.spec_document.specs.Rect.{part_above_0}
 use Rattle.xl_tiles.specs.Block.{byte_after}
 use Rattle.xl_paint.specs.Filling.{byte_in, in_rows, weight_at}
 use Rattle.xl_paint.proofs.Weights.{pixel_fits}

@@ -1,5 +1,5 @@
 use Rattle.std.proofs.Common.{◌≡◌, map}
-use Rattle.spec_grid.specs.Rect.{count_from}
+use Rattle.spec_document.specs.Rect.{count_from}
 use Rattle.spec_props.specs.Meaning.{colour_number}
 use Rattle.xl_props.specs.Props.{property}
 use Rattle.xl_props.proofs.values.colours_of.Given as goal

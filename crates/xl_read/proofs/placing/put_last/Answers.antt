@@ -1,5 +1,5 @@
 use Rattle.std.proofs.Common.{◌+◌, arith}
-use Rattle.spec_forest.specs.Forest.{size}
+use Rattle.spec_document.specs.Forest.{size}
 use Rattle.xl_doc.specs.Nodes.{nodes_of, is_group_body}
 use Rattle.xl_tree.specs.Places.{alone}
 use Rattle.xl_read.proofs.Placed.{size-nodes_of, marks-put_last}

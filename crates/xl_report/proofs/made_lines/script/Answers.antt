@@ -1,6 +1,6 @@
 use Rattle.std.proofs.Common.{◌≡◌, ◌+◌, [], ◌∷◌, length, refl, ap, rules, arith, length-append}
 use Rattle.std.proofs.lemmas.Result.{IfOk-from_err}
-use Rattle.spec_grid.specs.Rect.{count_from}
+use Rattle.spec_document.specs.Rect.{count_from}
 use Rattle.spec_generated.specs.Draws.{for_each}
 use Rattle.spec_generated.specs.Generated.{session_lines}
 use Rattle.xl_script.specs.Lines.{lines_of, lists_of}

@@ -1,5 +1,5 @@
 use Rattle.std.proofs.Common.{◌≡◌, length}
-use Rattle.spec_grid.specs.Rect.{count_from}
+use Rattle.spec_document.specs.Rect.{count_from}
 use Rattle.spec_generated.specs.Draws.{for_each}
 use Rattle.spec_generated.specs.Generated.{session_lines}
 use Rattle.xl_script.specs.Lines.{lists_of}

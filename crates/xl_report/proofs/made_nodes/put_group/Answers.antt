@@ -1,5 +1,5 @@
 use Rattle.std.proofs.Common.{◌+◌, ◌<◌, length, map, take, refl, ap, rules, arith}
-use Rattle.spec_forest.specs.Forest.{none, size}
+use Rattle.spec_document.specs.Forest.{none, size}
 use Rattle.spec_generated.specs.Generated.{leaves_from}
 use Rattle.xl_report.specs.MadeNodes.{group_node, layer_node}
 use Rattle.xl_report.proofs.Grown.{first_nowhere, next_nowhere, put_in_last, size-grown}

@@ -1,5 +1,5 @@
 use Rattle.std.proofs.Common.{◌≡◌, ap, ◌∙◌, subst}
-use Rattle.spec_picture.specs.Picture.{picture_bytes}
+use Rattle.spec_document.specs.Picture.{picture_bytes}
 use Rattle.spec_report.specs.Pam.{pam, pam_head}
 use Rattle.xl_ports.specs.Sink.{WritesAll, WritesPart}
 use Rattle.xl_ports.proofs.Pieces.{all_then_all, all_then_part, part_of_more}

@@ -1,6 +1,6 @@
 use Rattle.std.proofs.Common.{◌≡◌, ◌-◌, ◌≤◌, ◌<◌, ℕ, length}
 use Rattle.std.specs.Prelude.{slice_index_or}
-use Rattle.spec_picture.specs.Picture.{picture_bytes}
+use Rattle.spec_document.specs.Picture.{picture_bytes}
 use Rattle.xl_ports.specs.Sink.{WritesAll}
 use Rattle.xl_report.specs.Lanes.{HasRoom}
 use Rattle.xl_report.proofs.writing.write_rows.Given as goal

@@ -5,7 +5,7 @@ use Rattle.std.specs.List.{AllByRecursion}
 use Rattle.spec_damage.proofs.NewEdits.{next_above}
 use Rattle.spec_document.specs.Ids.{next_id}
 use Rattle.spec_document.specs.Limits.{IsDocument}
-use Rattle.spec_forest.specs.Forest.{ids}
+use Rattle.spec_document.specs.Forest.{ids}
 use Rattle.xl_edit.proofs.Seen.{ids-nodes_of}
 use Rattle.xl_doc.proofs.NextId.{next_small}
 use Rattle.xl_standing.proofs.next_id.next_id_of.Goals as goal

@@ -1,7 +1,7 @@
 -- The stack of the document is the stack of its tree.
 use Rattle.std.proofs.Common.{sym, ◌∙◌, ap}
 use Rattle.std.specs.Prelude.{is_some}
-use Rattle.spec_forest.specs.Forest.{stack_at}
+use Rattle.spec_document.specs.Forest.{stack_at}
 use Rattle.xl_standing.proofs.Numbers.{some-stack}
 use Rattle.xl_standing.proofs.tile.has_stack.Goals as goal
 

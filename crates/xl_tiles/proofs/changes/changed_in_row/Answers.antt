@@ -1,6 +1,6 @@
 use Rattle.std.proofs.Common.{◌≡◌, ◌≤◌, ◌<◌, ◌∙◌, cond, subst, arith}
 use Rattle.std.specs.Prelude.{not, bytes_eq}
-use Rattle.spec_grid.specs.Grid.{tiles_along}
+use Rattle.spec_document.specs.Grid.{tiles_along}
 use Rattle.spec_hierarchy.specs.Tiles.{tile_bytes}
 use Rattle.spec_undo.specs.Planes.{differ_at}
 use Rattle.xl_tiles.specs.Table.{plane_by, tile}

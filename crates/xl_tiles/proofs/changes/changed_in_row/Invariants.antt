@@ -1,6 +1,6 @@
 use Rattle.std.proofs.Common.{◌≡◌, ◌≤◌, length, map}
 use Rattle.std.specs.Prelude.{filter}
-use Rattle.spec_grid.specs.Rect.{count_from}
+use Rattle.spec_document.specs.Rect.{count_from}
 use Rattle.spec_undo.specs.Planes.{differ_at}
 use Rattle.xl_tiles.specs.Table.{plane_by, tile}
 use Rattle.xl_tiles.proofs.changes.changed_in_row.Given as goal

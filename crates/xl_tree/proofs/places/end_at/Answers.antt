@@ -1,5 +1,5 @@
 use Rattle.std.proofs.Common.{◌≡◌, ◌+◌, ◌-◌, get_or, sym, ◌∙◌, ap, arith}
-use Rattle.spec_forest.specs.Forest.{size}
+use Rattle.spec_document.specs.Forest.{size}
 use Rattle.xl_tree.proofs.Paths.{end_more, end_past, end_in_leaf, size-from_place}
 use Rattle.xl_tree.proofs.places.end_at.Goals as goal
 

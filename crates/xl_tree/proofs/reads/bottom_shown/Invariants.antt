@@ -1,5 +1,5 @@
 use Rattle.std.proofs.Common.{◌≡◌, option_map}
-use Rattle.spec_forest.specs.Forest.{size}
+use Rattle.spec_document.specs.Forest.{size}
 use Rattle.xl_tree.specs.Places.{first_some}
 use Rattle.xl_tree.specs.Reads.{bottom_shown}
 use Rattle.xl_tree.proofs.reads.bottom_shown.Given as goal

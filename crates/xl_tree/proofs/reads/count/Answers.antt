@@ -1,5 +1,5 @@
 use Rattle.std.proofs.Common.{ap, arith}
-use Rattle.spec_forest.specs.Forest.{size, count}
+use Rattle.spec_document.specs.Forest.{size, count}
 use Rattle.xl_tree.proofs.reads.count.Goals as goal
 use Rattle.xl_tree.proofs.reads.count.Goals.{in-Leaf, in-Group}
 

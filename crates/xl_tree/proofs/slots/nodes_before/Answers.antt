@@ -1,5 +1,5 @@
 use Rattle.std.proofs.Common.{sym, ◌∙◌, ap, arith}
-use Rattle.spec_forest.specs.Forest.{size, count}
+use Rattle.spec_document.specs.Forest.{size, count}
 use Rattle.xl_tree.proofs.Paths.{from_place_under_leaf, from_place_under_group, size-from_place}
 use Rattle.xl_tree.proofs.slots.nodes_before.Goals as goal
 use Rattle.xl_tree.proofs.slots.nodes_before.Goals.{in-Leaf, in-Group}

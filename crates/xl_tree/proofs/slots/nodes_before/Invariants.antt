@@ -1,6 +1,6 @@
 use Rattle.std.proofs.Common.{◌≡◌, ◌+◌}
-use Rattle.spec_forest.specs.Forest.{size, count}
-use Rattle.spec_forest.specs.Holes.{from_place}
+use Rattle.spec_document.specs.Forest.{size, count}
+use Rattle.spec_document.specs.Holes.{from_place}
 use Rattle.xl_tree.proofs.slots.nodes_before.Given as goal
 
 abbrev pub invariant-loop-passed : goal.invariant-loop-passed

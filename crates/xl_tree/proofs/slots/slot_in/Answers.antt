@@ -1,6 +1,6 @@
 use Rattle.std.proofs.Common.{ap, arith}
-use Rattle.spec_forest.specs.Forest.{size}
-use Rattle.spec_forest.proofs.Holes.{passed_within}
+use Rattle.spec_document.specs.Forest.{size}
+use Rattle.spec_document.proofs.Holes.{passed_within}
 use Rattle.xl_tree.specs.Flat.{forest_of}
 use Rattle.xl_tree.proofs.Flat.{size-forest_of}
 use Rattle.xl_tree.proofs.Stands.{slot_from}

@@ -1,6 +1,6 @@
 -- The layer on top and all below it.
 use Rattle.std.specs.Option.{option_copied}
-use Rattle.spec_forest.specs.Forest.{find}
+use Rattle.spec_document.specs.Forest.{find}
 use Rattle.spec_undo.specs.Planes.{changed_tiles}
 use Rattle.spec_undo.specs.Changed.{counted_layer, tiles_alone}
 use Rattle.xl_doc.specs.Nodes.{layer_of, nodes_of}

@@ -1,6 +1,6 @@
 -- The layer on top and all below it.
 use Rattle.std.specs.Option.{option_copied}
-use Rattle.spec_forest.specs.Forest.{find}
+use Rattle.spec_document.specs.Forest.{find}
 use Rattle.spec_undo.specs.Changed.{count_if_alone}
 use Rattle.xl_doc.specs.Nodes.{layer_of, nodes_of}
 use Rattle.xl_undo.proofs.Found.{seen, top_is, leaf_bound, leaf_least}

@@ -1,8 +1,8 @@
 use Rattle.std.proofs.Common.{◌≡◌, ◌∙◌, length, ap}
 use Rattle.std.proofs.lemmas.Result.{IfOk-weaker}
-use Rattle.spec_grid.specs.Rect.{part_above_0}
-use Rattle.spec_picture.specs.Greys.{pixels_of_base}
-use Rattle.spec_picture.proofs.Greys.{pixels_length}
+use Rattle.spec_document.specs.Rect.{part_above_0}
+use Rattle.spec_document.specs.Greys.{pixels_of_base}
+use Rattle.spec_document.proofs.Greys.{pixels_length}
 use Rattle.spec_layout.specs.Layout.{plane_over}
 use Rattle.xl_write.proofs.group.group_plane.Goals as goal
 

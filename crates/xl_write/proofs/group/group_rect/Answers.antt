@@ -1,11 +1,11 @@
 use Rattle.std.proofs.Common.{◌≡◌, ◌≤◌, false, sym, ap, ◌∙◌, subst, arith}
 use Rattle.std.proofs.lemmas.Int.{ints}
-use Rattle.spec_grid.specs.Rect.{is_empty}
-use Rattle.spec_forest.specs.Forest.{find}
-use Rattle.spec_picture.specs.Picture.{extent, rect_found}
+use Rattle.spec_document.specs.Rect.{is_empty}
+use Rattle.spec_document.specs.Forest.{find}
+use Rattle.spec_document.specs.Picture.{extent, rect_found}
 use Rattle.xl_write.proofs.Inside.{LiesInside, cut_inside}
 use Rattle.xl_write.proofs.group.group_rect.Goals as goal
-use Rattle.spec_grid.specs.declared.TheConstants.{MAX_SIDE}
+use Rattle.spec_document.specs.declared.TheConstants.{MAX_SIDE}
 
 lies : (c : goal.Else-is_empty) → LiesInside c.args.doc.now.width c.args.doc.now.height c.group_extent-extent.result
 lies c =

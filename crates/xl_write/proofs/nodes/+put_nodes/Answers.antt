@@ -1,6 +1,6 @@
 use Rattle.std.proofs.Common.{◌≡◌, ◌+◌, ◌++◌, ◌∷◌, [], length, refl, sym, ap, ◌∙◌, subst, arith, ◌<◌}
 use Rattle.std.proofs.lemmas.Result.{on_ok_weaker}
-use Rattle.spec_forest.specs.Forest.{none, leaf, group, size}
+use Rattle.spec_document.specs.Forest.{none, leaf, group, size}
 use Rattle.spec_layout.specs.Layout.{IsItem, layer_item}
 use Rattle.xl_doc.specs.Nodes.{MarksAgree, nodes_of, layer_of, group_of}
 use Rattle.xl_write.specs.Walk.{CanWalk}

@@ -1,6 +1,6 @@
 use Rattle.std.proofs.Common.{sym, ap, ◌∙◌}
-use Rattle.spec_grid.specs.Rect.{meet, sheet}
-use Rattle.spec_picture.specs.Picture.{hull_of}
+use Rattle.spec_document.specs.Rect.{meet, sheet}
+use Rattle.spec_document.specs.Picture.{hull_of}
 use Rattle.xl_doc.proofs.Hulls.{some_stack, extent_is}
 use Rattle.xl_doc.proofs.NodesOf.{agrees_in}
 use Rattle.xl_doc.proofs.document.Document.group_extent.Goals as goal

@@ -1,5 +1,5 @@
 use Rattle.std.proofs.Common.{ap, ◌∙◌}
-use Rattle.spec_grid.specs.Rect.{sheet}
+use Rattle.spec_document.specs.Rect.{sheet}
 use Rattle.spec_document.specs.Plane.{plane_of}
 use Rattle.xl_tiles.specs.Written.{written}
 use Rattle.xl_tiles.proofs.WholePlane.{written_whole}

@@ -1,6 +1,6 @@
 use Rattle.std.proofs.Common.{◌∙◌, ap}
 use Rattle.std.specs.Prelude.{is_some}
-use Rattle.spec_forest.specs.Forest.{none}
+use Rattle.spec_document.specs.Forest.{none}
 use Rattle.xl_tree.specs.Places.{end_at}
 use Rattle.xl_tree.proofs.Paths.{leads}
 use Rattle.xl_tree.proofs.forest.Tree.leads.Goals as goal

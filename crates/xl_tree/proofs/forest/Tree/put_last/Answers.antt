@@ -1,7 +1,7 @@
 use Rattle.std.proofs.Common.{◌≡◌, length, sym, ◌∙◌, ap, arith, Some}
 use Rattle.std.specs.Prelude.{is_some}
-use Rattle.spec_forest.specs.Forest.{none, size}
-use Rattle.spec_forest.specs.Changes.{put_last}
+use Rattle.spec_document.specs.Forest.{none, size}
+use Rattle.spec_document.specs.Changes.{put_last}
 use Rattle.xl_tree.specs.Places.{end_at, alone}
 use Rattle.xl_tree.proofs.Flat.{size-forest_of}
 use Rattle.xl_tree.proofs.Paths.{end_some}

@@ -1,5 +1,5 @@
 use Rattle.std.proofs.Common.{List, length, sym, ◌∙◌, subst, ap, arith}
-use Rattle.spec_forest.specs.Forest.{size, levels}
+use Rattle.spec_document.specs.Forest.{size, levels}
 use Rattle.xl_tree.specs.Flat.{flat, forest_of}
 use Rattle.xl_tree.specs.Kept.{AreSiblings}
 use Rattle.xl_tree.specs.Refusals.{answer_of, put_refusal}

@@ -1,5 +1,5 @@
 use Rattle.std.proofs.Common.{arith, ap}
-use Rattle.spec_forest.specs.Forest.{size}
+use Rattle.spec_document.specs.Forest.{size}
 use Rattle.xl_tree.proofs.Flat.{size-forest_of}
 use Rattle.xl_tree.proofs.Own.{own_same}
 use Rattle.xl_tree.proofs.forest.Tree.top.Goals as goal

@@ -2,7 +2,7 @@ use Rattle.std.proofs.Common.{◌≡◌, ◌≤◌, ℕ, take}
 use Rattle.std.specs.Vec.{vec_capacity, vec_len}
 use Rattle.xl_tree.specs.Index.{IsAscending, place_at, place_in}
 use Rattle.xl_tree.proofs.index.Index.renew.Given as goal
-use Rattle.spec_forest.specs.declared.TheConstants.{MAX_NODES}
+use Rattle.spec_document.specs.declared.TheConstants.{MAX_NODES}
 
 abbrev pub invariant-loop-at : goal.invariant-loop-at
 invariant-loop-at g l = record {

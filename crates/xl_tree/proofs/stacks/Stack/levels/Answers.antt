@@ -1,5 +1,5 @@
 use Rattle.std.proofs.Common.{sym, ◌∙◌, ap, arith, eqb-true, length}
-use Rattle.spec_forest.specs.Forest.{levels}
+use Rattle.spec_document.specs.Forest.{levels}
 use Rattle.xl_tree.proofs.Deepest.{levels_from_deepest, no_levels, some_there}
 use Rattle.xl_tree.proofs.stacks.Stack.levels.Goals as goal
 
