@@ -5,6 +5,12 @@
 #[cfg(test)]
 mod bench;
 #[cfg(test)]
+mod changes;
+#[cfg(test)]
+mod damage;
+#[cfg(test)]
+mod lists;
+#[cfg(test)]
 mod row;
 #[cfg(test)]
 mod step;

@@ -9,3 +9,7 @@ mod lines;
 mod made;
 #[cfg(test)]
 mod scripts;
+#[cfg(test)]
+mod shapes;
+#[cfg(test)]
+mod verdicts;

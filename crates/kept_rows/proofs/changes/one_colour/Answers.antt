@@ -1,7 +1,7 @@
 -- The map has one colour.
 use Rattle.std.proofs.Common.{refl, sym, subst, arith}
 use Rattle.spec_edit.specs.Edit as edits
-use Rattle.damage_rows.proofs.changes.one_colour.Goals as goal
+use Rattle.kept_rows.proofs.changes.one_colour.Goals as goal
 
 pub returns-clause-edit : goal.returns-clause-edit
 returns-clause-edit c =

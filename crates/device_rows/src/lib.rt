@@ -1,5 +1,0 @@
-//! Tests of the outside in memory.
-#![tactic(auto)]
-
-#[cfg(test)]
-mod devices;
