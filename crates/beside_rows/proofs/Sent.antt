@@ -10,8 +10,8 @@ use denote.Struct.Tuple.{TupleAt, type_at}
 use Rattle.std.proofs.Crossing.{crosses}
 use Rattle.std.specs.contracts.alloc.AllocError as AllocError
 use Rattle.std.specs.contracts.result.Result as Result
-use Rattle.xl_edit.proofs.reply.Reply.TheSendSync as reply
-use Rattle.xl_edit.specs.contracts.reply.Reply as Reply
+use Rattle.xl_calls.proofs.reply.Reply.TheSendSync as reply
+use Rattle.xl_calls.specs.contracts.reply.Reply as Reply
 use Rattle.xl_studio.proofs.Sent.{parts_send}
 
 pub heard_send : IsSend (Result.the_row Reply.the_row AllocError.the_row)

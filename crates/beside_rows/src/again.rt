@@ -5,7 +5,7 @@ use crate::late::first_wrong;
 use crate::opened::studio_of;
 use std::alloc::{AllocError, Global};
 use std::sync::Wait;
-use xl_edit::Reply;
+use xl_calls::Reply;
 
 // The reply that makes a version of the group 1, where the next node gets the id 2.
 fn changed(version: u32) -> Reply {

@@ -11,7 +11,7 @@ use crate::worker::refresh;
 use std::alloc::{AllocError, Global};
 use std::sync::Wait;
 use std::thread::{Threads, join};
-use xl_edit::Reply;
+use xl_calls::Reply;
 use xl_ports::{Gate, Shelf};
 use xl_refresh::Worked;
 use xl_studio::{Seat, Studio};

@@ -3,10 +3,10 @@ ghost use Rattle.std.specs.Prelude.{[], ◌∷◌, IfOk};
 ghost use Rattle.spec_edit.specs.Edit.{IsEdit};
 ghost use Rattle.spec_history.specs.Calls.{IsGroupOfEdits};
 ghost use Rattle.spec_tables.specs.Agrees.{AreThere};
-ghost use Rattle.xl_edit.specs.Edits.{edit_of, edits_of};
+ghost use Rattle.xl_calls.specs.Edits.{edit_of, edits_of};
 
 use std::alloc::{AllocError, Global};
-use xl_edit::{Bytes, Edit, Edits, Group, NodeId, Rect};
+use xl_calls::{Bytes, Edit, Edits, Group, NodeId, Rect};
 
 /// The image.
 pub(crate) const IMAGE: NodeId = NodeId(0);

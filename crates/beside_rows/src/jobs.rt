@@ -10,9 +10,9 @@ use std::marker::Brand;
 use std::sync::Wait;
 use std::sync::ledger::{Blank, Ledger};
 use xl_blend::Steps;
+use xl_calls::NodeId;
 use xl_compose::compose;
 use xl_core::{Finished, Job};
-use xl_edit::NodeId;
 use xl_ports::Shelf;
 use xl_studio::{JobDesk, Seat, Studio, Taken};
 

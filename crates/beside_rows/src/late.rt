@@ -11,8 +11,8 @@ use crate::jobs::{hand_in, take_of, worker_of};
 use crate::opened::studio_of;
 use std::alloc::{AllocError, Global};
 use std::sync::Wait;
+use xl_calls::Reply;
 use xl_core::{Finished, Job};
-use xl_edit::Reply;
 use xl_ports::Shelf;
 use xl_studio::{Seat, Studio};
 

@@ -10,8 +10,8 @@ use std::marker::Brand;
 use std::sync::Wait;
 use std::sync::ledger::{Blank, Ledger};
 use xl_blend::Steps;
+use xl_calls::{NodeId, Reply, TileAt};
 use xl_core::Finished;
-use xl_edit::{NodeId, Reply, TileAt};
 use xl_ports::Shelf;
 use xl_studio::{Seat, Studio};
 

@@ -9,8 +9,8 @@ use crate::late::{delete_and_undo, edit_while_out};
 use crate::played::play;
 use crate::refreshed::refresh_after_edit;
 use std::test::Fail;
+use xl_calls::Reply;
 use xl_core::Finished;
-use xl_edit::Reply;
 use xl_refresh::{WorkEnd, Worked};
 
 // How many pictures of a worker came too late, and why it stopped.

@@ -3,7 +3,7 @@ ghost use Rattle.std.specs.Prelude.{◌≡◌, ◌<◌, ◌≤◌, [], IfOk, IfS
 ghost use Rattle.kept_rows.specs.Asked.{IsPlain, PicturesStay, IsOfLast};
 ghost use Rattle.xl_core.specs.Editing.{IsPictureOf};
 ghost use Rattle.xl_doc.specs.Numbered.{AreNumbered};
-ghost use Rattle.xl_edit.specs.Calls.{call_of};
+ghost use Rattle.xl_calls.specs.Calls.{call_of};
 ghost use Rattle.xl_filters.specs.Chests.{states_in};
 
 use crate::step::{Step, call};
@@ -12,10 +12,10 @@ use std::alloc::{AllocError, Global};
 use std::marker::{Brand, Model};
 use std::sync::ledger::{Blank, Ledger};
 use xl_blend::Steps;
+use xl_calls::{Call, Reply};
 use xl_compose::compose;
 use xl_core::{Core, Desk, Done, Finished, Picture};
 use xl_doc::{Document, NodeId, TileAt};
-use xl_edit::{Call, Reply};
 use xl_fakes::MemoryShelf;
 use xl_filters::Chest;
 use xl_ports::Shelf;

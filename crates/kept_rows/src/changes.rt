@@ -5,7 +5,7 @@ ghost use Rattle.spec_edit.specs.declared.EditRefused.TheVariants.{NotIndexed};
 ghost use Rattle.spec_edit.specs.Edit.{IsEdit};
 ghost use Rattle.spec_edit.specs.Refusal.{no_node, refusal, unless};
 ghost use Rattle.xl_doc.specs.Numbered.{AreNumbered};
-ghost use Rattle.xl_edit.specs.Edits.{edit_of};
+ghost use Rattle.xl_calls.specs.Edits.{edit_of};
 
 use sample_documents::document;
 use std::alloc::{AllocError, Global};

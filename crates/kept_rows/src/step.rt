@@ -1,11 +1,11 @@
 //! What the tests ask.
 ghost use Rattle.std.specs.Prelude.{IfOk};
 ghost use Rattle.kept_rows.specs.Asked.{IsPlain, IsPlainEdit};
-ghost use Rattle.xl_edit.specs.Calls.{call_of};
-ghost use Rattle.xl_edit.specs.Edits.{edit_of};
+ghost use Rattle.xl_calls.specs.Calls.{call_of};
+ghost use Rattle.xl_calls.specs.Edits.{edit_of};
 
 use std::alloc::{AllocError, Global};
-use xl_edit::{Bytes, Call, Edit, Edits, Group, NodeId, Rect, TileAt};
+use xl_calls::{Bytes, Call, Edit, Edits, Group, NodeId, Rect, TileAt};
 
 /// The code of the mode multiply.
 const MULTIPLY: u32 = 3;

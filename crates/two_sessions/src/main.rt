@@ -16,7 +16,7 @@ use std::process::ExitCode;
 use std::sync::Wait;
 use std::{fs, io};
 use xcf::{Document, Edit, NodeId, TileAt, open};
-use xl_edit::Call;
+use xl_calls::Call;
 use xl_fakes::MemoryShelf;
 use xl_studio::{Seat, Studio};
 

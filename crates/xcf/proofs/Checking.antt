@@ -6,8 +6,8 @@ use Rattle.std.specs.List.{AllByRecursion}
 use Rattle.std.proofs.lemmas.List.{drop_all}
 use Rattle.spec_edit.specs.Edit as edits
 use Rattle.spec_edit.specs.Edit.{IsEdit}
-use Rattle.xl_edit.specs.declared.edit.Edit.{Edit}
-use Rattle.xl_edit.specs.Edits.{edit_of, edits_of}
+use Rattle.xl_calls.specs.declared.edit.Edit.{Edit}
+use Rattle.xl_calls.specs.Edits.{edit_of, edits_of}
 use Rattle.xcf.specs.Plain.{is_plain, unplain_from, first_unplain}
 use Rattle.xl_standing.proofs.Groups.{front}
 

@@ -10,8 +10,8 @@ use Rattle.spec_edit.specs.Apply.{is_filter}
 use Rattle.spec_history.specs.declared.TheConstants.{MAX_EDITS}
 use Rattle.spec_tables.specs.Acceptance.{filter_count}
 use Rattle.spec_tables.proofs.Asked.{Plain, view}
-use Rattle.xl_edit.specs.declared.edit.Edit.{Edit}
-use Rattle.xl_edit.specs.Edits.{edit_of, edits_of}
+use Rattle.xl_calls.specs.declared.edit.Edit.{Edit}
+use Rattle.xl_calls.specs.Edits.{edit_of, edits_of}
 use Rattle.xcf.specs.Plain.{is_plain, unplain_from, IsPlainGroup}
 
 -- a plain edit is no filter

@@ -4,9 +4,9 @@ ghost use Rattle.xcf.specs.Asked.{IsPlainCall, Fails};
 ghost use Rattle.xcf.specs.Opened.{Opens, history_of};
 ghost use Rattle.xcf.specs.Plain.{IsPlainGroup};
 ghost use Rattle.xl_standing.specs.History.{Answers, document, version};
-ghost use Rattle.xl_edit.specs.Calls.{call_of};
-ghost use Rattle.xl_edit.specs.Edits.{edits_of};
-ghost use Rattle.xl_edit.specs.Replies.{reply_of};
+ghost use Rattle.xl_calls.specs.Calls.{call_of};
+ghost use Rattle.xl_calls.specs.Edits.{edits_of};
+ghost use Rattle.xl_calls.specs.Replies.{reply_of};
 ghost use Rattle.xl_filters.specs.Chests.{states_in};
 
 use crate::errors::{NotAsked, NotOpened};
@@ -17,9 +17,9 @@ use std::alloc::{AllocError, Global};
 use std::marker::{Brand, Model};
 use std::sync::ledger::{Blank, Ledger};
 use xl_blend::Steps;
+use xl_calls::{Call, Edits, Group, Reply};
 use xl_core::{Core, Desk};
 use xl_doc::Document;
-use xl_edit::{Call, Edits, Group, Reply};
 use xl_filters::{Chest, PointFilter};
 
 /// An image with its history: each call is an entry, and the last 256 groups can be undone. A history has at most 2^20

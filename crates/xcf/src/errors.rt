@@ -4,7 +4,7 @@ ghost use Rattle.xcf.specs.declared.errors.NotEdited.TheVariants as edited;
 
 use std::alloc::AllocError;
 use thiserror::Error;
-use xl_edit::EditRefused;
+use xl_calls::EditRefused;
 use xl_fields::ReadRefused;
 
 /// Why no image was opened.

@@ -8,12 +8,12 @@ ghost use Rattle.spec_file.specs.Header.{is_side};
 ghost use Rattle.spec_script.specs.Commands.{are_colours};
 ghost use Rattle.spec_tables.specs.Agrees.{AreThere};
 ghost use Rattle.xcf.specs.Plain.{is_plain, first_unplain, IsChecked};
-ghost use Rattle.xl_edit.specs.Edits.{edit_of, edits_of};
+ghost use Rattle.xl_calls.specs.Edits.{edit_of, edits_of};
 
 use crate::errors::NotGroup;
 use spec_history::MAX_EDITS;
+use xl_calls::Edit;
 use xl_doc::{Bytes, MAX_SIDE, know_bytes};
-use xl_edit::Edit;
 
 fn is_side(pixels: u32) -> bool
     ensures { result ≡ is_side pixels }

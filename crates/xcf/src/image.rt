@@ -5,7 +5,7 @@ ghost use Rattle.spec_filters.specs.Filters.{table_of};
 ghost use Rattle.xcf.specs.Opened.{Opens, image_of};
 ghost use Rattle.xcf.specs.Edited.{Edits, EditsBy};
 ghost use Rattle.xl_doc.specs.Numbered.{AreNumbered};
-ghost use Rattle.xl_edit.specs.Edits.{edits_of};
+ghost use Rattle.xl_calls.specs.Edits.{edits_of};
 
 use crate::errors::{NotEdited, NotOpened};
 use crate::group::check_group;
@@ -13,8 +13,9 @@ use crate::opening::open;
 use spec_history::MAX_EDITS;
 use std::alloc::Global;
 use std::marker::Model;
+use xl_calls::Edit;
 use xl_doc::{Document, NodeId, Rect};
-use xl_edit::{Edit, EditRefusedOrMemory, apply};
+use xl_edit::{EditRefusedOrMemory, apply};
 use xl_filters::{FilterKind, FilterState, Table, Tables};
 use xl_standing::{GroupRefusedOrMemory, MadeGroup, know_table, next_id_of, try_group};
 

@@ -20,7 +20,7 @@ pub use group::check_group;
 pub use image::Image;
 pub use opening::open;
 pub use showing::{picture, save, tile};
+pub use xl_calls::{Edit, EditRefused, Edits, Reply};
 pub use xl_compose::Picture;
 pub use xl_doc::{Bytes, Document, NodeId, Rect, TileAt};
-pub use xl_edit::{Edit, EditRefused, Edits, Reply};
 pub use xl_filters::FilterKind;

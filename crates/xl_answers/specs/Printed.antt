@@ -1,7 +1,7 @@
 -- Which replies are printed.
-use Rattle.xl_edit.specs.declared.reply.Reply.{Reply}
-use Rattle.xl_edit.specs.declared.reply.Reply.TheVariants.{Changed, Refused, Moved, NothingToUndo, NothingToRedo, NotTop, Tile}
-use Rattle.xl_edit.specs.declared.reply.Reply.TheVariants.{Stale, NoStack, OutsideTile, Top, Saved, SaveFault, SaveMemory, HistoryFull}
+use Rattle.xl_calls.specs.declared.reply.Reply.{Reply}
+use Rattle.xl_calls.specs.declared.reply.Reply.TheVariants.{Changed, Refused, Moved, NothingToUndo, NothingToRedo, NotTop, Tile}
+use Rattle.xl_calls.specs.declared.reply.Reply.TheVariants.{Stale, NoStack, OutsideTile, Top, Saved, SaveFault, SaveMemory, HistoryFull}
 
 -- neither a save without memory nor a full history
 abbrev pub HasText : Reply → Type 0

@@ -1,12 +1,12 @@
 ghost use Rattle.std.specs.Prelude.{◌≡◌, ◌++◌, IfOk, OnOk, OnErr, string_bytes};
 ghost use Rattle.spec_text.specs.Printed.{refusal_number, refusal_value, refusal_text, or_none, reply_text, line_text};
 ghost use Rattle.spec_text.specs.Printed.{order_word, order_line};
-ghost use Rattle.xl_edit.specs.Replies.{reply_of};
+ghost use Rattle.xl_calls.specs.Replies.{reply_of};
 ghost use Rattle.xl_answers.specs.Printed.{HasText};
 
 use spec_text::OrderWord;
 use std::alloc::{AllocError, Global};
-use xl_edit::{EditRefused, Reply};
+use xl_calls::{EditRefused, Reply};
 
 fn number_of(cause: EditRefused) -> u32
     ensures { result ≡ refusal_number cause }

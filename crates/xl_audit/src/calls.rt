@@ -3,12 +3,12 @@ ghost use Rattle.std.specs.Prelude.{◌≡◌, [], ◌∷◌, ◌++◌, map, OnO
 ghost use Rattle.spec_script.specs.Script as script;
 ghost use Rattle.spec_text.specs.Text.{calls_of};
 ghost use Rattle.xl_audit.specs.Calls.{calls_in, line_at, line_in, IsNoCall};
-ghost use Rattle.xl_edit.specs.Calls.{call_of};
+ghost use Rattle.xl_calls.specs.Calls.{call_of};
 ghost use Rattle.xl_script.specs.Lines.{line_of, lines_of, lists_of};
 
 use std::alloc::{AllocError, Global};
 use std::marker::Model;
-use xl_edit::Call;
+use xl_calls::Call;
 use xl_script::{Line, OrderWord, SESSIONS, Script};
 
 /// The calls of a session: its lines but those by which it drops a filter.

@@ -1,9 +1,9 @@
 //! Whether a reply is the one that is printed.
 ghost use Rattle.std.specs.Prelude.{◌≡◌, true};
 ghost use Rattle.spec_history.specs.Machine as machine;
-ghost use Rattle.xl_edit.specs.Replies.{reply_of};
+ghost use Rattle.xl_calls.specs.Replies.{reply_of};
 
-use xl_edit::{EditRefused, Reply};
+use xl_calls::{EditRefused, Reply};
 
 fn is_change(version: u32, group: u32, next: u32, printed: Reply) -> bool
     ensures same { result ≡ true → reply_of printed ≡ machine.changed version group next }

@@ -7,8 +7,8 @@ ghost use Rattle.spec_audit.specs.Walk.{printed_at};
 use crate::calls::{SessionCalls, call_at};
 use spec_history::MAX_ENTRIES;
 use std::alloc::{AllocError, Global};
+use xl_calls::{Call, Reply};
 use xl_doc::Document;
-use xl_edit::{Call, Reply};
 use xl_printed::Output;
 use xl_script::OrderWord;
 

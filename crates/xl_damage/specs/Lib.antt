@@ -1,2 +1,2 @@
 pub mod Marks
-pub use Rattle.xl_edit.specs.Edits
+pub use Rattle.xl_calls.specs.Edits

@@ -6,12 +6,13 @@ ghost use Rattle.spec_edit.specs.Edit.{IsEdit};
 ghost use Rattle.spec_edit.specs.Effect.{makes_node};
 ghost use Rattle.spec_edit.specs.Refusal.{refusal};
 ghost use Rattle.xl_damage.specs.Marks.{pairs_of};
-ghost use Rattle.xl_edit.specs.Edits.{edit_of};
+ghost use Rattle.xl_calls.specs.Edits.{edit_of};
 
 use crate::pairs::damage_between;
 use std::alloc::{AllocError, Global};
+use xl_calls::Edit;
 use xl_doc::{Document, NodeId, Rect};
-use xl_edit::{Edit, EditRefusedOrMemory, apply};
+use xl_edit::{EditRefusedOrMemory, apply};
 use xl_filters::{FilterKind, FilterState, Table};
 
 /// What an edit that is not refused can change of which pictures: a list of stacks and rectangles of theirs, cut to the

@@ -11,5 +11,5 @@ mod stacks;
 
 pub use accepted::damage;
 pub use pairs::damage_between;
+pub use xl_calls::Edit;
 pub use xl_doc::{Document, NodeId, Rect};
-pub use xl_edit::Edit;

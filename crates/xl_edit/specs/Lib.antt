@@ -1,7 +1,3 @@
-pub mod Edits
-pub mod Calls
-pub mod Replies
-pub mod Built
 pub mod Kept
 pub mod Fields
 pub mod Layers

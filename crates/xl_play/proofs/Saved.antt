@@ -20,9 +20,9 @@ use Rattle.spec_text.specs.Text.{is_save_memory}
 use Rattle.xl_core.specs.Editing.{Editing, last_of, IsRight, ComesBack, KeepsShelf, IsAsBefore, Begins, Ends, start_of}
 use Rattle.xl_core.specs.Editing.{end_of, out_of, index_out, with_entry}
 use Rattle.xl_core.specs.History.{History, version}
-use Rattle.xl_edit.specs.declared.reply.Reply as code
-use Rattle.xl_edit.specs.declared.reply.Reply.TheVariants.{SaveMemory, HistoryFull}
-use Rattle.xl_edit.specs.Replies.{reply_of}
+use Rattle.xl_calls.specs.declared.reply.Reply as code
+use Rattle.xl_calls.specs.declared.reply.Reply.TheVariants.{SaveMemory, HistoryFull}
+use Rattle.xl_calls.specs.Replies.{reply_of}
 use Rattle.xl_script.specs.Printed.{HasText}
 use Rattle.xl_play.specs.Playing.{ArePlayed, IsBetweenLines, with_save}
 use Rattle.xl_play.proofs.Grown.{played_save}

@@ -30,9 +30,9 @@ use Rattle.spec_world.proofs.StaysExact.{stays-so}
 use Rattle.xl_core.specs.Editing.{Editing, world, IsSubmitted}
 use Rattle.xl_core.specs.History as core
 use Rattle.xl_core.specs.History.{History, version, Shows}
-use Rattle.xl_edit.specs.declared.reply.Reply as code
-use Rattle.xl_edit.specs.declared.reply.Reply.TheVariants.{SaveMemory, HistoryFull}
-use Rattle.xl_edit.specs.Replies.{reply_of}
+use Rattle.xl_calls.specs.declared.reply.Reply as code
+use Rattle.xl_calls.specs.declared.reply.Reply.TheVariants.{SaveMemory, HistoryFull}
+use Rattle.xl_calls.specs.Replies.{reply_of}
 use Rattle.xl_script.specs.Printed.{HasText}
 use Rattle.xl_play.specs.Playing.{ArePlayed, IsCalled, KeepsExactly, shown_of}
 use Rattle.xl_play.proofs.Alone.{alone_peek}

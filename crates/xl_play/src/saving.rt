@@ -2,13 +2,13 @@
 ghost use Rattle.spec_history.specs.declared.TheConstants.{MAX_ENTRIES};
 ghost use Rattle.std.specs.Prelude.{◌≡◌, ◌+◌, ◌<◌, ◌≤◌, length, IfOk, OnOk, IsSome};
 ghost use Rattle.spec_history.specs.Kept.{IsLegal};
-ghost use Rattle.xl_edit.specs.Replies.{reply_of};
+ghost use Rattle.xl_calls.specs.Replies.{reply_of};
 ghost use Rattle.xl_play.specs.Playing.{IsBetweenLines, KeepsExactly, with_save};
 ghost use Rattle.xl_script.specs.Printed.{HasText};
 
 use std::alloc::{AllocError, Global};
+use xl_calls::Reply;
 use xl_core::{Begun, Core, SaveEnd};
-use xl_edit::Reply;
 use xl_ports::Shelf;
 use xl_rle::Keeping;
 use xl_snapshot::save_document;

@@ -5,7 +5,7 @@ ghost use Rattle.xl_words.specs.Numbers.{below};
 ghost use Rattle.xl_words.specs.Words.{words_left};
 ghost use Rattle.xl_printed.specs.Causes.{only_number, cause_of, cause_if_any};
 
-use xl_edit::EditRefused;
+use xl_calls::EditRefused;
 use xl_words::{no_words, number, one_word};
 
 /// The refusals by their numbers.

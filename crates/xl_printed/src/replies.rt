@@ -4,13 +4,13 @@ ghost use Rattle.spec_history.specs.Machine as machine;
 ghost use Rattle.spec_script.specs.Words as grammar;
 ghost use Rattle.spec_audit.specs.Reading as reading;
 ghost use Rattle.spec_audit.specs.Output.{is_digest, is_digest_digit};
-ghost use Rattle.xl_edit.specs.Replies.{reply_of};
+ghost use Rattle.xl_calls.specs.Replies.{reply_of};
 ghost use Rattle.xl_printed.specs.Phrases.{rest_of};
 
 use crate::causes::read_cause;
 use crate::pieces::strip;
 use crate::printed::{Printed, plain};
-use xl_edit::Reply;
+use xl_calls::Reply;
 use xl_words::{first_word, is_word, next_word, number, three_words, two_words};
 
 /// The words that a reply begins with.

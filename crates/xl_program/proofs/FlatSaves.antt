@@ -9,7 +9,7 @@ use Rattle.spec_flat.specs.Flat.{flat_refusal}
 use Rattle.spec_flat.specs.Flattened.{BecomesFlat}
 use Rattle.spec_layout.specs.Layout.{Written}
 use Rattle.spec_world.specs.declared.SaveEnd.TheVariants.{Done, Fault}
-use Rattle.xl_edit.specs.declared.call.Group.{Group}
+use Rattle.xl_calls.specs.declared.call.Group.{Group}
 use Rattle.xl_layout.proofs.Short.{read}
 use Rattle.xl_ports.specs.Disk.{read_at, Disk, Between}
 use Rattle.xl_ports.specs.Shelf.{Content}

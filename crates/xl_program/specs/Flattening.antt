@@ -14,8 +14,8 @@ use Rattle.spec_saves.specs.Shelf.{file_name}
 use Rattle.spec_tables.specs.Agrees.{AreThere}
 use Rattle.spec_world.specs.declared.SaveEnd.{SaveEnd}
 use Rattle.spec_world.specs.declared.SaveEnd.TheVariants.{Done, Fault}
-use Rattle.xl_edit.specs.declared.call.Group.{Group}
-use Rattle.xl_edit.specs.Edits.{edits_of}
+use Rattle.xl_calls.specs.declared.call.Group.{Group}
+use Rattle.xl_calls.specs.Edits.{edits_of}
 use Rattle.xl_ports.specs.Shelf.{Content, file}
 use Rattle.xl_ports.specs.Disk.{Disk}
 use Rattle.xl_ports.specs.Sink.{WritesAll, WritesPart}

@@ -5,9 +5,9 @@ use Rattle.std.specs.Prelude.{None}
 use Rattle.spec_edit.specs.Edit as edits
 use Rattle.spec_history.specs.Machine as machine
 use Rattle.spec_script.specs.Script as script
-use Rattle.xl_edit.specs.declared.call.Call.TheVariants as calls
-use Rattle.xl_edit.specs.declared.edit.Edit.{Edit}
-use Rattle.xl_edit.specs.Edits.{edit_of}
+use Rattle.xl_calls.specs.declared.call.Call.TheVariants as calls
+use Rattle.xl_calls.specs.declared.edit.Edit.{Edit}
+use Rattle.xl_calls.specs.Edits.{edit_of}
 use Rattle.xl_script.specs.declared.script.Line.{Line}
 use Rattle.xl_script.specs.declared.script.Line.TheVariants as lines
 use Rattle.xl_script.specs.Lines.{line_of, lines_of, lists_of}

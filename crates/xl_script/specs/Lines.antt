@@ -1,7 +1,7 @@
 -- What the lines of the code mean.
 use Rattle.std.specs.Prelude.{List, map}
 use Rattle.spec_script.specs.Script as script
-use Rattle.xl_edit.specs.Calls.{call_of}
+use Rattle.xl_calls.specs.Calls.{call_of}
 use Rattle.xl_script.specs.declared.script.Line.{Line}
 use Rattle.xl_script.specs.declared.script.Line.TheVariants.{Call, Save, Forget}
 

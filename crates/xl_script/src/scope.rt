@@ -1,14 +1,14 @@
 //! Which lines a script may have.
 ghost use Rattle.std.specs.Prelude.{◌≡◌};
 ghost use Rattle.spec_view.specs.Script as views;
-ghost use Rattle.xl_edit.specs.Calls.{call_of};
+ghost use Rattle.xl_calls.specs.Calls.{call_of};
 ghost use Rattle.xl_script.specs.Commands.{asked_of, command_is};
 ghost use Rattle.xl_words.specs.Reads.{Holds};
 ghost use Rattle.xl_script.specs.Scopes as scopes;
 
 use crate::command::Request;
 use crate::commands::Asked;
-use xl_edit::Call;
+use xl_calls::Call;
 use xl_words::{Cause, WordFront};
 
 /// Which lines a script may have: all of the grammar, or those that may be viewed.

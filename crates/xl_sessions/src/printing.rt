@@ -9,12 +9,12 @@ ghost use Rattle.spec_text.specs.Text.{is_save_memory, printed};
 ghost use Rattle.std.specs.List.{AllByRecursion};
 ghost use Rattle.std.specs.Prelude.{◌≡◌, ℕ, false, ◌<◌, List, ◌∷◌, ◌++◌, drop, map, IfOk, OnOk, string_bytes};
 ghost use Rattle.std.specs.Prelude.{unwrap_or, slice_get, []};
-ghost use Rattle.xl_edit.specs.Calls.{call_of};
-ghost use Rattle.xl_edit.specs.Replies.{reply_of};
+ghost use Rattle.xl_calls.specs.Calls.{call_of};
+ghost use Rattle.xl_calls.specs.Replies.{reply_of};
 ghost use Rattle.xl_sessions.specs.Printing.{IsPrinted, line_here, first_digest, lines_with, lines_of_sessions};
 
 use std::alloc::{AllocError, Global};
-use xl_edit::{Call, Reply};
+use xl_calls::{Call, Reply};
 use xl_script::{OrderWord, SESSIONS, print_order, print_reply};
 use xl_studio::{Entry, EntryKind};
 

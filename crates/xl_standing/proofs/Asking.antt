@@ -15,8 +15,8 @@ use Rattle.spec_tables.specs.Agrees.{AreThere, IsUsed, AreAsked, IsPartUsed}
 use Rattle.spec_tables.proofs.Asked.{none_asked, plain_asked, filter_asked, filter_used, filter_with, slot_tells}
 use Rattle.spec_tables.proofs.Asked.{first_there, others_there}
 use Rattle.spec_tables.proofs.Chests.{same_there}
-use Rattle.xl_edit.specs.declared.edit.Edit.{Edit}
-use Rattle.xl_edit.specs.Edits.{edit_of, edits_of}
+use Rattle.xl_calls.specs.declared.edit.Edit.{Edit}
+use Rattle.xl_calls.specs.Edits.{edit_of, edits_of}
 use Rattle.xl_standing.proofs.Groups.{front}
 
 -- how many tables there are, with those that are still to come

@@ -20,9 +20,9 @@ use Rattle.spec_tables.proofs.Asked.{view}
 use Rattle.xl_marks.specs.Marks.{IsMade}
 use Rattle.xl_marks.specs.Group.{damage_along}
 use Rattle.xl_standing.specs.Group.{HasIds}
-use Rattle.xl_edit.specs.declared.edit.Edit.{Edit}
-use Rattle.xl_edit.specs.Built.{HasNext}
-use Rattle.xl_edit.specs.Edits.{edit_of, edits_of}
+use Rattle.xl_calls.specs.declared.edit.Edit.{Edit}
+use Rattle.xl_calls.specs.Built.{HasNext}
+use Rattle.xl_calls.specs.Edits.{edit_of, edits_of}
 
 -- the edits that are left come to the same from here as all of them from the start, with the tables that are left
 pub record IsUnderWay (old now : At) (edits : List Edit) (tables : List (List ℕ)) (index taken : ℕ)

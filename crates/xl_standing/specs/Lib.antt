@@ -5,6 +5,6 @@ pub mod Steps
 pub mod Needs
 pub mod Places
 pub mod Jobs
-pub use Rattle.xl_edit.specs.Built
-pub use Rattle.xl_edit.specs.Calls
-pub use Rattle.xl_edit.specs.Replies
+pub use Rattle.xl_calls.specs.Built
+pub use Rattle.xl_calls.specs.Calls
+pub use Rattle.xl_calls.specs.Replies

@@ -3,7 +3,7 @@ ghost use Rattle.std.specs.Prelude.{◌≡◌, []};
 ghost use Rattle.spec_history.specs.Machine.{names};
 
 use std::alloc::Global;
-use xl_edit::Reply;
+use xl_calls::Reply;
 use xl_filters::Tables;
 
 /// The reply to a call, and the tables that its filters answered, of 256 bytes each: one for each edit that names a

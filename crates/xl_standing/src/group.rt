@@ -13,15 +13,16 @@ ghost use Rattle.spec_tables.specs.Agrees.{AreThere, AreAsked, IsPartUsed};
 ghost use Rattle.xl_standing.specs.Group.{HasIds, IsAppliedOne, AppliesGroup, IsRefusal, LeavesChest};
 ghost use Rattle.xl_standing.specs.declared.group.GroupRefusedOrMemory.TheVariants.{Memory};
 ghost use Rattle.xl_edit.specs.Applied.{at};
-ghost use Rattle.xl_edit.specs.Built.{HasNext};
-ghost use Rattle.xl_edit.specs.Edits.{edit_of, edits_of};
+ghost use Rattle.xl_calls.specs.Built.{HasNext};
+ghost use Rattle.xl_calls.specs.Edits.{edit_of, edits_of};
 ghost use Rattle.xl_filters.specs.Chests.{states_in};
 ghost use Rattle.xl_marks.specs.Group.{damage_along};
 
 use crate::bytes::know_table;
 use std::alloc::{AllocError, Global};
+use xl_calls::{Edit, EditRefused};
 use xl_doc::Document;
-use xl_edit::{Edit, EditRefused, EditRefusedOrMemory, apply};
+use xl_edit::{EditRefusedOrMemory, apply};
 use xl_filters::{Chest, FilterKind, FilterState, PointFilter, Table, Tables};
 use xl_marks::Damage;
 

@@ -24,6 +24,6 @@ pub use spec_history::MAX_ENTRIES;
 pub use standing::Standing;
 pub use step::Step;
 pub use tile::{has_stack, has_tile};
-pub use xl_edit::{Call, Reply};
+pub use xl_calls::{Call, Reply};
 pub use xl_marks::{Cache, first_cache};
 pub use xl_undo::Trail;

@@ -10,14 +10,14 @@ ghost use Rattle.spec_world.specs.Events.{peek_reply, show_slot};
 ghost use Rattle.xl_standing.specs.Jobs.{is_marked};
 ghost use Rattle.xl_standing.specs.Needs.{tile_cost};
 ghost use Rattle.xl_standing.specs.Now.{IsKept, KeepsDesk, ShowsKept};
-ghost use Rattle.xl_edit.specs.Replies.{reply_of};
+ghost use Rattle.xl_calls.specs.Replies.{reply_of};
 
 use std::alloc::{AllocError, Global};
 use std::sync::ledger::Ledger;
 use xl_blend::Steps;
+use xl_calls::Reply;
 use xl_compose::{CleanTiles, Picture, compose, job};
 use xl_doc::{Document, NodeId, TileAt};
-use xl_edit::Reply;
 use xl_grid::grid;
 use xl_marks::Cache;
 

@@ -18,5 +18,5 @@ pub use moment::Moment;
 pub use seat::{Seat, Studio};
 pub use shared::Shared;
 pub use taking::Taking;
+pub use xl_calls::{Group, NodeId, Reply, TileAt};
 pub use xl_core::{Core, Desk, Entry, EntryKind, JobDesk, Taken};
-pub use xl_edit::{Group, NodeId, Reply, TileAt};

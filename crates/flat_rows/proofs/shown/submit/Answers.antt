@@ -3,8 +3,8 @@ use Rattle.std.proofs.Common.{[], sym, subst}
 use Rattle.spec_history.specs.History.{asked}
 use Rattle.spec_tables.specs.Agrees.{Agrees}
 use Rattle.spec_tables.specs.Tables.{expected_tables}
-use Rattle.xl_edit.specs.Calls.{call_of}
-use Rattle.xl_edit.specs.Replies.{reply_of}
+use Rattle.xl_calls.specs.Calls.{call_of}
+use Rattle.xl_calls.specs.Replies.{reply_of}
 use Rattle.xl_window.proofs.Going.{goes_asked}
 use Rattle.flat_rows.proofs.shown.submit.Goals as goal
 

@@ -3,8 +3,8 @@ use Rattle.std.proofs.Common.{[], sym, subst}
 use Rattle.std.proofs.lemmas.Result.{IfOk-weaker}
 use Rattle.spec_tables.specs.Agrees.{Agrees, AreThere}
 use Rattle.spec_history.specs.Limited.{edits_of}
-use Rattle.xl_edit.specs.Calls.{call_of}
-use Rattle.xl_edit.specs.Replies.{reply_of}
+use Rattle.xl_calls.specs.Calls.{call_of}
+use Rattle.xl_calls.specs.Replies.{reply_of}
 use Rattle.xcf.proofs.Asking.{answered, call_is_there}
 use Rattle.xcf.proofs.editor.submit.Goals as goal
 

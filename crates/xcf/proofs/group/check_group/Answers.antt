@@ -2,7 +2,7 @@
 use Rattle.std.proofs.Common.{◌≡◌, rules}
 use Rattle.std.specs.Prelude.{None}
 use Rattle.xcf.specs.Plain.{first_unplain}
-use Rattle.xl_edit.specs.Edits.{edits_of}
+use Rattle.xl_calls.specs.Edits.{edits_of}
 use Rattle.xcf.proofs.Asking.{are_there}
 use Rattle.xcf.proofs.group.check_group.Goals as goal
 

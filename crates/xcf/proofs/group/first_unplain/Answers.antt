@@ -1,6 +1,6 @@
 -- One more edit is plain.
 use Rattle.std.proofs.Common.{◌≡◌, ◌<◌, true, length, rules}
-use Rattle.xl_edit.specs.Edits.{edit_of}
+use Rattle.xl_calls.specs.Edits.{edit_of}
 use Rattle.xcf.specs.Plain.{is_plain}
 use Rattle.xcf.proofs.Checking.{goes_by}
 use Rattle.xcf.proofs.group.first_unplain.Goals as goal

@@ -1,6 +1,6 @@
 -- The next id is one above the greatest.
 use Rattle.std.proofs.Common.{◌+◌, arith, refl}
-use Rattle.xl_edit.specs.Edits.{edit_of}
+use Rattle.xl_calls.specs.Edits.{edit_of}
 use Rattle.xl_damage.proofs.AfterEdit.{next_is, above, has_next}
 use Rattle.xl_damage.proofs.accepted.damage.Goals as goal
 

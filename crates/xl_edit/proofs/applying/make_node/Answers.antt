@@ -1,11 +1,11 @@
 -- The edit is the one that its variant means, at the next id.
 use Rattle.std.proofs.Common.{rules, ◌≡◌, to_z, of_z, w32, sym, ◌∙◌, ap, subst}
 use Rattle.spec_edit.specs.Edit as edits
-use Rattle.xl_edit.specs.declared.edit.Edit.{Edit}
+use Rattle.xl_calls.specs.declared.edit.Edit.{Edit}
 use Rattle.xl_paint.specs.Applied.{at}
 use Rattle.spec_edit.specs.Edit.{IsEdit}
-use Rattle.xl_edit.specs.Built.{HasNext}
-use Rattle.xl_edit.specs.Edits.{edit_of}
+use Rattle.xl_calls.specs.Built.{HasNext}
+use Rattle.xl_calls.specs.Edits.{edit_of}
 use Rattle.xl_edit.proofs.Accepted.{any_made}
 use Rattle.xl_edit.proofs.applying.make_node.Goals as goal
 

@@ -1,7 +1,7 @@
 use Rattle.std.proofs.Common.{◌∙◌, string_bytes}
 use Rattle.std.proofs.lemmas.Result.{on_ok_weaker}
-use Rattle.xl_edit.specs.Calls.{call_of}
-use Rattle.xl_edit.specs.Replies.{reply_of}
+use Rattle.xl_calls.specs.Calls.{call_of}
+use Rattle.xl_calls.specs.Replies.{reply_of}
 use Rattle.xl_play.proofs.Saved.{call_between}
 use Rattle.xl_play.proofs.Submitted.{HasRoom, chest_called, chest_keeps, chest_printed, chest_text}
 use Rattle.xl_play.proofs.playing.play_call.Goals as goal

@@ -1,6 +1,6 @@
 use Rattle.std.proofs.Common.{[], refl, string_bytes}
 use Rattle.std.proofs.lemmas.Result.{on_ok_weaker}
-use Rattle.xl_edit.specs.Replies.{reply_of}
+use Rattle.xl_calls.specs.Replies.{reply_of}
 use Rattle.xl_play.proofs.Saved.{saved_printed}
 use Rattle.xl_play.proofs.playing.play_save.Goals as goal
 

@@ -1,8 +1,8 @@
 use Rattle.std.proofs.Common.{◌∙◌, subst}
 use Rattle.std.specs.Prelude.{IfOk}
 use Rattle.spec_layout.specs.Layout.{Written}
-use Rattle.xl_edit.specs.Edits.{edits_of}
-use Rattle.xl_edit.specs.Replies.{reply_of}
+use Rattle.xl_calls.specs.Edits.{edits_of}
+use Rattle.xl_calls.specs.Replies.{reply_of}
 use Rattle.xl_program.proofs.FlatGroup.{flat_answered}
 use Rattle.xl_program.proofs.flattening.flat_file.Goals as goal
 

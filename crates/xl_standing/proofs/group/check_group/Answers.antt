@@ -1,7 +1,7 @@
 -- What is refused, or is not, with some tables is so with any.
 use Rattle.std.proofs.Common.{[]}
 use Rattle.xl_edit.specs.Applied.{at}
-use Rattle.xl_edit.specs.Edits.{edits_of}
+use Rattle.xl_calls.specs.Edits.{edits_of}
 use Rattle.xl_standing.proofs.Making.{refusal_same, accepted_same}
 use Rattle.xl_standing.proofs.group.check_group.Goals as goal
 

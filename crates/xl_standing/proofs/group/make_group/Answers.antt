@@ -5,7 +5,7 @@ use Rattle.spec_tables.specs.Acceptance.{filter_count}
 use Rattle.spec_tables.specs.Agrees.{AreAsked}
 use Rattle.spec_tables.proofs.Asked.{no_filters-asked}
 use Rattle.xl_edit.specs.Applied.{at}
-use Rattle.xl_edit.specs.Edits.{edits_of}
+use Rattle.xl_calls.specs.Edits.{edits_of}
 use Rattle.xl_standing.proofs.Making.{allowed_where, no_tables, part_allowed, leaves}
 use Rattle.xl_standing.proofs.group.make_group.Goals as goal
 

@@ -1,5 +1,5 @@
 use Rattle.std.proofs.Common.{arith}
-use Rattle.xl_edit.specs.Edits.{edits_of}
+use Rattle.xl_calls.specs.Edits.{edits_of}
 use Rattle.xcf.proofs.Plain.{few, no_tables}
 use Rattle.xcf.proofs.image.Image.edit.Goals as goal
 

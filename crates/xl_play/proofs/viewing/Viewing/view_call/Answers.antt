@@ -1,8 +1,8 @@
 use Rattle.std.proofs.Common.{◌∙◌, ap, sym, subst, string_bytes}
 use Rattle.std.proofs.lemmas.Result.{on_ok_weaker}
 use Rattle.spec_tables.proofs.Chests.{some_list}
-use Rattle.xl_edit.specs.Calls.{call_of}
-use Rattle.xl_edit.specs.Replies.{reply_of}
+use Rattle.xl_calls.specs.Calls.{call_of}
+use Rattle.xl_calls.specs.Replies.{reply_of}
 use Rattle.xl_window.proofs.Going.{goes_further, goes_submitted}
 use Rattle.xl_play.specs.Windows.{IsLastTile, window_digest}
 use Rattle.xl_play.proofs.Saved.{call_between}

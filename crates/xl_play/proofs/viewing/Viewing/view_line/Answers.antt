@@ -1,5 +1,5 @@
 use Rattle.std.proofs.Common.{◌∙◌, sym, ap, ◌+◌}
-use Rattle.xl_edit.specs.Calls.{call_of}
+use Rattle.xl_calls.specs.Calls.{call_of}
 use Rattle.xl_play.proofs.UnderWay.{called_next}
 use Rattle.xl_play.proofs.viewing.Viewing.view_line.Goals as goal
 

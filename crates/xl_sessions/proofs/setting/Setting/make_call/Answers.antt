@@ -4,8 +4,8 @@ use Rattle.spec_filters.specs.declared.FilterState.{FilterState}
 use Rattle.spec_history.specs.History.{asked}
 use Rattle.spec_tables.specs.Agrees.{Agrees}
 use Rattle.spec_tables.specs.Tables.{expected_tables}
-use Rattle.xl_edit.specs.Calls.{call_of}
-use Rattle.xl_edit.specs.Replies.{reply_of}
+use Rattle.xl_calls.specs.Calls.{call_of}
+use Rattle.xl_calls.specs.Replies.{reply_of}
 use Rattle.xl_filters.specs.Chests.{states_in}
 use Rattle.xl_studio.specs.Seats.{base_of, known_by}
 use Rattle.xl_turn.proofs.Fronts.{prefix_trans}

@@ -1,4 +1,4 @@
-use Rattle.xl_edit.specs.Replies.{reply_of}
+use Rattle.xl_calls.specs.Replies.{reply_of}
 use Rattle.xl_studio.specs.Seats.{base_of, opening_shelf, known_by}
 use Rattle.xl_sessions.proofs.Fulls.{count_after_save, full_after_save}
 use Rattle.xl_sessions.proofs.Made.{of_after_save}

@@ -1,5 +1,5 @@
 use Rattle.std.proofs.Common.{ap}
-use Rattle.xl_edit.specs.Replies.{reply_of}
+use Rattle.xl_calls.specs.Replies.{reply_of}
 use Rattle.xl_sessions.specs.Playing.{said}
 use Rattle.xl_sessions.proofs.setting.Setting.play_call.Goals as goal
 

@@ -3,9 +3,9 @@ use Rattle.std.proofs.Common.{rules, ◌≡◌, ◌+◌, ◌≤◌, sym, ◌∙�
 use Rattle.spec_history.specs.Machine as machine
 use Rattle.xl_standing.specs.Needs.{call_cost}
 use Rattle.xl_standing.specs.Now.{response, Gives}
-use Rattle.xl_edit.specs.Replies.{reply_of}
-use Rattle.xl_edit.specs.Calls.{call_of}
-use Rattle.xl_edit.specs.Edits.{edits_of}
+use Rattle.xl_calls.specs.Replies.{reply_of}
+use Rattle.xl_calls.specs.Calls.{call_of}
+use Rattle.xl_calls.specs.Edits.{edits_of}
 use Rattle.xl_standing.proofs.Moving.{part_asked}
 use Rattle.xl_standing.proofs.standing.Standing.answer.Goals as goal
 

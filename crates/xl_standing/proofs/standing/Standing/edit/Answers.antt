@@ -5,7 +5,7 @@ use Rattle.spec_history.specs.Machine as machine
 use Rattle.spec_history.specs.Machine.{names}
 use Rattle.xl_marks.specs.Change.{Change, change_between}
 use Rattle.xl_edit.specs.Applied.{at}
-use Rattle.xl_edit.specs.Edits.{edits_of}
+use Rattle.xl_calls.specs.Edits.{edits_of}
 use Rattle.xl_standing.specs.Now.{Now}
 use Rattle.xl_standing.proofs.Making.{allowed_made, all_part, part_allowed, part_left, part_named, on_err}
 use Rattle.xl_standing.proofs.Moving.{part_seen}

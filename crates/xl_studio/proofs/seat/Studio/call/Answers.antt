@@ -2,8 +2,8 @@ use Rattle.std.proofs.Common.{◌≡◌, ℕ, List, [], ap, sym, ◌∙◌, subs
 use mathlib.Core.List.{IsPrefix}
 use Rattle.spec_history.specs.History.{asked}
 use Rattle.spec_tables.specs.Tables.{expected_tables}
-use Rattle.xl_edit.specs.Calls.{call_of}
-use Rattle.xl_edit.specs.Replies.{reply_of}
+use Rattle.xl_calls.specs.Calls.{call_of}
+use Rattle.xl_calls.specs.Replies.{reply_of}
 use Rattle.xl_turn.specs.Seats as turns
 use Rattle.xl_turn.specs.Seats.{opened_with, start_of, entered_by, made_after}
 use Rattle.xl_studio.specs.State.{moments_of}

@@ -1,6 +1,6 @@
 use Rattle.std.proofs.Common.{◌≡◌, ℕ, List, ap, sym, ◌∙◌, subst}
 use mathlib.Core.List.{IsPrefix}
-use Rattle.xl_edit.specs.Replies.{reply_of}
+use Rattle.xl_calls.specs.Replies.{reply_of}
 use Rattle.xl_turn.specs.Seats as turns
 use Rattle.xl_turn.specs.Seats.{opened_with, start_of, made_after}
 use Rattle.xl_studio.specs.Moments.{closed_by}

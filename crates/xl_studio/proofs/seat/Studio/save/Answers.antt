@@ -1,5 +1,5 @@
 use Rattle.std.proofs.Common.{inr}
-use Rattle.xl_edit.specs.Replies.{reply_of}
+use Rattle.xl_calls.specs.Replies.{reply_of}
 use Rattle.xl_studio.specs.Seats.{base_of, opening_shelf, known_by}
 use Rattle.xl_studio.proofs.SecondHold.{saved_comes_back, is_whole, is_whole_by}
 use Rattle.xl_studio.proofs.seat.Studio.save.Goals as goal

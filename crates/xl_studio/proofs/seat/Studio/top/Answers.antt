@@ -1,6 +1,6 @@
 use Rattle.std.proofs.Common.{refl}
 use Rattle.spec_history.specs.Machine as machine
-use Rattle.xl_edit.specs.Replies.{reply_of}
+use Rattle.xl_calls.specs.Replies.{reply_of}
 use Rattle.xl_studio.specs.Seats.{base_of, known_by}
 use Rattle.xl_studio.proofs.Seated.{plain_after}
 use Rattle.xl_studio.proofs.seat.Studio.top.Goals as goal

@@ -5,8 +5,8 @@ use Rattle.spec_history.specs.Machine.{Call}
 use Rattle.spec_tables.specs.Agrees.{IsPartAfter}
 use Rattle.xl_standing.specs.History.{document, is_full, is_accepted, NeedsNoStep}
 use Rattle.xl_standing.specs.Needs.{call_cost}
-use Rattle.xl_edit.specs.Calls.{call_of}
-use Rattle.xl_edit.specs.Replies.{reply_of}
+use Rattle.xl_calls.specs.Calls.{call_of}
+use Rattle.xl_calls.specs.Replies.{reply_of}
 use Rattle.xl_studio.specs.State.{State, moments_of, IsKept}
 use Rattle.xl_studio.specs.Calling.{AddsCalls}
 use Rattle.xl_studio.proofs.Called.{calls_after, adds_after, base_after, fresh_after, kept_after}

@@ -1,8 +1,8 @@
 -- What the calls of the code mean.
 use Rattle.spec_history.specs.Machine as machine
-use Rattle.xl_edit.specs.declared.call.Call.{Call}
-use Rattle.xl_edit.specs.declared.call.Call.TheVariants.{Edit, Undo, Redo, Tile, Peek, Top}
-use Rattle.xl_edit.specs.Edits.{edits_of}
+use Rattle.xl_calls.specs.declared.call.Call.{Call}
+use Rattle.xl_calls.specs.declared.call.Call.TheVariants.{Edit, Undo, Redo, Tile, Peek, Top}
+use Rattle.xl_calls.specs.Edits.{edits_of}
 
 abbrev pub call_of : Call → machine.Call
 call_of (Edit group) = machine.edit group.guard (edits_of group.edits)

@@ -1,9 +1,9 @@
 -- What the replies of the code mean.
 use Rattle.spec_history.specs.Machine as machine
-use Rattle.xl_edit.specs.declared.reply.Reply.{Reply}
-use Rattle.xl_edit.specs.declared.reply.Reply.TheVariants.{Changed, Refused, Moved, NothingToUndo, NothingToRedo}
-use Rattle.xl_edit.specs.declared.reply.Reply.TheVariants.{NotTop, Tile, Stale, NoStack, OutsideTile, Top, Saved}
-use Rattle.xl_edit.specs.declared.reply.Reply.TheVariants.{SaveFault, SaveMemory, HistoryFull}
+use Rattle.xl_calls.specs.declared.reply.Reply.{Reply}
+use Rattle.xl_calls.specs.declared.reply.Reply.TheVariants.{Changed, Refused, Moved, NothingToUndo, NothingToRedo}
+use Rattle.xl_calls.specs.declared.reply.Reply.TheVariants.{NotTop, Tile, Stale, NoStack, OutsideTile, Top, Saved}
+use Rattle.xl_calls.specs.declared.reply.Reply.TheVariants.{SaveFault, SaveMemory, HistoryFull}
 
 abbrev pub reply_of : Reply → machine.Reply
 reply_of (Changed version group next) = machine.changed version group next

@@ -1,6 +1,7 @@
 //! What a session asks.
 use crate::edit_list::Edits;
-use xl_doc::{NodeId, TileAt};
+use spec_document::TileAt;
+use xl_tree::NodeId;
 
 /// Edits that are made together or not at all: 1 to 1024 of them.
 ///

@@ -13,7 +13,7 @@ pub struct Edits {
 
 impl Model for Edits {
     ghost use Rattle.std.specs.Prelude.{List};
-    ghost use Rattle.xl_edit.specs.declared.edit.Edit.{Edit};
+    ghost use Rattle.xl_calls.specs.declared.edit.Edit.{Edit};
 
     ghost Value = { List Edit };
 
