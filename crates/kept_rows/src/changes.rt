@@ -10,7 +10,7 @@ ghost use Rattle.xl_calls.specs.Edits.{edit_of};
 use sample_documents::document;
 use std::alloc::{AllocError, Global};
 use xl_checks::{Bytes, check_node, is_indexed};
-use xl_damage::{Document, Edit, NodeId, Rect, damage};
+use xl_trial::{Document, Edit, NodeId, Rect, damage};
 
 /// The file with a zero byte at a place, if it has this place.
 pub fn with_zero(alloc: Global, file: &[u8], at: usize) -> Result<Vec<u8>, AllocError> {

@@ -1,6 +1,6 @@
 //! Lists of stacks and rectangles of theirs.
 
-use xl_damage::{NodeId, Rect};
+use xl_trial::{NodeId, Rect};
 
 pub fn entry(stack: u32, x: i32, y: i32, w: u32, h: u32) -> (NodeId, Rect) {
     (NodeId(stack), Rect { x, y, w, h })

@@ -1,6 +1,2 @@
-mod Spread
-mod Nodes
-mod Small
 mod Settled
 mod Made
-mod AfterEdit

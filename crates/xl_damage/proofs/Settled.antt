@@ -23,7 +23,7 @@ use Rattle.spec_damage.proofs.Changed.{front, entries-plug}
 use Rattle.spec_damage.proofs.Sources.{known_round}
 use Rattle.spec_damage.proofs.Structure.{bottom_known, lacks_nodes, lacks_front, fresh-core}
 use Rattle.spec_damage.proofs.NewEdits.{distinct_more, all_more}
-use Rattle.xl_damage.specs.Marks.{spread}
+use Rattle.xl_regions.specs.Pairs.{spread}
 
 abbrev pub AreOwn : Nodes → Type 0
 AreOwn f = IsDistinct nat_eq (ids f) × AllByRecursion (λ i. 1 ≤ i) (ids f)

@@ -1,2 +1,1 @@
-pub mod Marks
-pub use Rattle.xl_calls.specs.Edits
+pub mod Between

@@ -4,12 +4,8 @@
 //! both documents shows anything else, which is the law of `spec_damage`. No picture is made to find it.
 #![tactic(auto)]
 
-mod accepted;
-mod cutting;
 mod pairs;
-mod stacks;
 
-pub use accepted::damage;
 pub use pairs::damage_between;
 pub use xl_calls::Edit;
 pub use xl_doc::{Document, NodeId, Rect};

@@ -9,7 +9,7 @@ use Rattle.spec_cache.specs.Cache.{Cache, IsCache, slots_of, has_slots, add_stac
 use Rattle.spec_cache.proofs.Found.{canvas-found}
 use Rattle.spec_cache.proofs.Order.{is_cache-filter}
 use Rattle.xl_tree.specs.declared.naming.NodeId.{NodeId}
-use Rattle.xl_damage.specs.Marks.{numbers, pairs_of}
+use Rattle.xl_regions.specs.Pairs.{numbers, pairs_of}
 use Rattle.xl_marks.specs.Change.{without_stacks, marked_by, with_stacks}
 use Rattle.xl_marks.specs.Pool.{Pool}
 use Rattle.xl_marks.specs.Steps.{AreGoing, AreComing}

@@ -3,4 +3,3 @@ pub mod Group
 pub mod Pool
 pub mod Steps
 pub mod Sample
-pub use Rattle.xl_damage.specs.Marks

@@ -24,7 +24,7 @@ pub struct Change {
 
 impl Model for Change {
     ghost use Rattle.std.specs.Prelude.{length};
-    ghost use Rattle.xl_damage.specs.Marks.{numbers};
+    ghost use Rattle.xl_regions.specs.Pairs.{numbers};
     ghost use Rattle.xl_marks.specs.Change as change;
     ghost use Rattle.xl_marks.specs.Pool.{IsStocked};
 

@@ -4,14 +4,16 @@ ghost use Rattle.std.specs.List.{AllByRecursion};
 ghost use Rattle.spec_damage.specs.Damage as damage;
 ghost use Rattle.spec_edit.specs.Refusal.{refusal};
 ghost use Rattle.spec_document.specs.Forest.{ids};
-ghost use Rattle.xl_damage.specs.Edits.{edit_of};
-ghost use Rattle.xl_damage.specs.Marks.{IsMade, pairs_of};
+ghost use Rattle.xl_calls.specs.Edits.{edit_of};
+ghost use Rattle.xl_damage.specs.Between.{IsMade};
+ghost use Rattle.xl_regions.specs.Pairs.{pairs_of};
 ghost use Rattle.xl_marks.specs.Change.{marked_by};
 
 use std::alloc::{AllocError, Global};
 use std::marker::Model;
 use xl_cache::Cache;
-use xl_damage::{Edit, damage_between};
+use xl_calls::Edit;
+use xl_damage::damage_between;
 use xl_doc::{Document, NodeId, Rect};
 
 /// The rectangles in which edits may change pictures, each with its stack, in the order of the edits.
@@ -23,7 +25,7 @@ pub struct Damage {
 impl Model for Damage {
     ghost use Rattle.std.specs.Prelude.{List};
     ghost use Rattle.spec_damage.specs.Damage.{Pair};
-    ghost use Rattle.xl_damage.specs.Marks.{pairs_of};
+    ghost use Rattle.xl_regions.specs.Pairs.{pairs_of};
 
     ghost Value = { List Pair };
 

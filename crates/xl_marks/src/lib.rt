@@ -19,5 +19,5 @@ pub use laws::{
     change_leads_back, damage_of_a_group, first_cache_is_its_own, gone_along_is_between,
 };
 pub use xl_cache::Cache;
-pub use xl_damage::Edit;
+pub use xl_calls::Edit;
 pub use xl_doc::{Document, NodeId, Rect};

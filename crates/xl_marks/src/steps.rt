@@ -1,7 +1,7 @@
 //! Stacks that go, and stacks that come.
 ghost use Rattle.std.specs.Prelude.{◌≡◌, ◌+◌, ◌-◌, ◌≤◌, length};
 ghost use Rattle.spec_cache.specs.Cache.{IsCache};
-ghost use Rattle.xl_damage.specs.Marks.{numbers};
+ghost use Rattle.xl_regions.specs.Pairs.{numbers};
 ghost use Rattle.xl_marks.specs.Change.{with_stacks, without_stacks};
 ghost use Rattle.xl_marks.specs.Steps.{AreComing, AreGoing};
 

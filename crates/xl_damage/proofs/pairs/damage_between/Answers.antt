@@ -1,6 +1,7 @@
 use Rattle.std.proofs.Common.{◌++◌, ◌∙◌, ap}
 use Rattle.xl_calls.specs.Edits.{edit_of}
-use Rattle.xl_damage.specs.Marks.{pairs_of, damage_between}
+use Rattle.xl_regions.specs.Pairs.{pairs_of}
+use Rattle.xl_damage.specs.Between.{damage_between}
 use Rattle.xl_damage.proofs.Made.{settled}
 use Rattle.xl_damage.proofs.pairs.damage_between.Goals as goal
 

@@ -2,7 +2,7 @@ use Rattle.std.proofs.Common.{sym, ◌∙◌, ap, subst}
 use Rattle.spec_cache.specs.Cache.{no_slots}
 use Rattle.spec_document.specs.Limits.{IsDocument}
 use Rattle.spec_world.specs.World.{stack_ids}
-use Rattle.xl_damage.specs.Marks.{numbers}
+use Rattle.xl_regions.specs.Pairs.{numbers}
 use Rattle.xl_marks.proofs.InTurn.{first-coming, coming-same}
 use Rattle.xl_marks.proofs.first.first_cache.Goals as goal
 

@@ -1,7 +1,7 @@
 use Rattle.std.proofs.Common.{◌≡◌, [], ◌∷◌, ◌++◌, sym, ◌∙◌, ap, subst}
 use Rattle.spec_document.specs.Limits.{IsDocument}
 use Rattle.spec_world.specs.World.{group_ids, stack_ids}
-use Rattle.xl_damage.specs.Marks.{numbers}
+use Rattle.xl_regions.specs.Pairs.{numbers}
 use Rattle.xl_doc.specs.Nodes.{nodes_of}
 use Rattle.xl_marks.proofs.Listed.{few-stacks}
 use Rattle.xl_marks.proofs.Standing.{stack_ids-all}

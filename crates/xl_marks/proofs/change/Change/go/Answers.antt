@@ -1,5 +1,5 @@
 use Rattle.std.proofs.Common.{sym, ◌∙◌, ap, subst}
-use Rattle.xl_damage.specs.Marks.{numbers}
+use Rattle.xl_regions.specs.Pairs.{numbers}
 use Rattle.xl_marks.specs.Change.{marked_by, without_stacks}
 use Rattle.xl_marks.specs.Steps.{AreGoing}
 use Rattle.xl_marks.proofs.InTurn.{path-going, path-coming, coming-same}

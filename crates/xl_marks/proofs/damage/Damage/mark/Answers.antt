@@ -1,5 +1,5 @@
 use Rattle.std.proofs.Common.{◌+◌, ◌∙◌, ap, drop}
-use Rattle.xl_damage.specs.Marks.{pairs_of}
+use Rattle.xl_regions.specs.Pairs.{pairs_of}
 use Rattle.xl_marks.specs.Change.{marked_by}
 use Rattle.xl_marks.proofs.Turns.{marked-next}
 use Rattle.xl_marks.proofs.damage.Damage.mark.Goals as goal

@@ -1,5 +1,5 @@
 use Rattle.std.proofs.Common.{◌≡◌, drop}
-use Rattle.xl_damage.specs.Marks.{pairs_of}
+use Rattle.xl_regions.specs.Pairs.{pairs_of}
 use Rattle.xl_marks.specs.Change.{marked_by}
 use Rattle.xl_marks.proofs.damage.Damage.mark.Given as goal
 

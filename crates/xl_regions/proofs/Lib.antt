@@ -1,0 +1,3 @@
+mod Spread
+mod Nodes
+mod Small
