@@ -1,5 +1,1 @@
-pub mod Change
-pub mod Group
-pub mod Pool
-pub mod Steps
 pub mod Sample

@@ -1,16 +1,14 @@
 //! What a group of edits does to the pictures that are kept.
 ghost use Rattle.std.specs.Prelude.{◌≡◌, ◌≤◌, IfOk};
-ghost use Rattle.xl_marks.specs.Change as change;
+ghost use Rattle.xl_pool.specs.Change as change;
 
 use crate::damage::Damage;
-use crate::pool::Pool;
-use crate::stacks::stacks_that_came;
-use crate::steps::{add_stacks, drop_stacks};
 use std::alloc::{AllocError, Global};
 use std::marker::Model;
 use std::mem;
 use xl_cache::Cache;
 use xl_doc::{Document, NodeId};
+use xl_pool::{Pool, add_stacks, drop_stacks, stacks_that_came};
 
 /// What a group of edits does to the pictures that are kept. It can be gone along there and back, and keeps the slots
 /// for the stacks that are to come.
@@ -25,8 +23,8 @@ pub struct Change {
 impl Model for Change {
     ghost use Rattle.std.specs.Prelude.{length};
     ghost use Rattle.xl_regions.specs.Pairs.{numbers};
-    ghost use Rattle.xl_marks.specs.Change as change;
-    ghost use Rattle.xl_marks.specs.Pool.{IsStocked};
+    ghost use Rattle.xl_pool.specs.Change as change;
+    ghost use Rattle.xl_pool.specs.Pool.{IsStocked};
 
     ghost Value = { change.Change };
 

@@ -6,18 +6,10 @@
 
 mod change;
 mod damage;
-mod first;
-mod laws;
-mod pool;
-mod stacks;
-mod steps;
 
 pub use change::Change;
 pub use damage::Damage;
-pub use first::first_cache;
-pub use laws::{
-    change_leads_back, damage_of_a_group, first_cache_is_its_own, gone_along_is_between,
-};
 pub use xl_cache::Cache;
 pub use xl_calls::Edit;
 pub use xl_doc::{Document, NodeId, Rect};
+pub use xl_pool::first_cache;

@@ -33,8 +33,8 @@ use Rattle.spec_world.specs.Right.{IsPictureAt}
 use Rattle.spec_world.specs.Standing.{IsStanding}
 use Rattle.spec_world.proofs.AllRight.{always-sound}
 use Rattle.spec_world.proofs.Submitted.{kept-picture, standing-submit}
-use Rattle.xl_marks.specs.Change.{LeavesCacheBetween}
-use Rattle.xl_marks.specs.Group.{HasGroupDamage}
+use Rattle.xl_pool.specs.Change.{LeavesCacheBetween}
+use Rattle.xl_pool.specs.Group.{HasGroupDamage}
 use Rattle.xl_standing.specs.History.{History, Shows}
 use Rattle.xl_standing.specs.Now.{Now, Gives, stays, response, now_of, with_tile, shown, ShowsTile, ShowsKept, ShowsNow}
 use Rattle.xl_standing.specs.Now.{IsKeptNow, world_of, Stands}

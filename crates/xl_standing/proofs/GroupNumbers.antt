@@ -10,7 +10,7 @@ use Rattle.spec_damage.specs.Damage.{Pair}
 use Rattle.spec_document.specs.declared.TileAt.{TileAt}
 use Rattle.spec_document.specs.Grid.{is_on_grid}
 use Rattle.spec_world.specs.Events.{peek_reply}
-use Rattle.xl_marks.specs.Group.{damage_along}
+use Rattle.xl_pool.specs.Group.{damage_along}
 use Rattle.xl_standing.specs.Now.{Now, Response, response, stays, at_now, made_now, taken_back, undone_of, redone_of}
 use Rattle.xl_standing.specs.Now.{where_tile, with_tile}
 

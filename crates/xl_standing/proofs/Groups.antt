@@ -18,7 +18,7 @@ use Rattle.spec_edit.proofs.EditsLimited.{apply_goes, next_counts}
 use Rattle.spec_tables.specs.Acceptance.{filter_count}
 use Rattle.spec_tables.proofs.Asked.{view}
 use Rattle.xl_damage.specs.Between.{IsMade}
-use Rattle.xl_marks.specs.Group.{damage_along}
+use Rattle.xl_pool.specs.Group.{damage_along}
 use Rattle.xl_standing.specs.Group.{HasIds}
 use Rattle.xl_calls.specs.declared.edit.Edit.{Edit}
 use Rattle.xl_calls.specs.Built.{HasNext}

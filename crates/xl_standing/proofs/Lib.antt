@@ -17,5 +17,5 @@ pub mod Costs
 pub mod Pictures
 pub mod ByHistory
 pub mod SaveEntries
-pub use Rattle.xl_marks.proofs.Between
-pub use Rattle.xl_marks.proofs.Joined
+pub use Rattle.xl_pool.proofs.Between
+pub use Rattle.xl_pool.proofs.Joined

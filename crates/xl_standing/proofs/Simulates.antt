@@ -25,8 +25,8 @@ use Rattle.spec_history.proofs.Causes.{slice_get-front, slice_get-last}
 use Rattle.spec_world.specs.World.{World, document_now, rects_of, cache_after}
 use Rattle.spec_world.specs.Events as events
 use Rattle.spec_world.specs.Events.{peek_reply, reply_to, cache_of}
-use Rattle.xl_marks.specs.Change.{change_between, gone_along, IsCacheOf, rects_in, AreOfCanvas, LeavesCacheBetween}
-use Rattle.xl_marks.specs.Group.{damage_along, HasGroupDamage}
+use Rattle.xl_pool.specs.Change.{change_between, gone_along, IsCacheOf, rects_in, AreOfCanvas, LeavesCacheBetween}
+use Rattle.xl_pool.specs.Group.{damage_along, HasGroupDamage}
 use Rattle.xl_standing.specs.Steps.{Step}
 use Rattle.xl_standing.specs.Now.{Now, Response, response, stays, kept_after, step_made, made_now, undone_of, redone_of}
 use Rattle.xl_standing.specs.Now.{taken_back, with_tile, top_of, damage_behind, damage_at, undo_of, redo_of, now_of}

@@ -24,8 +24,8 @@ use Rattle.spec_history.specs.declared.TheConstants.{MAX_ENTRIES}
 use Rattle.spec_world.specs.World.{World, entries_owed, stack_ids, add_stacks}
 use Rattle.spec_world.specs.Events.{peek_reply, show_slot}
 use Rattle.spec_world.specs.Standing.{IsStanding}
-use Rattle.xl_marks.specs.Change.{IsCacheOf, gone_along}
-use Rattle.xl_marks.specs.Group.{damage_along}
+use Rattle.xl_pool.specs.Change.{IsCacheOf, gone_along}
+use Rattle.xl_pool.specs.Group.{damage_along}
 use Rattle.xl_standing.specs.Group.{is_allowed}
 use Rattle.xl_standing.specs.Steps.{Step, change_of, stepped}
 

@@ -16,7 +16,7 @@ ghost use Rattle.xl_edit.specs.Applied.{at};
 ghost use Rattle.xl_calls.specs.Built.{HasNext};
 ghost use Rattle.xl_calls.specs.Edits.{edit_of, edits_of};
 ghost use Rattle.xl_filters.specs.Chests.{states_in};
-ghost use Rattle.xl_marks.specs.Group.{damage_along};
+ghost use Rattle.xl_pool.specs.Group.{damage_along};
 
 use crate::bytes::know_table;
 use std::alloc::{AllocError, Global};

@@ -1,7 +1,7 @@
 //! Steps back and forth over groups of edits.
 ghost use Rattle.std.specs.Prelude.{◌≡◌, ◌≤◌};
 ghost use Rattle.xl_standing.specs.Steps.{IsChange, change_of, stepped};
-ghost use Rattle.xl_marks.specs.Change.{IsCacheOf, gone_along};
+ghost use Rattle.xl_pool.specs.Change.{IsCacheOf, gone_along};
 
 use std::marker::Model;
 use xl_doc::{Document, know_limits};

@@ -3,7 +3,7 @@ use Rattle.std.proofs.Common.{◌≡◌, true, ap, sym, ◌∙◌, subst}
 use Rattle.std.specs.Prelude.{reverse}
 use Rattle.spec_history.specs.Machine as machine
 use Rattle.spec_history.specs.Machine.{names}
-use Rattle.xl_marks.specs.Change.{Change, change_between}
+use Rattle.xl_pool.specs.Change.{Change, change_between}
 use Rattle.xl_edit.specs.Applied.{at}
 use Rattle.xl_calls.specs.Edits.{edits_of}
 use Rattle.xl_standing.specs.Now.{Now}

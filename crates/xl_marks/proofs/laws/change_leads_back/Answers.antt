@@ -1,5 +1,0 @@
-use Rattle.xl_marks.proofs.Back.{leads-back}
-use Rattle.xl_marks.proofs.laws.change_leads_back.Goals as goal
-
-pub returns : goal.returns
-returns c = leads-back

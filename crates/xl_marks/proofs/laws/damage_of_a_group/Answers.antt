@@ -1,5 +1,0 @@
-use Rattle.xl_marks.proofs.Joined.{group-joined}
-use Rattle.xl_marks.proofs.laws.damage_of_a_group.Goals as goal
-
-pub returns : goal.returns
-returns c = group-joined

@@ -1,5 +1,0 @@
-use Rattle.xl_marks.proofs.Between.{leaves-between}
-use Rattle.xl_marks.proofs.laws.gone_along_is_between.Goals as goal
-
-pub returns : goal.returns
-returns c = leaves-between

@@ -1,5 +1,0 @@
-use Rattle.xl_marks.proofs.Turns.{HaveCome}
-use Rattle.xl_marks.proofs.steps.add_stacks.Given as goal
-
-abbrev pub invariant-loop-stack : goal.invariant-loop-stack
-invariant-loop-stack l = HaveCome l.stacks l.stack-index l.version l.initial.cache l.initial.pool l.cache l.pool

@@ -1,5 +1,0 @@
-use Rattle.xl_marks.proofs.Turns.{HaveGone}
-use Rattle.xl_marks.proofs.steps.drop_stacks.Given as goal
-
-abbrev pub invariant-loop-stack : goal.invariant-loop-stack
-invariant-loop-stack l = HaveGone l.stacks l.stack-index l.initial.cache l.initial.pool l.cache l.pool

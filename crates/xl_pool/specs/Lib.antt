@@ -1,0 +1,4 @@
+pub mod Change
+pub mod Group
+pub mod Pool
+pub mod Steps
