@@ -4,8 +4,7 @@ use Rattle.std.specs.Prelude.{List, [], ◌∷◌, ◌++◌, length, map, take, 
 use Rattle.std.specs.Prelude.{Ok, Err, slice_get, unwrap_or}
 use Rattle.spec_document.specs.Rect.{count_from}
 use Rattle.std.specs.List.{list_any}
-use Rattle.spec_edit.specs.Edit as edits
-use Rattle.spec_edit.specs.Edit.{Edit}
+use Rattle.spec_edit.specs.Edit.{Edit, slot_of}
 use Rattle.spec_edit.specs.Effect.{changed_at}
 use Rattle.spec_history.specs.Machine as machine
 use Rattle.spec_history.specs.Machine.{Call}
@@ -46,10 +45,13 @@ pub record Parsed : Type 0 where
 abbrev pub is_there : (filters : ℕ) (dropped : List ℕ) (slot : ℕ) → Bool
 is_there filters dropped slot = nat_lt slot filters && not (list_any (λ d. d == slot) dropped)
 
+abbrev pub finds_slot : (filters : ℕ) (dropped : List ℕ) → Option ℕ → Bool
+finds_slot filters dropped None = true
+finds_slot filters dropped (Some slot) = is_there filters dropped slot
+
 -- a filter edit needs its filter
 abbrev pub finds_filter : (filters : ℕ) (dropped : List ℕ) → Edit → Bool
-finds_filter filters dropped (edits.filter id rect slot) = is_there filters dropped slot
-finds_filter filters dropped edit = true
+finds_filter filters dropped edit = finds_slot filters dropped (slot_of edit)
 
 abbrev pub has_filter : Session → (slot : ℕ) → Bool
 has_filter s slot = is_there s.filters s.dropped slot
@@ -87,7 +89,10 @@ take_inside o s (an_edit e) =
 take_inside o s ends =
     if nat_lt 0 (length o.edits)
     then takes (record s { lines = s.lines ++ call (machine.edit o.guard o.edits) ∷ []; open_group = None }) 0 else None
-take_inside o s command = None
+take_inside o s (begins guard) = None
+take_inside o s (a_call c) = None
+take_inside o s saves = None
+take_inside o s (forgets slot) = None
 
 abbrev pub take_command : (number : ℕ) → Session → Option Open → Command → Option Taken
 take_command number s None command = take_outside number s command
