@@ -2,7 +2,6 @@
 #![tactic(auto)]
 
 mod beside;
-mod desk;
 mod joining;
 mod played;
 mod players;
@@ -14,9 +13,9 @@ mod threads;
 mod unplayed;
 
 pub use beside::{PlayedBeside, play_beside};
-pub use desk::desk_of;
 pub use printing::{each_entry_is_printed, order_words, print_history};
 pub use seating::first_boxes;
 pub use setting::Setting;
 pub use unplayed::Unplayed;
 pub use xl_report::digest;
+pub use xl_run::desk_of;
