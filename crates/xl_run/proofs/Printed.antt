@@ -14,7 +14,7 @@ use Rattle.spec_text.specs.Printed.{line_text, order_text}
 use Rattle.spec_text.specs.Text.{shown_digest, end_reply, entry_line, printed}
 use Rattle.spec_seats.specs.Digests.{asks_tile, is_tile_reply, shows_tile, digests_in}
 use Rattle.spec_seats.specs.Ended.{MayFollow, opened_by, AreEndedFrom, AreEnded}
-use Rattle.xl_sessions.specs.Printing.{first_digest, lines_with, lines_of_sessions}
+use Rattle.xl_run.specs.Printing.{first_digest, lines_with, lines_of_sessions}
 use Rattle.spec_text.proofs.Ends.{is_end_at, has_end, end_behind, no_end_more, AreBelow, below_kind}
 
 -- an entry that shows no tile has no digest

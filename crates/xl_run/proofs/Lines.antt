@@ -5,7 +5,7 @@ use Rattle.std.specs.List.{AllByRecursion}
 use Rattle.std.proofs.lemmas.List.Concat.{flat_map-append}
 use Rattle.spec_document.specs.Rect.{count_from}
 use Rattle.spec_history.specs.History.{Entry, mine}
-use Rattle.xl_sessions.specs.Printing.{IsPrinted, lines_with, lines_of_sessions}
+use Rattle.xl_run.specs.Printing.{IsPrinted, lines_with, lines_of_sessions}
 
 -- what was printed and what is left are together all lines of the session, and all that is left has a line
 pub record IsOnTheWay (session : ℕ) (text : List ℕ) (digests : List (List ℕ)) (es : List Entry) (done : List ℕ)

@@ -1,6 +1,6 @@
 //! Why a session ends before its last line.
 ghost use Rattle.std.specs.Prelude.{◌≡◌};
-ghost use Rattle.xl_sessions.specs.declared.unplayed.Unplayed.TheVariants.{Memory};
+ghost use Rattle.xl_run.specs.declared.unplayed.Unplayed.TheVariants.{Memory};
 
 use std::alloc::AllocError;
 use thiserror::Error;

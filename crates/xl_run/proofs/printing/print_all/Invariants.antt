@@ -1,6 +1,6 @@
 use Rattle.std.proofs.Common.{◌≡◌, map, string_bytes}
-use Rattle.xl_sessions.specs.Printing.{lines_of_sessions}
-use Rattle.xl_sessions.proofs.printing.print_all.Given as goal
+use Rattle.xl_run.specs.Printing.{lines_of_sessions}
+use Rattle.xl_run.proofs.printing.print_all.Given as goal
 
 abbrev pub invariant-loop-session : goal.invariant-loop-session
 invariant-loop-session l =

@@ -14,7 +14,7 @@ use Rattle.spec_history.specs.Machine.{undo_answer, redo_answer, answer, changed
 use Rattle.spec_history.specs.History.{Entry, Kind, asked, starts, ends, after_entry, MayPeek, PeekAnswers, MayEnd, MayBe, RunFrom}
 use Rattle.spec_history.specs.Kept.{IsLegal}
 use Rattle.spec_text.specs.Text.{is_save_memory}
-use Rattle.xl_sessions.specs.Printing.{IsPrinted}
+use Rattle.xl_run.specs.Printing.{IsPrinted}
 
 either : (b : Bool) (x y : Answer) → IsPrinted x.reply → IsPrinted y.reply → IsPrinted (cond b x y).reply
 either true x y p q = p

@@ -1,8 +1,8 @@
 use Rattle.std.proofs.Common.{◌∙◌, ap, map, string_bytes, ◌++◌}
 use Rattle.spec_history.specs.History.{mine}
-use Rattle.xl_sessions.specs.Printing.{lines_with}
-use Rattle.xl_sessions.proofs.Lines.{sessions_more}
-use Rattle.xl_sessions.proofs.printing.print_all.Goals as goal
+use Rattle.xl_run.specs.Printing.{lines_with}
+use Rattle.xl_run.proofs.Lines.{sessions_more}
+use Rattle.xl_run.proofs.printing.print_all.Goals as goal
 
 pub loop-session-preserved : goal.loop-session-preserved
 loop-session-preserved c =

@@ -11,15 +11,15 @@ ghost use Rattle.std.specs.Prelude.{◌≡◌, ℕ, false, ◌<◌, List, ◌∷
 ghost use Rattle.std.specs.Prelude.{unwrap_or, slice_get, []};
 ghost use Rattle.xl_edit.specs.Calls.{call_of};
 ghost use Rattle.xl_edit.specs.Replies.{reply_of};
-ghost use Rattle.xl_sessions.specs.Printing.{IsPrinted, line_here, first_digest, lines_with, lines_of_sessions};
+ghost use Rattle.xl_run.specs.Printing.{IsPrinted, line_here, first_digest, lines_with, lines_of_sessions};
 
 use std::alloc::{AllocError, Global};
+use xl_core::{Entry, EntryKind};
 use xl_edit::{Call, Reply};
 use xl_script::{OrderWord, SESSIONS, print_order, print_reply};
-use xl_studio::{Entry, EntryKind};
 
-// Whether a call asks for a tile.
-pub(crate) fn asks_tile(call: &Call) -> bool
+/// Whether a call asks for a tile.
+pub fn asks_tile(call: &Call) -> bool
     ensures { result ≡ asks_tile (call_of call.now) }
 {
     match call {
