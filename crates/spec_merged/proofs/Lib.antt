@@ -6,3 +6,5 @@ pub mod Merged
 pub mod Generated
 mod Commuting
 pub mod Ends
+pub mod MadeFiles
+pub mod MadeScripts

@@ -5,7 +5,7 @@ use spec_fields::ReadRefused;
 use spec_script::MAX_SCRIPT_BYTES;
 use std::alloc::{AllocError, Global};
 use xl_command::{Command, command_of};
-use xl_program::{Rejection, Stopped};
+use xl_outcome::{Rejection, Stopped};
 use xl_script::BadLine;
 
 const USAGE: &str =
@@ -18,7 +18,7 @@ pub const VERSION: &str = "0.1.0";
 const MEMORY: u8 = 8;
 
 /// A sentence on how the words came to this status, other than 0: which file, what is wrong and where. `cause` is that
-/// of [`xl_program::Ended`]. It has no newline at its end.
+/// of `Ended` of `xl_program`. It has no newline at its end.
 pub fn message<'a>(
     alloc: Global,
     words: &'a [&'a str],

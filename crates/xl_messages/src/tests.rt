@@ -3,7 +3,7 @@ use crate::{VERSION, message};
 use spec_fields::{Kind, ReadRefused};
 use std::alloc::{AllocError, Global};
 use std::test::Fail;
-use xl_program::{Rejection, Stopped};
+use xl_outcome::{Rejection, Stopped};
 use xl_script::{BadLine, BadLineOrMemory, Cause, Script, parse, parse_viewed};
 
 // The sentence on a file that is edited.

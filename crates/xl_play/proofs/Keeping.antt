@@ -1,41 +1,24 @@
--- The kept pictures of a core, as its document is opened and along a save.
-use Rattle.std.proofs.Common.{◌≡◌, ℕ, false, [], ◌∷◌, ◌++◌, Some, None, refl, ap, sym, ◌∙◌, subst}
+-- The kept pictures of a core along a save.
+use Rattle.std.proofs.Common.{◌≡◌, ℕ, false, [], ◌∷◌, ◌++◌, None, refl, ap, sym, ◌∙◌, subst}
 use Rattle.spec_document.specs.declared.TileAt.{TileAt}
 use Rattle.spec_document.specs.Document.{Document}
 use Rattle.spec_document.specs.Limits.{IsDocument}
-use Rattle.spec_cache.specs.Cache.{Cache, no_slots}
+use Rattle.spec_cache.specs.Cache.{Cache}
 use Rattle.spec_history.specs.Machine.{Reply, initial}
 use Rattle.spec_history.specs.History.{Entry, is_changed}
 use Rattle.spec_history.specs.Kept.{IsLegal, PeekMeetsKept, shown_version}
 use Rattle.spec_history.proofs.Growing.{AsksCall-last}
 use Rattle.spec_world.specs.declared.SaveEnd.{SaveEnd}
 use Rattle.spec_world.specs.declared.SaveEnd.TheVariants.{Done, Fault, Memory}
-use Rattle.spec_world.specs.World.{stack_ids, add_stacks}
 use Rattle.spec_world.specs.Events.{end_reply}
 use Rattle.spec_world.specs.Right.{IsRight}
 use Rattle.spec_world.specs.Exact.{SlotsAreExact}
-use Rattle.spec_world.proofs.Exact.{next-entry, stays-exact, starts-exact}
+use Rattle.spec_world.proofs.Exact.{next-entry, stays-exact}
 use Rattle.xl_core.specs.Editing.{Editing, world, Begins, Ends, start_of, end_of, with_entry}
 use Rattle.xl_core.specs.History.{History}
 use Rattle.xl_core.specs.declared.saving.Begun.TheVariants.{Snapshot}
-use Rattle.xl_play.specs.Playing.{KeepsExactly}
+use Rattle.xl_run.specs.Opening.{KeepsExactly}
 use Rattle.xl_play.proofs.Grown.{run_behind}
-
--- a core keeps nothing as its document is opened
-pub opened_keeps : {D : Type 0} (core : Editing D) (d : Document) (k : D)
-    → core ≡ record {
-      history = record { base = d; entries = [] };
-      cache = add_stacks (stack_ids d) d 0 no_slots;
-      opening = k;
-      handed = [];
-      shelf = Some k;
-      spare = core.spare;
-    } → IsDocument d → IsRight d (world core) → KeepsExactly core
-opened_keeps {D} core d k is within right = record {
-  within = subst (λ (c : Editing D). IsDocument c.history.base) (sym is) within;
-  right = subst (λ (b : Document). IsRight b (world core)) (sym (ap (λ (c : Editing D). c.history.base) is)) right;
-  exact = subst (λ (c : Editing D). SlotsAreExact c.history.base (world c)) (sym is) (starts-exact d);
-}
 
 end_unchanged : (how : SaveEnd) (v : ℕ) → is_changed (end_reply how v) ≡ false
 end_unchanged Done v = refl

@@ -1,5 +1,4 @@
 pub mod Submitted
-pub mod VersionsWithin
 mod Alone
 mod Answered
 mod Chests

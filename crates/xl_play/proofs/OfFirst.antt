@@ -15,7 +15,7 @@ use Rattle.xl_filters.specs.Chests.{states_of}
 use Rattle.spec_script.specs.Script.{list_at}
 use Rattle.xl_sessions.specs.Players.{boxes_at}
 use Rattle.xl_sessions.proofs.Brought.{count_at}
-use Rattle.xl_play.specs.Playing.{AreOfFirst}
+use Rattle.spec_run.specs.First.{AreOfFirst}
 use Rattle.spec_text.proofs.CallsWithin.{calls_are}
 
 abbrev AreBlank : List (List script.Line) → Type 0

@@ -15,11 +15,12 @@ use Rattle.spec_filters.specs.declared.FilterState.{FilterState}
 use Rattle.spec_script.specs.Script.{Line}
 use Rattle.spec_text.specs.Text.{IsTextOf}
 use Rattle.xl_core.specs.Editing.{Editing, IsRight}
-use Rattle.xl_play.specs.Told.{IsPlayed, IsToldOf, WhetherFailed}
-use Rattle.xl_play.specs.Playing.{AreOfFirst}
-use Rattle.xl_play.specs.Versions.{AreWithin}
+use Rattle.spec_run.specs.Failed.{WhetherFailed}
+use Rattle.xl_play.specs.Told.{IsPlayed, IsToldOf}
+use Rattle.spec_run.specs.First.{AreOfFirst}
+use Rattle.spec_run.specs.Versions.{AreWithin}
 use Rattle.xl_play.specs.declared.playing.Replies.{Replies}
-use Rattle.xl_play.proofs.VersionsWithin.{first_within}
+use Rattle.spec_run.proofs.VersionsWithin.{first_within}
 use Rattle.xl_ports.specs.State.{ShelfState}
 
 -- without memory for a core nothing was played

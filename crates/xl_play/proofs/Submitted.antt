@@ -34,7 +34,8 @@ use Rattle.xl_calls.specs.declared.reply.Reply as code
 use Rattle.xl_calls.specs.declared.reply.Reply.TheVariants.{SaveMemory, HistoryFull}
 use Rattle.xl_calls.specs.Replies.{reply_of}
 use Rattle.xl_script.specs.Printed.{HasText}
-use Rattle.xl_play.specs.Playing.{ArePlayed, IsCalled, KeepsExactly, shown_of}
+use Rattle.xl_play.specs.Playing.{ArePlayed, IsCalled, shown_of}
+use Rattle.xl_run.specs.Opening.{KeepsExactly}
 use Rattle.xl_play.proofs.Alone.{alone_peek}
 use Rattle.xl_play.proofs.Answered.{IsSaid, reply_said}
 use Rattle.xl_play.proofs.Grown.{played_call}

@@ -20,7 +20,8 @@ use Rattle.xl_core.specs.History.{History, with_call}
 use Rattle.xl_script.specs.Lines.{line_of, lines_of}
 use Rattle.xl_script.specs.declared.script.Line.{Line}
 use Rattle.xl_sessions.specs.Playing.{FitsChest}
-use Rattle.xl_play.specs.Playing.{AreMade, ArePlayed, IsCalled, IsBetweenLines, IsMade, KeepsExactly}
+use Rattle.xl_play.specs.Playing.{AreMade, ArePlayed, IsCalled, IsBetweenLines, IsMade}
+use Rattle.xl_run.specs.Opening.{KeepsExactly}
 use Rattle.spec_text.specs.Text.{calls_along}
 use Rattle.xl_play.proofs.Plain.{filters_now, filters_more, tables_more}
 use Rattle.xl_play.proofs.Chests.{full_stocked}

@@ -11,7 +11,8 @@ use Rattle.xl_core.specs.History.{History}
 use Rattle.xl_script.specs.Lines.{line_of, lines_of}
 use Rattle.xl_script.specs.declared.script.Line.{Line}
 use Rattle.xl_window.specs.Viewing.{GoesOn}
-use Rattle.xl_play.specs.Playing.{IsBetweenLines, IsMade, KeepsExactly, lines_in}
+use Rattle.xl_play.specs.Playing.{IsBetweenLines, IsMade, lines_in}
+use Rattle.xl_run.specs.Opening.{KeepsExactly}
 use Rattle.xl_play.specs.Windows.{AreShown}
 use Rattle.xl_play.proofs.UnderWay.{IsUnderWay, under_way_none, under_way_more}
 use Rattle.xl_play.proofs.Windowed.{shown_none}

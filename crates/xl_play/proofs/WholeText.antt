@@ -18,9 +18,11 @@ use Rattle.xl_filters.specs.Chests.{states_of}
 use Rattle.spec_script.specs.Script.{list_at}
 use Rattle.xl_sessions.specs.Players.{boxes_at}
 use Rattle.xl_sessions.proofs.Brought.{states_at}
-use Rattle.xl_play.specs.Told.{IsToldOf, WhetherFailed}
+use Rattle.spec_run.specs.Failed.{WhetherFailed}
+use Rattle.xl_play.specs.Told.{IsToldOf}
 use Rattle.xl_play.specs.declared.playing.Replies.{Replies}
-use Rattle.xl_play.specs.Playing.{AreMade, AreOf, ArePlayed, AreOfFirst, lines_in}
+use Rattle.spec_run.specs.First.{AreOfFirst}
+use Rattle.xl_play.specs.Playing.{AreMade, AreOf, ArePlayed, lines_in}
 use Rattle.spec_text.specs.Text.{calls_along}
 use Rattle.xl_play.proofs.Plain.{mine_own, mine_other}
 use Rattle.xl_play.proofs.Seen.{fresh_other}

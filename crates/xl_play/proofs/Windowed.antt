@@ -25,7 +25,8 @@ use Rattle.spec_window.specs.declared.WindowRefused.TheVariants.{NoStack, Outsid
 use Rattle.spec_window.specs.Window.{window, window_refusal}
 use Rattle.xl_core.specs.Editing.{Editing}
 use Rattle.xl_core.specs.History.{History, version, document, Shows, with_call}
-use Rattle.xl_play.specs.Playing.{ArePlayed, KeepsExactly, lines_in, shown_of}
+use Rattle.xl_play.specs.Playing.{ArePlayed, lines_in, shown_of}
+use Rattle.xl_run.specs.Opening.{KeepsExactly}
 use Rattle.xl_play.specs.Windows.{AreShown, IsLastTile, Place, asks_for, window_digest}
 use Rattle.xl_play.proofs.Grown.{next_entry, played_none}
 use Rattle.xl_play.proofs.Stays.{IsTold, each_told}

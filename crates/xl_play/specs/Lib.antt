@@ -1,6 +1,5 @@
 pub mod Playing
 pub mod Told
-pub mod Versions
 pub mod Windows
 -- of a core
 pub use Rattle.xl_core.specs.Editing

@@ -1,30 +1,23 @@
 -- A history of the calls and saves of session 0, which is alone, and the lines that are printed for it.
-use Rattle.std.specs.Prelude.{◌≡◌, ℕ, drop, List, [], ◌∷◌, ◌++◌, flat_map, slice_set, Option, None, IsSome, option_map, unwrap_or}
+use Rattle.std.specs.Prelude.{◌≡◌, ℕ, List, [], ◌∷◌, ◌++◌, flat_map, slice_set, Option, None, IsSome, option_map, unwrap_or}
 use Rattle.std.specs.List.{AllByRecursion}
 use Rattle.spec_document.specs.Document.{Document}
 use Rattle.spec_history.specs.Machine.{Call, Reply, version_shown}
-use Rattle.spec_document.specs.Limits.{IsDocument}
 use Rattle.spec_history.specs.History.{Entry, asked, ends, replay, next_index}
 use Rattle.spec_history.specs.Kept.{IsFresh, IsLegal}
 use Rattle.spec_saves.specs.Names.{save_faults}
-use Rattle.spec_world.specs.Right as worlds
-use Rattle.spec_world.specs.Exact.{SlotsAreExact}
 use Rattle.spec_filters.specs.declared.FilterState.{FilterState}
 use Rattle.spec_script.specs.Script.{Line, call, save, forget}
 use Rattle.spec_tables.specs.Tables.{HaveTables, expected_tables}
 use Rattle.spec_tables.specs.Agrees.{Agrees, IsAfter}
 use Rattle.spec_text.specs.Text.{IsPrintable, AreAlone, calls_along, calls_of, digest_of, entry_line}
-use Rattle.xl_core.specs.Editing.{Editing, start_of, world}
+use Rattle.xl_core.specs.Editing.{Editing, start_of}
 use Rattle.xl_core.specs.History.{History, with_call}
 
 -- ---- whose entries they are
 
 abbrev pub AreOf : (session : ℕ) → List Entry → Type 0
 AreOf session es = AllByRecursion (λ e. e.session ≡ session) es
-
--- all lines are of session 0
-abbrev pub AreOfFirst : List (List Line) → Type 0
-AreOfFirst lists = AllByRecursion (λ lines. lines ≡ []) (drop 1 lists)
 
 -- ---- the printed lines
 
@@ -76,12 +69,6 @@ IsMade old session (forget slot) before after new = (new ≡ old) × (after ≡ 
 pub record AreMade (filters : List FilterState) (lines : List Line) (es : List Entry) : Type 0 where
   pub calls : calls_along es ≡ calls_of lines
   pub tables : HaveTables filters es
-
--- the kept pictures of a document within its limits are right, and are just those that have to be kept, as no job brought any
-pub record KeepsExactly {D : Type 0} (core : Editing D) : Type 0 where
-  pub within : IsDocument core.history.base
-  pub right : worlds.IsRight core.history.base (world core)
-  pub exact : SlotsAreExact core.history.base (world core)
 
 -- where the run stands between two lines: the shelf is in, and the history is legal
 pub record IsBetweenLines {D : Type 0} (base : Document) (opening : D) (core : Editing D) : Type 0 where

@@ -1,5 +1,5 @@
 -- What is told of a script that was played.
-use Rattle.std.specs.Prelude.{◌≡◌, ◌<◌, ℕ, Bool, true, false, List, IfOk, Result, string_bytes}
+use Rattle.std.specs.Prelude.{◌≡◌, ℕ, List, IfOk, Result, string_bytes}
 use Rattle.std.specs.declared.alloc.AllocError.{AllocError}
 use Rattle.spec_document.specs.Document.{Document}
 use Rattle.spec_filters.specs.declared.FilterState.{FilterState}
@@ -9,25 +9,11 @@ use Rattle.spec_history.specs.Kept.{IsLegal}
 use Rattle.spec_saves.specs.Names.{save_faults}
 use Rattle.spec_saves.specs.Shelf.{ShelfIsRight}
 use Rattle.spec_text.specs.Text.{IsTextOf, Alone}
-use Rattle.xl_play.specs.Playing.{AreOfFirst}
-use Rattle.xl_play.specs.Versions.{AreWithin}
+use Rattle.spec_run.specs.Failed.{WhetherFailed}
+use Rattle.spec_run.specs.First.{AreOfFirst}
+use Rattle.spec_run.specs.Versions.{AreWithin}
 use Rattle.xl_play.specs.declared.playing.Replies.{Replies}
 use Rattle.xl_ports.specs.State.{ShelfState}
-
--- how many saves of a run may have failed
-abbrev pub NoneFailed : (faults : ℕ) → Type 0
-NoneFailed faults = faults ≡ 0
-
-abbrev pub SomeFailed : (faults : ℕ) → Type 0
-SomeFailed faults = 0 < faults
-
-abbrev pub AnyFailed : (faults : ℕ) → Type 0
-AnyFailed faults = Unit {0}
-
--- whether a save failed
-abbrev pub WhetherFailed : Bool → (faults : ℕ) → Type 0
-WhetherFailed true faults = SomeFailed faults
-WhetherFailed false faults = NoneFailed faults
 
 -- The text of these entries for these lines, and whether a save failed. Where no worker was asked for, all lines are of session 0
 -- and no save failed, it is that of one session alone.

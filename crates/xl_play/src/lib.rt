@@ -6,7 +6,6 @@
 #![tactic(auto)]
 
 mod host;
-mod opening;
 mod playing;
 mod saving;
 mod script_runs;
@@ -15,9 +14,9 @@ mod viewing;
 mod windows;
 
 pub use host::Host;
-pub use opening::open_core;
 pub use playing::{Replies, has_save_fault};
 pub use script_runs::{Played, run_script};
 pub use viewing::Viewing;
 pub use xl_core::{Core, next_id_of};
-pub use xl_sessions::{PlayedBeside, desk_of, play_beside};
+pub use xl_run::{desk_of, open_core};
+pub use xl_sessions::{PlayedBeside, play_beside};

@@ -13,9 +13,12 @@ ghost use Rattle.std.specs.Prelude.{◌≡◌, ◌+◌, ◌*◌, ◌<◌, ◌≤
 ghost use Rattle.xl_calls.specs.Calls.{call_of};
 ghost use Rattle.xl_calls.specs.Replies.{reply_of};
 ghost use Rattle.xl_filters.specs.Chests.{states_in};
-ghost use Rattle.xl_play.specs.Told.{WhetherFailed, IsToldOf};
-ghost use Rattle.xl_play.specs.Playing.{AreMade, AreOfFirst, ArePlayed, IsBetweenLines, IsCalled, IsMade};
-ghost use Rattle.xl_play.specs.Playing.{KeepsExactly, shown_of, with_save};
+ghost use Rattle.spec_run.specs.Failed.{WhetherFailed};
+ghost use Rattle.xl_play.specs.Told.{IsToldOf};
+ghost use Rattle.spec_run.specs.First.{AreOfFirst};
+ghost use Rattle.xl_play.specs.Playing.{AreMade, ArePlayed, IsBetweenLines, IsCalled, IsMade};
+ghost use Rattle.xl_play.specs.Playing.{shown_of, with_save};
+ghost use Rattle.xl_run.specs.Opening.{KeepsExactly};
 ghost use Rattle.xl_script.specs.Lines.{line_of, lines_of, lists_of};
 ghost use Rattle.xl_filters.specs.Chests.{states_of};
 ghost use Rattle.spec_script.specs.Script.{list_at};

@@ -3,7 +3,8 @@ ghost use Rattle.spec_history.specs.declared.TheConstants.{MAX_ENTRIES};
 ghost use Rattle.std.specs.Prelude.{◌≡◌, ◌+◌, ◌<◌, ◌≤◌, length, IfOk, OnOk, IsSome};
 ghost use Rattle.spec_history.specs.Kept.{IsLegal};
 ghost use Rattle.xl_calls.specs.Replies.{reply_of};
-ghost use Rattle.xl_play.specs.Playing.{IsBetweenLines, KeepsExactly, with_save};
+ghost use Rattle.xl_play.specs.Playing.{IsBetweenLines, with_save};
+ghost use Rattle.xl_run.specs.Opening.{KeepsExactly};
 ghost use Rattle.xl_script.specs.Printed.{HasText};
 
 use std::alloc::{AllocError, Global};

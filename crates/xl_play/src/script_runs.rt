@@ -5,13 +5,14 @@ ghost use Rattle.spec_document.specs.Limits.{IsDocument};
 ghost use Rattle.spec_saves.specs.Names.{save_faults};
 ghost use Rattle.spec_script.specs.Fits.{FitsFilters};
 ghost use Rattle.xl_doc.specs.Numbered.{AreNumbered};
-ghost use Rattle.xl_play.specs.Told.{IsPlayed, WhetherFailed};
-ghost use Rattle.xl_play.specs.Playing.{AreOfFirst, KeepsExactly};
+ghost use Rattle.spec_run.specs.Failed.{WhetherFailed};
+ghost use Rattle.xl_play.specs.Told.{IsPlayed};
+ghost use Rattle.spec_run.specs.First.{AreOfFirst};
+ghost use Rattle.xl_run.specs.Opening.{KeepsExactly};
 ghost use Rattle.xl_script.specs.Lines.{lists_of};
 ghost use Rattle.xl_filters.specs.Chests.{states_of};
 
 use crate::host::Host;
-use crate::opening::open_core;
 use crate::playing::{Replies, has_save_fault, play};
 use std::alloc::{AllocError, Global};
 use std::sync::Wait;
@@ -20,6 +21,7 @@ use xl_core::Core;
 use xl_doc::Document;
 use xl_filters::PointFilter;
 use xl_ports::{Gate, Shelf};
+use xl_run::open_core;
 use xl_script::{SESSIONS, Script};
 use xl_sessions::{PlayedBeside, play_beside};
 

@@ -6,22 +6,24 @@ use Rattle.spec_command.specs.Arguments.{edit}
 use Rattle.spec_document.specs.Document.{Document}
 use Rattle.spec_document.specs.Limits.{IsDocument}
 use Rattle.spec_saves.specs.Names.{save_faults}
-use Rattle.xl_play.specs.Told.{NoneFailed, SomeFailed, AnyFailed, WhetherFailed, IsPlayed}
-use Rattle.xl_program.specs.Files.{HoldsDocument}
-use Rattle.xl_program.specs.Outcome.{Given, HasLines, opened, IsUntouched, IsHistory}
-use Rattle.xl_program.specs.Outcome.{IsReplies, ComesTo}
+use Rattle.spec_run.specs.Failed.{NoneFailed, SomeFailed, AnyFailed, WhetherFailed}
+use Rattle.xl_play.specs.Told.{IsPlayed}
+use Rattle.xl_outcome.specs.Files.{HoldsDocument}
+use Rattle.xl_outcome.specs.Outcome.{Given, HasLines, opened, IsUntouched, IsHistory}
+use Rattle.xl_outcome.specs.Outcome.{IsReplies, ComesTo}
 use Rattle.xl_ports.specs.Shelf.{Content}
 use Rattle.xl_ports.specs.State.{ShelfState}
 use Rattle.xl_ports.specs.Disk.{read_at}
-use Rattle.xl_program.specs.Parts.{Loads, ReadsScript, StopsEdit, WritesReplies}
+use Rattle.xl_outcome.specs.Parts.{Loads, ReadsScript, StopsEdit}
+use Rattle.xl_program.specs.Played.{WritesReplies}
 use Rattle.xl_play.specs.declared.playing.Replies.{Replies}
-use Rattle.xl_program.specs.declared.stopped.Stopped.{Stopped}
-use Rattle.xl_program.specs.declared.stopped.Stopped.TheVariants.{SourceFault, BadHead, BadLine, ShelfFault, Refused}
-use Rattle.xl_program.specs.declared.stopped.Stopped.TheVariants.{NotFlattened, SaveFault, Rejected, SinkFault, Memory}
+use Rattle.xl_outcome.specs.declared.stopped.Stopped.{Stopped}
+use Rattle.xl_outcome.specs.declared.stopped.Stopped.TheVariants.{SourceFault, BadHead, BadLine, ShelfFault, Refused}
+use Rattle.xl_outcome.specs.declared.stopped.Stopped.TheVariants.{NotFlattened, SaveFault, Rejected, SinkFault, Memory}
 use Rattle.spec_script.specs.Script.{Line}
-use Rattle.xl_program.proofs.Earlier.{right_earlier}
-use Rattle.xl_program.proofs.LastFile.{has_last}
-use Rattle.xl_program.proofs.Taken.{untouched}
+use Rattle.spec_run.proofs.Earlier.{right_earlier}
+use Rattle.spec_run.proofs.LastFile.{has_last}
+use Rattle.xl_outcome.proofs.Taken.{untouched}
 
 -- what was known when the script was played
 pub record IsOpened (given : Given) (before mid : ShelfState) (name : List ℕ) (d : Document) (lists : List (List Line)) : Type 0 where

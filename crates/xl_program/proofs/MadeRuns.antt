@@ -25,24 +25,25 @@ use Rattle.spec_world.specs.declared.SaveEnd.TheVariants.{Done}
 use Rattle.xl_ports.specs.Shelf.{Content}
 use Rattle.xl_ports.specs.Disk.{Disk, MayLeave, Between}
 use Rattle.xl_ports.specs.State.{ShelfState}
-use Rattle.xl_play.specs.Told.{NoneFailed, SomeFailed, AnyFailed, WhetherFailed}
-use Rattle.xl_program.specs.Endings.{HaveFailed}
-use Rattle.xl_program.specs.Making.{IsMadeHistory, IsRunOf, IsSummary}
+use Rattle.spec_run.specs.Failed.{NoneFailed, SomeFailed, AnyFailed, WhetherFailed}
+use Rattle.xl_outcome.specs.Endings.{HaveFailed}
+use Rattle.xl_outcome.specs.Making.{IsMadeHistory, IsRunOf, IsSummary}
 use Rattle.xl_filters.specs.Chests.{states_of}
-use Rattle.xl_program.specs.Outcome.{Comes, opened, ShelfCauseOf}
-use Rattle.xl_play.specs.Editing.{Editing, IsRight}
-use Rattle.xl_play.specs.History.{document as last_document}
-use Rattle.xl_program.specs.Parts.{IsSummedUp, StopsMaking, SumsUp, WritesReplies}
-use Rattle.xl_play.specs.Versions.{AreWithin}
+use Rattle.xl_outcome.specs.Outcome.{Comes, opened, ShelfCauseOf}
+use Rattle.xl_core.specs.Editing.{Editing, IsRight}
+use Rattle.xl_core.specs.History.{document as last_document}
+use Rattle.xl_outcome.specs.Parts.{StopsMaking}
+use Rattle.xl_program.specs.Played.{IsSummedUp, SumsUp, WritesReplies}
+use Rattle.spec_run.specs.Versions.{AreWithin}
 use Rattle.xl_snapshot.specs.Saving.{IsSavedOn}
 use Rattle.xl_snapshot.proofs.Putting.{done_not_memory}
 use Rattle.xl_play.specs.declared.playing.Replies.{Replies}
-use Rattle.xl_program.specs.declared.stopped.Stopped.{Stopped}
-use Rattle.xl_program.specs.declared.stopped.Stopped.TheVariants.{SourceFault, BadHead, BadLine, ShelfFault, Refused}
-use Rattle.xl_program.specs.declared.stopped.Stopped.TheVariants.{NotFlattened, SaveFault, Rejected, SinkFault, Memory}
+use Rattle.xl_outcome.specs.declared.stopped.Stopped.{Stopped}
+use Rattle.xl_outcome.specs.declared.stopped.Stopped.TheVariants.{SourceFault, BadHead, BadLine, ShelfFault, Refused}
+use Rattle.xl_outcome.specs.declared.stopped.Stopped.TheVariants.{NotFlattened, SaveFault, Rejected, SinkFault, Memory}
 use Rattle.xl_program.proofs.Edited.{none_failed, some_failed}
-use Rattle.xl_program.proofs.MadeFiles.{last_is_saved}
-use Rattle.xl_play.proofs.VersionsWithin.{first_within}
+use Rattle.spec_merged.proofs.MadeFiles.{last_is_saved}
+use Rattle.spec_run.proofs.VersionsWithin.{first_within}
 
 -- ---- the run
 

@@ -1,28 +1,20 @@
-ghost use Rattle.std.specs.Prelude.{◌≡◌, ◌<◌, ◌≤◌, ◌^◌, ◌⊎◌, length, map, Some, IfOk, OnOk};
+ghost use Rattle.std.specs.Prelude.{◌≡◌, ◌<◌, ◌≤◌, ◌^◌, ◌⊎◌, length, Some, OnOk};
 ghost use Rattle.std.specs.List.{AllByRecursion};
-ghost use Rattle.spec_script.specs.Fits.{FitsFilters};
 ghost use Rattle.spec_command.specs.Arguments.{edit as edit_of};
-ghost use Rattle.xl_ports.specs.Source.{IsEnded};
 ghost use Rattle.xl_ports.specs.Disk.{read_at};
-ghost use Rattle.xl_program.specs.AtSource.{IfOfSource};
-ghost use Rattle.xl_program.specs.Outcome.{given_of, ComesTo, LoadsFew, ReadsToEnd, SourceCause, ShelfCause, TakesFront};
-ghost use Rattle.xl_program.specs.Parts.{ReadsScript, WritesReplies, StopsEdit};
-ghost use Rattle.xl_script.specs.Lines.{lists_of};
-ghost use Rattle.xl_filters.specs.Chests.{states_of};
+ghost use Rattle.xl_outcome.specs.AtSource.{IfOfSource};
+ghost use Rattle.xl_outcome.specs.Outcome.{given_of, ComesTo, LoadsFew, ReadsToEnd, SourceCause, ShelfCause, TakesFront};
+ghost use Rattle.xl_outcome.specs.Parts.{StopsEdit};
+ghost use Rattle.xl_program.specs.Played.{WritesReplies};
 
-use crate::ended::CommandEnd;
-use crate::loading::read_document;
-use crate::stopped::Stopped;
-use std::alloc::{AllocError, Global};
+use std::alloc::AllocError;
 use std::sync::Wait;
 use std::thread::Threads;
+use xl_commands::{read_document, read_script};
 use xl_filters::PointFilter;
+use xl_outcome::{CommandEnd, Stopped};
 use xl_play::{Host, Replies, run_script};
-use xl_ports::{FailedOrMemory, Gate, Shelf, Sink, Source, read_all, write_all};
-use xl_script::{BadLineOrMemory, MAX_SCRIPT_BYTES, Script, parse};
-
-/// How much of a script is read: one byte more than it may have.
-pub(crate) const MOST_BYTES: usize = MAX_SCRIPT_BYTES + 1;
+use xl_ports::{Gate, Shelf, Sink, Source, write_all};
 
 /// Makes the calls and saves of a script on the document of a file, and writes the replies. The sessions are played
 /// beside each other, and beside workers; session 0 alone, where no worker is asked for, without threads.
@@ -75,53 +67,6 @@ pub fn edit<R: Threads + Wait + Sync, S: Source, K: Sink, D: Shelf, G: Gate>(
     CommandEnd {
         result: write_replies(sink, played.replies),
         shelf: played.shelf,
-    }
-}
-
-/// How many filters each session has.
-pub(crate) fn filter_counts(
-    alloc: Global,
-    chest: &[Vec<Box<dyn PointFilter + Send>>],
-) -> Result<Vec<u32>, AllocError>
-    requires { AllByRecursion (λ boxes. length boxes.items < 2 ^ 32) chest.now }
-    ensures { IfOk result (λ counts. counts.items ≡ map length
-        (states_of (λ b. state b) chest.now)) }
-{
-    let mut counts = Vec::with_capacity(alloc, chest.len())?;
-    for boxes in chest {
-        counts.push(boxes.len() as u32)?;
-    }
-    Ok(counts)
-}
-
-// The lines of the sessions.
-fn read_script<S: Source>(
-    alloc: Global,
-    source: &mut S,
-    chest: &Vec<Vec<Box<dyn PointFilter + Send>>>,
-) -> Result<Script, Stopped>
-    requires { AllByRecursion (λ boxes. length boxes.items < 2 ^ 32) chest.now.items }
-    ensures reads { ReadsScript (given_of (S.left source.old) (λ b. state b) chest.now.items)
-        result }
-    ensures fits { IfOk result
-        (λ script. FitsFilters (map length (states_of (λ b. state b) chest.now.items))
-        (lists_of script)) }
-    ensures takes { TakesFront S.left S.faults S.reads source.old source.new }
-    ensures ended { OnOk result (IsEnded (S.left source.new)) }
-    ensures cause { SourceCause (S.faults source.old) (S.faults source.new) result }
-{
-    let text = match read_all(alloc, source, MOST_BYTES) {
-        Ok(text) => text,
-        Err(FailedOrMemory::Failed) => return Err(Stopped::SourceFault),
-        Err(FailedOrMemory::Memory) => return Err(Stopped::Memory),
-    };
-    let Ok(counts) = filter_counts(alloc, chest) else {
-        return Err(Stopped::Memory);
-    };
-    match parse(alloc, &text, &counts) {
-        Ok(script) => Ok(script),
-        Err(BadLineOrMemory::Refused(bad)) => Err(Stopped::BadLine(bad)),
-        Err(BadLineOrMemory::Memory) => Err(Stopped::Memory),
     }
 }
 

@@ -9,25 +9,14 @@
 //! reads a script and a printed run from the source, and writes whether an edit of the file by the script may have
 //! printed it. The sessions of an edit's or a make's script are played beside each other, and beside workers; session 0
 //! alone, where an edit asks for no worker, without threads. What else a command comes to is told by one line there and
-//! by the status. Each command is a module of its own.
+//! by the status. The commands that play a script are modules here, the others stand in `xl_commands`.
 #![tactic(auto)]
 
-mod auditing;
-mod describing;
 mod editing;
-mod ended;
-mod flattening;
-mod line;
-mod loading;
 mod making;
 mod obeying;
-mod packing;
-mod rendering;
 mod running;
-mod stop_lines;
-mod stopped;
 mod viewing;
 
 pub use running::{Ended, run};
-pub use stopped::Stopped;
-pub use xl_verdict::Rejection;
+pub use xl_outcome::{Rejection, Stopped};

@@ -1,35 +1,28 @@
-ghost use Rattle.std.specs.Prelude.{◌≡◌, ◌⊎◌, ℕ, [], length, pos, Some, IfOk, OnOk, OnErr, IsOk, IsSome, string_bytes};
+ghost use Rattle.std.specs.Prelude.{◌≡◌, ◌⊎◌, ℕ, [], length, Some, IfOk, OnOk, IsOk, IsSome, string_bytes};
 ghost use Rattle.spec_command.specs.Arguments.{make as make_of};
 ghost use Rattle.spec_document.specs.Limits.{IsDocument};
 ghost use Rattle.spec_generated.specs.Generated.{document, script};
 ghost use Rattle.spec_generated.specs.Summary.{summary_of};
-ghost use Rattle.spec_layout.specs.Layout.{Written};
-ghost use Rattle.spec_document.specs.Picture.{picture_bytes};
 ghost use Rattle.spec_saves.specs.Names.{save_faults};
 ghost use Rattle.spec_script.specs.Fits.{FitsFilters};
-ghost use Rattle.spec_text.specs.Text.{digest_of};
 ghost use Rattle.spec_world.specs.declared.SaveEnd.TheVariants as save_end;
-ghost use Rattle.xl_play.specs.History.{document as last_document};
+ghost use Rattle.xl_core.specs.History.{document as last_document};
 ghost use Rattle.xl_doc.specs.Numbered.{AreNumbered};
-ghost use Rattle.xl_play.specs.Told.{WhetherFailed};
-ghost use Rattle.xl_program.specs.Outcome.{Given, ComesTo, FailsAtShelf, FaultsRose, LoadsFew, ShelfCauseOf, opened};
-ghost use Rattle.xl_program.specs.Parts.{IsSummedUp, StopsMaking};
-ghost use Rattle.xl_snapshot.specs.Saving.{IsSavedOn};
+ghost use Rattle.spec_run.specs.Failed.{WhetherFailed};
+ghost use Rattle.xl_outcome.specs.Outcome.{Given, ComesTo, LoadsFew, ShelfCauseOf};
+ghost use Rattle.xl_outcome.specs.Parts.{StopsMaking};
+ghost use Rattle.xl_program.specs.Played.{IsSummedUp};
 ghost use Rattle.xl_script.specs.Lines.{lists_of};
 
 use crate::editing::write_replies;
-use crate::ended::CommandEnd;
-use crate::stopped::Stopped;
 use std::alloc::{AllocError, Global};
 use std::sync::Wait;
 use std::thread::Threads;
-use xl_compose::Recompose;
-use xl_doc::{Document, NodeId, Pictures, Rect, know_limits};
+use xl_commands::{made_with_file, picture_digest, save_first};
+use xl_outcome::{CommandEnd, Stopped};
 use xl_play::{Core, Played, PlayedBeside, Replies, has_save_fault, open_core, play_beside};
-use xl_ports::{Failed, Gate, Shelf, Sink};
+use xl_ports::{Gate, Shelf, Sink};
 use xl_report::{Made, digest, summary};
-use xl_rle::Greedy;
-use xl_snapshot::{FileBytes, file_of, save_file};
 
 /// How many workers are beside the sessions of what is made.
 const WORKERS: u8 = 2;
@@ -76,39 +69,6 @@ pub fn make<R: Threads + Wait + Sync, K: Sink, D: Shelf, G: Gate>(
         result: write_replies(sink, played.replies),
         shelf: played.shelf,
     }
-}
-
-// What is made from a seed, and the file of its document.
-fn made_with_file(alloc: Global, seed: u32) -> Result<(Made, FileBytes), AllocError>
-    ensures document { IfOk result (λ made. made.0.document ≡ document seed) }
-    ensures script { IfOk result (λ made. lists_of made.0.script ≡ script seed) }
-    ensures file { IfOk result (λ made. Written made.1 (document seed)) }
-    ensures limits { IfOk result (λ made. IsDocument made.0.document) }
-{
-    let made = xl_report::make(alloc, seed)?;
-    let file = file_of(alloc, &made.document, &mut Greedy)?;
-    know_limits(&made.document);
-    Ok((made, file))
-}
-
-// Saves the file of a document that is made, before its script is played.
-fn save_first<D: Shelf>(name: &str, file: &FileBytes, shelf: &mut D) -> Result<(), Failed>
-    ensures saved { OnOk result ((seed : ℕ) → Written file.now (document seed) → IsSavedOn
-        (opened (D.shelf_state shelf.old) (D.shelf_state shelf.new) name.now)
-        (document seed) save_end.Done
-        (D.shelf_state shelf.new)) }
-    ensures failed { OnErr result ((seed : ℕ) → Written file.now (document seed) → FailsAtShelf
-        (D.shelf_state shelf.old)
-        (D.shelf_state shelf.new) (make_of name.now seed)
-        × FaultsRose (D.shelf_state shelf.old)
-        (D.shelf_state shelf.new) (make_of name.now seed)) }
-    ensures loads { (D.shelf_state shelf.new).loads ≡ (D.shelf_state shelf.old).loads }
-    ensures selected { ((D.shelf_state shelf.new).selected ≡ (D.shelf_state shelf.old).selected) ⊎
-        ((D.shelf_state shelf.new).selected ≡ Some name.now) }
-    ensures named { OnOk result ((D.shelf_state shelf.new).selected ≡ Some name.now) }
-{
-    shelf.select(name)?;
-    save_file(file, shelf)
 }
 
 // Plays a script that names no filter on its document, and sums the run up.
@@ -171,27 +131,4 @@ fn sum_up<D: Shelf>(
         text,
         save_failed: has_save_fault(core.entries()),
     })
-}
-
-// The canvas of a document.
-fn canvas(doc: &Document) -> Rect
-    ensures { result ≡ record { x = pos 0; y = pos 0; w = doc.now.width; h = doc.now.height } }
-{
-    Rect {
-        x: 0,
-        y: 0,
-        w: doc.width,
-        h: doc.height,
-    }
-}
-
-// The digest of a document's picture.
-fn picture_digest(alloc: Global, doc: &Document) -> Result<String, AllocError>
-    ensures { IfOk result (λ text. string_bytes text ≡ digest_of
-        (picture_bytes doc.now 0 0 0 doc.now.width doc.now.height)) }
-{
-    let bytes = 4 * (doc.width as usize * doc.height as usize);
-    let mut picture = vec![in alloc; 0; bytes]?;
-    Recompose::new().fill(alloc, doc, NodeId(0), canvas(doc), &mut picture)?;
-    digest(alloc, &picture)
 }

@@ -8,25 +8,22 @@ ghost use Rattle.spec_view.specs.Script.{IsViewedLine};
 ghost use Rattle.spec_view.specs.Text.{Views};
 ghost use Rattle.xl_command.specs.Asking.{IsWindowSize};
 ghost use Rattle.xl_doc.specs.Numbered.{AreNumbered};
-ghost use Rattle.xl_ports.specs.Source.{IsEnded};
 ghost use Rattle.xl_ports.specs.Disk.{read_at};
-ghost use Rattle.xl_program.specs.AtSource.{IfOfSource};
-ghost use Rattle.xl_program.specs.Outcome.{given_of, ComesTo, LoadsFew, ReadsToEnd, SourceCause, ShelfCause, TakesFront};
-ghost use Rattle.xl_program.specs.Parts.{ReadsViewed, StopsView, WritesViewed};
+ghost use Rattle.xl_outcome.specs.AtSource.{IfOfSource};
+ghost use Rattle.xl_outcome.specs.Outcome.{given_of, ComesTo, LoadsFew, ReadsToEnd, SourceCause, ShelfCause, TakesFront};
+ghost use Rattle.xl_outcome.specs.Parts.{StopsView, WritesViewed};
 ghost use Rattle.xl_script.specs.Lines.{lists_of};
 ghost use Rattle.xl_filters.specs.Chests.{states_of};
 
-use crate::editing::MOST_BYTES;
-use crate::ended::CommandEnd;
-use crate::loading::read_document;
-use crate::stopped::Stopped;
-use std::alloc::{AllocError, Global};
+use std::alloc::AllocError;
 use std::thread::Threads;
+use xl_commands::{read_document, read_viewed};
 use xl_doc::Document;
 use xl_filters::PointFilter;
+use xl_outcome::{CommandEnd, Stopped};
 use xl_play::{Viewing, open_core};
-use xl_ports::{FailedOrMemory, Shelf, Sink, Source, read_all, write_all};
-use xl_script::{BadLineOrMemory, Script, parse_viewed};
+use xl_ports::{Shelf, Sink, Source, write_all};
+use xl_script::Script;
 
 /// Makes the calls of a script of session 0 on the document of a file, without threads, and writes the replies. The
 /// digest of a tile's line is that of the tiles from there on to its right and below, as many as `view` says, as far as
@@ -62,7 +59,7 @@ pub fn view<R: Threads + Sync, S: Source, K: Sink, D: Shelf>(
     ensures shelf_as_before { IfOfSource result.result (result.shelf ≡ shelf) }
 {
     let alloc = view.alloc;
-    let script = match read_script(alloc, source, &chest) {
+    let script = match read_viewed(alloc, source, &chest) {
         Ok(script) => script,
         Err(stopped) => return CommandEnd {
             result: Err(stopped),
@@ -80,47 +77,6 @@ pub fn view<R: Threads + Sync, S: Source, K: Sink, D: Shelf>(
     CommandEnd {
         result: write_text(sink, viewed.text),
         shelf: viewed.shelf,
-    }
-}
-
-// How many filters session 0 has.
-fn first_count(chest: &[Vec<Box<dyn PointFilter + Send>>]) -> u32
-    requires { AllByRecursion (λ boxes. length boxes.items < 2 ^ 32) chest.now }
-    ensures { result ≡ length (list_at (states_of (λ b. state b) chest.now) 0) }
-{
-    match chest.first() {
-        Some(boxes) => boxes.len() as u32,
-        None => 0,
-    }
-}
-
-// The lines of session 0.
-fn read_script<S: Source>(
-    alloc: Global,
-    source: &mut S,
-    chest: &Vec<Vec<Box<dyn PointFilter + Send>>>,
-) -> Result<Script, Stopped>
-    requires { AllByRecursion (λ boxes. length boxes.items < 2 ^ 32) chest.now.items }
-    ensures reads { ReadsViewed (given_of (S.left source.old) (λ b. state b) chest.now.items)
-        result }
-    ensures fits { IfOk result
-        (λ script. FitsFilters (length (list_at (states_of (λ b. state b) chest.now.items) 0) ∷ [])
-        (lists_of script)) }
-    ensures viewed { IfOk result (λ script. AllByRecursion IsViewedLine
-        (list_at (lists_of script) 0)) }
-    ensures takes { TakesFront S.left S.faults S.reads source.old source.new }
-    ensures ended { OnOk result (IsEnded (S.left source.new)) }
-    ensures cause { SourceCause (S.faults source.old) (S.faults source.new) result }
-{
-    let text = match read_all(alloc, source, MOST_BYTES) {
-        Ok(text) => text,
-        Err(FailedOrMemory::Failed) => return Err(Stopped::SourceFault),
-        Err(FailedOrMemory::Memory) => return Err(Stopped::Memory),
-    };
-    match parse_viewed(alloc, &text, first_count(chest)) {
-        Ok(script) => Ok(script),
-        Err(BadLineOrMemory::Refused(bad)) => Err(Stopped::BadLine(bad)),
-        Err(BadLineOrMemory::Memory) => Err(Stopped::Memory),
     }
 }
 

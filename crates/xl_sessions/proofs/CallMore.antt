@@ -26,7 +26,7 @@ use Rattle.xl_studio.specs.Calling.{called_entry, Known, IsCalled}
 use Rattle.xl_studio.specs.Moments.{entries_in}
 use Rattle.xl_studio.proofs.Grown.{entries-append, entries-prefix}
 use Rattle.xl_sessions.specs.Playing.{said}
-use Rattle.xl_sessions.specs.Printing.{IsPrinted}
+use Rattle.xl_run.specs.Printing.{IsPrinted}
 
 -- After others had made their entries the call was made, as the next entry. The places of a session have that one more.
 pub record IsCallMore (session : ℕ) (c : Call) (tables : List (List ℕ)) (reply : Reply) (places : List ℕ) (es : List Entry)

@@ -16,7 +16,7 @@ use Rattle.xl_sessions.specs.Full.{most_made, IsNotFull}
 use Rattle.xl_sessions.specs.Players.{AreBrought, count_of, HaveFewCalls, HavePlayed, LeaveRoom, most_of, places_of}
 use Rattle.xl_sessions.specs.declared.players.SessionPart.{SessionPart}
 use Rattle.xl_sessions.specs.declared.players.Player.{Player}
-use Rattle.xl_sessions.specs.declared.unplayed.Unplayed.TheVariants.{HistoryFull}
+use Rattle.xl_run.specs.declared.unplayed.Unplayed.TheVariants.{HistoryFull}
 use Rattle.xl_studio.specs.declared.moment.Moment.{Moment}
 use Rattle.xl_studio.specs.declared.seat.Seat.{Seat}
 use Rattle.xl_studio.specs.declared.seat.Studio.{Studio}

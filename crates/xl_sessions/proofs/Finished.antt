@@ -19,10 +19,10 @@ use Rattle.spec_script.specs.Script.{list_at}
 use Rattle.xl_sessions.specs.Full.{IsNotFull}
 use Rattle.xl_sessions.specs.Players.{AreOfSessions, HaveOutcomes, HaveSomeOutcomes, AreKnown, places_of, shown_of}
 use Rattle.xl_sessions.specs.Players.{count_of, LeaveRoom}
-use Rattle.xl_sessions.specs.Printing.{IsPrinted}
+use Rattle.xl_run.specs.Printing.{IsPrinted}
 use Rattle.xl_sessions.specs.declared.players.Player.{Player}
 use Rattle.xl_sessions.proofs.Counts.{at_most_length, not_full_each, places_count}
-use Rattle.xl_sessions.proofs.Lined.{legal_has_lines}
+use Rattle.xl_run.proofs.Lined.{legal_has_lines}
 use Rattle.xl_sessions.proofs.Outcomes.{HasOutcome, Own, none_is_out, saves_have_ended, digests_are, makes_a_text}
 use Rattle.xl_sessions.proofs.PlayedParts.{all_own, all_outcomes, all_seats}
 use Rattle.xl_studio.specs.declared.moment.Moment.{Moment}

@@ -19,11 +19,11 @@ use Rattle.spec_world.specs.Events.{end_reply}
 use Rattle.xl_studio.specs.History.{History, is_full}
 use Rattle.spec_script.specs.Script.{Line}
 use Rattle.xl_sessions.specs.Full.{most_made, MakesAtMost, FindsFull, IsStoppedAtFull}
-use Rattle.xl_sessions.specs.declared.unplayed.Unplayed.{Unplayed}
-use Rattle.xl_sessions.specs.declared.unplayed.Unplayed.TheVariants.{HistoryFull}
+use Rattle.xl_run.specs.declared.unplayed.Unplayed.{Unplayed}
+use Rattle.xl_run.specs.declared.unplayed.Unplayed.TheVariants.{HistoryFull}
 use Rattle.xl_sessions.proofs.CallMore.{full_is_not_printed}
 use Rattle.xl_sessions.proofs.Counts.{made_more}
-use Rattle.xl_sessions.proofs.Lined.{last_is_printed}
+use Rattle.xl_run.proofs.Lined.{last_is_printed}
 use Rattle.xl_studio.specs.declared.moment.Moment.{Moment}
 use Rattle.xl_studio.specs.declared.moment.Moment.TheVariants.{Made}
 use Rattle.xl_studio.specs.Calling.{called_entry, Known, IsCalled, HasHeard}

@@ -14,7 +14,7 @@ use Rattle.xl_sessions.specs.Outcomes.{texts_of}
 use Rattle.xl_sessions.specs.Players.{first_stopped, places_of, shown_of, weight_in, AreKnown, AreSeats, HasWorked}
 use Rattle.xl_sessions.specs.declared.players.Player.{Player}
 use Rattle.xl_sessions.specs.declared.players.Worker.{Worker}
-use Rattle.xl_sessions.specs.declared.unplayed.Unplayed.{Unplayed}
+use Rattle.xl_run.specs.declared.unplayed.Unplayed.{Unplayed}
 use Rattle.xl_studio.specs.declared.moment.Moment.{Moment}
 use Rattle.xl_studio.specs.declared.seat.Seat.{Seat}
 use Rattle.xl_studio.specs.declared.seat.Studio.{Studio}

@@ -1,10 +1,3 @@
--- the lines of a session
-pub mod Lines
--- the ends of saves
--- they are the printed text
-pub mod Printed
--- each entry has a line
-pub mod Lined
 -- what a call or a save leaves
 pub mod Made
 -- the filters that are still there

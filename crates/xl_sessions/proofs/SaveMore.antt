@@ -24,7 +24,7 @@ use Rattle.xl_studio.specs.Moments.{entries_in}
 use Rattle.xl_studio.specs.Saving.{IsSaved, IsWhole, end_behind}
 use Rattle.xl_studio.specs.Seats.{history_of}
 use Rattle.xl_studio.proofs.Grown.{entries-prefix}
-use Rattle.xl_sessions.specs.Printing.{IsPrinted}
+use Rattle.xl_run.specs.Printing.{IsPrinted}
 use Rattle.xl_sessions.proofs.CallMore.{at_both, full_is_not_printed, printed_memory}
 use Rattle.xl_sessions.proofs.Made.{saved_entries, saved_places}
 

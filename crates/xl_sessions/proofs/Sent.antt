@@ -7,7 +7,7 @@ use Rattle.std.proofs.Crossing.{crosses, dyn_box_send}
 use Rattle.xl_compose.proofs.tile.Picture.TheSendSync as picture
 use Rattle.xl_script.proofs.script.Line.TheSendSync as line
 use Rattle.xl_sessions.proofs.players.Worker.TheSendSync as worker
-use Rattle.xl_sessions.proofs.unplayed.Unplayed.TheSendSync as unplayed
+use Rattle.xl_run.proofs.unplayed.Unplayed.TheSendSync as unplayed
 use Rattle.xl_sessions.specs.contracts.players.Player as Player
 use Rattle.xl_sessions.specs.contracts.players.Worker as Worker
 

@@ -3,8 +3,8 @@ use Rattle.std.specs.Prelude.{◌≡◌, ℕ, ◌+◌, ◌*◌, ◌<◌, ◌≤�
 use Rattle.spec_history.specs.declared.TheConstants.{MAX_ENTRIES}
 use Rattle.spec_script.specs.Script.{Line}
 use Rattle.spec_text.specs.Text.{calls_of}
-use Rattle.xl_sessions.specs.declared.unplayed.Unplayed.{Unplayed}
-use Rattle.xl_sessions.specs.declared.unplayed.Unplayed.TheVariants.{HistoryFull}
+use Rattle.xl_run.specs.declared.unplayed.Unplayed.{Unplayed}
+use Rattle.xl_run.specs.declared.unplayed.Unplayed.TheVariants.{HistoryFull}
 use Rattle.xl_studio.specs.Calling.{Known}
 use Rattle.xl_studio.specs.Moments.{entries_in}
 

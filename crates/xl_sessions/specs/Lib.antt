@@ -1,5 +1,3 @@
--- the printed lines of the sessions
-pub mod Printing
 pub mod Playing
 -- a session's seat
 pub mod Keeping

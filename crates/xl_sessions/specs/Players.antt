@@ -25,8 +25,8 @@ use Rattle.xl_sessions.specs.declared.players.SessionPart.{SessionPart}
 use Rattle.xl_sessions.specs.declared.players.Player.{Player}
 use Rattle.xl_sessions.specs.declared.players.Worker.{Worker}
 use Rattle.xl_sessions.specs.declared.players.Room.{Room}
-use Rattle.xl_sessions.specs.declared.unplayed.Unplayed.{Unplayed}
-use Rattle.xl_sessions.specs.declared.unplayed.Unplayed.TheVariants.{HistoryFull}
+use Rattle.xl_run.specs.declared.unplayed.Unplayed.{Unplayed}
+use Rattle.xl_run.specs.declared.unplayed.Unplayed.TheVariants.{HistoryFull}
 use Rattle.xl_studio.specs.declared.moment.Moment.{Moment}
 use Rattle.xl_studio.specs.declared.seat.Seat.{Seat}
 use Rattle.xl_studio.specs.declared.seat.Studio.{Studio}

@@ -20,7 +20,7 @@ use Rattle.xl_studio.specs.Moments.{entries_in}
 use Rattle.xl_studio.specs.Seats.{history_of}
 use Rattle.spec_seats.specs.Digests.{asks_tile}
 use Rattle.xl_studio.specs.Saving.{IsSaved}
-use Rattle.xl_sessions.specs.Printing.{IsPrinted}
+use Rattle.xl_run.specs.Printing.{IsPrinted}
 
 -- ---- the filters
 

@@ -19,22 +19,21 @@ ghost use Rattle.spec_script.specs.Script.{list_at};
 ghost use Rattle.xl_sessions.specs.Players.{in_slots, AreBrought, AreOfAScript, HaveSomeOutcomes, AreFitParts};
 ghost use Rattle.xl_sessions.specs.Players.{AreOfSessions, HaveFewCalls, HaveOutcomes, HavePlayed, HasRoom, HasWorked};
 ghost use Rattle.xl_sessions.specs.Players.{LeaveRoom};
-ghost use Rattle.xl_sessions.specs.Printing.{IsPrinted};
+ghost use Rattle.xl_run.specs.Printing.{IsPrinted};
 ghost use Rattle.xl_studio.specs.Jobs.{job_out};
 ghost use Rattle.xl_studio.specs.Moments.{entries_in};
 ghost use Rattle.xl_studio.specs.Seats.{base_of, opening_shelf, front_of, made_of, weight_of, IsSeatOf};
 
 use crate::joining::{join_players, join_workers};
 use crate::players::{Player, Room, Worker};
-use crate::printing::print_history;
 use crate::seating::{room_for, seat_players, seat_workers};
 use crate::threads::run;
-use crate::unplayed::Unplayed;
 use std::alloc::{AllocError, Global};
 use std::sync::Wait;
 use std::thread::Threads;
 use xl_filters::PointFilter;
 use xl_ports::{Gate, Shelf};
+use xl_run::{Unplayed, print_history};
 use xl_script::Script;
 use xl_studio::{Core, Entry, Seat, Studio};
 

@@ -10,8 +10,8 @@ ghost use Rattle.xl_studio.specs.Seats.{front_of, made_of, weight_of, IsSeatOf};
 ghost use Rattle.xl_turn.specs.Sums.{total};
 
 use crate::players::{Player, Worker};
-use crate::unplayed::Unplayed;
 use xl_ports::Shelf;
+use xl_run::Unplayed;
 use xl_studio::{Seat, Studio};
 
 /// Joins the seats of the sessions, and takes their digests, those of the first session first.

@@ -14,16 +14,16 @@ ghost use Rattle.xl_studio.specs.Seats.{base_of, front_of, known_by, made_of, Is
 ghost use Rattle.xl_sessions.specs.Full.{most_made, IsStoppedAtFull};
 ghost use Rattle.xl_sessions.specs.Keeping.{KeepsSeat};
 ghost use Rattle.xl_sessions.specs.Playing.{HasAll};
-ghost use Rattle.xl_sessions.specs.declared.unplayed.Unplayed.TheVariants.{HistoryFull};
+ghost use Rattle.xl_run.specs.declared.unplayed.Unplayed.TheVariants.{HistoryFull};
 
 use crate::setting::Setting;
-use crate::unplayed::Unplayed;
 use std::marker::Brand;
 use std::sync::Wait;
 use std::sync::ledger::{Blank, Ledger};
 use xl_blend::Steps;
 use xl_filters::PointFilter;
 use xl_ports::{Gate, Shelf};
+use xl_run::Unplayed;
 use xl_script::Line;
 use xl_studio::{Desk, Seat};
 

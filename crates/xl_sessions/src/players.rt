@@ -1,5 +1,5 @@
 //! What each session and each worker of a run has for itself.
-use crate::unplayed::Unplayed;
+use xl_run::Unplayed;
 use xl_script::Line;
 use xl_studio::Desk;
 

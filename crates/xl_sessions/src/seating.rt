@@ -8,11 +8,11 @@ ghost use Rattle.xl_filters.specs.Chests.{states_of};
 ghost use Rattle.xl_studio.specs.Jobs.{job_out};
 ghost use Rattle.xl_studio.specs.Seats.{front_of, known_by, weight_of, IsSeatOf};
 
-use crate::desk::desk_of;
 use crate::players::{Player, Room, SessionPart, Worker};
 use std::alloc::{AllocError, Global};
 use xl_filters::PointFilter;
 use xl_ports::Shelf;
+use xl_run::desk_of;
 use xl_script::{SESSIONS, Script};
 use xl_studio::{Seat, Studio};
 

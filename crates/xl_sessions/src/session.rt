@@ -24,12 +24,10 @@ ghost use Rattle.xl_studio.specs.Saving.{IsSaved};
 ghost use Rattle.xl_sessions.specs.Full.{most_made, MakesAtMost, FindsFull};
 ghost use Rattle.xl_sessions.specs.Keeping.{KeepsSeat};
 ghost use Rattle.xl_sessions.specs.Playing.{FitsChest, IsCallMade, IsSaveMade, IsLineMade, said};
-ghost use Rattle.xl_sessions.specs.Printing.{IsPrinted};
-ghost use Rattle.xl_sessions.specs.declared.unplayed.Unplayed.TheVariants.{HistoryFull, Memory};
+ghost use Rattle.xl_run.specs.Printing.{IsPrinted};
+ghost use Rattle.xl_run.specs.declared.unplayed.Unplayed.TheVariants.{HistoryFull, Memory};
 
-use crate::printing::asks_tile;
 use crate::setting::Setting;
-use crate::unplayed::Unplayed;
 use std::alloc::{AllocError, Global};
 use std::sync::Wait;
 use std::sync::ledger::Ledger;
@@ -39,6 +37,7 @@ use xl_filters::PointFilter;
 use xl_ports::{Actor, Gate, Place, Shelf};
 use xl_report::digest;
 use xl_rle::Keeping;
+use xl_run::{Unplayed, asks_tile};
 use xl_script::Line;
 use xl_studio::{Desk, Seat};
 

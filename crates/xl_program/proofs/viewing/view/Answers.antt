@@ -1,10 +1,10 @@
 use Rattle.std.proofs.Common.{ap, subst, sym, ◌∙◌, arith, refl}
 use Rattle.std.specs.Prelude.{Err}
-use Rattle.xl_program.specs.Outcome.{Given, given_of, LoadsFew}
-use Rattle.xl_program.proofs.AtSource.{past_source}
-use Rattle.xl_program.proofs.FirstSaves.{ok_any}
-use Rattle.xl_program.proofs.ScriptEnded.{ended_anyhow}
-use Rattle.xl_program.proofs.Viewed.{IsViewOpened, viewed_comes, view_stopped, script_stops, file_stops, text_stops, unread_view}
+use Rattle.xl_outcome.specs.Outcome.{Given, given_of, LoadsFew}
+use Rattle.xl_outcome.proofs.AtSource.{past_source}
+use Rattle.xl_outcome.proofs.FirstSaves.{ok_any}
+use Rattle.xl_outcome.proofs.ScriptEnded.{ended_anyhow}
+use Rattle.xl_outcome.proofs.Viewed.{IsViewOpened, viewed_comes, view_stopped, script_stops, file_stops, text_stops, unread_view}
 use Rattle.xl_program.proofs.viewing.view.Goals as goal
 use Rattle.xl_ports.specs.State.{ShelfState}
 use Rattle.xl_ports.specs.Disk.{read_at}

@@ -1,0 +1,4 @@
+pub mod Failed
+pub mod First
+pub mod LastSaved
+pub mod Versions

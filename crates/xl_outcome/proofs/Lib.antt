@@ -1,0 +1,15 @@
+pub mod AtSource
+pub mod Audited
+pub mod Causes
+pub mod FirstSaves
+pub mod FlatSaves
+pub mod Limits
+pub mod OtherNames
+pub mod PackSaves
+pub mod Quiet
+pub mod Reported
+pub mod ScriptEnded
+pub mod Scripts
+pub mod StopLines
+pub mod Taken
+pub mod Viewed

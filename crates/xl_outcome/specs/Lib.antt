@@ -1,0 +1,12 @@
+pub mod AtSource
+pub mod Auditing
+pub mod Command
+pub mod Endings
+pub mod Files
+pub mod Flattening
+pub mod Lines
+pub mod Making
+pub mod Outcome
+pub mod Packing
+pub mod Parts
+pub mod Viewing

@@ -1,0 +1,3 @@
+pub mod Opening
+-- the printed lines of the sessions
+pub mod Printing

@@ -1,7 +1,0 @@
-use Rattle.std.proofs.Common.{◌≡◌, map, string_bytes}
-use Rattle.xl_sessions.specs.Printing.{lines_of_sessions}
-use Rattle.xl_sessions.proofs.printing.print_all.Given as goal
-
-abbrev pub invariant-loop-session : goal.invariant-loop-session
-invariant-loop-session l =
-    string_bytes l.text ≡ lines_of_sessions (map (λ ds. map string_bytes ds.items) l.digests) l.entries l.session
