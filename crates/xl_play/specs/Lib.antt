@@ -3,6 +3,6 @@ pub mod Told
 pub mod Versions
 pub mod Windows
 -- of a core
-pub use Rattle.xl_core.specs.Editing
-pub use Rattle.xl_core.specs.History
-pub use Rattle.xl_core.specs.Now
+pub use Rattle.xl_history.specs.Editing
+pub use Rattle.xl_history.specs.History
+pub use Rattle.xl_history.specs.Now
