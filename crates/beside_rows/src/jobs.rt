@@ -1,7 +1,7 @@
 //! Jobs that a worker's seat takes, and hands in later.
 ghost use Rattle.std.specs.Prelude.{◌≡◌, ◌+◌, ◌≤◌, ◌<◌, None, IfOk};
-ghost use Rattle.xl_core.specs.Jobs.{IsTaken};
-ghost use Rattle.xl_core.specs.declared.jobs.Taken.TheVariants as takes;
+ghost use Rattle.xl_history.specs.Jobs.{IsTaken};
+ghost use Rattle.xl_history.specs.declared.jobs.Taken.TheVariants as takes;
 ghost use Rattle.xl_studio.specs.Jobs.{job_out, IsWorker};
 ghost use Rattle.xl_studio.specs.Seats.{weight_of, IsSeatOf};
 

@@ -1,7 +1,7 @@
 //! Jobs whose tile is marked again, or whose stack goes, while they are out.
 ghost use Rattle.std.specs.Prelude.{◌≡◌, None};
-ghost use Rattle.xl_core.specs.Jobs.{IsTaken};
-ghost use Rattle.xl_core.specs.declared.jobs.Taken.TheVariants as takes;
+ghost use Rattle.xl_history.specs.Jobs.{IsTaken};
+ghost use Rattle.xl_history.specs.declared.jobs.Taken.TheVariants as takes;
 ghost use Rattle.xl_studio.specs.Jobs.{job_out, IsWorker};
 ghost use Rattle.xl_studio.specs.Seats.{IsSeatOf};
 

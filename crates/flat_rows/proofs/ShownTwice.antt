@@ -6,7 +6,7 @@ use Rattle.spec_document.specs.declared.TileAt.{TileAt}
 use Rattle.spec_window.specs.Viewed.{Pictures, AreKept, after_window}
 use Rattle.spec_window.specs.Window.{window, window_tiles}
 use Rattle.spec_window.specs.declared.TheConstants.{MAX_WINDOW}
-use Rattle.xl_standing.specs.History.{History, document, version}
+use Rattle.xl_core.specs.History.{History, document, version}
 use Rattle.xl_window.specs.Viewing.{Viewing, IsAnswered}
 use Rattle.xl_window.specs.declared.refused.WindowRefusedOrMemory.{WindowRefusedOrMemory}
 

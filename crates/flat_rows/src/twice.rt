@@ -2,7 +2,7 @@
 ghost use Rattle.std.specs.Prelude.{◌≡◌, ◌<◌, IfOk};
 ghost use Rattle.spec_window.specs.Viewed.{AreKept};
 ghost use Rattle.spec_window.specs.Window.{window, window_tiles};
-ghost use Rattle.xl_standing.specs.History.{document, version};
+ghost use Rattle.xl_core.specs.History.{document, version};
 ghost use Rattle.xl_window.specs.Viewing.{GoesOn};
 
 use crate::shown::core_over;

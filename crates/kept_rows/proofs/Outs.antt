@@ -21,7 +21,7 @@ use Rattle.spec_world.proofs.Filled.{all-behind}
 use Rattle.xl_compose.specs.Job.{Job, StandsFor, IsDone}
 use Rattle.xl_compose.specs.declared.clean.Done.{Done}
 use Rattle.xl_core.specs.Editing.{Editing, world, IsSubmitted, IsPictureOf, IsAsBefore}
-use Rattle.xl_standing.specs.History.{History, version, document}
+use Rattle.xl_core.specs.History.{History, version, document}
 use Rattle.kept_rows.specs.Asked.{PicturesStay, IsOfLast}
 
 -- there may be more entries

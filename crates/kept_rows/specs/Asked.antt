@@ -8,7 +8,7 @@ use Rattle.spec_history.specs.Limited.{edits_of}
 use Rattle.spec_tables.specs.Agrees.{AreThere}
 use Rattle.xl_compose.specs.declared.clean.Done.{Done}
 use Rattle.xl_core.specs.Editing.{IsPictureOf}
-use Rattle.xl_standing.specs.History.{History, version, document}
+use Rattle.xl_core.specs.History.{History, version, document}
 
 -- an edit within its type that names no filter
 abbrev pub IsPlainEdit : Edit → Type 0

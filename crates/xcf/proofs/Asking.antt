@@ -11,7 +11,7 @@ use Rattle.spec_tables.specs.Agrees.{AreThere}
 use Rattle.spec_tables.specs.Tables.{tables_for, expected_tables}
 use Rattle.spec_tables.proofs.Asked.{no_filters-tables}
 use Rattle.xl_core.specs.Editing.{Editing, IsSubmitted}
-use Rattle.xl_standing.specs.History.{Answers}
+use Rattle.xl_core.specs.History.{Answers}
 use Rattle.xl_core.proofs.Submitted.{submitted_answers}
 use Rattle.xl_calls.specs.Built.{IsNoPeek}
 use Rattle.xcf.specs.Asked.{IsPlainCall}

@@ -9,7 +9,7 @@ use Rattle.spec_edit.specs.Edit.{IsEdit}
 use Rattle.xl_calls.specs.declared.edit.Edit.{Edit}
 use Rattle.xl_calls.specs.Edits.{edit_of, edits_of}
 use Rattle.xcf.specs.Plain.{is_plain, unplain_from, first_unplain}
-use Rattle.xl_standing.proofs.Groups.{front}
+use Rattle.xl_standing.proofs.AskedSoFar.{front}
 
 -- the edits before are plain and within the limits of their types, so that those that are left decide
 pub record IsSeen (edits : List Edit) (index : ℕ) : Type 0 where

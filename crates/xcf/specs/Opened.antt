@@ -5,7 +5,7 @@ use Rattle.spec_document.specs.Ids.{next_id}
 use Rattle.spec_edit.specs.Apply.{At}
 use Rattle.spec_file.specs.declared.TheConstants.{FILE_LIMIT}
 use Rattle.spec_file.specs.Reading.{reading}
-use Rattle.xl_standing.specs.History.{History}
+use Rattle.xl_core.specs.History.{History}
 use Rattle.xcf.specs.declared.errors.NotOpened.{NotOpened}
 use Rattle.xcf.specs.declared.errors.NotOpened.TheVariants.{Memory, TooLong, Refused}
 

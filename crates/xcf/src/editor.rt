@@ -3,7 +3,7 @@ ghost use Rattle.spec_history.specs.Machine as machine;
 ghost use Rattle.xcf.specs.Asked.{IsPlainCall, Fails};
 ghost use Rattle.xcf.specs.Opened.{Opens, history_of};
 ghost use Rattle.xcf.specs.Plain.{IsPlainGroup};
-ghost use Rattle.xl_standing.specs.History.{Answers, document, version};
+ghost use Rattle.xl_core.specs.History.{Answers, document, version};
 ghost use Rattle.xl_calls.specs.Calls.{call_of};
 ghost use Rattle.xl_calls.specs.Edits.{edits_of};
 ghost use Rattle.xl_calls.specs.Replies.{reply_of};
@@ -32,7 +32,7 @@ pub struct Editor {
 impl Model for Editor {
     ghost use Rattle.std.specs.Coded.{codes};
     ghost use Rattle.spec_document.specs.Code.{coded_document};
-    ghost use Rattle.xl_standing.specs.History.{History};
+    ghost use Rattle.xl_core.specs.History.{History};
 
     ghost Value = { History };
 

@@ -23,8 +23,8 @@ use Rattle.spec_audit.proofs.Links.{IsCallLine}
 use Rattle.spec_audit.proofs.Long.{walked_few}
 use Rattle.spec_audit.proofs.Merged.{all_get, merge_named, call_line, names_save_at}
 use Rattle.spec_audit.proofs.Walking.{Walked, OutFits, walked_begin, walked_more, walked_index, walked_out}
-use Rattle.xl_standing.proofs.GoesOn.{few-versions, few_made, kept-stands}
-use Rattle.xl_standing.proofs.Ids.{has_ids}
+use Rattle.spec_standing.proofs.GoesOn.{few-versions, few_made, kept-stands}
+use Rattle.spec_standing.proofs.Ids.{has_ids}
 use Rattle.xl_audit.specs.Auditing.{filters_in, IsFull}
 use Rattle.xl_audit.specs.Calls.{calls_in, line_in, IsNoCall, FitsChest}
 use Rattle.xl_audit.specs.Versions.{version_named, WantsIfAny, WantsOfWord, AreWanted}

@@ -12,7 +12,7 @@ use Rattle.spec_text.specs.declared.OrderWord.{OrderWord}
 use Rattle.spec_audit.specs.Output.{Output, IsMerge}
 use Rattle.spec_audit.specs.Walk.{AllPass, FailsAt}
 use Rattle.xl_filters.specs.declared.chest.Chest.{Chest}
-use Rattle.xl_standing.specs.declared.desk.Desk.{Desk}
+use Rattle.xl_desk.specs.declared.desk.Desk.{Desk}
 use Rattle.xl_audit.specs.Auditing.{ArePrintable, IsFull, start_of}
 use Rattle.xl_audit.specs.Calls.{calls_in, line_in, FitsChest}
 use Rattle.xl_audit.specs.Walking.{MayGoOn, IsJudged}

@@ -7,8 +7,8 @@ use Rattle.spec_world.specs.Exact.{SlotsAreExact}
 use Rattle.spec_world.proofs.Exact.{starts-exact}
 use Rattle.xl_doc.specs.Numbered.{AreNumbered}
 use Rattle.spec_history.specs.Machine.{initial}
-use Rattle.xl_standing.specs.Now.{Now, first_now, world_of}
-use Rattle.xl_standing.proofs.Opened.{stands_opened}
+use Rattle.spec_standing.specs.Now.{Now, first_now, world_of}
+use Rattle.xl_desk.proofs.Opened.{stands_opened}
 use Rattle.xl_audit.specs.Versions.{with_share, HasVersions}
 use Rattle.xl_audit.specs.Walking.{HasCome}
 use Rattle.xl_audit.specs.declared.versions.Versions.{Versions}

@@ -6,7 +6,7 @@ use Rattle.std.proofs.lemmas.List.{length-map, map_push, get_or-map, get_or_defa
 use Rattle.spec_filters.specs.declared.FilterState.{FilterState}
 use Rattle.xl_filters.specs.declared.chest.Chest.{Chest}
 use Rattle.xl_filters.specs.Chests.{states_in}
-use Rattle.xl_standing.specs.declared.desk.Desk.{Desk}
+use Rattle.xl_desk.specs.declared.desk.Desk.{Desk}
 use Rattle.xl_audit.specs.Auditing.{padded}
 
 -- ---- a desk for each chest

@@ -19,9 +19,9 @@ use Rattle.spec_world.specs.Events.{submits}
 use Rattle.spec_world.proofs.Exact.{next-entry, stays-exact}
 use Rattle.spec_world.proofs.StaysExact.{stays-so}
 use Rattle.spec_audit.proofs.Going.{seen_set}
-use Rattle.xl_standing.specs.Now.{Now, now_of, world_of, Stands}
-use Rattle.xl_standing.proofs.GoesOn.{GoesOn, counted, out-call, submitted}
-use Rattle.xl_standing.proofs.Pictures.{pictures-entry, is_right}
+use Rattle.spec_standing.specs.Now.{Now, now_of, world_of, Stands}
+use Rattle.spec_standing.proofs.GoesOn.{GoesOn, counted, out-call, submitted}
+use Rattle.spec_standing.proofs.Pictures.{pictures-entry, is_right}
 use Rattle.xl_audit.specs.Versions.{with_share, HasVersions}
 use Rattle.xl_audit.specs.Walking.{HasCome, IsCounted}
 use Rattle.xl_audit.specs.declared.walk.Walk.{Walk}

@@ -29,9 +29,9 @@ use Rattle.spec_audit.specs.Walk.{Start, call_at, printed_at, entry_at, seen_by,
 use Rattle.spec_audit.proofs.Decides.{peek_passes, passes_peek}
 use Rattle.spec_audit.proofs.Pieces.{and_parts, and_both}
 use Rattle.spec_audit.proofs.Going as going
-use Rattle.xl_standing.specs.Now.{Now, world_of, Stands}
-use Rattle.xl_standing.proofs.GoesOn.{few-versions}
-use Rattle.xl_standing.proofs.Pictures.{is_right}
+use Rattle.spec_standing.specs.Now.{Now, world_of, Stands}
+use Rattle.spec_standing.proofs.GoesOn.{few-versions}
+use Rattle.spec_standing.proofs.Pictures.{is_right}
 use Rattle.xl_audit.specs.Judging.{peek_fits, Decides, shows_of, shows_version, PeekIsRight}
 use Rattle.xl_audit.specs.Versions.{version_named, version_shown, WantsIfAny, HasVersions}
 use Rattle.xl_audit.specs.Walking.{HasCome, IsNextWord, IsJudged, IsCounted, filters_at}

@@ -14,8 +14,8 @@ use Rattle.spec_text.specs.declared.OrderWord.{OrderWord}
 use Rattle.spec_audit.specs.Output.{Output}
 use Rattle.spec_audit.specs.Walk.{Start, call_at, printed_at, entry_at, IsAllowed}
 use Rattle.spec_audit.proofs.Going as going
-use Rattle.xl_standing.specs.Now.{Now, Stands}
-use Rattle.xl_standing.proofs.SaveEntries.{stands_started, stands_ended}
+use Rattle.spec_standing.specs.Now.{Now, Stands}
+use Rattle.spec_standing.proofs.SaveEntries.{stands_started, stands_ended}
 use Rattle.xl_audit.specs.Calls.{IsNoCall}
 use Rattle.xl_audit.specs.Judging.{end_fits}
 use Rattle.xl_audit.specs.Walking.{HasCome, IsNextWord, IsJudged, MayStand, filters_at}

@@ -20,8 +20,8 @@ use Rattle.spec_world.specs.World.{entries_owed}
 use Rattle.spec_world.specs.Exact.{SlotsAreExact}
 use Rattle.spec_audit.specs.Output.{Printed, Output}
 use Rattle.spec_audit.specs.Walk.{Start, call_at, printed_at, entry_at, seen_by, Passes}
-use Rattle.xl_standing.specs.Group.{HasIds}
-use Rattle.xl_standing.specs.Now.{Now, at_now, response, world_of, Gives, ShowsNow, IsKeptNow, Stands}
+use Rattle.spec_standing.specs.Group.{HasIds}
+use Rattle.spec_standing.specs.Now.{Now, at_now, response, world_of, Gives, ShowsNow, IsKeptNow, Stands}
 use Rattle.xl_audit.specs.Calls.{IsNoCall}
 use Rattle.xl_audit.specs.Judging.{digest_with, Decides, PeekIsRight}
 use Rattle.xl_audit.specs.Versions.{shares_after, HasVersions}

@@ -5,7 +5,7 @@ use Rattle.spec_document.specs.declared.Rect.{Rect}
 use Rattle.spec_cache.specs.Cache.{Cache, mark}
 use Rattle.xl_tree.specs.declared.naming.NodeId.{NodeId}
 use Rattle.xl_regions.specs.Pairs.{pairs_of}
-use Rattle.xl_pool.specs.Change.{marked_by}
+use Rattle.spec_standing.specs.Change.{marked_by}
 
 pub marked-next : (damage : List (NodeId × Rect)) (i version : ℕ) (first cache : Cache) (d : NodeId × Rect) → i < length damage
     → marked_by (pairs_of (drop i damage)) version cache ≡ marked_by (pairs_of damage) version first

@@ -1,6 +1,6 @@
 //! What a group of edits does to the pictures that are kept.
 ghost use Rattle.std.specs.Prelude.{◌≡◌, ◌≤◌, IfOk};
-ghost use Rattle.xl_pool.specs.Change as change;
+ghost use Rattle.spec_standing.specs.Change as change;
 
 use crate::damage::Damage;
 use std::alloc::{AllocError, Global};
@@ -23,7 +23,7 @@ pub struct Change {
 impl Model for Change {
     ghost use Rattle.std.specs.Prelude.{length};
     ghost use Rattle.xl_regions.specs.Pairs.{numbers};
-    ghost use Rattle.xl_pool.specs.Change as change;
+    ghost use Rattle.spec_standing.specs.Change as change;
     ghost use Rattle.xl_pool.specs.Pool.{IsStocked};
 
     ghost Value = { change.Change };

@@ -7,7 +7,7 @@ ghost use Rattle.spec_document.specs.Forest.{ids};
 ghost use Rattle.xl_calls.specs.Edits.{edit_of};
 ghost use Rattle.xl_damage.specs.Between.{IsMade};
 ghost use Rattle.xl_regions.specs.Pairs.{pairs_of};
-ghost use Rattle.xl_pool.specs.Change.{marked_by};
+ghost use Rattle.spec_standing.specs.Change.{marked_by};
 
 use std::alloc::{AllocError, Global};
 use std::marker::Model;

@@ -6,7 +6,7 @@ use Rattle.spec_world.specs.declared.SaveEnd.{SaveEnd}
 use Rattle.spec_world.specs.declared.SaveEnd.TheVariants.{Done, Fault}
 use Rattle.spec_world.specs.Events.{end_reply, IsOutOf}
 use Rattle.spec_saves.specs.Returns.{Returns}
-use Rattle.xl_core.specs.declared.saving.Begun.TheVariants.{Snapshot}
+use Rattle.xl_history.specs.declared.saving.Begun.TheVariants.{Snapshot}
 use Rattle.xl_snapshot.specs.Saving.{IsSavedOn}
 use Rattle.xl_snapshot.proofs.ComesBack.{comes_back}
 use Rattle.spec_filters.specs.declared.FilterState.{FilterState}
@@ -17,9 +17,9 @@ use Rattle.spec_history.specs.Kept.{IsLegal}
 use Rattle.spec_history.proofs.Growing.{replay-snoc}
 use Rattle.spec_text.specs.Printed.{line_text}
 use Rattle.spec_text.specs.Text.{is_save_memory}
-use Rattle.xl_core.specs.Editing.{Editing, last_of, IsRight, ComesBack, KeepsShelf, IsAsBefore, Begins, Ends, start_of}
-use Rattle.xl_core.specs.Editing.{end_of, out_of, index_out, with_entry}
-use Rattle.xl_core.specs.History.{History, version}
+use Rattle.xl_history.specs.Editing.{Editing, last_of, IsRight, ComesBack, KeepsShelf, IsAsBefore, Begins, Ends, start_of}
+use Rattle.xl_history.specs.Editing.{end_of, out_of, index_out, with_entry}
+use Rattle.xl_history.specs.History.{History, version}
 use Rattle.xl_calls.specs.declared.reply.Reply as code
 use Rattle.xl_calls.specs.declared.reply.Reply.TheVariants.{SaveMemory, HistoryFull}
 use Rattle.xl_calls.specs.Replies.{reply_of}

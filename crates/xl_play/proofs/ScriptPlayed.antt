@@ -14,7 +14,7 @@ use Rattle.spec_saves.proofs.Staying.{opened_right}
 use Rattle.spec_filters.specs.declared.FilterState.{FilterState}
 use Rattle.spec_script.specs.Script.{Line}
 use Rattle.spec_text.specs.Text.{IsTextOf}
-use Rattle.xl_core.specs.Editing.{Editing, IsRight}
+use Rattle.xl_history.specs.Editing.{Editing, IsRight}
 use Rattle.spec_run.specs.Failed.{WhetherFailed}
 use Rattle.xl_play.specs.Told.{IsPlayed, IsToldOf}
 use Rattle.spec_run.specs.First.{AreOfFirst}

@@ -27,9 +27,9 @@ use Rattle.spec_world.specs.Events.{Outcome, reply_to, with_call, submit, submit
 use Rattle.spec_world.specs.Right.{IsRight}
 use Rattle.spec_world.specs.Exact.{SlotsAreExact}
 use Rattle.spec_world.proofs.StaysExact.{stays-so}
-use Rattle.xl_core.specs.Editing.{Editing, world, IsSubmitted}
-use Rattle.xl_core.specs.History as core
-use Rattle.xl_core.specs.History.{History, version, Shows}
+use Rattle.xl_history.specs.Editing.{Editing, world, IsSubmitted}
+use Rattle.xl_history.specs.History as core
+use Rattle.xl_history.specs.History.{History, version, Shows}
 use Rattle.xl_calls.specs.declared.reply.Reply as code
 use Rattle.xl_calls.specs.declared.reply.Reply.TheVariants.{SaveMemory, HistoryFull}
 use Rattle.xl_calls.specs.Replies.{reply_of}

@@ -15,8 +15,8 @@ use Rattle.spec_tables.proofs.Chests.{some_list}
 use Rattle.spec_tables.proofs.Made.{tables_made, filters_made}
 use Rattle.spec_tables.specs.Agrees.{Agrees}
 use Rattle.spec_text.specs.Text.{calls_of}
-use Rattle.xl_core.specs.Editing.{Editing, start_of}
-use Rattle.xl_core.specs.History.{History, with_call}
+use Rattle.xl_history.specs.Editing.{Editing, start_of}
+use Rattle.xl_history.specs.History.{History, with_call}
 use Rattle.xl_script.specs.Lines.{line_of, lines_of}
 use Rattle.xl_script.specs.declared.script.Line.{Line}
 use Rattle.xl_sessions.specs.Playing.{FitsChest}

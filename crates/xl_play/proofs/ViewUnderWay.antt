@@ -6,8 +6,8 @@ use Rattle.spec_filters.specs.declared.FilterState.{FilterState}
 use Rattle.spec_history.specs.History.{Entry, next_index}
 use Rattle.spec_script.specs.Fits.{AreFit}
 use Rattle.spec_view.specs.Script.{IsViewedLine}
-use Rattle.xl_core.specs.Editing.{Editing}
-use Rattle.xl_core.specs.History.{History}
+use Rattle.xl_history.specs.Editing.{Editing}
+use Rattle.xl_history.specs.History.{History}
 use Rattle.xl_script.specs.Lines.{line_of, lines_of}
 use Rattle.xl_script.specs.declared.script.Line.{Line}
 use Rattle.xl_window.specs.Viewing.{GoesOn}

@@ -23,8 +23,8 @@ use Rattle.spec_view.specs.Script.{is_viewed_call}
 use Rattle.spec_view.specs.Text.{IsViewed, view_digest, view_line, view_text}
 use Rattle.spec_window.specs.declared.WindowRefused.TheVariants.{NoStack, OutsideTile}
 use Rattle.spec_window.specs.Window.{window, window_refusal}
-use Rattle.xl_core.specs.Editing.{Editing}
-use Rattle.xl_core.specs.History.{History, version, document, Shows, with_call}
+use Rattle.xl_history.specs.Editing.{Editing}
+use Rattle.xl_history.specs.History.{History, version, document, Shows, with_call}
 use Rattle.xl_play.specs.Playing.{ArePlayed, lines_in, shown_of}
 use Rattle.xl_run.specs.Opening.{KeepsExactly}
 use Rattle.xl_play.specs.Windows.{AreShown, IsLastTile, Place, asks_for, window_digest}

@@ -11,8 +11,8 @@ use Rattle.spec_script.specs.Script.{Line, call, save, forget}
 use Rattle.spec_tables.specs.Tables.{HaveTables, expected_tables}
 use Rattle.spec_tables.specs.Agrees.{Agrees, IsAfter}
 use Rattle.spec_text.specs.Text.{IsPrintable, AreAlone, calls_along, calls_of, digest_of, entry_line}
-use Rattle.xl_core.specs.Editing.{Editing, start_of}
-use Rattle.xl_core.specs.History.{History, with_call}
+use Rattle.xl_history.specs.Editing.{Editing, start_of}
+use Rattle.xl_history.specs.History.{History, with_call}
 
 -- ---- whose entries they are
 

@@ -8,7 +8,7 @@ use Rattle.spec_history.specs.History.{Entry, document_of}
 use Rattle.spec_text.specs.Text.{digest_of}
 use Rattle.spec_view.specs.Text.{IsViewed, of_tile, view_text}
 use Rattle.spec_window.specs.Window.{window, window_refusal}
-use Rattle.xl_core.specs.History.{History, version, document}
+use Rattle.xl_history.specs.History.{History, version, document}
 use Rattle.xl_play.specs.Playing.{ArePlayed, lines_in}
 
 -- a tile of a stack

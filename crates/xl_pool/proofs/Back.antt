@@ -12,9 +12,9 @@ use Rattle.spec_cache.proofs.Order.{is_cache-map, is_cache-filter, of_canvas-cha
 use Rattle.spec_history.specs.Machine.{has_stack}
 use Rattle.spec_world.specs.World.{stack_ids, add_stacks}
 use Rattle.spec_world.proofs.Stacks.{has_id, stacks-listed, came-listed, slots_of-added, is_cache-all-added}
-use Rattle.xl_pool.specs.Change as change
-use Rattle.xl_pool.specs.Change.{came_to, change_between, turned, gone_along, with_stacks, rects_in, IsCacheOf}
-use Rattle.xl_pool.specs.Change.{LeadsBack, BeginsWithItsCache}
+use Rattle.spec_standing.specs.Change as change
+use Rattle.spec_standing.specs.Change.{came_to, change_between, turned, gone_along, with_stacks, rects_in, IsCacheOf}
+use Rattle.spec_standing.specs.Change.{LeadsBack, BeginsWithItsCache}
 use Rattle.xl_pool.proofs.Between.{mark_by}
 use Rattle.xl_pool.proofs.InTurn.{staying, has-staying, left-cache}
 

@@ -12,7 +12,7 @@ use Rattle.spec_history.specs.Machine.{has_stack}
 use Rattle.spec_world.specs.World.{mark_held}
 use Rattle.spec_world.proofs.Filled.{eq-swap}
 use Rattle.spec_world.proofs.Stacks.{has_id, came-listed}
-use Rattle.xl_pool.specs.Change.{came_to, without_stacks, marked_by, with_stacks, rects_in, LeavesCacheBetween}
+use Rattle.spec_standing.specs.Change.{came_to, without_stacks, marked_by, with_stacks, rects_in, LeavesCacheBetween}
 
 -- ---- stacks that go
 

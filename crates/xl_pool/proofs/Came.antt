@@ -8,7 +8,7 @@ use Rattle.spec_history.specs.Machine.{has_stack}
 use Rattle.spec_world.specs.World.{stack_ids}
 use Rattle.xl_tree.specs.declared.naming.NodeId.{NodeId}
 use Rattle.xl_regions.specs.Pairs.{numbers}
-use Rattle.xl_pool.specs.Change.{came_to}
+use Rattle.spec_standing.specs.Change.{came_to}
 use Rattle.xl_pool.proofs.Listed.{length-numbers}
 use Rattle.xl_pool.proofs.Once.{filter-shorter, stacks-few}
 use Rattle.spec_cache.specs.declared.TheConstants.{MAX_STACKS}

@@ -14,7 +14,7 @@ use Rattle.spec_history.specs.Machine.{has_stack}
 use Rattle.spec_world.specs.World.{stack_ids}
 use Rattle.spec_world.proofs.Filled.{eq-swap}
 use Rattle.spec_world.proofs.Stacks.{has_id, stacks-listed, came-listed}
-use Rattle.xl_pool.specs.Change.{Change, came_to, without_stacks, marked_by, rects_in, IsCacheOf, IsPath}
+use Rattle.spec_standing.specs.Change.{Change, came_to, without_stacks, marked_by, rects_in, IsCacheOf, IsPath}
 use Rattle.xl_pool.specs.Steps.{AreGoing, AreComing}
 use Rattle.xl_pool.proofs.Between.{each-held, without-stays, marked-mapped, mark_by}
 use Rattle.xl_pool.proofs.Once.{AreOnce, stacks-once, came-once, stacks-few}

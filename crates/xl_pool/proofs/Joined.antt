@@ -4,8 +4,8 @@ use Rattle.spec_edit.specs.Edit.{Edit}
 use Rattle.spec_edit.specs.Effect.{effect, makes_node}
 use Rattle.spec_edit.specs.Apply.{At, first_table, other_tables, is_filter}
 use Rattle.spec_damage.specs.Damage.{Pair, damage, damage_of}
-use Rattle.xl_pool.specs.Change.{rects_in}
-use Rattle.xl_pool.specs.Group.{damage_along, HasGroupDamage}
+use Rattle.spec_standing.specs.Change.{rects_in}
+use Rattle.spec_standing.specs.Group.{damage_along, HasGroupDamage}
 
 pub rects_in-append : (xs ys : List Pair) (stack : ℕ) → rects_in (xs ++ ys) stack ≡ rects_in xs stack ++ rects_in ys stack
 rects_in-append [] ys stack = refl

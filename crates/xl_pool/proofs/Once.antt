@@ -11,7 +11,7 @@ use Rattle.spec_history.specs.Machine.{has_stack}
 use Rattle.spec_world.specs.World.{group_ids, stack_ids}
 use Rattle.spec_world.proofs.Filled.{eq-swap}
 use Rattle.spec_world.proofs.Stacks.{has_id}
-use Rattle.xl_pool.specs.Change.{came_to}
+use Rattle.spec_standing.specs.Change.{came_to}
 use Rattle.spec_cache.specs.declared.TheConstants.{MAX_STACKS}
 
 -- each number stands once

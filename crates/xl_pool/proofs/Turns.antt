@@ -9,7 +9,7 @@ use Rattle.spec_cache.proofs.Found.{canvas-found}
 use Rattle.spec_cache.proofs.Order.{is_cache-filter}
 use Rattle.xl_tree.specs.declared.naming.NodeId.{NodeId}
 use Rattle.xl_regions.specs.Pairs.{numbers}
-use Rattle.xl_pool.specs.Change.{without_stacks, with_stacks}
+use Rattle.spec_standing.specs.Change.{without_stacks, with_stacks}
 use Rattle.xl_pool.specs.Pool.{Pool}
 use Rattle.xl_pool.specs.Steps.{AreGoing, AreComing}
 use Rattle.spec_cache.specs.declared.TheConstants.{MAX_STACKS}

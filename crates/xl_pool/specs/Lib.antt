@@ -1,4 +1,2 @@
-pub mod Change
-pub mod Group
 pub mod Pool
 pub mod Steps

@@ -3,8 +3,8 @@ ghost use Rattle.std.specs.Prelude.{ℕ, List};
 ghost use Rattle.spec_document.specs.Document.{Document};
 ghost use Rattle.spec_edit.specs.Apply.{At};
 ghost use Rattle.spec_edit.specs.Edit.{Edit};
-ghost use Rattle.xl_pool.specs.Change.{BeginsWithItsCache, LeadsBack, LeavesCacheBetween};
-ghost use Rattle.xl_pool.specs.Group.{HasGroupDamage};
+ghost use Rattle.spec_standing.specs.Change.{BeginsWithItsCache, LeadsBack, LeavesCacheBetween};
+ghost use Rattle.spec_standing.specs.Group.{HasGroupDamage};
 
 /// To go along a change leaves just the slots that a version between its documents leaves, where the damage is that
 /// of the version's cause.

@@ -1,6 +1,7 @@
 //! The stacks of a document, and slots for those that come and go.
 //!
-//! `specs/Change.antt` has what a change of a document does to the cache of its pictures, and the laws say what that comes to.
+//! What a change of a document does to the cache of its pictures is `gone_along` of `spec_standing`, and the laws say what
+//! that comes to.
 #![tactic(auto)]
 
 mod first;

@@ -4,7 +4,7 @@ ghost use Rattle.spec_history.specs.Machine.{has_stack};
 ghost use Rattle.spec_world.specs.World.{group_ids, stack_ids};
 ghost use Rattle.xl_regions.specs.Pairs.{numbers};
 ghost use Rattle.xl_doc.specs.Nodes.{nodes_of};
-ghost use Rattle.xl_pool.specs.Change.{came_to};
+ghost use Rattle.spec_standing.specs.Change.{came_to};
 ghost use Rattle.spec_cache.specs.declared.TheConstants.{MAX_STACKS};
 
 use std::alloc::{AllocError, Global};

@@ -2,7 +2,7 @@
 ghost use Rattle.std.specs.Prelude.{◌≡◌, ◌+◌, ◌-◌, ◌≤◌, length};
 ghost use Rattle.spec_cache.specs.Cache.{IsCache};
 ghost use Rattle.xl_regions.specs.Pairs.{numbers};
-ghost use Rattle.xl_pool.specs.Change.{with_stacks, without_stacks};
+ghost use Rattle.spec_standing.specs.Change.{with_stacks, without_stacks};
 ghost use Rattle.xl_pool.specs.Steps.{AreComing, AreGoing};
 
 use crate::pool::Pool;

@@ -18,11 +18,11 @@ use Rattle.spec_edit.proofs.EditsLimited.{apply_goes, next_counts}
 use Rattle.spec_tables.specs.Acceptance.{filter_count}
 use Rattle.spec_tables.proofs.Asked.{view}
 use Rattle.xl_damage.specs.Between.{IsMade}
-use Rattle.xl_pool.specs.Group.{damage_along}
-use Rattle.xl_standing.specs.Group.{HasIds}
+use Rattle.spec_standing.specs.Group.{HasIds, damage_along}
 use Rattle.xl_calls.specs.declared.edit.Edit.{Edit}
 use Rattle.xl_calls.specs.Built.{HasNext}
 use Rattle.xl_calls.specs.Edits.{edit_of, edits_of}
+use Rattle.xl_desk.proofs.AskedSoFar.{front}
 
 -- the edits that are left come to the same from here as all of them from the start, with the tables that are left
 pub record IsUnderWay (old now : At) (edits : List Edit) (tables : List (List ℕ)) (index taken : ℕ)
@@ -49,10 +49,6 @@ begins old edits tables damage none each ids enough =
           ap (λ d. d ++ damage_along old (edits_of edits) tables) none;
       first = λ e. refl;
     }
-
-pub front : (edits : List Edit) (index : ℕ) (e : Edit) → index < length edits → e ≡ get_or edits index e
-    → drop index edits ≡ e ∷ drop (index + 1) edits
-front edits index e inside is = drop_more edits index e inside ∙ ap (λ x. x ∷ drop (index + 1) edits) (sym is)
 
 pub next_is_edit : (old now : At) (edits : List Edit) (tables : List (List ℕ)) (index taken : ℕ) (damage : List Pair) (e : Edit)
     → IsUnderWay old now edits tables index taken damage

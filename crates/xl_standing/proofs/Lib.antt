@@ -1,21 +1,7 @@
-mod Numbers
-mod OneSlot
-mod CleanTiles
 mod Trails
-mod Simulates
-mod GroupNumbers
-pub mod Groups
-mod Asking
+mod Groups
 mod Sides
-pub mod Opened
-pub mod Ids
-pub mod Making
-mod Moving
-pub mod GoesOn
-pub mod Accepting
-pub mod Costs
-pub mod Pictures
-pub mod ByHistory
-pub mod SaveEntries
+mod Making
 pub use Rattle.xl_pool.proofs.Between
 pub use Rattle.xl_pool.proofs.Joined
+pub use Rattle.xl_desk.proofs.AskedSoFar

@@ -9,8 +9,8 @@ use Rattle.spec_history.specs.Machine.{push}
 use Rattle.spec_history.specs.declared.TheConstants.{MAX_UNDO}
 use Rattle.spec_history.proofs.Causes.{slice_get-last}
 use Rattle.xl_undo.specs.Trail.{newest}
-use Rattle.xl_standing.specs.Now.{top_of}
-use Rattle.xl_standing.specs.Steps.{Step, Lead}
+use Rattle.spec_standing.specs.Now.{top_of}
+use Rattle.spec_standing.specs.Steps.{Step, Lead}
 
 -- ---- the last of a list, from the other end
 

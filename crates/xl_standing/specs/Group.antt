@@ -1,19 +1,14 @@
 -- What the making of a group of edits comes to.
-use Rattle.std.specs.Prelude.{◌≡◌, ℕ, ◌+◌, ◌-◌, ◌^◌, ◌<◌, Bool, if◌then◌else◌, List, [], Option, Result, Ok, Err, is_ok}
+use Rattle.std.specs.Prelude.{◌≡◌, ℕ, if◌then◌else◌, List, [], Option, Result, Ok, Err}
 use Rattle.spec_filters.specs.declared.FilterState.{FilterState}
 use Rattle.spec_edit.specs.Edit.{Edit}
 use Rattle.spec_edit.specs.Apply.{At, apply, apply_group}
-use Rattle.spec_edit.specs.Limited.{IsAt}
 use Rattle.spec_tables.specs.Agrees.{IsPartUsed}
+use Rattle.spec_standing.specs.Group.{is_allowed}
 use Rattle.xl_paint.specs.declared.refused.EditRefusedOrMemory.{EditRefusedOrMemory}
 use Rattle.xl_paint.specs.declared.refused.EditRefusedOrMemory.TheVariants as edits
 use Rattle.xl_standing.specs.declared.group.GroupRefusedOrMemory.{GroupRefusedOrMemory}
 use Rattle.xl_standing.specs.declared.group.GroupRefusedOrMemory.TheVariants.{Memory, Refused}
-
--- the next id is above all ids of the document, and is still a node's after so many edits
-pub record HasIds (a : At) (edits : ℕ) : Type 0 where
-  pub is : IsAt a
-  pub room : a.next + edits < 2 ^ 32 - 1
 
 -- the edit is applied whole with this table, or it is refused, or memory ran out
 abbrev pub IsAppliedOne : (old new : At) → Edit → (table : List ℕ) → Result (Unit {0}) EditRefusedOrMemory → Type 0
@@ -33,10 +28,6 @@ AppliesGroup old new edits tables (Err Memory) = Unit {0}
 abbrev pub IsRefusal : (old : At) → List Edit → (tables : List (List ℕ)) → GroupRefusedOrMemory → Type 0
 IsRefusal old edits tables (Refused index cause) = apply_group old edits tables ≡ Err (record { index = index; cause = cause })
 IsRefusal old edits tables Memory = Unit {0}
-
--- no edit of the group is refused, which no table decides (`acceptance_looks_at_no_table` of `spec_tables`)
-abbrev pub is_allowed : (old : At) → List Edit → Bool
-is_allowed old edits = is_ok (apply_group old edits [])
 
 -- What a group that is not made leaves of a chest: all where it is refused; where memory ran out the first filters of a
 -- group of which no edit is refused may have been asked.

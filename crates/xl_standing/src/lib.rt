@@ -6,24 +6,16 @@
 //! printed.
 #![tactic(auto)]
 
-mod answered;
-mod bytes;
-mod desk;
 mod group;
 mod next_id;
 mod standing;
 mod step;
-mod tile;
 
-pub use answered::Answered;
-pub use bytes::know_table;
-pub use desk::Desk;
 pub use group::{GroupRefusedOrMemory, MadeGroup, try_group};
 pub use next_id::next_id_of;
 pub use spec_history::MAX_ENTRIES;
 pub use standing::Standing;
 pub use step::Step;
-pub use tile::{has_stack, has_tile};
-pub use xl_calls::{Call, Reply};
-pub use xl_marks::{Cache, first_cache};
+pub use xl_desk::{Answered, Cache, Call, Desk, Reply, has_stack, has_tile, know_table};
+pub use xl_marks::first_cache;
 pub use xl_undo::Trail;

@@ -13,14 +13,14 @@ ghost use Rattle.spec_tables.specs.Agrees.{AreThere, AreAsked, IsPartAfter};
 ghost use Rattle.spec_tables.specs.Tables.{edits_made};
 ghost use Rattle.spec_world.specs.World.{add_stacks, stack_ids};
 ghost use Rattle.xl_compose.specs.Job.{StandsFor};
-ghost use Rattle.xl_standing.specs.Jobs.{is_marked, GivesJob};
-ghost use Rattle.xl_standing.specs.Needs.{TakesNoStep, IsUndoOrRedo, call_cost, tile_cost};
-ghost use Rattle.xl_standing.specs.Places.{place_of_job, place_done};
-ghost use Rattle.xl_standing.specs.Group.{HasIds};
-ghost use Rattle.xl_standing.specs.Now.{first_now, at_now, with_cache, accepts, accepted, edited, undone, taken_back, redone};
-ghost use Rattle.xl_standing.specs.Now.{next_version, shown, peeked, top_of, response, Gives, ShowsTile, ShowsKept, ShowsNow};
-ghost use Rattle.xl_standing.specs.Now.{KeepsDesk, IsKeptNow, IsTileOf};
-ghost use Rattle.xl_standing.specs.Steps.{IsChange};
+ghost use Rattle.xl_desk.specs.TileJobs.{is_marked, GivesJob};
+ghost use Rattle.xl_desk.specs.Needs.{TakesNoStep, IsUndoOrRedo, call_cost, tile_cost};
+ghost use Rattle.xl_desk.specs.Places.{place_of_job, place_done};
+ghost use Rattle.spec_standing.specs.Group.{HasIds};
+ghost use Rattle.spec_standing.specs.Now.{first_now, at_now, with_cache, accepts, accepted, edited, undone, taken_back, redone};
+ghost use Rattle.spec_standing.specs.Now.{next_version, shown, peeked, top_of, response, Gives, ShowsTile, ShowsKept, ShowsNow};
+ghost use Rattle.spec_standing.specs.Now.{KeepsDesk, IsKeptNow, IsTileOf};
+ghost use Rattle.spec_standing.specs.Steps.{IsChange};
 ghost use Rattle.xl_doc.specs.Numbered.{AreNumbered};
 ghost use Rattle.xl_edit.specs.Applied.{at};
 ghost use Rattle.xl_calls.specs.Calls.{call_of};
@@ -28,12 +28,9 @@ ghost use Rattle.xl_calls.specs.Edits.{edits_of};
 ghost use Rattle.xl_calls.specs.Replies.{reply_of};
 ghost use Rattle.xl_filters.specs.Chests.{states_in};
 
-use crate::answered::{Answered, is_named, without_filters};
-use crate::desk::Desk;
 use crate::group::{GroupRefusedOrMemory, MadeGroup, make_group};
 use crate::next_id::next_id_of;
 use crate::step::Step;
-use crate::tile::{has_stack, has_tile, is_tile_marked, look, show};
 use spec_cache::Finished;
 use std::alloc::{AllocError, Global};
 use std::marker::Model;
@@ -42,9 +39,13 @@ use std::sync::ledger::Ledger;
 use xl_blend::Steps;
 use xl_calls::{Call, Edit, Reply};
 use xl_compose::{Done, Job, Picture, job};
+use xl_desk::{
+    Answered, Cache, Desk, has_stack, has_tile, is_named, is_tile_marked, look, show,
+    without_filters,
+};
 use xl_doc::{Document, NodeId, TileAt, know_limits};
 use xl_filters::{Chest, PointFilter, Tables};
-use xl_marks::{Cache, Change};
+use xl_marks::Change;
 use xl_undo::Trail;
 
 /// The last version's document and what its next changes need. The last of `undo` is undone next, and the last of
@@ -65,8 +66,8 @@ impl Model for Standing {
     ghost use Rattle.std.specs.Coded.{codes};
     ghost use Rattle.spec_document.specs.Code.{coded_document};
     ghost use Rattle.spec_history.specs.declared.TheConstants.{MAX_UNDO};
-    ghost use Rattle.xl_standing.specs.Now.{Now};
-    ghost use Rattle.xl_standing.specs.Steps.{Lead};
+    ghost use Rattle.spec_standing.specs.Now.{Now};
+    ghost use Rattle.spec_standing.specs.Steps.{Lead};
 
     ghost Value = { Now };
 

@@ -1,7 +1,7 @@
 //! Steps back and forth over groups of edits.
 ghost use Rattle.std.specs.Prelude.{◌≡◌, ◌≤◌};
-ghost use Rattle.xl_standing.specs.Steps.{IsChange, change_of, stepped};
-ghost use Rattle.xl_pool.specs.Change.{IsCacheOf, gone_along};
+ghost use Rattle.spec_standing.specs.Steps.{IsChange, change_of, stepped};
+ghost use Rattle.spec_standing.specs.Change.{IsCacheOf, gone_along};
 
 use std::marker::Model;
 use xl_doc::{Document, know_limits};
@@ -20,8 +20,8 @@ impl Model for Step {
     ghost use Rattle.std.specs.Coded.{codes};
     ghost use Rattle.std.specs.Prelude.{◌≡◌};
     ghost use Rattle.spec_document.specs.Code.{coded_document};
-    ghost use Rattle.xl_standing.specs.Steps as steps;
-    ghost use Rattle.xl_standing.specs.Steps.{IsChange};
+    ghost use Rattle.spec_standing.specs.Steps as steps;
+    ghost use Rattle.spec_standing.specs.Steps.{IsChange};
 
     ghost Value = { steps.Step };
 

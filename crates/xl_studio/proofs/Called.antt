@@ -24,8 +24,8 @@ use Rattle.spec_world.specs.World.{World, free_entries}
 use Rattle.spec_world.specs.Events.{Outcome, with_call, peek_reply, where_tile, reply_to}
 use Rattle.spec_saves.specs.Names.{saves_started, is_start}
 use Rattle.spec_saves.proofs.Staying.{saves_started-snoc}
-use Rattle.xl_standing.specs.History.{is_full}
-use Rattle.xl_core.specs.Editing.{Editing, world, out_of, IsSubmitted, KeepsShelf, IsAsBefore}
+use Rattle.xl_history.specs.History.{is_full}
+use Rattle.xl_history.specs.Editing.{Editing, world, out_of, IsSubmitted, KeepsShelf, IsAsBefore}
 use Rattle.xl_studio.specs.declared.moment.Moment.{Moment}
 use Rattle.xl_studio.specs.declared.moment.Moment.TheVariants.{Made}
 use Rattle.xl_studio.specs.Moments.{IsAsked, moments, entries_in}

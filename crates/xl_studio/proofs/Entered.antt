@@ -10,10 +10,10 @@ use Rattle.spec_filters.specs.declared.FilterState.{FilterState}
 use Rattle.spec_tables.specs.Agrees.{Agrees, IsPartAfter}
 use Rattle.spec_tables.specs.Tables.{expected_tables}
 use Rattle.spec_tables.proofs.Chests.{some_list}
-use Rattle.xl_standing.specs.History.{History, document, is_full, is_accepted, NeedsNoStep}
-use Rattle.xl_standing.specs.Needs.{call_cost, most_cost}
-use Rattle.xl_standing.proofs.Costs.{steps_most}
-use Rattle.xl_core.specs.Editing.{Editing}
+use Rattle.xl_history.specs.History.{History, document, is_full, is_accepted, NeedsNoStep}
+use Rattle.xl_history.specs.Needs.{call_cost, most_cost}
+use Rattle.xl_history.proofs.Costs.{steps_most}
+use Rattle.xl_history.specs.Editing.{Editing}
 use Rattle.xl_studio.specs.declared.moment.Moment.{Moment}
 use Rattle.xl_studio.specs.declared.moment.Moment.TheVariants.{Made}
 use Rattle.xl_studio.specs.Moments.{entries_in}

@@ -15,10 +15,10 @@ use Rattle.xl_turn.specs.Turns.{Closes, IsWithin}
 use Rattle.xl_turn.specs.Seats.{MayLeave, made_after}
 use Rattle.xl_turn.proofs.Fronts.{prefix_trans, prefix_self}
 use Rattle.xl_turn.proofs.Totals.{same_self, same_true, times_last}
-use Rattle.xl_standing.specs.History.{document}
-use Rattle.xl_core.specs.Editing.{Editing, start_of, out_of}
-use Rattle.xl_core.specs.declared.saving.Begun.{Begun}
-use Rattle.xl_core.specs.declared.saving.Begun.TheVariants.{Snapshot, Out, Full}
+use Rattle.xl_history.specs.History.{document}
+use Rattle.xl_history.specs.Editing.{Editing, start_of, out_of}
+use Rattle.xl_history.specs.declared.saving.Begun.{Begun}
+use Rattle.xl_history.specs.declared.saving.Begun.TheVariants.{Snapshot, Out, Full}
 use Rattle.xl_studio.specs.declared.moment.Moment.{Moment}
 use Rattle.xl_studio.specs.declared.moment.Moment.TheVariants.{Made}
 use Rattle.xl_studio.specs.Moments.{entries_in, closed_with, closed_next, place_out, closed_by}

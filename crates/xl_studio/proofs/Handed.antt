@@ -6,7 +6,7 @@ use Rattle.std.specs.List.{AllByRecursion}
 use Rattle.std.proofs.Math.ListN.{drop_of_length-le}
 use Rattle.spec_history.specs.History.{Entry, Kind, asked, starts, ends}
 use Rattle.spec_saves.specs.Names.{saves_started, is_start}
-use Rattle.xl_core.specs.Editing.{Editing, last_of}
+use Rattle.xl_history.specs.Editing.{Editing, last_of}
 use Rattle.xl_studio.specs.declared.moment.Moment.{Moment}
 use Rattle.xl_studio.specs.declared.moment.Moment.TheVariants.{Opened, Made}
 use Rattle.xl_studio.specs.Moments.{IsAsked, AreAsked, handed_at, starts_with, made_from, entries_in, shelf_of, handed_in}

@@ -13,11 +13,11 @@ use Rattle.spec_history.proofs.Growing.{document_of-append}
 use Rattle.spec_history.proofs.Versions.{latest_of-legal}
 use Rattle.xl_compose.specs.Job.{Job, StandsFor}
 use Rattle.xl_compose.specs.declared.clean.Done.{Done}
-use Rattle.xl_core.specs.declared.jobs.Taken.{Taken}
-use Rattle.xl_core.specs.declared.jobs.Taken.TheVariants as takes
-use Rattle.xl_standing.specs.History.{History, version, document}
-use Rattle.xl_core.specs.Editing.{Editing, IsPictureOf}
-use Rattle.xl_core.specs.Jobs.{Out, IsTaken, IsOfLatest, IsOutcome, IsOutcomeOf}
+use Rattle.xl_history.specs.declared.jobs.Taken.{Taken}
+use Rattle.xl_history.specs.declared.jobs.Taken.TheVariants as takes
+use Rattle.xl_history.specs.History.{History, version, document}
+use Rattle.xl_history.specs.Editing.{Editing, IsPictureOf}
+use Rattle.xl_history.specs.Jobs.{Out, IsTaken, IsOfLatest, IsOutcome, IsOutcomeOf}
 use Rattle.xl_turn.specs.Seats.{MayLeave}
 use Rattle.xl_studio.specs.declared.moment.Moment.{Moment}
 use Rattle.xl_studio.specs.Moments.{entries_in, closed_by}

@@ -18,13 +18,13 @@ use Rattle.spec_history.proofs.Growing.{document_of-append}
 use Rattle.spec_history.proofs.Versions.{latest_of-legal}
 use Rattle.xl_compose.specs.Job.{Job, IsDone}
 use Rattle.xl_compose.specs.declared.clean.Done.{Done}
-use Rattle.xl_standing.specs.History.{History, version, document}
-use Rattle.xl_standing.specs.Jobs.{is_marked, GivesJob}
-use Rattle.xl_standing.specs.Needs.{most_cost}
-use Rattle.xl_standing.specs.Now.{IsTileOf}
-use Rattle.xl_standing.specs.Places.{place_done}
-use Rattle.xl_core.specs.Editing.{Editing, IsPictureOf}
-use Rattle.xl_core.specs.Jobs.{finished_by}
+use Rattle.xl_history.specs.History.{History, version, document}
+use Rattle.xl_history.specs.TileJobs.{is_marked, GivesJob}
+use Rattle.xl_history.specs.Needs.{most_cost}
+use Rattle.xl_history.specs.Now.{IsTileOf}
+use Rattle.xl_history.specs.Places.{place_done}
+use Rattle.xl_history.specs.Editing.{Editing, IsPictureOf}
+use Rattle.xl_history.specs.Jobs.{finished_by}
 use Rattle.xl_turn.proofs.Fronts.{prefix_trans}
 use Rattle.xl_studio.specs.declared.moment.Moment.{Moment}
 use Rattle.xl_studio.specs.Calling.{Known, HasHeard}

@@ -14,8 +14,8 @@ use Rattle.spec_filters.specs.declared.FilterState.{FilterState}
 use Rattle.spec_tables.specs.Agrees.{Agrees}
 use Rattle.spec_tables.specs.Tables.{expected_tables}
 use Rattle.spec_tables.proofs.Chests.{some_list}
-use Rattle.xl_standing.specs.History.{is_full, Shows}
-use Rattle.xl_core.specs.Editing.{Editing}
+use Rattle.xl_history.specs.History.{is_full, Shows}
+use Rattle.xl_history.specs.Editing.{Editing}
 use Rattle.xl_turn.specs.Turns.{Closes}
 use Rattle.xl_turn.specs.Seats.{MayLeave, made_after}
 use Rattle.xl_turn.proofs.Fronts.{prefix_trans, prefix_self}

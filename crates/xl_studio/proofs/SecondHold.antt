@@ -18,7 +18,7 @@ use Rattle.spec_saves.specs.Returns.{Returns}
 use Rattle.xl_turn.specs.Sums.{times}
 use Rattle.xl_turn.specs.Turns.{Closes, IsClosed}
 use Rattle.xl_turn.specs.Seats.{MayLeave, made_after}
-use Rattle.xl_core.specs.Editing.{Editing, last_of, start_of, end_of, out_of, index_out, ComesBack}
+use Rattle.xl_history.specs.Editing.{Editing, last_of, start_of, end_of, out_of, index_out, ComesBack}
 use Rattle.xl_snapshot.specs.Saving.{IsCodedOn, IsSavedOn}
 use Rattle.xl_snapshot.proofs.ComesBack.{comes_back}
 use Rattle.xl_snapshot.proofs.Later.{returns_later}

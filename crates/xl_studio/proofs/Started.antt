@@ -14,9 +14,9 @@ use Rattle.spec_world.specs.Events.{end_reply}
 use Rattle.spec_world.specs.Right.{IsRight}
 use Rattle.spec_saves.proofs.Staying.{saves_started-snoc}
 use Rattle.spec_saves.specs.Names.{saves_started, is_start, version_out}
-use Rattle.xl_core.specs.Editing.{Editing, world, Begins, Ends, start_of, end_of, out_of}
-use Rattle.xl_core.specs.declared.saving.Begun.{Begun}
-use Rattle.xl_core.specs.declared.saving.Begun.TheVariants.{Snapshot, Out, Full}
+use Rattle.xl_history.specs.Editing.{Editing, world, Begins, Ends, start_of, end_of, out_of}
+use Rattle.xl_history.specs.declared.saving.Begun.{Begun}
+use Rattle.xl_history.specs.declared.saving.Begun.TheVariants.{Snapshot, Out, Full}
 use Rattle.xl_studio.specs.declared.moment.Moment.TheVariants.{Opened, Made}
 use Rattle.xl_studio.specs.Moments.{handed_at, starts_with, made_from, moments, entries_in}
 use Rattle.xl_studio.specs.State.{moments_of, IsKept}

@@ -5,7 +5,7 @@ use Rattle.spec_document.specs.Document.{Document}
 use Rattle.spec_history.specs.Machine as machine
 use Rattle.spec_history.specs.Machine.{Call, Reply}
 use Rattle.spec_history.specs.History.{Entry, asked, next_index}
-use Rattle.xl_standing.specs.History.{is_full}
+use Rattle.xl_history.specs.History.{is_full}
 use Rattle.xl_studio.specs.declared.moment.Moment.{Moment}
 use Rattle.xl_studio.specs.declared.moment.Moment.TheVariants.{Made}
 use Rattle.xl_studio.specs.Moments.{IsAsked, entries_in}

@@ -4,10 +4,10 @@ use Rattle.spec_document.specs.Grid.{is_on_grid}
 use Rattle.spec_document.specs.Document.{Document}
 use Rattle.spec_history.specs.Machine.{has_stack}
 use Rattle.spec_history.specs.History.{latest_of, document_of}
-use Rattle.xl_core.specs.declared.jobs.Taken.{Taken}
-use Rattle.xl_core.specs.declared.jobs.Taken.TheVariants as takes
-use Rattle.xl_core.specs.declared.tally.Tally.{Tally}
-use Rattle.xl_core.specs.Jobs.{Out}
+use Rattle.xl_history.specs.declared.jobs.Taken.{Taken}
+use Rattle.xl_history.specs.declared.jobs.Taken.TheVariants as takes
+use Rattle.xl_history.specs.declared.tally.Tally.{Tally}
+use Rattle.xl_history.specs.Jobs.{Out}
 use Rattle.xl_turn.specs.declared.view.Chronicle.{Ghosts}
 use Rattle.xl_studio.specs.declared.moment.Moment.{Moment}
 use Rattle.xl_studio.specs.declared.seat.Away.{Away}

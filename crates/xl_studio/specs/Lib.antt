@@ -15,5 +15,5 @@ pub mod Jobs
 -- a tile that is composed outside the turn, before the call that asks for it
 pub mod Refreshing
 -- of a core
-pub use Rattle.xl_core.specs.Editing
-pub use Rattle.xl_core.specs.History
+pub use Rattle.xl_history.specs.Editing
+pub use Rattle.xl_history.specs.History

@@ -5,10 +5,10 @@ use Rattle.spec_cache.specs.declared.Finished.{Finished}
 use Rattle.spec_history.specs.Machine as machine
 use Rattle.spec_history.specs.History.{document_of}
 use Rattle.xl_compose.specs.Job.{Job, StandsFor}
-use Rattle.xl_core.specs.Jobs.{finished_by}
-use Rattle.xl_standing.specs.History.{History, version, document}
-use Rattle.xl_standing.specs.Needs.{most_cost}
-use Rattle.xl_standing.specs.Now.{IsTileOf}
+use Rattle.xl_history.specs.Jobs.{finished_by}
+use Rattle.xl_history.specs.History.{History, version, document}
+use Rattle.xl_history.specs.Needs.{most_cost}
+use Rattle.xl_history.specs.Now.{IsTileOf}
 
 -- the job is of a stack and a tile that are there after this history, and stands for its last version
 pub record IsJobAt (h : History) (stack : ℕ) (at : TileAt) (job : Job) : Type 0 where

@@ -12,8 +12,8 @@ use Rattle.spec_world.specs.Events.{end_reply}
 use Rattle.spec_saves.specs.Shelf.{ShelfIsRight}
 use Rattle.xl_ports.specs.State.{ShelfState}
 use Rattle.spec_saves.specs.Returns.{Returns}
-use Rattle.xl_standing.specs.History.{document}
-use Rattle.xl_core.specs.Editing.{start_of, out_of}
+use Rattle.xl_history.specs.History.{document}
+use Rattle.xl_history.specs.Editing.{start_of, out_of}
 use Rattle.xl_snapshot.specs.Saving.{IsCodedOn}
 use Rattle.xl_studio.specs.declared.moment.Moment.{Moment}
 use Rattle.xl_studio.specs.declared.moment.Moment.TheVariants.{Made}

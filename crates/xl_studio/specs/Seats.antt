@@ -4,7 +4,7 @@ use mathlib.Core.List.{IsPrefix}
 use Rattle.spec_document.specs.Document.{Document}
 use Rattle.spec_history.specs.History.{latest_of}
 use Rattle.spec_history.specs.Kept.{IsLegal}
-use Rattle.xl_standing.specs.History.{History}
+use Rattle.xl_history.specs.History.{History}
 use Rattle.xl_turn.specs.declared.view.Chronicle.{Ghosts}
 use Rattle.xl_turn.specs.Seats.{opened_with, start_of, IsOf, IsIdle}
 use Rattle.xl_turn.specs.Seats as turns

@@ -3,7 +3,7 @@ use Rattle.std.specs.Prelude.{◌≡◌, ◌≤◌, Bool, List, length, None, Is
 use Rattle.spec_history.specs.declared.TheConstants.{MAX_ENTRIES}
 use Rattle.spec_world.specs.Right.{IsRight}
 use Rattle.spec_saves.specs.Names.{saves_started}
-use Rattle.xl_core.specs.Editing.{Editing, world, out_of}
+use Rattle.xl_history.specs.Editing.{Editing, world, out_of}
 use Rattle.xl_studio.specs.declared.moment.Moment.{Moment}
 use Rattle.xl_studio.specs.Moments.{moments}
 

@@ -2,13 +2,13 @@
 use Rattle.std.specs.Prelude.{◌≡◌, true, false, Option, Some, None, Result, Ok, Err}
 use Rattle.spec_cache.specs.Cache.{next_place}
 use Rattle.xl_compose.specs.Job.{Job, StandsFor}
-use Rattle.xl_core.specs.declared.jobs.Taken.{Taken}
-use Rattle.xl_core.specs.declared.jobs.Taken.TheVariants as takes
-use Rattle.xl_standing.specs.History.{version, document}
-use Rattle.xl_core.specs.Editing.{Editing}
-use Rattle.xl_standing.specs.Needs.{tile_cost}
-use Rattle.xl_standing.specs.Places.{place_of_job}
-use Rattle.xl_standing.specs.Now.{IsTileOf}
+use Rattle.xl_history.specs.declared.jobs.Taken.{Taken}
+use Rattle.xl_history.specs.declared.jobs.Taken.TheVariants as takes
+use Rattle.xl_history.specs.History.{version, document}
+use Rattle.xl_history.specs.Editing.{Editing}
+use Rattle.xl_history.specs.Needs.{tile_cost}
+use Rattle.xl_history.specs.Places.{place_of_job}
+use Rattle.xl_history.specs.Now.{IsTileOf}
 use Rattle.xl_studio.specs.State.{State, IsKept, moments_of}
 
 -- the job, as a desk answers it

@@ -12,10 +12,10 @@ use Rattle.spec_saves.specs.Shelf.{ShelfIsRight}
 use Rattle.xl_ports.specs.State.{ShelfState}
 use Rattle.spec_saves.specs.Returns.{Returns}
 use Rattle.xl_turn.specs.Sums.{times}
-use Rattle.xl_standing.specs.History.{document}
-use Rattle.xl_core.specs.Editing.{Editing, IsRight, start_of, end_of, out_of}
-use Rattle.xl_core.specs.declared.saving.Begun.{Begun}
-use Rattle.xl_core.specs.declared.saving.Begun.TheVariants.{Snapshot, Out, Full}
+use Rattle.xl_history.specs.History.{document}
+use Rattle.xl_history.specs.Editing.{Editing, IsRight, start_of, end_of, out_of}
+use Rattle.xl_history.specs.declared.saving.Begun.{Begun}
+use Rattle.xl_history.specs.declared.saving.Begun.TheVariants.{Snapshot, Out, Full}
 use Rattle.xl_studio.specs.declared.moment.Moment.{Moment}
 use Rattle.xl_studio.specs.declared.moment.Moment.TheVariants.{Made}
 use Rattle.xl_studio.specs.Moments.{AreAsked, entries_in}

@@ -1,5 +1,5 @@
 ghost use Rattle.std.specs.Prelude.{◌≡◌, option_map};
-ghost use Rattle.xl_core.specs.Jobs.{says_closing};
+ghost use Rattle.xl_history.specs.Jobs.{says_closing};
 ghost use Rattle.xl_studio.specs.Calling.{HasHeard};
 ghost use Rattle.xl_studio.specs.Jobs.{job_out, out_of, out_after, tally_of};
 ghost use Rattle.xl_studio.specs.Seats.{weight_of, known_by, IsSeatOf};
@@ -45,9 +45,9 @@ fn away(taken: &Result<Taken, AllocError>, document: Snapshot<Document>) -> Opti
 impl<D: Shelf> JobDesk for Studio<D> {
     ghost use Rattle.std.specs.Prelude.{◌≡◌, None, IfOk, IfSome, OnErr};
     ghost use mathlib.Core.List.{IsPrefix};
-    ghost use Rattle.xl_standing.specs.Places.{place_done};
-    ghost use Rattle.xl_core.specs.Jobs.{IsTaken, IsOfLatest, says_closing, IsOutcomeOf, finished_by};
-    ghost use Rattle.xl_core.specs.Tally.{counted};
+    ghost use Rattle.xl_history.specs.Places.{place_done};
+    ghost use Rattle.xl_history.specs.Jobs.{IsTaken, IsOfLatest, says_closing, IsOutcomeOf, finished_by};
+    ghost use Rattle.xl_history.specs.Tally.{counted};
     ghost use Rattle.xl_studio.specs.Calling.{HasHeard};
     ghost use Rattle.xl_studio.specs.Jobs.{job_out, tally_of, IsWorker};
     ghost use Rattle.xl_studio.specs.Moments.{entries_in};

@@ -1,7 +1,7 @@
 ghost use Rattle.std.specs.Prelude.{◌≡◌, ◌+◌, ◌≤◌, ◌^◌, [], ◌++◌, length, false, None, IfOk, IfErr};
 ghost use mathlib.Core.List.{IsPrefix};
 ghost use Rattle.spec_world.specs.Right.{IsRight};
-ghost use Rattle.xl_core.specs.Editing.{world};
+ghost use Rattle.xl_history.specs.Editing.{world};
 ghost use Rattle.xl_turn.specs.Seats.{IsApart, IsEachOnce};
 ghost use Rattle.xl_turn.specs.Turns.{longer};
 ghost use Rattle.xl_studio.specs.Seats.{base_of, opening_shelf, front_of, made_of, weight_of, known_by, IsSeatOf};

@@ -1,7 +1,7 @@
 ghost use Rattle.std.specs.Prelude.{◌≡◌, None, IfOk, IfSome};
-ghost use Rattle.xl_core.specs.Editing.{IsPictureOf};
-ghost use Rattle.xl_core.specs.Jobs.{finished_by};
-ghost use Rattle.xl_standing.specs.Places.{place_done};
+ghost use Rattle.xl_history.specs.Editing.{IsPictureOf};
+ghost use Rattle.xl_history.specs.Jobs.{finished_by};
+ghost use Rattle.xl_history.specs.Places.{place_done};
 ghost use Rattle.xl_studio.specs.Calling.{HasHeard};
 ghost use Rattle.xl_studio.specs.Jobs.{job_out, tally_of};
 ghost use Rattle.xl_studio.specs.Moments.{entries_in};

@@ -1,6 +1,6 @@
 ghost use Rattle.std.specs.Prelude.{◌≡◌, true, IfOk};
-ghost use Rattle.xl_standing.specs.History.{version, document};
-ghost use Rattle.xl_standing.specs.Jobs.{GivesJob};
+ghost use Rattle.xl_history.specs.History.{version, document};
+ghost use Rattle.xl_history.specs.TileJobs.{GivesJob};
 ghost use Rattle.xl_studio.specs.Taking.{AnswersJob, HasStayed};
 
 use crate::shared::Shared;
@@ -45,10 +45,10 @@ fn answer_of(job: Result<Option<Job>, AllocError>) -> Result<Taken, AllocError>
 impl<D: Shelf> Taking for Shared<D> {
     ghost use Rattle.std.specs.Prelude.{◌≡◌, IfOk, MatchBool};
     ghost use Rattle.spec_cache.specs.Cache.{finish};
-    ghost use Rattle.xl_standing.specs.History.{version, document};
-    ghost use Rattle.xl_core.specs.Editing.{handed_in, taken as with_job_taken, IsPictureOf};
-    ghost use Rattle.xl_standing.specs.Places.{place_done};
-    ghost use Rattle.xl_core.specs.Jobs.{finished_by};
+    ghost use Rattle.xl_history.specs.History.{version, document};
+    ghost use Rattle.xl_history.specs.Editing.{handed_in, taken as with_job_taken, IsPictureOf};
+    ghost use Rattle.xl_history.specs.Places.{place_done};
+    ghost use Rattle.xl_history.specs.Jobs.{finished_by};
     ghost use Rattle.xl_studio.specs.Taking.{GivesOut, HasStayed};
 
     ghost may_finish = { λ s done. IsPictureOf s.core.history done };

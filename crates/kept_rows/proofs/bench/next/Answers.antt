@@ -2,7 +2,7 @@
 use Rattle.std.proofs.Common.{◌≡◌, true, rules}
 use Rattle.spec_document.specs.Grid.{is_on_grid}
 use Rattle.spec_history.specs.Machine.{has_stack}
-use Rattle.xl_standing.specs.History.{document}
+use Rattle.xl_core.specs.History.{document}
 use Rattle.kept_rows.specs.Asked.{IsOfLast}
 use Rattle.kept_rows.proofs.Outs.{picture_is_of}
 use Rattle.kept_rows.proofs.bench.next.Goals as goal

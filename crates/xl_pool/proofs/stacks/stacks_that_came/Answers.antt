@@ -4,7 +4,7 @@ use Rattle.spec_history.specs.Machine.{has_stack}
 use Rattle.spec_world.specs.World.{group_ids, stack_ids}
 use Rattle.xl_regions.specs.Pairs.{numbers}
 use Rattle.xl_doc.specs.Nodes.{nodes_of}
-use Rattle.xl_pool.specs.Change.{came_to}
+use Rattle.spec_standing.specs.Change.{came_to}
 use Rattle.xl_pool.proofs.Came.{few-new}
 use Rattle.xl_pool.proofs.Standing.{stack_ids-all}
 use Rattle.xl_pool.proofs.stacks.stacks_that_came.Goals as goal

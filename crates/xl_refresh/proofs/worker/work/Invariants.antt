@@ -1,6 +1,6 @@
 use Rattle.std.proofs.Common.{◌≡◌, None}
 use mathlib.Core.List.{IsPrefix}
-use Rattle.xl_core.specs.Tally.{with_more}
+use Rattle.xl_history.specs.Tally.{with_more}
 use Rattle.xl_refresh.proofs.worker.work.Given as goal
 
 -- the seat stays the desk's, no job is out, its history grows, and the sums so far are the answers that it had

@@ -2,7 +2,8 @@
 use Rattle.std.proofs.Common.{[]}
 use Rattle.xl_edit.specs.Applied.{at}
 use Rattle.xl_calls.specs.Edits.{edits_of}
-use Rattle.xl_standing.proofs.Making.{refusal_same, accepted_same}
+use Rattle.spec_standing.proofs.Allowed.{accepted_same}
+use Rattle.xl_standing.proofs.Making.{refusal_same}
 use Rattle.xl_standing.proofs.group.check_group.Goals as goal
 
 pub returns-in-Err-clause-refused : goal.returns-in-Err-clause-refused

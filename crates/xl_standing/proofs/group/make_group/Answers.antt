@@ -6,7 +6,8 @@ use Rattle.spec_tables.specs.Agrees.{AreAsked}
 use Rattle.spec_tables.proofs.Asked.{no_filters-asked}
 use Rattle.xl_edit.specs.Applied.{at}
 use Rattle.xl_calls.specs.Edits.{edits_of}
-use Rattle.xl_standing.proofs.Making.{allowed_where, no_tables, part_allowed, leaves}
+use Rattle.spec_standing.proofs.Allowed.{allowed_where, no_tables, part_allowed}
+use Rattle.xl_standing.proofs.Making.{leaves}
 use Rattle.xl_standing.proofs.group.make_group.Goals as goal
 
 pub returns-then-is_empty-clause-asked : goal.returns-then-is_empty-clause-asked

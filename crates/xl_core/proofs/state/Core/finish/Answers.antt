@@ -1,4 +1,4 @@
-use Rattle.xl_core.proofs.Events.{finished_happens}
+use Rattle.xl_history.proofs.Events.{finished_happens}
 use Rattle.xl_core.proofs.state.Core.finish.Goals as goal
 
 pub returns-clause-event : goal.returns-clause-event

@@ -1,10 +1,10 @@
 -- The job is of the last version.
 use Rattle.std.specs.Prelude.{◌≡◌, false, IfOk, IsOk}
 use Rattle.std.proofs.Common.{subst}
-use Rattle.xl_standing.specs.History.{version, document}
-use Rattle.xl_standing.specs.Jobs.{is_marked, GivesJob}
-use Rattle.xl_standing.proofs.GoesOn.{kept-stands, version_is, document_is}
-use Rattle.xl_core.specs.Editing.{Editing}
+use Rattle.spec_standing.specs.History.{version, document}
+use Rattle.xl_history.specs.TileJobs.{is_marked, GivesJob}
+use Rattle.spec_standing.proofs.GoesOn.{kept-stands, version_is, document_is}
+use Rattle.xl_history.specs.Editing.{Editing}
 use Rattle.xl_core.proofs.state.Core.job_for.Goals as goal
 
 pub job_for-requires : goal.job_for-requires

@@ -1,7 +1,7 @@
 use Rattle.std.proofs.Common.{◌≡◌, length, subst}
 use Rattle.std.specs.Prelude.{IsSome}
 use Rattle.spec_saves.specs.Names.{saves_started}
-use Rattle.xl_core.specs.Editing.{Editing}
+use Rattle.xl_history.specs.Editing.{Editing}
 use Rattle.xl_core.proofs.state.Core.know_opening.Goals as goal
 
 pub returns-clause-selected : goal.returns-clause-selected

@@ -2,10 +2,10 @@ use Rattle.std.proofs.Common.{◌≡◌, None, refl, subst}
 use Rattle.std.specs.Prelude.{Option, Some, IsSome}
 use Rattle.spec_history.specs.Machine.{Saving}
 use Rattle.spec_history.specs.History.{replay}
-use Rattle.xl_core.specs.Editing.{Editing, out_of}
-use Rattle.xl_core.specs.Holding.{shelf_in, IsPlace}
-use Rattle.xl_core.specs.declared.saving.ShelfPlace.{ShelfPlace}
-use Rattle.xl_core.specs.declared.saving.ShelfPlace.TheVariants.{In, Out}
+use Rattle.xl_history.specs.Editing.{Editing, out_of}
+use Rattle.xl_history.specs.Holding.{shelf_in, IsPlace}
+use Rattle.xl_history.specs.declared.saving.ShelfPlace.{ShelfPlace}
+use Rattle.xl_history.specs.declared.saving.ShelfPlace.TheVariants.{In, Out}
 use Rattle.xl_core.proofs.state.Core.know_shelf.Goals as goal
 
 is_in : (K : Type 0) (place : ShelfPlace K) (out : Option Saving) → IsPlace place out → out ≡ None → IsSome (shelf_in place)

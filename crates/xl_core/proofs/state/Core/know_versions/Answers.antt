@@ -5,8 +5,8 @@ use Rattle.spec_history.specs.declared.TheConstants.{MAX_ENTRIES}
 use Rattle.spec_history.specs.History.{Entry, document_of}
 use Rattle.spec_history.proofs.CallsHaveEdits.{calls_have_edits, calls_are_short}
 use Rattle.spec_history.proofs.VersionsLimited.{short_version}
-use Rattle.xl_core.specs.Editing.{Editing}
-use Rattle.xl_standing.specs.Now.{Now, Stands}
+use Rattle.xl_history.specs.Editing.{Editing}
+use Rattle.spec_standing.specs.Now.{Now, Stands}
 use Rattle.xl_core.proofs.state.Core.know_versions.Goals as goal
 
 each_within : (base : Document) (entries : List Entry) (now : Now) (made : List ℕ) → Stands base entries now made → (number : ℕ)

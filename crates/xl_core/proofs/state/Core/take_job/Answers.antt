@@ -1,7 +1,7 @@
 use Rattle.std.proofs.Common.{sym, subst}
 use Rattle.spec_world.specs.Events.{takes}
-use Rattle.xl_core.specs.Editing.{Happens}
-use Rattle.xl_core.proofs.Events.{taken_happens}
+use Rattle.xl_history.specs.Editing.{Happens}
+use Rattle.xl_history.proofs.Events.{taken_happens}
 use Rattle.xl_core.proofs.state.Core.take_job.Goals as goal
 
 pub returns-clause-event : goal.returns-clause-event

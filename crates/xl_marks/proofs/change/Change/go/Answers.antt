@@ -1,6 +1,6 @@
 use Rattle.std.proofs.Common.{sym, ◌∙◌, ap, subst}
 use Rattle.xl_regions.specs.Pairs.{numbers}
-use Rattle.xl_pool.specs.Change.{marked_by, without_stacks}
+use Rattle.spec_standing.specs.Change.{marked_by, without_stacks}
 use Rattle.xl_pool.specs.Steps.{AreGoing}
 use Rattle.xl_pool.proofs.InTurn.{path-going, path-coming, coming-same}
 use Rattle.xl_marks.proofs.change.Change.go.Goals as goal

@@ -1,6 +1,6 @@
 use Rattle.std.proofs.Common.{◌≡◌, drop}
 use Rattle.xl_regions.specs.Pairs.{pairs_of}
-use Rattle.xl_pool.specs.Change.{marked_by}
+use Rattle.spec_standing.specs.Change.{marked_by}
 use Rattle.xl_marks.proofs.damage.Damage.mark.Given as goal
 
 abbrev pub invariant-loop-stack : goal.invariant-loop-stack

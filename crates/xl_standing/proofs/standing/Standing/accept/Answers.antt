@@ -6,9 +6,9 @@ use Rattle.spec_history.specs.Machine.{push}
 use Rattle.spec_history.specs.declared.TheConstants.{MAX_UNDO}
 use Rattle.xl_edit.specs.Applied.{at}
 use Rattle.xl_calls.specs.Replies.{reply_of}
-use Rattle.xl_pool.specs.Change.{Change, change_between, gone_along}
-use Rattle.xl_standing.specs.Now.{Now, Response, Gives, next_version, accepted, step_made}
-use Rattle.xl_standing.specs.Steps.{Step, Lead, stepped}
+use Rattle.spec_standing.specs.Change.{Change, change_between, gone_along}
+use Rattle.spec_standing.specs.Now.{Now, Response, Gives, next_version, accepted, step_made}
+use Rattle.spec_standing.specs.Steps.{Step, Lead, stepped}
 use Rattle.xl_standing.proofs.Trails.{reverse-pushed, newest-few, lead-take}
 use Rattle.xl_standing.proofs.standing.Standing.accept.Goals as goal
 

@@ -1,12 +1,12 @@
 -- The edits of a group are those of its call; so is the tile.
 use Rattle.std.proofs.Common.{rules, ◌≡◌, ◌+◌, ◌≤◌, sym, ◌∙◌, ap, subst}
 use Rattle.spec_history.specs.Machine as machine
-use Rattle.xl_standing.specs.Needs.{call_cost}
-use Rattle.xl_standing.specs.Now.{response, Gives}
+use Rattle.xl_desk.specs.Needs.{call_cost}
+use Rattle.spec_standing.specs.Now.{response, Gives}
 use Rattle.xl_calls.specs.Replies.{reply_of}
 use Rattle.xl_calls.specs.Calls.{call_of}
 use Rattle.xl_calls.specs.Edits.{edits_of}
-use Rattle.xl_standing.proofs.Moving.{part_asked}
+use Rattle.spec_standing.proofs.Moving.{part_asked}
 use Rattle.xl_standing.proofs.standing.Standing.answer.Goals as goal
 
 pub returns-in-Edit-clause-chest : goal.returns-in-Edit-clause-chest

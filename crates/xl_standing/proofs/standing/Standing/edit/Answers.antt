@@ -3,14 +3,15 @@ use Rattle.std.proofs.Common.{◌≡◌, true, ap, sym, ◌∙◌, subst}
 use Rattle.std.specs.Prelude.{reverse}
 use Rattle.spec_history.specs.Machine as machine
 use Rattle.spec_history.specs.Machine.{names}
-use Rattle.xl_pool.specs.Change.{Change, change_between}
+use Rattle.spec_standing.specs.Change.{Change, change_between}
 use Rattle.xl_edit.specs.Applied.{at}
 use Rattle.xl_calls.specs.Edits.{edits_of}
-use Rattle.xl_standing.specs.Now.{Now}
-use Rattle.xl_standing.proofs.Making.{allowed_made, all_part, part_allowed, part_left, part_named, on_err}
-use Rattle.xl_standing.proofs.Moving.{part_seen}
+use Rattle.spec_standing.specs.Now.{Now}
+use Rattle.spec_standing.proofs.Allowed.{allowed_made, all_part, part_allowed, part_named, on_err}
+use Rattle.xl_standing.proofs.Making.{part_left}
+use Rattle.spec_standing.proofs.Moving.{part_seen}
 use Rattle.xl_standing.proofs.Sides.{sides_same}
-use Rattle.xl_standing.specs.Steps.{IsChange}
+use Rattle.spec_standing.specs.Steps.{IsChange}
 use Rattle.xl_standing.proofs.standing.Standing.edit.Goals as goal
 
 pub new-requires-clause-width : goal.new-requires-clause-width

@@ -1,8 +1,8 @@
 -- A clean slot's picture is the document's, and so a job takes it.
 use Rattle.std.proofs.Common.{sym, ◌∙◌, subst}
-use Rattle.xl_standing.specs.Jobs.{IsJobFor}
-use Rattle.xl_standing.specs.Now.{Now, IsKeptNow}
-use Rattle.xl_standing.proofs.CleanTiles.{are_clean}
+use Rattle.xl_desk.specs.TileJobs.{IsJobFor}
+use Rattle.spec_standing.specs.Now.{Now, IsKeptNow}
+use Rattle.xl_desk.proofs.CleanTiles.{are_clean}
 use Rattle.xl_standing.proofs.standing.Standing.job_for.Goals as goal
 
 pub job-requires-clause-clean : goal.job-requires-clause-clean

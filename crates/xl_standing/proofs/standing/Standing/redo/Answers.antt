@@ -3,8 +3,8 @@ use Rattle.std.proofs.Common.{◌≡◌, ◌∷◌, sym, ◌∙◌, ap, subst}
 use Rattle.std.specs.Prelude.{reverse}
 use Rattle.spec_history.specs.Machine.{push}
 use Rattle.xl_calls.specs.Replies.{reply_of}
-use Rattle.xl_standing.specs.Now.{Now, Response, Gives, next_version, redone, redone_of}
-use Rattle.xl_standing.specs.Steps.{Step, stepped}
+use Rattle.spec_standing.specs.Now.{Now, Response, Gives, next_version, redone, redone_of}
+use Rattle.spec_standing.specs.Steps.{Step, stepped}
 use Rattle.xl_standing.proofs.Trails.{reverse-pushed, reverse-popped}
 use Rattle.xl_standing.proofs.standing.Standing.redo.Goals as goal
 

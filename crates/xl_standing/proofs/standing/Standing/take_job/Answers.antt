@@ -1,9 +1,9 @@
 -- The clean pictures are the document's, whichever slot was taken last.
 use Rattle.std.proofs.Common.{◌≡◌, sym, subst}
-use Rattle.xl_standing.specs.Needs.{tile_cost}
-use Rattle.xl_standing.specs.Now.{Now, IsKeptNow}
-use Rattle.xl_standing.proofs.CleanTiles.{are_clean_taken}
-use Rattle.xl_standing.proofs.Costs.{job_cost}
+use Rattle.xl_desk.specs.Needs.{tile_cost}
+use Rattle.spec_standing.specs.Now.{Now, IsKeptNow}
+use Rattle.xl_desk.proofs.CleanTiles.{are_clean_taken}
+use Rattle.xl_desk.proofs.Costs.{job_cost}
 use Rattle.xl_standing.proofs.standing.Standing.take_job.Goals as goal
 
 pub job-requires-clause-clean : goal.job-requires-clause-clean

@@ -2,9 +2,9 @@
 use Rattle.std.proofs.Common.{◌≡◌, ◌+◌, ◌≤◌, not, sym, ◌∙◌, ap, subst}
 use Rattle.std.specs.Prelude.{reverse, Some, None}
 use Rattle.spec_history.specs.Machine as machine
-use Rattle.xl_standing.specs.Needs.{tile_cost}
-use Rattle.xl_standing.specs.Now.{Now, Gives, with_cache, shown}
-use Rattle.xl_standing.proofs.CleanTiles.{response-tile}
+use Rattle.xl_desk.specs.Needs.{tile_cost}
+use Rattle.spec_standing.specs.Now.{Now, Gives, with_cache, shown}
+use Rattle.xl_desk.proofs.CleanTiles.{response-tile}
 use Rattle.xl_standing.proofs.standing.Standing.tile.Goals as goal
 
 pub returns-clause-response : goal.returns-clause-response

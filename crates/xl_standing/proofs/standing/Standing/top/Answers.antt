@@ -1,6 +1,6 @@
 -- The last of the trail is the top.
 use Rattle.std.proofs.Common.{◌∙◌, ap}
-use Rattle.xl_standing.specs.Now.{Now, top_of}
+use Rattle.spec_standing.specs.Now.{Now, top_of}
 use Rattle.xl_standing.proofs.Trails.{top-is}
 use Rattle.xl_standing.proofs.standing.Standing.top.Goals as goal
 

@@ -1,7 +1,7 @@
 use Rattle.std.proofs.Common.{◌≡◌, Option, ap, sym, ◌∙◌, subst}
 use Rattle.std.specs.Prelude.{IfSome}
 use mathlib.Core.List.{IsPrefix}
-use Rattle.xl_core.specs.Jobs.{Out, IsOfLatest}
+use Rattle.xl_history.specs.Jobs.{Out, IsOfLatest}
 use Rattle.xl_turn.specs.Seats as turns
 use Rattle.xl_turn.specs.Seats.{opened_with}
 use Rattle.xl_studio.specs.Seats.{base_of, front_of}

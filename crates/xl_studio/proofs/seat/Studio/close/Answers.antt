@@ -1,5 +1,5 @@
 use Rattle.std.proofs.Common.{◌≡◌, ℕ, ◌-◌, length, ap, sym, ◌∙◌, arith}
-use Rattle.xl_core.specs.Editing.{Editing}
+use Rattle.xl_history.specs.Editing.{Editing}
 use Rattle.xl_turn.specs.Sums.{below}
 use Rattle.xl_turn.specs.Seats.{opened_with}
 use Rattle.xl_turn.proofs.Fronts.{prefix_self}

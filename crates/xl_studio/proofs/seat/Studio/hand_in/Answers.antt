@@ -1,7 +1,7 @@
 use Rattle.std.proofs.Common.{◌≡◌, ap, sym, ◌∙◌, subst}
 use mathlib.Core.List.{IsPrefix}
-use Rattle.xl_standing.specs.Places.{place_done}
-use Rattle.xl_core.specs.Jobs.{finished_by}
+use Rattle.xl_history.specs.Places.{place_done}
+use Rattle.xl_history.specs.Jobs.{finished_by}
 use Rattle.xl_turn.specs.Seats as turns
 use Rattle.xl_turn.specs.Seats.{opened_with, start_of}
 use Rattle.xl_studio.specs.Moments.{entries_in}

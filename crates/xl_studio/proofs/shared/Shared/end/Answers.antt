@@ -1,6 +1,6 @@
 use Rattle.std.proofs.Common.{◌+◌, length, sym, ap, subst}
 use Rattle.std.specs.Prelude.{IsSome}
-use Rattle.xl_core.specs.Editing.{Editing}
+use Rattle.xl_history.specs.Editing.{Editing}
 use Rattle.xl_calls.specs.Replies.{reply_of}
 use Rattle.xl_studio.specs.State.{State}
 use Rattle.xl_studio.proofs.Started.{ended_after, kept_after_end}

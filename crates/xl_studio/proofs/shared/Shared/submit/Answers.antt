@@ -3,8 +3,8 @@ use Rattle.std.specs.Prelude.{IsSome, OnErr, Option, Result}
 use Rattle.spec_filters.specs.declared.FilterState.{FilterState}
 use Rattle.spec_history.specs.Machine.{Call}
 use Rattle.spec_tables.specs.Agrees.{IsPartAfter}
-use Rattle.xl_standing.specs.History.{document, is_full, is_accepted, NeedsNoStep}
-use Rattle.xl_standing.specs.Needs.{call_cost}
+use Rattle.xl_history.specs.History.{document, is_full, is_accepted, NeedsNoStep}
+use Rattle.xl_history.specs.Needs.{call_cost}
 use Rattle.xl_calls.specs.Calls.{call_of}
 use Rattle.xl_calls.specs.Replies.{reply_of}
 use Rattle.xl_studio.specs.State.{State, moments_of, IsKept}

@@ -1,0 +1,19 @@
+-- What filters were asked, told of a machine, and of a call, that are the same.
+use Rattle.std.proofs.Common.{◌≡◌, List, subst}
+use Rattle.std.specs.Prelude.{Option, Result, OnErr}
+use Rattle.spec_filters.specs.declared.FilterState.{FilterState}
+use Rattle.spec_history.specs.Machine.{Call}
+use Rattle.spec_tables.specs.Agrees.{IsPartAfter}
+use Rattle.spec_standing.specs.Now.{Now, accepts}
+
+-- of the machine that a value stands for
+pub part_seen : (inside seen : Now) (call : Call) (before after : List (Option FilterState)) → inside ≡ seen
+    → IsPartAfter (accepts inside call) before after call → IsPartAfter (accepts seen call) before after call
+part_seen inside seen call before after same part = subst (λ n. IsPartAfter (accepts n call) before after call) same part
+
+-- of the call that was asked
+pub part_asked : {A E : Type 0} (r : Result A E) (now : Now) (one other : Call) (before after : List (Option FilterState))
+    → one ≡ other → OnErr r (IsPartAfter (accepts now one) before after one)
+    → OnErr r (IsPartAfter (accepts now other) before after other)
+part_asked r now one other before after same part =
+    subst (λ c. OnErr r (IsPartAfter (accepts now c) before after c)) same part

@@ -1,0 +1,5 @@
+pub mod Change
+pub mod Group
+pub mod Steps
+pub mod Now
+pub mod History

@@ -1,0 +1,6 @@
+mod Numbers
+pub mod AskedSoFar
+pub mod CleanTiles
+pub mod Opened
+pub mod Costs
+pub mod NoStep
