@@ -16,7 +16,7 @@ use Rattle.spec_world.specs.Exact.{SlotsAreExact}
 use Rattle.spec_world.proofs.Exact.{next-entry, stays-exact}
 use Rattle.xl_history.specs.Editing.{Editing, world, Begins, Ends, start_of, end_of, with_entry}
 use Rattle.xl_history.specs.History.{History}
-use Rattle.xl_core.specs.declared.saving.Begun.TheVariants.{Snapshot}
+use Rattle.xl_history.specs.declared.saving.Begun.TheVariants.{Snapshot}
 use Rattle.xl_run.specs.Opening.{KeepsExactly}
 use Rattle.xl_play.proofs.Grown.{run_behind}
 
