@@ -1,1 +1,3 @@
 mod FlatGroup
+pub mod Edited
+pub mod MadeRuns

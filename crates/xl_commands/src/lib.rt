@@ -1,8 +1,8 @@
-//! The commands that play no script, and what the others do before they play one.
+//! The commands that play no sessions beside each other, and what the others do before and after they play.
 //!
-//! `render`, `describe`, `pack`, `flatten` and `audit` each do one command on the file of a name. `read_document` reads
-//! such a file, `read_script` and `read_viewed` a script from the source, and `made_with_file` makes the document and
-//! the script of a seed.
+//! `render`, `describe`, `pack`, `flatten`, `view` and `audit` each do one command on the file of a name.
+//! `read_document` reads such a file, `read_script` a script from the source, and `made_with_file` makes the document
+//! and the script of a seed. `write_replies` writes what is told of a run, and `sum_up` sums one up.
 #![tactic(auto)]
 
 mod auditing;
@@ -12,15 +12,18 @@ mod loading;
 mod made;
 mod packing;
 mod rendering;
+mod replies;
 mod scripts;
 mod viewed_scripts;
+mod viewing;
 
 pub use auditing::audit;
 pub use describing::describe;
 pub use flattening::flatten;
 pub use loading::read_document;
-pub use made::{made_with_file, picture_digest, save_first};
+pub use made::{made_with_file, save_first};
 pub use packing::pack;
 pub use rendering::render;
+pub use replies::{sum_up, write_replies};
 pub use scripts::read_script;
-pub use viewed_scripts::read_viewed;
+pub use viewing::view;

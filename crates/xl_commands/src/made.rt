@@ -64,8 +64,8 @@ fn canvas(doc: &Document) -> Rect
     }
 }
 
-/// The digest of a document's picture.
-pub fn picture_digest(alloc: Global, doc: &Document) -> Result<String, AllocError>
+// The digest of a document's picture.
+pub(crate) fn picture_digest(alloc: Global, doc: &Document) -> Result<String, AllocError>
     ensures { IfOk result (λ text. string_bytes text ≡ digest_of
         (picture_bytes doc.now 0 0 0 doc.now.width doc.now.height)) }
 {

@@ -27,8 +27,8 @@ fn first_count(chest: &[Vec<Box<dyn PointFilter + Send>>]) -> u32
     }
 }
 
-/// The lines of session 0 of a script that may be viewed.
-pub fn read_viewed<S: Source>(
+// The lines of session 0 of a script that may be viewed.
+pub(crate) fn read_viewed<S: Source>(
     alloc: Global,
     source: &mut S,
     chest: &Vec<Vec<Box<dyn PointFilter + Send>>>,

@@ -4,8 +4,8 @@ use Rattle.std.proofs.lemmas.List.{length-map}
 use Rattle.spec_filters.specs.declared.FilterState.{FilterState}
 use Rattle.spec_script.specs.Script.{Line}
 use Rattle.spec_script.specs.Fits.{AreFit}
-use Rattle.xl_sessions.proofs.Brought.{full_has_all}
-use Rattle.xl_sessions.proofs.Chests.{IsStocked, all_stocked}
+use Rattle.xl_run.proofs.Boxes.{full_has_all}
+use Rattle.xl_run.proofs.Chests.{IsStocked, all_stocked}
 
 pub states_fit : {B : Type 0} (state : B → FilterState) (boxes : List B) (lines : List Line) → AreFit (length boxes) [] lines
     → AreFit (length (map state boxes)) [] lines

@@ -1,13 +1,13 @@
+pub mod ScriptPlayed
 pub mod Submitted
+mod OfFirst
 mod Alone
 mod Answered
 mod Chests
 mod Keeping
-mod OfFirst
 mod Plain
 mod Grown
 mod Saved
-mod ScriptPlayed
 mod Seen
 mod Stays
 mod UnderWay

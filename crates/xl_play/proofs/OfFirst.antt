@@ -13,8 +13,8 @@ use Rattle.xl_script.specs.Lines.{lines_of, lists_of}
 use Rattle.xl_script.specs.declared.script.Line.{Line}
 use Rattle.xl_filters.specs.Chests.{states_of}
 use Rattle.spec_script.specs.Script.{list_at}
-use Rattle.xl_sessions.specs.Players.{boxes_at}
-use Rattle.xl_sessions.proofs.Brought.{count_at}
+use Rattle.xl_run.specs.Filters.{boxes_at}
+use Rattle.xl_run.proofs.Boxes.{count_at}
 use Rattle.spec_run.specs.First.{AreOfFirst}
 use Rattle.spec_text.proofs.CallsWithin.{calls_are}
 

@@ -19,14 +19,14 @@ use Rattle.xl_history.specs.Editing.{Editing, start_of}
 use Rattle.xl_history.specs.History.{History, with_call}
 use Rattle.xl_script.specs.Lines.{line_of, lines_of}
 use Rattle.xl_script.specs.declared.script.Line.{Line}
-use Rattle.xl_sessions.specs.Playing.{FitsChest}
+use Rattle.xl_run.specs.Filters.{FitsChest}
 use Rattle.xl_play.specs.Playing.{AreMade, ArePlayed, IsCalled, IsBetweenLines, IsMade}
 use Rattle.xl_run.specs.Opening.{KeepsExactly}
 use Rattle.spec_text.specs.Text.{calls_along}
 use Rattle.xl_play.proofs.Plain.{filters_now, filters_more, tables_more}
 use Rattle.xl_play.proofs.Chests.{full_stocked}
-use Rattle.xl_sessions.proofs.Brought.{full_agrees}
-use Rattle.xl_sessions.proofs.Chests.{IsStocked, line_fits, stocked_after, agrees_without, stocked_without}
+use Rattle.xl_run.proofs.Boxes.{full_agrees}
+use Rattle.xl_run.proofs.Chests.{IsStocked, line_fits, stocked_after, agrees_without, stocked_without}
 use Rattle.xl_play.proofs.Grown.{calls_behind, played_none}
 
 -- ---- indices

@@ -12,8 +12,8 @@ use Rattle.spec_script.specs.Script.{Line, list_at}
 use Rattle.spec_text.specs.Text.{calls_along}
 use Rattle.spec_view.specs.Text.{Views}
 use Rattle.xl_filters.specs.Chests.{states_of}
-use Rattle.xl_sessions.specs.Players.{boxes_at}
-use Rattle.xl_sessions.proofs.Brought.{states_at}
+use Rattle.xl_run.specs.Filters.{boxes_at}
+use Rattle.xl_run.proofs.Boxes.{states_at}
 use Rattle.xl_play.specs.Playing.{AreMade}
 use Rattle.xl_play.specs.Windows.{AreShown}
 use Rattle.xl_play.proofs.OfFirst.{first_list_fits}

@@ -16,8 +16,8 @@ use Rattle.spec_text.specs.Printed.{order_text}
 use Rattle.spec_text.specs.Text.{AreAlone, IsTextOf, entry_line, calls_of, calls_in}
 use Rattle.xl_filters.specs.Chests.{states_of}
 use Rattle.spec_script.specs.Script.{list_at}
-use Rattle.xl_sessions.specs.Players.{boxes_at}
-use Rattle.xl_sessions.proofs.Brought.{states_at}
+use Rattle.xl_run.specs.Filters.{boxes_at}
+use Rattle.xl_run.proofs.Boxes.{states_at}
 use Rattle.spec_run.specs.Failed.{WhetherFailed}
 use Rattle.xl_play.specs.Told.{IsToldOf}
 use Rattle.xl_play.specs.declared.playing.Replies.{Replies}

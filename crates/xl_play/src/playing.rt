@@ -22,7 +22,7 @@ ghost use Rattle.xl_run.specs.Opening.{KeepsExactly};
 ghost use Rattle.xl_script.specs.Lines.{line_of, lines_of, lists_of};
 ghost use Rattle.xl_filters.specs.Chests.{states_of};
 ghost use Rattle.spec_script.specs.Script.{list_at};
-ghost use Rattle.xl_sessions.specs.Playing.{FitsChest};
+ghost use Rattle.xl_run.specs.Filters.{FitsChest};
 
 use crate::saving::save_latest;
 use crate::transcript::Transcript;
@@ -34,8 +34,9 @@ use xl_calls::{Call, Reply};
 use xl_core::{Core, Desk, Entry, EntryKind};
 use xl_filters::PointFilter;
 use xl_ports::{Actor, Gate, Place, Shelf};
+use xl_report::digest;
+use xl_run::{desk_of, first_boxes, order_words};
 use xl_script::{Line, Script, print_order, print_reply};
-use xl_sessions::{desk_of, digest, first_boxes, order_words};
 
 /// The session that is alone.
 pub(crate) const ALONE: u8 = 0;

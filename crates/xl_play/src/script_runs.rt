@@ -1,10 +1,8 @@
-//! The run of a script, with or without threads.
-ghost use Rattle.std.specs.Prelude.{◌≡◌, ◌<◌, ◌≤◌, ◌^◌, true, false, [], length, map, Ok, IfOk, IsSome};
+//! The run of a script without threads, and what is told of any run.
+ghost use Rattle.std.specs.Prelude.{◌≡◌, ◌<◌, ◌^◌, true, false, [], length, map, Ok, IfOk, IsSome};
 ghost use Rattle.std.specs.List.{AllByRecursion};
-ghost use Rattle.spec_document.specs.Limits.{IsDocument};
 ghost use Rattle.spec_saves.specs.Names.{save_faults};
 ghost use Rattle.spec_script.specs.Fits.{FitsFilters};
-ghost use Rattle.xl_doc.specs.Numbered.{AreNumbered};
 ghost use Rattle.spec_run.specs.Failed.{WhetherFailed};
 ghost use Rattle.xl_play.specs.Told.{IsPlayed};
 ghost use Rattle.spec_run.specs.First.{AreOfFirst};
@@ -12,18 +10,12 @@ ghost use Rattle.xl_run.specs.Opening.{KeepsExactly};
 ghost use Rattle.xl_script.specs.Lines.{lists_of};
 ghost use Rattle.xl_filters.specs.Chests.{states_of};
 
-use crate::host::Host;
 use crate::playing::{Replies, has_save_fault, play};
 use std::alloc::{AllocError, Global};
-use std::sync::Wait;
-use std::thread::Threads;
 use xl_core::Core;
-use xl_doc::Document;
 use xl_filters::PointFilter;
 use xl_ports::{Gate, Shelf};
-use xl_run::open_core;
 use xl_script::{SESSIONS, Script};
-use xl_sessions::{PlayedBeside, play_beside};
 
 /// The replies of a run, and the shelf on which its saves were made.
 #[derive(Drop)]
@@ -32,16 +24,16 @@ pub struct Played<D> {
     pub shelf: D,
 }
 
-// Tells contracts that a script has the lines of eight sessions, as its type keeps it.
-fn know_eight(script: Script) -> Script
+/// Tells contracts that a script has the lines of eight sessions, as its type keeps it.
+pub fn know_eight(script: Script) -> Script
     ensures same { lists_of result ≡ lists_of script }
     ensures eight { length (lists_of result) ≡ 8 }
 {
     Script::of(script.into_lists())
 }
 
-// Whether session 0 is alone, without a worker.
-fn is_alone(script: &Script, workers: u8) -> bool
+/// Whether session 0 is alone, without a worker.
+pub fn is_alone(script: &Script, workers: u8) -> bool
     requires { length (lists_of script.now) ≡ 8 }
     ensures alone { result ≡ true → (workers ≡ 0) × AreOfFirst (lists_of script.now) }
     ensures together { result ≡ false → workers ≡ 0 → AreOfFirst (lists_of script.now) → ⊥ }
@@ -57,8 +49,8 @@ fn is_alone(script: &Script, workers: u8) -> bool
     true
 }
 
-// Makes the calls and saves of session 0, which is alone, without a worker.
-fn play_alone<D: Shelf, G: Gate>(
+/// Makes the calls and saves of session 0, which is alone, without a worker.
+pub fn play_alone<D: Shelf, G: Gate>(
     alloc: Global,
     mut core: Core<D>,
     script: Script,
@@ -84,8 +76,8 @@ fn play_alone<D: Shelf, G: Gate>(
     }
 }
 
-// The text of a run, and whether one of its saves failed.
-fn replies_of<D: Shelf>(
+/// The text of a run, and whether one of its saves failed.
+pub fn replies_of<D: Shelf>(
     core: &Core<D>,
     text: Result<String, AllocError>,
 ) -> Result<Replies, AllocError>
@@ -98,69 +90,4 @@ fn replies_of<D: Shelf>(
         text,
         save_failed: has_save_fault(core.entries()),
     })
-}
-
-// Makes the calls and saves of the sessions beside each other, and beside workers.
-fn play_together<R: Threads + Wait + Sync, D: Shelf, G: Gate>(
-    rt: &R,
-    alloc: Global,
-    core: Core<D>,
-    script: Script,
-    chest: Vec<Vec<Box<dyn PointFilter + Send>>>,
-    workers: u8,
-    gate: &G,
-) -> Played<D>
-    requires fresh { core.history.entries ≡ [] }
-    requires inside { IsSome core.shelf }
-    requires boxes { AllByRecursion (λ boxes. length boxes.items < 2 ^ 32) chest.items }
-    requires fits { FitsFilters (map length (states_of (λ b. state b) chest.items))
-        (lists_of script) }
-    requires eight { length (lists_of script) ≡ 8 }
-    requires workers { workers ≤ 8 }
-    requires together { workers ≡ 0 → AreOfFirst (lists_of script) → ⊥ }
-    ensures { IsPlayed (D.shelf_state core.opening) (D.shelf_state result.shelf) core.history.base
-        (lists_of script) (states_of (λ b. state b) chest.items) workers result.replies }
-{
-    let PlayedBeside { core, text } = play_beside(rt, alloc, core, script, chest, workers, gate);
-    core.know_versions();
-    Played {
-        replies: replies_of(&core, text),
-        shelf: core.into_shelf(),
-    }
-}
-
-/// Makes the calls and saves of a script: without threads where session 0 is alone and no worker is asked for, and else
-/// beside workers.
-pub fn run_script<R: Threads + Wait + Sync, D: Shelf, G: Gate>(
-    host: &Host<'_, R, G>,
-    document: Document,
-    script: Script,
-    chest: Vec<Vec<Box<dyn PointFilter + Send>>>,
-    workers: u8,
-    shelf: D,
-) -> Played<D>
-    requires limits { IsDocument document }
-    requires numbered { AreNumbered document.nodes }
-    requires selected { IsSome (D.shelf_state shelf).selected }
-    requires boxes { AllByRecursion (λ boxes. length boxes.items < 2 ^ 32) chest.items }
-    requires fits { FitsFilters (map length (states_of (λ b. state b) chest.items))
-        (lists_of script) }
-    requires workers { workers ≤ 8 }
-    ensures { IsPlayed (D.shelf_state shelf)
-        (D.shelf_state result.shelf)
-        document (lists_of script) (states_of (λ b. state b) chest.items) workers result.replies }
-{
-    let alloc = host.alloc;
-    let core = match open_core(alloc, document, shelf) {
-        Ok(core) => core,
-        Err(shelf) => return Played {
-            replies: Err(AllocError),
-            shelf,
-        },
-    };
-    let script = know_eight(script);
-    if is_alone(&script, workers) {
-        return play_alone(alloc, core, script, chest, host.gate);
-    }
-    play_together(host.rt, alloc, core, script, chest, workers, host.gate)
 }

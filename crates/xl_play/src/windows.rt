@@ -23,7 +23,7 @@ ghost use Rattle.xl_run.specs.Opening.{KeepsExactly};
 ghost use Rattle.xl_play.specs.Windows.{asks_for, window_digest, AreShown, IsLastTile};
 ghost use Rattle.xl_script.specs.Lines.{line_of, lines_of, lists_of};
 ghost use Rattle.xl_filters.specs.Chests.{states_of};
-ghost use Rattle.xl_sessions.specs.Playing.{FitsChest};
+ghost use Rattle.xl_run.specs.Filters.{FitsChest};
 ghost use Rattle.xl_window.specs.Viewing.{GoesOn};
 
 use crate::playing::{ALONE, first_lines};
@@ -38,8 +38,9 @@ use xl_core::{Core, Desk};
 use xl_doc::{NodeId, TileAt};
 use xl_filters::PointFilter;
 use xl_ports::Shelf;
+use xl_report::digest;
+use xl_run::{desk_of, first_boxes};
 use xl_script::{Line, Script, print_reply};
-use xl_sessions::{desk_of, digest, first_boxes};
 use xl_window::{Viewer, WindowRefusedOrMemory};
 
 // The tile that a call asks for.

@@ -5,16 +5,15 @@ ghost use Rattle.xl_ports.specs.Disk.{read_at};
 ghost use Rattle.xl_outcome.specs.AtSource.{IfOfSource};
 ghost use Rattle.xl_outcome.specs.Outcome.{given_of, ComesTo, LoadsFew, ReadsToEnd, SourceCause, ShelfCause, TakesFront};
 ghost use Rattle.xl_outcome.specs.Parts.{StopsEdit};
-ghost use Rattle.xl_program.specs.Played.{WritesReplies};
 
-use std::alloc::AllocError;
+use crate::host::Host;
+use crate::script_runs::run_script;
 use std::sync::Wait;
 use std::thread::Threads;
-use xl_commands::{read_document, read_script};
+use xl_commands::{read_document, read_script, write_replies};
 use xl_filters::PointFilter;
-use xl_outcome::{CommandEnd, Stopped};
-use xl_play::{Host, Replies, run_script};
-use xl_ports::{Gate, Shelf, Sink, Source, write_all};
+use xl_outcome::CommandEnd;
+use xl_ports::{Gate, Shelf, Sink, Source};
 
 /// Makes the calls and saves of a script on the document of a file, and writes the replies. The sessions are played
 /// beside each other, and beside workers; session 0 alone, where no worker is asked for, without threads.
@@ -68,24 +67,4 @@ pub fn edit<R: Threads + Wait + Sync, S: Source, K: Sink, D: Shelf, G: Gate>(
         result: write_replies(sink, played.replies),
         shelf: played.shelf,
     }
-}
-
-/// Writes the text of a run.
-pub fn write_replies<K: Sink>(
-    sink: &mut K,
-    replies: Result<Replies, AllocError>,
-) -> Result<(), Stopped>
-    ensures writes { WritesReplies K.held K.faults sink.old sink.new replies result }
-    ensures past_source { IfOfSource result ⊥ }
-{
-    let Ok(replies) = replies else {
-        return Err(Stopped::Memory);
-    };
-    if write_all(sink, replies.text.as_bytes()).is_err() {
-        return Err(Stopped::SinkFault);
-    }
-    if replies.save_failed {
-        return Err(Stopped::SaveFault);
-    }
-    Ok(())
 }

@@ -9,14 +9,15 @@
 //! reads a script and a printed run from the source, and writes whether an edit of the file by the script may have
 //! printed it. The sessions of an edit's or a make's script are played beside each other, and beside workers; session 0
 //! alone, where an edit asks for no worker, without threads. What else a command comes to is told by one line there and
-//! by the status. The commands that play a script are modules here, the others stand in `xl_commands`.
+//! by the status. The commands that play sessions are modules here, the others stand in `xl_commands`.
 #![tactic(auto)]
 
 mod editing;
+mod host;
 mod making;
 mod obeying;
 mod running;
-mod viewing;
+mod script_runs;
 
 pub use running::{Ended, run};
 pub use xl_outcome::{Rejection, Stopped};

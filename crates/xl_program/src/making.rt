@@ -1,28 +1,24 @@
-ghost use Rattle.std.specs.Prelude.{◌≡◌, ◌⊎◌, ℕ, [], length, Some, IfOk, OnOk, IsOk, IsSome, string_bytes};
+ghost use Rattle.std.specs.Prelude.{◌≡◌, ◌⊎◌, ℕ, [], length, Some, OnOk, IsSome};
 ghost use Rattle.spec_command.specs.Arguments.{make as make_of};
 ghost use Rattle.spec_document.specs.Limits.{IsDocument};
 ghost use Rattle.spec_generated.specs.Generated.{document, script};
-ghost use Rattle.spec_generated.specs.Summary.{summary_of};
-ghost use Rattle.spec_saves.specs.Names.{save_faults};
 ghost use Rattle.spec_script.specs.Fits.{FitsFilters};
 ghost use Rattle.spec_world.specs.declared.SaveEnd.TheVariants as save_end;
-ghost use Rattle.xl_core.specs.History.{document as last_document};
 ghost use Rattle.xl_doc.specs.Numbered.{AreNumbered};
-ghost use Rattle.spec_run.specs.Failed.{WhetherFailed};
 ghost use Rattle.xl_outcome.specs.Outcome.{Given, ComesTo, LoadsFew, ShelfCauseOf};
 ghost use Rattle.xl_outcome.specs.Parts.{StopsMaking};
-ghost use Rattle.xl_program.specs.Played.{IsSummedUp};
+ghost use Rattle.xl_commands.specs.Played.{IsSummedUp};
 ghost use Rattle.xl_script.specs.Lines.{lists_of};
 
-use crate::editing::write_replies;
 use std::alloc::{AllocError, Global};
 use std::sync::Wait;
 use std::thread::Threads;
-use xl_commands::{made_with_file, picture_digest, save_first};
+use xl_commands::{made_with_file, save_first, sum_up, write_replies};
 use xl_outcome::{CommandEnd, Stopped};
-use xl_play::{Core, Played, PlayedBeside, Replies, has_save_fault, open_core, play_beside};
+use xl_play::{Played, open_core};
 use xl_ports::{Gate, Shelf, Sink};
-use xl_report::{Made, digest, summary};
+use xl_report::Made;
+use xl_sessions::{PlayedBeside, play_beside};
 
 /// How many workers are beside the sessions of what is made.
 const WORKERS: u8 = 2;
@@ -110,25 +106,4 @@ fn run_made<R: Threads + Wait + Sync, D: Shelf, G: Gate>(
         replies,
         shelf: core.into_shelf(),
     }
-}
-
-// The line that sums up what was made of a document, in the place of its sessions' lines, and whether a save failed.
-fn sum_up<D: Shelf>(
-    alloc: Global,
-    core: &Core<D>,
-    text: Result<String, AllocError>,
-) -> Result<Replies, AllocError>
-    ensures played { OnOk result (IsOk text) }
-    ensures text { IfOk result (λ told. string_bytes told.text ≡ summary_of
-        (last_document core.now.history)) }
-    ensures failed { IfOk result (λ told. WhetherFailed told.save_failed
-        (save_faults core.now.history.entries)) }
-{
-    let _replaced = text?;
-    let digest = picture_digest(alloc, core.document())?;
-    let text = summary(alloc, digest.as_str())?;
-    Ok(Replies {
-        text,
-        save_failed: has_save_fault(core.entries()),
-    })
 }

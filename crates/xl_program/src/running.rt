@@ -18,6 +18,7 @@ ghost use Rattle.xl_outcome.specs.Outcome.{given_of, ComesWell, ShelfFails, Writ
 ghost use Rattle.xl_outcome.specs.Outcome.{MaySave, IsUntouched, StopsBefore, RefusesSource, InGrammar, Keeps};
 ghost use Rattle.xl_outcome.specs.Outcome.{Takes, IsStatus, LoadsFew, OtherNamesStay};
 
+use crate::host::Host;
 use crate::obeying::obey;
 use std::alloc::Global;
 use std::sync::Wait;
@@ -25,7 +26,6 @@ use std::thread::Threads;
 use xl_command::command_of;
 use xl_filters::PointFilter;
 use xl_outcome::{MEMORY, Stopped, write_line, write_stop};
-use xl_play::Host;
 use xl_ports::{Gate, Shelf, Sink, Source};
 
 /// The status where all went well.

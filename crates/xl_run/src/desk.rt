@@ -20,3 +20,20 @@ pub fn desk_of(alloc: Global, boxes: Vec<Box<dyn PointFilter + Send>>) -> Result
         Err(_) => Err(AllocError),
     }
 }
+
+/// Takes the first list of boxes, if there is one.
+pub fn first_boxes(
+    alloc: Global,
+    chest: &mut Vec<Vec<Box<dyn PointFilter + Send>>>,
+) -> Vec<Box<dyn PointFilter + Send>>
+    requires { AllByRecursion (λ boxes. length boxes.items < 2 ^ 32) chest.old.items }
+    ensures first { result.items ≡ boxes_at chest.old.items 0 }
+    ensures others { chest.new.items ≡ drop 1 chest.old.items }
+    ensures short { length result.items < 2 ^ 32 }
+    ensures others_short { AllByRecursion (λ boxes. length boxes.items < 2 ^ 32) chest.new.items }
+{
+    if chest.is_empty() {
+        return Vec::new(alloc);
+    }
+    chest.remove(0)
+}

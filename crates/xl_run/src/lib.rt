@@ -7,7 +7,7 @@ mod opening;
 mod printing;
 mod unplayed;
 
-pub use desk::desk_of;
+pub use desk::{desk_of, first_boxes};
 pub use opening::open_core;
 pub use printing::{asks_tile, each_entry_is_printed, order_words, print_history};
 pub use unplayed::Unplayed;

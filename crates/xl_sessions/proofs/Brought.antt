@@ -1,40 +1,25 @@
 -- What the sessions bring, by the lists of the script and of the filters.
 use Rattle.std.proofs.Common.{◌≡◌, ℕ, zero, suc, ◌+◌, ◌<◌, ◌^◌, List, [], ◌∷◌, ◌++◌, length, map, drop, Some, refl}
 use Rattle.std.proofs.Common.{sym, ap, ◌∙◌, subst, arith, length-append}
-use Rattle.std.specs.Prelude.{slice_get, unwrap_or, Vec}
+use Rattle.std.specs.Prelude.{Vec}
 use Rattle.std.specs.List.{AllByRecursion}
 use Rattle.std.specs.declared.alloc.Global.{Global}
 use Rattle.std.proofs.lemmas.List.{length-map}
 use Rattle.spec_filters.specs.declared.FilterState.{FilterState}
 use Rattle.spec_script.specs.Script as script
 use Rattle.spec_script.specs.Fits.{AreFit, EachFit, FitsFilters}
-use Rattle.spec_tables.specs.Agrees.{Agrees}
 use Rattle.xl_filters.specs.Chests.{states}
 use Rattle.xl_filters.specs.declared.chest.Slot.{Slot}
 use Rattle.xl_script.specs.Lines.{lines_of, lists_of}
 use Rattle.xl_script.specs.declared.script.Line.{Line}
 use Rattle.xl_filters.specs.Chests.{states_of}
 use Rattle.spec_script.specs.Script.{list_at}
-use Rattle.xl_sessions.specs.Players.{boxes_at, IsBrought, IsFitPart, AreBrought, AreFitParts}
-use Rattle.xl_sessions.specs.Playing.{HasAll}
+use Rattle.xl_sessions.specs.Players.{IsBrought, IsFitPart, AreBrought, AreFitParts}
+use Rattle.xl_run.specs.Filters.{boxes_at}
+use Rattle.xl_run.specs.Filters.{HasAll}
 use Rattle.xl_sessions.specs.declared.players.SessionPart.{SessionPart}
+use Rattle.xl_run.proofs.Boxes.{full_has_all, full_states, first_left, states_at, count_at}
 use Rattle.xl_sessions.proofs.Zips.{from_first_more}
-
--- ---- a full chest
-
-pub full_agrees : (filters : List FilterState) → Agrees (map (λ s. Some s) filters) filters
-full_agrees [] = tt
-full_agrees (s ∷ filters) = (refl, full_agrees filters)
-
-pub full_has_all : (filters : List FilterState) → HasAll (map (λ s. Some s) filters)
-full_has_all [] slot below = absurd (omega arith)
-full_has_all (s ∷ filters) zero below = refl
-full_has_all (s ∷ filters) (suc slot) below = full_has_all filters slot (omega arith)
-
-pub full_states : {B : Type 0} (state : B → FilterState) (boxes : List B)
-    → map (λ b. Some (state b)) boxes ≡ map (λ s. Some s) (map state boxes)
-full_states state [] = refl
-full_states state (b ∷ boxes) = ap (λ slots. Some (state b) ∷ slots) (full_states state boxes)
 
 -- ---- lists
 
@@ -53,23 +38,6 @@ pub drop_more : {A : Type 0} (xs : List A) (n : ℕ) → drop 1 (drop n xs) ≡ 
 drop_more xs zero = refl
 drop_more [] (suc n) = refl
 drop_more (x ∷ xs) (suc n) = drop_more xs n
-
-pub first_left : {B : Type 0} (boxes : List (Vec B Global)) (n : ℕ) → boxes_at (drop n boxes) 0 ≡ boxes_at boxes n
-first_left boxes zero = refl
-first_left [] (suc n) = refl
-first_left (b ∷ boxes) (suc n) = first_left boxes n
-
-module _ {B : Type 0} (state : B → FilterState) where
-  pub states_at : (boxes : List (Vec B Global)) (n : ℕ) → list_at (states_of state boxes) n ≡ map state (boxes_at boxes n)
-  states_at [] n = refl
-  states_at (b ∷ boxes) zero = refl
-  states_at (b ∷ boxes) (suc n) = states_at boxes n
-
-  pub count_at : (boxes : List (Vec B Global)) (n : ℕ)
-      → unwrap_or (slice_get (map length (states_of state boxes)) n) 0 ≡ length (boxes_at boxes n)
-  count_at [] n = refl
-  count_at (b ∷ boxes) zero = length-map b.items state
-  count_at (b ∷ boxes) (suc n) = count_at boxes n
 
 -- ---- along the sessions
 

@@ -1,7 +1,7 @@
 -- what a call or a save leaves
 pub mod Made
 -- the filters that are still there
-pub mod Chests
+pub mod Stocked
 -- a call after what others made was heard
 pub mod Refreshed
 -- one call more

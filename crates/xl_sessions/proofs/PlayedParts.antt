@@ -19,7 +19,7 @@ use Rattle.xl_sessions.specs.Players.{IsOfSession, AreOfSessions, HaveOutcomes, 
 use Rattle.xl_sessions.specs.Players.{AreFitParts, AreSeated, places_of, shown_of, weight_in}
 use Rattle.xl_sessions.specs.declared.players.SessionPart.{SessionPart}
 use Rattle.xl_sessions.specs.declared.players.Player.{Player}
-use Rattle.xl_sessions.proofs.Brought.{full_agrees}
+use Rattle.xl_run.proofs.Boxes.{full_agrees}
 use Rattle.xl_sessions.proofs.Outcomes.{HasOutcome, Own, outcome_grows}
 use Rattle.xl_sessions.proofs.Zips.{zip_length, zip_through, zip_from, from_first_each, from_first_with, from_first_below}
 use Rattle.xl_studio.specs.declared.moment.Moment.{Moment}

@@ -22,7 +22,7 @@ use Rattle.xl_studio.specs.Moments.{entries_in}
 use Rattle.xl_sessions.specs.Playing.{IsCallMade, IsSaveMade, IsLineMade}
 use Rattle.xl_sessions.proofs.CallMore.{IsCallMore, call_more, call_up, call_filters, call_told, call_made, call_said}
 use Rattle.xl_sessions.proofs.SaveMore.{save_more, save_up, save_filters, save_told, save_made}
-use Rattle.xl_sessions.proofs.Chests.{agrees_without}
+use Rattle.xl_run.proofs.Chests.{agrees_without}
 
 module _ {K : Type 0} where
   -- The places of the session are those of the calls of these lines, whatever filters were in its chest. The chest has the filters

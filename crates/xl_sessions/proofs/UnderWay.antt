@@ -15,8 +15,10 @@ use Rattle.spec_seats.specs.Digests.{digests_in}
 use Rattle.spec_seats.specs.Made.{HasMade, IsOf}
 use Rattle.xl_studio.specs.Calling.{Known}
 use Rattle.xl_studio.specs.Moments.{entries_in}
-use Rattle.xl_sessions.specs.Playing.{FitsChest, HasAll, IsLineMade}
-use Rattle.xl_sessions.proofs.Chests.{IsStocked, all_stocked, line_fits, line_stocked}
+use Rattle.xl_sessions.specs.Playing.{IsLineMade}
+use Rattle.xl_run.specs.Filters.{FitsChest, HasAll}
+use Rattle.xl_run.proofs.Chests.{IsStocked, all_stocked, line_fits}
+use Rattle.xl_sessions.proofs.Stocked.{line_stocked}
 use Rattle.xl_sessions.proofs.SoFar.{IsSoFar, so_far_none, so_far_of, so_far_line}
 use Rattle.xl_turn.proofs.Fronts.{prefix_self, prefix_trans}
 

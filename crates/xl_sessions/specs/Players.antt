@@ -1,9 +1,8 @@
 -- The sessions and the workers of a run: what they bring, their seats, and what they have made.
-use Rattle.std.specs.Prelude.{◌≡◌, ℕ, ◌+◌, ◌<◌, ◌≤◌, true, false, List, [], ◌∷◌, length, map, Option, option_map, Some, None, slice_get}
-use Rattle.std.specs.Prelude.{unwrap_or, is_none, string_bytes, vec_capacity, Vec}
+use Rattle.std.specs.Prelude.{◌≡◌, ℕ, ◌+◌, ◌<◌, ◌≤◌, true, false, List, [], ◌∷◌, length, map, Option, Some, None}
+use Rattle.std.specs.Prelude.{is_none, string_bytes, vec_capacity}
 use Rattle.std.specs.Option.{option_or}
 use Rattle.std.specs.List.{AllByRecursion, AllZip}
-use Rattle.std.specs.declared.alloc.Global.{Global}
 use mathlib.Core.List.{IsPrefix}
 use Rattle.spec_filters.specs.declared.FilterState.{FilterState}
 use Rattle.spec_history.specs.declared.TheConstants.{MAX_ENTRIES}
@@ -20,7 +19,7 @@ use Rattle.xl_script.specs.Lines.{lines_of}
 use Rattle.xl_sessions.specs.Full.{most_made, IsStoppedAtFull}
 use Rattle.xl_sessions.specs.Outcomes.{FromFirst, IsOutcome}
 use Rattle.spec_script.specs.Script.{list_at}
-use Rattle.xl_sessions.specs.Playing.{HasAll}
+use Rattle.xl_run.specs.Filters.{HasAll}
 use Rattle.xl_sessions.specs.declared.players.SessionPart.{SessionPart}
 use Rattle.xl_sessions.specs.declared.players.Player.{Player}
 use Rattle.xl_sessions.specs.declared.players.Worker.{Worker}
@@ -36,10 +35,6 @@ use Rattle.xl_studio.specs.Seats.{base_of, front_of, known_by, made_of, weight_o
 use Rattle.xl_studio.specs.State.{State}
 use Rattle.xl_turn.specs.Sums.{total}
 use Rattle.xl_turn.specs.declared.view.Chronicle.{Ghosts}
-
--- the boxes of a session, none past the last list
-abbrev pub boxes_at : {B : Type 0} → List (Vec B Global) → (session : ℕ) → List B
-boxes_at lists session = unwrap_or (option_map (λ boxes. boxes.items) (slice_get lists session)) []
 
 -- what a box holds in its slot, as another crate's clauses see it
 abbrev pub in_slots : {X : Type 0} {H : X → Type 0} → (state : (x : X) × H x → FilterState) → Slot X H → FilterState

@@ -1,17 +1,14 @@
 -- What a line of a session makes.
-use Rattle.std.specs.Prelude.{◌≡◌, ℕ, ◌<◌, Bool, true, if◌then◌else◌, List, [], ◌∷◌, length, slice_set, Option, None, IsTrue}
+use Rattle.std.specs.Prelude.{◌≡◌, ℕ, Bool, if◌then◌else◌, List, [], ◌∷◌, slice_set, Option, None}
 use Rattle.std.specs.Prelude.{option_map, unwrap_or}
 use Rattle.spec_document.specs.Document.{Document}
 use Rattle.spec_filters.specs.declared.FilterState.{FilterState}
-use Rattle.spec_filters.specs.Slots.{has_slot}
 use Rattle.spec_history.specs.Machine.{Call, Reply, version_shown}
-use Rattle.spec_history.specs.Calls.{IsCall}
 use Rattle.spec_history.specs.History.{asked, latest_of}
 use Rattle.spec_history.specs.Kept.{IsFreshReply}
-use Rattle.spec_history.specs.Limited.{edits_of}
 use Rattle.xl_ports.specs.State.{ShelfState}
 use Rattle.spec_script.specs.Script.{Line, call, save, forget}
-use Rattle.spec_tables.specs.Agrees.{Agrees, AreThere, IsAfter}
+use Rattle.spec_tables.specs.Agrees.{Agrees, IsAfter}
 use Rattle.spec_tables.specs.Tables.{expected_tables}
 use Rattle.spec_text.specs.Text.{digest_of}
 use Rattle.xl_studio.specs.History.{Shows}
@@ -21,18 +18,6 @@ use Rattle.xl_studio.specs.Seats.{history_of}
 use Rattle.spec_seats.specs.Digests.{asks_tile}
 use Rattle.xl_studio.specs.Saving.{IsSaved}
 use Rattle.xl_run.specs.Printing.{IsPrinted}
-
--- ---- the filters
-
--- a line whose call is within its type, and whose filters are in the chest
-abbrev pub FitsChest : List (Option FilterState) → Line → Type 0
-FitsChest chest (call c) = IsCall c × AreThere chest (edits_of c)
-FitsChest chest save = Unit {0}
-FitsChest chest (forget slot) = IsTrue (has_slot chest slot)
-
--- no filter was dropped
-abbrev pub HasAll : List (Option FilterState) → Type 0
-HasAll chest = (slot : ℕ) → slot < length chest → has_slot chest slot ≡ true
 
 -- ---- the digests
 

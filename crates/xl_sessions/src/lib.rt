@@ -11,7 +11,8 @@ mod setting;
 mod threads;
 
 pub use beside::{PlayedBeside, play_beside};
-pub use seating::first_boxes;
 pub use setting::Setting;
 pub use xl_report::digest;
-pub use xl_run::{Unplayed, desk_of, each_entry_is_printed, order_words, print_history};
+pub use xl_run::{
+    Unplayed, desk_of, each_entry_is_printed, first_boxes, order_words, print_history,
+};

@@ -13,7 +13,7 @@ ghost use Rattle.xl_studio.specs.Moments.{entries_in};
 ghost use Rattle.xl_studio.specs.Seats.{base_of, front_of, known_by, made_of, IsSeatOf};
 ghost use Rattle.xl_sessions.specs.Full.{most_made, IsStoppedAtFull};
 ghost use Rattle.xl_sessions.specs.Keeping.{KeepsSeat};
-ghost use Rattle.xl_sessions.specs.Playing.{HasAll};
+ghost use Rattle.xl_run.specs.Filters.{HasAll};
 ghost use Rattle.xl_run.specs.declared.unplayed.Unplayed.TheVariants.{HistoryFull};
 
 use crate::setting::Setting;

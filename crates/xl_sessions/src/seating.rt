@@ -1,9 +1,9 @@
 //! What the sessions bring, and their seats.
 ghost use Rattle.spec_script.specs.Fits.{FitsFilters};
 ghost use Rattle.std.specs.List.{AllByRecursion};
-ghost use Rattle.std.specs.Prelude.{◌≡◌, ◌+◌, ◌<◌, ◌≤◌, ◌^◌, [], length, map, drop, IfOk, vec_capacity};
+ghost use Rattle.std.specs.Prelude.{◌≡◌, ◌+◌, ◌<◌, ◌≤◌, ◌^◌, [], length, map, IfOk, vec_capacity};
 ghost use Rattle.xl_script.specs.Lines.{lists_of};
-ghost use Rattle.xl_sessions.specs.Players.{boxes_at, AreBrought, AreFitParts, AreSeated, AreFree, AreNumbered, HasRoom};
+ghost use Rattle.xl_sessions.specs.Players.{AreBrought, AreFitParts, AreSeated, AreFree, AreNumbered, HasRoom};
 ghost use Rattle.xl_filters.specs.Chests.{states_of};
 ghost use Rattle.xl_studio.specs.Jobs.{job_out};
 ghost use Rattle.xl_studio.specs.Seats.{front_of, known_by, weight_of, IsSeatOf};
@@ -12,26 +12,9 @@ use crate::players::{Player, Room, SessionPart, Worker};
 use std::alloc::{AllocError, Global};
 use xl_filters::PointFilter;
 use xl_ports::Shelf;
-use xl_run::desk_of;
+use xl_run::{desk_of, first_boxes};
 use xl_script::{SESSIONS, Script};
 use xl_studio::{Seat, Studio};
-
-/// Takes the first list of boxes, if there is one.
-pub fn first_boxes(
-    alloc: Global,
-    chest: &mut Vec<Vec<Box<dyn PointFilter + Send>>>,
-) -> Vec<Box<dyn PointFilter + Send>>
-    requires { AllByRecursion (λ boxes. length boxes.items < 2 ^ 32) chest.old.items }
-    ensures first { result.items ≡ boxes_at chest.old.items 0 }
-    ensures others { chest.new.items ≡ drop 1 chest.old.items }
-    ensures short { length result.items < 2 ^ 32 }
-    ensures others_short { AllByRecursion (λ boxes. length boxes.items < 2 ^ 32) chest.new.items }
-{
-    if chest.is_empty() {
-        return Vec::new(alloc);
-    }
-    chest.remove(0)
-}
 
 // What each session brings, the first session first.
 fn parts_of(

@@ -23,7 +23,8 @@ ghost use Rattle.spec_seats.specs.Made.{IsOf};
 ghost use Rattle.xl_studio.specs.Saving.{IsSaved};
 ghost use Rattle.xl_sessions.specs.Full.{most_made, MakesAtMost, FindsFull};
 ghost use Rattle.xl_sessions.specs.Keeping.{KeepsSeat};
-ghost use Rattle.xl_sessions.specs.Playing.{FitsChest, IsCallMade, IsSaveMade, IsLineMade, said};
+ghost use Rattle.xl_sessions.specs.Playing.{IsCallMade, IsSaveMade, IsLineMade, said};
+ghost use Rattle.xl_run.specs.Filters.{FitsChest};
 ghost use Rattle.xl_run.specs.Printing.{IsPrinted};
 ghost use Rattle.xl_run.specs.declared.unplayed.Unplayed.TheVariants.{HistoryFull, Memory};
 

@@ -1,6 +1,6 @@
 use Rattle.std.proofs.Common.{refl, ◌∙◌, string_bytes, arith}
 use Rattle.xl_script.specs.Lines.{lines_of}
-use Rattle.xl_sessions.proofs.Brought.{full_states}
+use Rattle.xl_run.proofs.Boxes.{full_states}
 use Rattle.xl_play.proofs.Chests.{states_fit}
 use Rattle.xl_play.proofs.UnderWay.{under_way_none, under_way_fit, under_way_free, under_way_more, under_way_all}
 use Rattle.xl_play.proofs.playing.play_lines.Goals as goal

@@ -3,7 +3,7 @@ use Rattle.spec_document.specs.Document.{Document}
 use Rattle.spec_document.specs.Limits.{IsDocument}
 use Rattle.spec_generated.specs.Generated.{document, script}
 use Rattle.xl_script.specs.Lines.{lists_of}
-use Rattle.xl_program.proofs.MadeRuns.{no_states, nothing_summed, same_sum, seed_is_made, summed_on}
+use Rattle.xl_commands.proofs.MadeRuns.{no_states, nothing_summed, same_sum, seed_is_made, summed_on}
 use Rattle.xl_program.proofs.making.run_made.Goals as goal
 
 pub returns-in-Err : goal.returns-in-Err

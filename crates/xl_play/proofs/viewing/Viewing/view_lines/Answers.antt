@@ -1,6 +1,6 @@
 use Rattle.std.proofs.Common.{refl, ◌∙◌, ap, string_bytes, arith}
 use Rattle.xl_script.specs.Lines.{lines_of}
-use Rattle.xl_sessions.proofs.Brought.{full_states}
+use Rattle.xl_run.proofs.Boxes.{full_states}
 use Rattle.xl_play.proofs.Chests.{states_fit}
 use Rattle.xl_play.proofs.UnderWay.{under_way_fit, under_way_free, under_way_all}
 use Rattle.xl_play.proofs.ViewUnderWay.{view_none, view_line, view_more}

@@ -33,7 +33,7 @@ use Rattle.xl_outcome.specs.Outcome.{Comes, opened, ShelfCauseOf}
 use Rattle.xl_core.specs.Editing.{Editing, IsRight}
 use Rattle.xl_core.specs.History.{document as last_document}
 use Rattle.xl_outcome.specs.Parts.{StopsMaking}
-use Rattle.xl_program.specs.Played.{IsSummedUp, SumsUp, WritesReplies}
+use Rattle.xl_commands.specs.Played.{IsSummedUp, SumsUp, WritesReplies}
 use Rattle.spec_run.specs.Versions.{AreWithin}
 use Rattle.xl_snapshot.specs.Saving.{IsSavedOn}
 use Rattle.xl_snapshot.proofs.Putting.{done_not_memory}
@@ -41,7 +41,7 @@ use Rattle.xl_play.specs.declared.playing.Replies.{Replies}
 use Rattle.xl_outcome.specs.declared.stopped.Stopped.{Stopped}
 use Rattle.xl_outcome.specs.declared.stopped.Stopped.TheVariants.{SourceFault, BadHead, BadLine, ShelfFault, Refused}
 use Rattle.xl_outcome.specs.declared.stopped.Stopped.TheVariants.{NotFlattened, SaveFault, Rejected, SinkFault, Memory}
-use Rattle.xl_program.proofs.Edited.{none_failed, some_failed}
+use Rattle.xl_commands.proofs.Edited.{none_failed, some_failed}
 use Rattle.spec_merged.proofs.MadeFiles.{last_is_saved}
 use Rattle.spec_run.proofs.VersionsWithin.{first_within}
 

@@ -15,7 +15,7 @@ use Rattle.xl_ports.specs.Shelf.{Content}
 use Rattle.xl_ports.specs.State.{ShelfState}
 use Rattle.xl_ports.specs.Disk.{read_at}
 use Rattle.xl_outcome.specs.Parts.{Loads, ReadsScript, StopsEdit}
-use Rattle.xl_program.specs.Played.{WritesReplies}
+use Rattle.xl_commands.specs.Played.{WritesReplies}
 use Rattle.xl_play.specs.declared.playing.Replies.{Replies}
 use Rattle.xl_outcome.specs.declared.stopped.Stopped.{Stopped}
 use Rattle.xl_outcome.specs.declared.stopped.Stopped.TheVariants.{SourceFault, BadHead, BadLine, ShelfFault, Refused}

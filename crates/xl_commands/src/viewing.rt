@@ -15,9 +15,10 @@ ghost use Rattle.xl_outcome.specs.Parts.{StopsView, WritesViewed};
 ghost use Rattle.xl_script.specs.Lines.{lists_of};
 ghost use Rattle.xl_filters.specs.Chests.{states_of};
 
+use crate::loading::read_document;
+use crate::viewed_scripts::read_viewed;
 use std::alloc::AllocError;
 use std::thread::Threads;
-use xl_commands::{read_document, read_viewed};
 use xl_doc::Document;
 use xl_filters::PointFilter;
 use xl_outcome::{CommandEnd, Stopped};

@@ -5,7 +5,7 @@ use Rattle.xl_outcome.proofs.AtSource.{past_source}
 use Rattle.xl_outcome.proofs.FirstSaves.{ok_any}
 use Rattle.xl_outcome.proofs.ScriptEnded.{ended_anyhow}
 use Rattle.xl_outcome.proofs.Viewed.{IsViewOpened, viewed_comes, view_stopped, script_stops, file_stops, text_stops, unread_view}
-use Rattle.xl_program.proofs.viewing.view.Goals as goal
+use Rattle.xl_commands.proofs.viewing.view.Goals as goal
 use Rattle.xl_ports.specs.State.{ShelfState}
 use Rattle.xl_ports.specs.Disk.{read_at}
 

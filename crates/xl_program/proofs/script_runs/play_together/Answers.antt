@@ -1,6 +1,6 @@
 use Rattle.xl_script.specs.Lines.{lists_of}
 use Rattle.xl_play.proofs.ScriptPlayed.{played_on, told_together}
-use Rattle.xl_play.proofs.script_runs.play_together.Goals as goal
+use Rattle.xl_program.proofs.script_runs.play_together.Goals as goal
 
 pub returns : goal.returns
 returns g c =

@@ -5,7 +5,7 @@ use Rattle.spec_script.specs.Script.{list_at}
 use Rattle.spec_view.specs.Text.{Views}
 use Rattle.xl_script.specs.Lines.{lists_of}
 use Rattle.xl_filters.specs.Chests.{states_of}
-use Rattle.xl_program.proofs.viewing.view_document.Goals as goal
+use Rattle.xl_commands.proofs.viewing.view_document.Goals as goal
 
 pub returns-clause-views : goal.returns-clause-views
 returns-clause-views g c =

@@ -1,12 +1,11 @@
 -- A chest beside the list of all filters of its session, along the session's lines.
 use Rattle.std.proofs.Common.{◌≡◌, ℕ, zero, suc, Bool, true, false, List, [], ◌∷◌, ◌++◌, length, map, slice_set}
-use Rattle.std.proofs.Common.{Option, Some, None, refl, sym, ap, ◌∙◌, subst, true≢false, eq-eqb}
+use Rattle.std.proofs.Common.{Option, Some, None, refl, sym, ap, ◌∙◌, true≢false, eq-eqb}
 use Rattle.std.specs.Prelude.{◌==◌, ◌&&◌, ◌||◌, ◌≢◌, not, nat_lt, slice_index_or, is_some}
 use Rattle.std.specs.List.{list_all, list_any}
 use Rattle.std.proofs.lemmas.Bool.{and_parts, ltb-true}
 use Rattle.std.proofs.lemmas.List.{get_or-set_other}
 use Rattle.std.proofs.Math.ListN.{get_or-map}
-use Rattle.spec_document.specs.Document.{Document}
 use Rattle.spec_edit.specs.Edit as edits
 use Rattle.spec_edit.specs.Edit.{Edit}
 use Rattle.spec_history.specs.Machine as machine
@@ -14,13 +13,11 @@ use Rattle.spec_history.specs.Machine.{Call}
 use Rattle.spec_history.specs.Limited.{edits_of}
 use Rattle.spec_filters.specs.declared.FilterState.{FilterState}
 use Rattle.spec_filters.specs.Slots.{has_slot}
-use Rattle.xl_ports.specs.State.{ShelfState}
 use Rattle.spec_script.specs.Script as script
 use Rattle.spec_script.specs.Script.{is_there, finds_filter}
-use Rattle.spec_script.specs.Fits.{finds_filters, dropped_by, IsFit}
+use Rattle.spec_script.specs.Fits.{finds_filters, IsFit}
 use Rattle.spec_tables.specs.Agrees.{Agrees, AreThere, SameSlots}
-use Rattle.xl_studio.specs.Calling.{Known}
-use Rattle.xl_sessions.specs.Playing.{FitsChest, HasAll, IsLineMade}
+use Rattle.xl_run.specs.Filters.{FitsChest, HasAll}
 
 -- each filter that was given and not dropped is in its slot
 abbrev pub IsStocked : (given : ℕ) (dropped : List ℕ) (chest : List (Option FilterState)) → Type 0
@@ -106,16 +103,3 @@ stocked_without given dropped chest slot stocked n there =
     let none = any_last dropped slot n (not_both (nat_lt n given) (list_any (λ d. d == n) (dropped ++ slot ∷ [])) there) in
     let other : n ≢ slot = λ q. true≢false (sym (eq-eqb slot n (sym q)) ∙ none.1) in
     ap is_some (get_or-set_other chest slot n None None other) ∙ stocked n (rw (parts.0, none.0) refl)
-
--- ---- after any line
-
-pub line_stocked : {K : Type 0} (see : K → ShelfState) (opening : K) (given : ℕ) (dropped : List ℕ) (base : Document)
-    (session : ℕ) (line : script.Line) (before after : List (Option FilterState)) (old new : Known K) (told : List (List ℕ))
-    → IsLineMade see opening base session line before after old new told → IsStocked given dropped before
-    → IsStocked given (dropped_by dropped line) after
-line_stocked see opening given dropped base session (script.call c) before after old new told made stocked =
-    stocked_after given dropped before after made.used.slots stocked
-line_stocked see opening given dropped base session script.save before after old new told made stocked =
-    subst (IsStocked given dropped) (sym made.1) stocked
-line_stocked see opening given dropped base session (script.forget slot) before after old new told made stocked =
-    subst (IsStocked given (dropped ++ slot ∷ [])) (sym made.1) (stocked_without given dropped before slot stocked)

@@ -1,2 +1,0 @@
-mod Edited
-mod MadeRuns
