@@ -1,17 +1,12 @@
 -- Whether a group of edits is accepted, and how many tables it takes.
 use Rattle.std.specs.Prelude.{ℕ, ◌+◌, if◌then◌else◌, List, [], ◌∷◌, Option, Some, None, Result, Ok, Err}
-use Rattle.spec_edit.specs.Edit.{Edit, filter}
+use Rattle.spec_edit.specs.Edit.{Edit}
 use Rattle.spec_edit.specs.Apply.{At, Refused, is_filter}
 
 -- the edit of a group that is refused, if any, and why
 abbrev pub refused_in : Result At Refused → Option Refused
 refused_in (Ok new) = None
 refused_in (Err refused) = Some refused
-
--- the slot of the filter that an edit asks, if any
-abbrev pub slot_of : Edit → Option ℕ
-slot_of (filter id rect slot) = Some slot
-slot_of edit = None
 
 -- how many of these edits are filters
 abbrev pub filter_count : List Edit → ℕ

@@ -1,7 +1,6 @@
 -- A chest of filters, from which some were forgotten, beside the list of all filters of its session.
 use Rattle.std.specs.Prelude.{◌≡◌, ℕ, Bool, if◌then◌else◌, List, [], ◌∷◌, map, take, Option, Some, None, is_some, IsTrue}
-use Rattle.spec_edit.specs.Edit as edits
-use Rattle.spec_edit.specs.Edit.{Edit}
+use Rattle.spec_edit.specs.Edit.{Edit, slot_of}
 use Rattle.spec_history.specs.Machine.{Call, Reply}
 use Rattle.spec_history.specs.Limited.{edits_of}
 use Rattle.spec_filters.specs.declared.FilterState.{FilterState}
@@ -16,11 +15,15 @@ Agrees (slot ∷ slots) [] = ⊥
 Agrees (None ∷ slots) (state ∷ states) = Agrees slots states
 Agrees (Some filter ∷ slots) (state ∷ states) = (filter ≡ state) × Agrees slots states
 
+-- the filter of this slot, if any, is in the chest, and the others are there
+abbrev pub BesideSlot : (chest : List (Option FilterState)) → Option ℕ → (others : Type 0) → Type 0
+BesideSlot chest None others = others
+BesideSlot chest (Some slot) others = IsTrue (has_slot chest slot) × others
+
 -- the filters of these edits are in the chest
 abbrev pub AreThere : (chest : List (Option FilterState)) → List Edit → Type 0
 AreThere chest [] = Unit {0}
-AreThere chest (edits.filter id rect slot ∷ rest) = IsTrue (has_slot chest slot) × AreThere chest rest
-AreThere chest (edit ∷ rest) = AreThere chest rest
+AreThere chest (edit ∷ rest) = BesideSlot chest (slot_of edit) (AreThere chest rest)
 
 -- in both chests filters are in the same slots
 abbrev pub SameSlots : (old new : List (Option FilterState)) → Type 0

@@ -1,7 +1,6 @@
 -- The tables that the filters of a session answer, and their states along its history.
-use Rattle.std.specs.Prelude.{◌≡◌, ℕ, List, [], ◌∷◌, ◌++◌, if◌then◌else◌, slice_get, option_map, option_to_list}
-use Rattle.spec_edit.specs.Edit as edits
-use Rattle.spec_edit.specs.Edit.{Edit}
+use Rattle.std.specs.Prelude.{◌≡◌, ℕ, List, [], ◌∷◌, ◌++◌, if◌then◌else◌, slice_get, Option, Some, None, option_map, option_to_list}
+use Rattle.spec_edit.specs.Edit.{Edit, slot_of}
 use Rattle.spec_edit.specs.Effect.{changed_at}
 use Rattle.spec_history.specs.Machine as machine
 use Rattle.spec_history.specs.Machine.{Call, Reply}
@@ -12,16 +11,25 @@ use Rattle.spec_filters.specs.Filters.{table_of, after_use}
 abbrev pub table_at : List FilterState → (slot : ℕ) → List (List ℕ)
 table_at filters slot = option_to_list (option_map table_of (slice_get filters slot))
 
+-- the table of the filter in this slot, if any
+abbrev pub table_asked : List FilterState → Option ℕ → List (List ℕ)
+table_asked filters None = []
+table_asked filters (Some slot) = table_at filters slot
+
+-- the filters once this one was asked, if any
+abbrev pub used_once : List FilterState → Option ℕ → List FilterState
+used_once filters None = filters
+used_once filters (Some slot) = changed_at slot after_use filters
+
 -- the tables that the edits of a group take, one after another
 abbrev pub tables_for : List FilterState → List Edit → List (List ℕ)
 tables_for filters [] = []
-tables_for filters (edits.filter id rect slot ∷ rest) = table_at filters slot ++ tables_for (changed_at slot after_use filters) rest
-tables_for filters (edit ∷ rest) = tables_for filters rest
+tables_for filters (edit ∷ rest) =
+    table_asked filters (slot_of edit) ++ tables_for (used_once filters (slot_of edit)) rest
 
 abbrev pub used_by : List FilterState → List Edit → List FilterState
 used_by filters [] = filters
-used_by filters (edits.filter id rect slot ∷ rest) = used_by (changed_at slot after_use filters) rest
-used_by filters (edit ∷ rest) = used_by filters rest
+used_by filters (edit ∷ rest) = used_by (used_once filters (slot_of edit)) rest
 
 -- the edits that a call has made which got this reply
 abbrev pub edits_made : Call → Reply → List Edit

@@ -6,13 +6,14 @@ use Rattle.std.specs.List.{AllByRecursion}
 use Rattle.std.proofs.lemmas.List.{drop_more, take_more, take-map, map-append, drop_all}
 use Rattle.spec_document.specs.Limits.{AreBytes}
 use Rattle.spec_document.proofs.Elements.{all-append}
+use Rattle.spec_edit.specs.Edit.{slot_of}
 use Rattle.spec_edit.specs.Apply.{is_filter}
 use Rattle.spec_filters.specs.declared.FilterState.{FilterState}
 use Rattle.spec_filters.specs.Filters.{table_of, after_use}
 use Rattle.spec_filters.specs.Slots.{state_at, has_slot}
-use Rattle.spec_tables.specs.Acceptance.{filter_count, slot_of}
+use Rattle.spec_tables.specs.Acceptance.{filter_count}
 use Rattle.spec_tables.specs.Agrees.{AreThere, IsUsed, AreAsked, IsPartUsed}
-use Rattle.spec_tables.proofs.Asked.{none_asked, plain_asked, filter_asked, filter_used, filter_with, slot_tells}
+use Rattle.spec_tables.proofs.Asked.{none_asked, plain_asked, filter_asked, filter_used, filter_with}
 use Rattle.spec_tables.proofs.Asked.{first_there, others_there}
 use Rattle.spec_tables.proofs.Chests.{same_there}
 use Rattle.xl_calls.specs.declared.edit.Edit.{Edit}
@@ -98,7 +99,7 @@ pub asks_none : (old now : List (Option FilterState)) (edits : List Edit) (index
     → IsAsking old now edits index tables → index < length edits → e ≡ get_or edits index e → slot_of (edit_of e) ≡ None
     → IsAsking old now edits (index + 1) tables
 asks_none old now edits index tables e way inside is which =
-    let plain : is_filter (edit_of e) ≡ false = sym (slot_tells (edit_of e)) ∙ ap is_some which in
+    let plain : is_filter (edit_of e) ≡ false = ap is_some which in
     let none : 0 ≡ cond (is_filter (edit_of e)) 1 0 = ap (λ b. cond b 1 0) (sym plain) in
     let same : length tables + 0 ≡ length tables = omega arith in
     record {

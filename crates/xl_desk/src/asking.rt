@@ -3,7 +3,8 @@ ghost use Rattle.std.specs.Prelude.{◌≡◌, ◌+◌, ◌≤◌, true, cond, d
 ghost use Rattle.std.specs.List.{AllByRecursion};
 ghost use Rattle.spec_document.specs.Limits.{AreBytes};
 ghost use Rattle.spec_edit.specs.Apply.{is_filter, first_table};
-ghost use Rattle.spec_tables.specs.Acceptance.{filter_count, slot_of};
+ghost use Rattle.spec_edit.specs.Edit.{slot_of};
+ghost use Rattle.spec_tables.specs.Acceptance.{filter_count};
 ghost use Rattle.spec_tables.specs.Agrees.{AreThere, AreAsked, IsPartUsed};
 ghost use Rattle.xl_calls.specs.Edits.{edit_of, edits_of};
 ghost use Rattle.xl_filters.specs.Chests.{states_in};

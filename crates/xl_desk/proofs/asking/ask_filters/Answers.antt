@@ -1,6 +1,6 @@
 -- One filter more is asked, or none.
 use Rattle.std.proofs.Common.{rules, ◌≡◌, ◌<◌, None, length, sym, ◌∙◌}
-use Rattle.spec_tables.specs.Acceptance.{slot_of}
+use Rattle.spec_edit.specs.Edit.{slot_of}
 use Rattle.xl_calls.specs.Edits.{edit_of}
 use Rattle.xl_desk.proofs.AskedSoFar.{slot_there, asks_filter, asks_none, asked_part}
 use Rattle.spec_standing.proofs.Allowed.{on_err}
