@@ -67,14 +67,14 @@ returns-in-Err-clause-ended g c =
     let given : Given =
     given_of (g.S.Source.left c.args.source.now) (λ b. (goal.PointFilter-dyn g (b.vtable, b.value)).state b.value)
     c.args.chest.items in
-    unread_view given (g.S.Source.left c.read_script.new.source) c.in-Err.stopped c.in-Err.ensures.reads
+    unread_view given (g.S.Source.left c.read_viewed.new.source) c.in-Err.stopped c.in-Err.ensures.reads
 
 pub returns-in-Err-read_document-clause-ended : goal.returns-in-Err-read_document-clause-ended
 returns-in-Err-read_document-clause-ended g c =
-    ended_anyhow (g.S.Source.left c.read_script.new.source) (Err c.in-Err-read_document.stopped) c.in-Ok.ensures.ended
+    ended_anyhow (g.S.Source.left c.read_viewed.new.source) (Err c.in-Err-read_document.stopped) c.in-Ok.ensures.ended
 
 pub returns-clause-ended : goal.returns-clause-ended
-returns-clause-ended g c = ended_anyhow (g.S.Source.left c.read_script.new.source) c.write_text.result c.in-Ok.ensures.ended
+returns-clause-ended g c = ended_anyhow (g.S.Source.left c.read_viewed.new.source) c.write_text.result c.in-Ok.ensures.ended
 
 pub returns-clause-named : goal.returns-clause-named
 returns-clause-named g c =
