@@ -1,5 +1,5 @@
 #!/usr/bin/env python3
-"""Writes what the runs of the crate `failing_devices` must give, by the rules of docs/FORMAT.md and of docs/ARCHITECTURE.md.
+"""Writes what the runs of the crate `failing_devices` must give, by the rules of docs/SCRIPTS.md and of docs/ARCHITECTURE.md.
 
     make_failing_rows.py FOLDER
 

@@ -1,4 +1,4 @@
-"""Whether a printed run is one that the rules of docs/FORMAT.md allow.
+"""Whether a printed run is one that the rules of docs/SCRIPTS.md allow.
 
 The order line is replayed, word by word, over a model that keeps nothing: each reply has to be the model's at that place, and a
 tile's digest that of a whole recomposition at the version that it names. A peek has a choice: any version at which its stack is

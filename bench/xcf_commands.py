@@ -1,5 +1,5 @@
 #!/usr/bin/env python3
-"""What `xcfedit` writes for the commands pack, flatten and view, by the rules of docs/FORMAT.md, apart from the engine.
+"""What `xcfedit` writes for the commands pack, flatten and view, by the rules of docs/SCRIPTS.md, apart from the engine.
 
     xcf_commands.py pack FILE OUT [--plan]
     xcf_commands.py flatten FILE OUT

@@ -1,4 +1,4 @@
-"""Which parts of which pictures an edit changes, by the rules of docs/FORMAT.md.
+"""Which parts of which pictures an edit changes, by the rules of docs/SCRIPTS.md.
 
 A pair is (stack, (left, top, right, bottom)): a stack, 0 being the image, and a rectangle of the canvas. Hidden nodes
 count like visible ones.

@@ -1,4 +1,4 @@
-"""Filters and their tables of 256 bytes, in whole numbers, by the rules of docs/FORMAT.md."""
+"""Filters and their tables of 256 bytes, in whole numbers, by the rules of docs/SCRIPTS.md."""
 
 from xcf_picture import mul
 

@@ -1,5 +1,5 @@
 #!/usr/bin/env python3
-"""The document and the script of a seed, by the rules of docs/FORMAT.md, apart from the engine.
+"""The document and the script of a seed, by the rules of docs/SCRIPTS.md, apart from the engine.
 
     xcf_generated.py SEED [--opened OUT] [--script OUT] [--saved OUT]
 

@@ -1,4 +1,4 @@
-"""The verdict on a printed run, by the rules of docs/FORMAT.md: `accepted`, `rejected 1` or `rejected 2 S.I`.
+"""The verdict on a printed run, by the rules of docs/SCRIPTS.md: `accepted`, `rejected 1` or `rejected 2 S.I`.
 
 The shape comes first: a line with one of the texts of replies for each call, and an order line that is a merge of the calls. Then
 the order is replayed as xcf_audit.py says, but a save's reply is looked at where its end stands.
