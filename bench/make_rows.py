@@ -21,8 +21,7 @@ MODES = {0: "Normal", 3: "Multiply", 4: "Screen", 5: "Overlay", 6: "Difference",
          9: "DarkenOnly", 10: "LightenOnly", 15: "Divide", 16: "Dodge", 17: "Burn", 18: "HardLight", 19: "SoftLight",
          20: "GrainExtract", 21: "GrainMerge"}
 LONGEST, LARGEST, ROWS_A_FILE = 900, 40, 25
-DEPENDENCIES = ("spec_blend spec_grid spec_forest spec_document spec_fields spec_rle spec_props spec_hierarchy spec_file "
-                "spec_picture")
+DEPENDENCIES = "spec_document spec_fields spec_rle spec_props spec_hierarchy spec_file"
 
 FILES_HEAD = """-- Files, with their pictures or their refusals.
 use Rattle.std.specs.Prelude.{◌≡◌, ℕ, List, [], ◌∷◌, refl, Ok, Err}
@@ -37,7 +36,7 @@ use Rattle.spec_file.specs.Header.{header_of, side_at}
 use Rattle.spec_file.specs.Layers.{head_at, placed, path_of, group_in, mask_at, layer_in, node_at, nodes_at}
 use Rattle.spec_file.specs.Channels.{channel_at, channels_at}
 use Rattle.spec_file.specs.Reading.{reading}
-use Rattle.spec_picture.specs.Picture.{picture_bytes}
+use Rattle.spec_document.specs.Picture.{picture_bytes}
 
 abbrev answer : List ℕ → Read (List ℕ)
 answer file = do
@@ -52,10 +51,10 @@ UNFOLDING = ("unfolding reading header_of side_at payload_length_at property_at 
 
 PIXELS_HEAD = """-- Pixels laid over one another, and blended bytes.
 use Rattle.std.specs.Prelude.{◌≡◌, ℕ, List, [], ◌∷◌, refl}
-use Rattle.spec_blend.specs.declared.Mode.TheVariants.{%s}
-use Rattle.spec_blend.specs.declared.Pixel.{Pixel}
-use Rattle.spec_blend.specs.Blend.{blend}
-use Rattle.spec_blend.specs.Over.{over}
+use Rattle.spec_document.specs.declared.Mode.TheVariants.{%s}
+use Rattle.spec_document.specs.declared.Pixel.{Pixel}
+use Rattle.spec_document.specs.Blend.{blend}
+use Rattle.spec_document.specs.Over.{over}
 
 abbrev px : ℕ → ℕ → ℕ → ℕ → Pixel
 px r g b a = record { r = r; g = g; b = b; a = a }

@@ -25,7 +25,7 @@ else
     trap 'rm -rf "$copy"' EXIT
 fi
 
-for crate in spec_blend xl_blend; do
+for crate in spec_document xl_blend; do
     mkdir -p "$copy/crates/$crate"
     for part in src specs proofs; do
         rm -rf "$copy/crates/$crate/$part"
@@ -42,7 +42,7 @@ use Rattle.blend_times.proofs.rounds_by_themselves.Given as goal
 abbrev pub ghosts-rounds : goal.ghosts-rounds
 ghosts-rounds a = record { name = a.blank.name; parts = a.blank.parts }
 TEXT
-printf 'spec_blend:\nxl_blend: spec_blend\nblend_times: xl_blend\n' > "$copy/crates.txt"
+printf 'spec_document:\nxl_blend: spec_document\nblend_times: xl_blend\n' > "$copy/crates.txt"
 
 cd "$times"
 if ! rt run > "$copy/log" 2>&1; then

@@ -20,7 +20,7 @@ stripped() {
     python3 "$here/strip.py" "$top" "$out" "$1" $(cd "$top/crates/$1/src" && ls | sed 's/\.rt$//' | grep -vxE "$2")
 }
 
-stripped spec_blend 'none'
+stripped spec_document 'none'
 stripped spec_rle 'none'
 stripped xl_blend 'tests|count'
 stripped xl_rle 'lib|coder|greedy|tests'
@@ -60,7 +60,7 @@ echo 'pub mod own; pub mod lay; pub mod bytes;' > "$out/xl_compose/lib.rs"
 export RUSTC_BOOTSTRAP=1 # for vectors
 flags="-L $out --edition 2021 -A warnings -C opt-level=3 -C target-cpu=x86-64-v2 -C debuginfo=1"
 libraries=
-for crate in spec_blend spec_rle xl_fields xl_blend xl_rle xl_tile xl_compose; do
+for crate in spec_document spec_rle xl_fields xl_blend xl_rle xl_tile xl_compose; do
     rustc $flags $libraries --crate-type rlib --crate-name "$crate" "$out/$crate/lib.rs" -o "$out/lib$crate.rlib"
     libraries="$libraries --extern $crate=$out/lib$crate.rlib"
 done
