@@ -3,6 +3,7 @@
 
     crates_above.py GROUP..
     crates_above.py --paths [N]
+    crates_above.py --rows PREFIX
 
 A GROUP is a crate, or several with commas between. For each crate the number is told, by the lists of crates.txt and all that
 follows from these; for a group also how many of today's crates it would be if each group that is given were one crate. A group
@@ -10,6 +11,9 @@ that would then need a crate which needs it is told as a cycle. Last come the su
 
 With --paths it tells how many paths go down from the libraries, each crate on the way the end of one, and of the N names in lists
 (20, where no N is given) that most paths go through how many these are and in how many files of the crate the name stands.
+
+With --rows it lists the crates whose names begin with PREFIX, in rows: each crate in the lowest row that is above all rows of
+those crates of the list that it names.
 """
 
 import argparse
@@ -64,6 +68,18 @@ def print_paths(needs, most):
         print("%7d %s: %s, in %d files" % (count, name, other, files_naming(name, other)))
 
 
+def print_rows(needs, prefix):
+    """The crates of this prefix, row by row, the highest first."""
+    listed = [name for name in needs if name.startswith(prefix)]
+
+    @functools.lru_cache(None)
+    def row(name):
+        return 1 + max((row(other) for other in needs[name] if other in listed), default=0)
+
+    for at in range(max(map(row, listed), default=0), 0, -1):
+        print("%3d %s" % (at, " ".join(name for name in listed if row(name) == at)))
+
+
 def merged(needs, groups):
     """The same with each group as one crate, a tuple of the names that it has."""
     one = {name: (name,) for name in needs}
@@ -90,8 +106,11 @@ def main():
     options = argparse.ArgumentParser(description=__doc__, formatter_class=argparse.RawDescriptionHelpFormatter)
     options.add_argument("groups", metavar="GROUP", nargs="*")
     options.add_argument("--paths", metavar="N", nargs="?", type=int, const=20)
+    options.add_argument("--rows", metavar="PREFIX")
     given = options.parse_args()
     needs = read_needs()
+    if given.rows is not None:
+        return print_rows(needs, given.rows)
     if given.paths is not None:
         return print_paths(needs, given.paths)
     groups = [tuple(group.split(",")) for group in given.groups]
