@@ -1,5 +1,6 @@
 pub mod CodedTiles
 pub mod Counts
+pub mod FilledTiles
 pub mod FreshTiles
 pub mod Gathered
 pub mod LyingParts

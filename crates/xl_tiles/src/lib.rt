@@ -5,6 +5,7 @@ mod area;
 mod changes;
 mod codes;
 mod fill;
+mod filling;
 mod plane;
 mod reading;
 mod row_list;

@@ -10,6 +10,7 @@ ghost use Rattle.spec_hierarchy.specs.Tiles as sheet;
 ghost use Rattle.spec_undo.specs.Planes.{changed_tiles};
 ghost use Rattle.spec_rle.specs.Codes.{AnySpelling};
 ghost use Rattle.xl_tiles.specs.Area.{bytes_in};
+ghost use Rattle.xl_tiles.specs.Repeated.{repeated};
 ghost use Rattle.xl_tiles.specs.Sized.{IsSized};
 ghost use Rattle.xl_tiles.specs.Written.{IsWithin, with_tile, written};
 ghost use Rattle.xl_tiles.specs.Table.{AreTiled};
@@ -17,6 +18,7 @@ ghost use Rattle.xl_tiles.specs.Table.{AreTiled};
 use crate::area::{Area, Sheet, area_of};
 use crate::changes::count_changed;
 use crate::codes::{plain_tile, tile_codes};
+use crate::filling::fill_area;
 use crate::reading::{point_byte, read_area, row_of, tile_bytes};
 use crate::table::TileTable;
 use crate::uniform::uniform_tiles;
@@ -206,6 +208,20 @@ impl Plane {
     {
         let area = area_of(rect);
         write_area(alloc, self.sheet, &mut self.tiles, area, bytes)
+    }
+
+    /// Fills a rectangle with one pixel, and leaves all others. The tiles that lie in it share their bytes. Out of
+    /// memory, the plane is as before.
+    pub fn fill_rect(&mut self, alloc: Global, rect: Rect, pixel: &[u8]) -> Result<(), AllocError>
+        requires within { IsWithin self.old.width self.old.height rect }
+        requires bytes { length (repeated (rect.w * rect.h) pixel.now)
+            ≡ rect.w * rect.h * self.old.bpp }
+        ensures ok { OnOk result
+            (self.new ≡ written self.old rect (repeated (rect.w * rect.h) pixel.now)) }
+        ensures err { OnErr result (self.new ≡ self.old) }
+    {
+        let area = area_of(rect);
+        fill_area(alloc, self.sheet, &mut self.tiles, area, pixel)
     }
 
     /// The bytes of a tile, row by row, in the scratch where a file has them in runs. It has `SCRATCH` bytes.
