@@ -183,3 +183,54 @@ fn changed_tiles_are_counted(rt: HostRuntime) -> Result<(), Fail> {
     assert_eq!(rt; changed_by(alloc, none, 8)?, 0);
     Ok(())
 }
+
+/// Fills a rectangle with a byte.
+fn fill(alloc: Global, plane: &mut Plane, rect: Rect, value: u8) -> Result<(), AllocError>
+    requires within { IsWithin plane.old.width plane.old.height rect }
+    requires bpp { plane.old.bpp ≡ 1 }
+    ensures width { plane.new.width ≡ plane.old.width }
+    ensures height { plane.new.height ≡ plane.old.height }
+    ensures bpp { plane.new.bpp ≡ plane.old.bpp }
+{
+    plane.fill_rect(alloc, rect, &[value])
+}
+
+/// In how many tiles a plane of 200 by 200 pixels in which a rectangle is filled differs from one in which the same
+/// bytes are written, row by row.
+fn other_than_written(alloc: Global, rect: Rect, value: u8) -> Result<u32, AllocError>
+    requires { IsWithin 200 200 rect }
+{
+    let mut filled = Plane::new(alloc, 200, 200, 1, &[7])?;
+    let mut written = filled.share(alloc)?;
+    let bytes = vec![in alloc; value; rect.w as usize * rect.h as usize]?;
+    written.write_rect(alloc, rect, &bytes)?;
+    fill(alloc, &mut filled, rect, value)?;
+    Ok(tiles_changed(&filled, &written))
+}
+
+#[test]
+fn a_fill_is_a_write_of_one_pixel(rt: HostRuntime) -> Result<(), Fail> {
+    let alloc = rt.alloc();
+    let inside = Rect {
+        x: 10,
+        y: 20,
+        w: 150,
+        h: 140,
+    };
+    let to_the_edges = Rect {
+        x: 60,
+        y: 64,
+        w: 140,
+        h: 136,
+    };
+    let whole = Rect {
+        x: 0,
+        y: 0,
+        w: 200,
+        h: 200,
+    };
+    assert_eq!(rt; other_than_written(alloc, inside, 8)?, 0);
+    assert_eq!(rt; other_than_written(alloc, to_the_edges, 8)?, 0);
+    assert_eq!(rt; other_than_written(alloc, whole, 8)?, 0);
+    Ok(())
+}
