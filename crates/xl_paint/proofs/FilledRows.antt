@@ -6,8 +6,13 @@ use Rattle.spec_document.specs.declared.Rect.{Rect}
 use Rattle.spec_document.specs.Rect.{part_above_0}
 use Rattle.spec_document.specs.Plane.{Plane, byte_at}
 use Rattle.spec_document.specs.Document.{Document}
-use Rattle.xl_tiles.specs.Repeated.{IsRepeated}
+use Rattle.spec_document.specs.Limits.{AreBytes}
+use Rattle.xl_tiles.specs.Repeated.{IsRepeated, repeated}
+use Rattle.xl_tiles.proofs.FilledTiles.{are_repeated, bytes_repeated}
 use Rattle.xl_paint.specs.declared.places.Site.{Site}
+use Rattle.xl_paint.specs.declared.places.Spread.{Spread}
+use Rattle.xl_paint.specs.declared.places.Spread.TheVariants.{Rows, Pixel}
+use Rattle.xl_paint.specs.Paint.{spread_over}
 use Rattle.spec_edit.specs.Effect.{mixed}
 use Rattle.xl_paint.specs.Filling.{AreRows, HasRows, byte_in, in_rows, weight_at}
 use Rattle.xl_paint.proofs.Weights.{no_selection, pixel_fits}
@@ -24,6 +29,22 @@ uniform_are_rows w h pixel row all across down = record {
       ∙ (down.each y (column * length pixel + c) hy (omega (arith, across.size, mul-add-lt column (length pixel) c w hx hc))
       ∙ across.each column c hx hc);
 }
+
+-- one pixel, again and again
+pub pixel_rows : (w h : ℕ) (pixel : List ℕ) → AreRows w h (length pixel) (λ x y c. slice_index pixel c) (repeated (w * h) pixel)
+pixel_rows w h pixel =
+    let all = are_repeated (w * h) pixel in
+    record {
+      size = all.size ∙ omega arith;
+      each = λ column y c hx hy hc.
+          let place : y * (w * length pixel) + (column * length pixel + c) ≡ (y * w + column) * length pixel + c = omega arith in
+          ap (slice_index (repeated (w * h) pixel)) place
+          ∙ all.each (y * w + column) c (omega (arith, mul-add-lt y w column h hy hx)) hc;
+    }
+
+pub spread_bytes : (rect : Rect) (spread : Spread) (given : List ℕ) → AreBytes given → AreBytes (spread_over rect spread given)
+spread_bytes rect Rows given are = are
+spread_bytes rect Pixel given are = bytes_repeated (rect.w * rect.h) given are
 
 -- bytes that are given row by row
 pub given_are_rows : (w h n : ℕ) (bytes : List ℕ) → length bytes ≡ w * h * n → AreRows w h n (in_rows (w * n) n bytes) bytes

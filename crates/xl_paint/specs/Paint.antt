@@ -6,11 +6,19 @@ use Rattle.spec_document.specs.Document.{Document, Layer, Channel, is_indexed}
 use Rattle.spec_edit.specs.Refusal.{node}
 use Rattle.spec_edit.specs.Effect.{paint, through, listed, from_edge, plane_found, with_plane}
 use Rattle.xl_doc.specs.Sheet.{Sheet}
+use Rattle.xl_tiles.specs.Repeated.{repeated}
 use Rattle.xl_tiles.specs.Written.{IsWithin, written}
 use Rattle.xl_paint.specs.declared.places.Site.{Site}
 use Rattle.xl_paint.specs.declared.places.LayerPart.{LayerPart}
 use Rattle.xl_paint.specs.declared.places.LayerPart.TheVariants.{Pixels, Mask}
+use Rattle.xl_paint.specs.declared.places.Spread.{Spread}
+use Rattle.xl_paint.specs.declared.places.Spread.TheVariants.{Rows, Pixel}
 use Rattle.xl_checks.specs.Found.{sheet_of_layer}
+
+-- the bytes of a rectangle, row by row, of what is given of them
+abbrev pub spread_over : Rect → Spread → List ℕ → List ℕ
+spread_over rect Rows bytes = bytes
+spread_over rect Pixel pixel = repeated (rect.w * rect.h) pixel
 
 -- the rectangle lies on the plane, and the bytes are as many as it has there
 pub record IsPieceOf (rect : Rect) (bytes : List ℕ) (p : Plane) : Type 0 where

@@ -7,9 +7,11 @@ ghost use Rattle.spec_edit.specs.Refusal.{refusal};
 ghost use Rattle.xl_tiles.specs.Written.{IsWithin, written};
 ghost use Rattle.xl_paint.specs.Applied.{IsCause, Makes};
 ghost use Rattle.xl_paint.specs.Channels.{IsChannelPiece, PaintsChannel};
+ghost use Rattle.xl_paint.specs.Paint.{spread_over};
 
 use crate::filling::bytes_after_flat_fill;
-use crate::places::Site;
+use crate::painting::put_plane;
+use crate::places::{NewBytes, Site, Spread};
 use crate::refused::EditRefusedOrMemory;
 use spec_edit::EditRefused;
 use std::alloc::{AllocError, Global};
@@ -26,25 +28,33 @@ pub fn fill_channel(
 ) -> Result<(), EditRefusedOrMemory>
     ensures { Makes doc.old doc.new (edits.fill_channel index rect value) result }
 {
-    let bytes = channel_bytes(alloc, doc, index, rect, value)?;
-    put_channel(alloc, &mut doc.channels, index, rect, &bytes)?;
+    let new = channel_bytes(alloc, doc, index, rect, value)?;
+    put_channel(
+        alloc,
+        &mut doc.channels,
+        index,
+        rect,
+        &new.given,
+        new.spread,
+    )?;
     Ok(())
 }
 
-// The bytes of the rectangle after the fill, row by row.
+// The bytes of the rectangle after the fill.
 fn channel_bytes(
     alloc: Global,
     doc: &Document,
     index: u32,
     rect: Rect,
     value: u8,
-) -> Result<Vec<u8>, EditRefusedOrMemory>
+) -> Result<NewBytes, EditRefusedOrMemory>
     ensures refused { IfErr result
         (IsCause (refusal doc.now (edits.fill_channel index rect value))) }
     ensures allowed { IfOk result (λ bytes. refusal doc.now (edits.fill_channel index rect value)
         ≡ None) }
     ensures there { IfOk result (λ bytes. index < length doc.now.channels) }
-    ensures paints { IfOk result (λ bytes. PaintsChannel doc.now index rect value bytes.items) }
+    ensures paints { IfOk result (λ bytes. PaintsChannel doc.now index rect value
+        (spread_over rect bytes.spread bytes.given.items)) }
 {
     let channel = fillable_channel(doc, index, rect, value)?;
     let canvas = Site {
@@ -83,20 +93,21 @@ fn fillable_channel(
     Ok(&doc.channels.as_slice()[index as usize])
 }
 
-// Writes the bytes of a rectangle of a channel, row by row. After out of memory all is as before.
+// Writes the bytes of a rectangle of a channel. After out of memory all is as before.
 fn put_channel(
     alloc: Global,
     channels: &mut Channels,
     index: u32,
     rect: Rect,
     bytes: &[u8],
+    spread: Spread,
 ) -> Result<(), AllocError>
     requires there { index < length channels.old }
-    requires piece { IsChannelPiece rect bytes.now index channels.old }
+    requires piece { IsChannelPiece rect (spread_over rect spread bytes.now) index channels.old }
     ensures ok { OnOk result (channels.new ≡ changed_at index
-        (with_plane (λ p. written p rect bytes.now)) channels.old) }
+        (with_plane (λ p. written p rect (spread_over rect spread bytes.now))) channels.old) }
     ensures err { OnErr result (channels.new ≡ channels.old) }
 {
     let channel = channels.get_mut(index);
-    channel.plane.write_rect(alloc, rect, bytes)
+    put_plane(alloc, &mut channel.plane, rect, bytes, spread)
 }

@@ -1,12 +1,12 @@
 //! The bytes that an edit leaves in a rectangle of a plane.
 ghost use Rattle.std.specs.Prelude.{◌≡◌, ◌*◌, ◌≤◌, true, length, slice_index, IfOk};
 ghost use Rattle.xl_paint.specs.Filling.{but_alpha_in, byte_in, in_rows, AreRows, IsNearby};
-ghost use Rattle.xl_paint.specs.Paint.{PaintsPlane};
+ghost use Rattle.xl_paint.specs.Paint.{spread_over, PaintsPlane};
 ghost use Rattle.xl_tiles.specs.Written.{IsWithin};
 ghost use Rattle.spec_document.specs.declared.TheConstants.{MAX_SIDE};
 
 use crate::alpha::with_old_alpha;
-use crate::places::Site;
+use crate::places::{NewBytes, Site, Spread};
 use crate::weighing::{NewRows, is_whole, weigh_bytes};
 use std::alloc::{AllocError, Global};
 use xl_checks::corner;
@@ -25,8 +25,37 @@ fn uniform_rows(alloc: Global, w: u32, h: u32, pixel: &[u8]) -> Result<Vec<u8>, 
     repeat(alloc, &row, h as usize)
 }
 
-/// The bytes of a rectangle of a plane, row by row, after a fill with a pixel through the selection.
+/// The bytes of a rectangle of a plane after a fill with a pixel through the selection.
 pub(crate) fn bytes_after_fill(
+    alloc: Global,
+    doc: &Document,
+    plane: &Plane,
+    site: Site,
+    rect: Rect,
+    pixel: &[u8],
+) -> Result<NewBytes, AllocError>
+    requires within { IsWithin plane.now.width plane.now.height rect }
+    requires site { IsNearby site }
+    requires pixel { length pixel.now ≡ plane.now.bpp }
+    ensures { IfOk result (λ bytes. AreRows rect.w rect.h plane.now.bpp
+        (byte_in doc.now site plane.now rect (λ column row c. slice_index pixel.now c))
+        (spread_over rect bytes.spread bytes.given.items)) }
+{
+    if is_whole(doc) {
+        return Ok(NewBytes {
+            given: Vec::from_slice(alloc, pixel)?,
+            spread: Spread::Pixel,
+        });
+    }
+    let given = weighed_fill(alloc, doc, plane, site, rect, pixel)?;
+    Ok(NewBytes {
+        given,
+        spread: Spread::Rows,
+    })
+}
+
+// The bytes of the rectangle, row by row, with each pixel weighed.
+fn weighed_fill(
     alloc: Global,
     doc: &Document,
     plane: &Plane,
@@ -42,9 +71,6 @@ pub(crate) fn bytes_after_fill(
         bytes.items) }
 {
     corner(plane, rect);
-    if is_whole(doc) {
-        return uniform_rows(alloc, rect.w, rect.h, pixel);
-    }
     let row = repeat(alloc, pixel, rect.w as usize)?;
     let new = NewRows {
         bytes: &row,
@@ -117,8 +143,8 @@ fn bytes_after_colours(
     bytes_after_own_write(alloc, doc, plane, site, rect, kept)
 }
 
-/// The bytes of a rectangle of a layer, row by row, after a fill with a pixel through the selection. `keeps` says
-/// whether alpha stays.
+/// The bytes of a rectangle of a layer after a fill with a pixel through the selection. `keeps` says whether alpha
+/// stays.
 pub(crate) fn bytes_after_layer_fill(
     alloc: Global,
     doc: &Document,
@@ -127,21 +153,25 @@ pub(crate) fn bytes_after_layer_fill(
     rect: Rect,
     pixel: &[u8],
     keeps: bool,
-) -> Result<Vec<u8>, AllocError>
+) -> Result<NewBytes, AllocError>
     requires within { IsWithin plane.now.width plane.now.height rect }
     requires site { IsNearby site }
     requires pixel { length pixel.now ≡ plane.now.bpp }
     ensures { IfOk result (λ bytes. AreRows rect.w rect.h plane.now.bpp
         (byte_in doc.now site plane.now rect
         (but_alpha_in keeps plane.now rect (λ column row c. slice_index pixel.now c)))
-        bytes.items) }
+        (spread_over rect bytes.spread bytes.given.items)) }
 {
     if !keeps {
         return bytes_after_fill(alloc, doc, plane, site, rect, pixel);
     }
     corner(plane, rect);
     let new = uniform_rows(alloc, rect.w, rect.h, pixel)?;
-    bytes_after_colours(alloc, doc, plane, site, rect, new)
+    let given = bytes_after_colours(alloc, doc, plane, site, rect, new)?;
+    Ok(NewBytes {
+        given,
+        spread: Spread::Rows,
+    })
 }
 
 /// The bytes of a rectangle of a layer, row by row, after new bytes, row by row too, went in through the selection.
@@ -192,8 +222,7 @@ pub(crate) fn bytes_after_layer_copy(
     bytes_after_colours(alloc, doc, plane, site, rect, new)
 }
 
-/// The bytes of a rectangle of a plane of one byte per pixel, row by row, after a fill with a byte through the
-/// selection.
+/// The bytes of a rectangle of a plane of one byte per pixel after a fill with a byte through the selection.
 pub(crate) fn bytes_after_flat_fill(
     alloc: Global,
     doc: &Document,
@@ -201,11 +230,12 @@ pub(crate) fn bytes_after_flat_fill(
     site: Site,
     rect: Rect,
     value: u8,
-) -> Result<Vec<u8>, AllocError>
+) -> Result<NewBytes, AllocError>
     requires within { IsWithin plane.now.width plane.now.height rect }
     requires site { IsNearby site }
     requires bpp { plane.now.bpp ≡ 1 }
-    ensures { IfOk result (λ bytes. PaintsPlane doc.now site rect value bytes.items plane.now) }
+    ensures { IfOk result (λ bytes. PaintsPlane doc.now site rect value
+        (spread_over rect bytes.spread bytes.given.items) plane.now) }
 {
     bytes_after_fill(alloc, doc, plane, site, rect, &[value])
 }

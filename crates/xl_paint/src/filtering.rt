@@ -15,7 +15,7 @@ ghost use Rattle.xl_tiles.specs.Written.{IsWithin};
 use crate::filling::bytes_after_own_write;
 use crate::painting::put;
 use crate::pixels::site_of;
-use crate::places::LayerPart;
+use crate::places::{LayerPart, Spread};
 use crate::refused::EditRefusedOrMemory;
 use crate::weighing::old_bytes;
 use std::alloc::{AllocError, Global};
@@ -35,7 +35,15 @@ pub fn filter(
     ensures { (slot : ℕ) → MakesBy table.now doc.old doc.new (edits.filter id.0 rect slot) result }
 {
     let bytes = filter_bytes(alloc, doc, id, rect, table)?;
-    put(alloc, doc, id, LayerPart::Pixels, rect, &bytes)?;
+    put(
+        alloc,
+        doc,
+        id,
+        LayerPart::Pixels,
+        rect,
+        &bytes,
+        Spread::Rows,
+    )?;
     Ok(())
 }
 

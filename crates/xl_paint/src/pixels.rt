@@ -9,14 +9,14 @@ ghost use Rattle.xl_paint.specs.Filling.{IsNearby};
 ghost use Rattle.xl_checks.specs.Found.{IsLayer, alpha_stays};
 ghost use Rattle.xl_tiles.specs.Area.{bytes_in};
 ghost use Rattle.xl_tiles.specs.Written.{IsWithin};
-ghost use Rattle.xl_paint.specs.Paint.{Paints, PaintsMask, fills, writes, copies, fills_mask, site_of_sheet, site_of_mask};
+ghost use Rattle.xl_paint.specs.Paint.{spread_over, Paints, PaintsMask, fills, writes, copies, fills_mask, site_of_sheet, site_of_mask};
 ghost use Rattle.xl_checks.specs.Rects.{rect_from};
 
 use crate::filling::{
     bytes_after_flat_fill, bytes_after_layer_copy, bytes_after_layer_fill, bytes_after_layer_write,
 };
 use crate::painting::put;
-use crate::places::{LayerPart, Site};
+use crate::places::{LayerPart, NewBytes, Site, Spread};
 use crate::refused::EditRefusedOrMemory;
 use crate::weighing::{is_whole, old_bytes};
 use spec_edit::EditRefused;
@@ -59,24 +59,32 @@ pub fn fill(
 ) -> Result<(), EditRefusedOrMemory>
     ensures { Makes doc.old doc.new (edits.fill id.0 rect pixel.now) result }
 {
-    let bytes = fill_bytes(alloc, doc, id, rect, pixel)?;
-    put(alloc, doc, id, LayerPart::Pixels, rect, &bytes)?;
+    let new = fill_bytes(alloc, doc, id, rect, pixel)?;
+    put(
+        alloc,
+        doc,
+        id,
+        LayerPart::Pixels,
+        rect,
+        &new.given,
+        new.spread,
+    )?;
     Ok(())
 }
 
-// The bytes of the rectangle after the fill, row by row.
+// The bytes of the rectangle after the fill.
 fn fill_bytes(
     alloc: Global,
     doc: &Document,
     id: NodeId,
     rect: Rect,
     pixel: &[u8],
-) -> Result<Vec<u8>, EditRefusedOrMemory>
+) -> Result<NewBytes, EditRefusedOrMemory>
     ensures refused { IfErr result (IsCause (refusal doc.now (edits.fill id.0 rect pixel.now))) }
     ensures allowed { IfOk result (λ bytes. refusal doc.now (edits.fill id.0 rect pixel.now)
         ≡ None) }
     ensures paints { IfOk result
-        (λ bytes. IsLayer (Paints Pixels rect bytes.items (fills doc.now rect pixel.now))
+        (λ bytes. IsLayer (Paints Pixels rect (spread_over rect bytes.spread bytes.given.items) (fills doc.now rect pixel.now))
         (node doc.now id.0)) }
 {
     let layer = fillable(doc, id, rect, pixel)?;
@@ -99,11 +107,19 @@ pub fn write(
 {
     if is_plain(doc, id) {
         check_given(doc, id, rect, bytes)?;
-        put(alloc, doc, id, LayerPart::Pixels, rect, bytes)?;
+        put(alloc, doc, id, LayerPart::Pixels, rect, bytes, Spread::Rows)?;
         return Ok(());
     }
     let mixed = write_bytes(alloc, doc, id, rect, bytes)?;
-    put(alloc, doc, id, LayerPart::Pixels, rect, &mixed)?;
+    put(
+        alloc,
+        doc,
+        id,
+        LayerPart::Pixels,
+        rect,
+        &mixed,
+        Spread::Rows,
+    )?;
     Ok(())
 }
 
@@ -170,7 +186,15 @@ pub fn copy_rect(
     ensures { Makes doc.old doc.new (edits.copy_rect id.0 rect from.0 u v) result }
 {
     let bytes = copy_bytes(alloc, doc, id, rect, from, u, v)?;
-    put(alloc, doc, id, LayerPart::Pixels, rect, &bytes)?;
+    put(
+        alloc,
+        doc,
+        id,
+        LayerPart::Pixels,
+        rect,
+        &bytes,
+        Spread::Rows,
+    )?;
     Ok(())
 }
 
@@ -227,24 +251,32 @@ pub fn fill_mask(
 ) -> Result<(), EditRefusedOrMemory>
     ensures { Makes doc.old doc.new (edits.fill_mask id.0 rect value) result }
 {
-    let bytes = mask_bytes(alloc, doc, id, rect, value)?;
-    put(alloc, doc, id, LayerPart::Mask, rect, &bytes)?;
+    let new = mask_bytes(alloc, doc, id, rect, value)?;
+    put(
+        alloc,
+        doc,
+        id,
+        LayerPart::Mask,
+        rect,
+        &new.given,
+        new.spread,
+    )?;
     Ok(())
 }
 
-// The bytes of the rectangle of the mask after the fill, row by row.
+// The bytes of the rectangle of the mask after the fill.
 fn mask_bytes(
     alloc: Global,
     doc: &Document,
     id: NodeId,
     rect: Rect,
     value: u8,
-) -> Result<Vec<u8>, EditRefusedOrMemory>
+) -> Result<NewBytes, EditRefusedOrMemory>
     ensures refused { IfErr result (IsCause (refusal doc.now (edits.fill_mask id.0 rect value))) }
     ensures allowed { IfOk result (λ bytes. refusal doc.now (edits.fill_mask id.0 rect value)
         ≡ None) }
     ensures paints { IfOk result
-        (λ bytes. IsLayer (Paints Mask rect bytes.items (fills_mask doc.now rect value))
+        (λ bytes. IsLayer (Paints Mask rect (spread_over rect bytes.spread bytes.given.items) (fills_mask doc.now rect value))
         (node doc.now id.0)) }
 {
     let layer = mask_fillable(doc, id, rect, value)?;
@@ -258,11 +290,11 @@ fn filled_mask(
     layer: &Layer,
     rect: Rect,
     value: u8,
-) -> Result<Vec<u8>, AllocError>
+) -> Result<NewBytes, AllocError>
     requires mask { is_none layer.now.mask ≡ false }
     requires within { IsWithin layer.now.plane.width layer.now.plane.height rect }
     ensures { IfOk result (λ bytes. PaintsMask doc.now (site_of_mask layer.now) rect value
-        bytes.items layer.now.mask) }
+        (spread_over rect bytes.spread bytes.given.items) layer.now.mask) }
 {
     let site = mask_site(layer);
     match &layer.mask {

@@ -14,3 +14,17 @@ pub(crate) enum LayerPart {
     Pixels,
     Mask,
 }
+
+/// How the bytes of a rectangle are given: row by row, or as one pixel that they repeat.
+#[derive(Clone, Copy)]
+pub(crate) enum Spread {
+    Rows,
+    Pixel,
+}
+
+/// The new bytes of a rectangle.
+#[derive(Drop)]
+pub(crate) struct NewBytes {
+    pub given: Vec<u8>,
+    pub spread: Spread,
+}

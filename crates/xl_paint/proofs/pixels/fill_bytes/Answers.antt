@@ -6,7 +6,7 @@ use Rattle.xl_doc.specs.Sheet.{Sheet}
 use Rattle.xl_paint.specs.declared.places.LayerPart.TheVariants.{Pixels}
 use Rattle.xl_paint.specs.declared.places.Site.{Site}
 use Rattle.xl_paint.specs.Filling.{AreRows, but_alpha_in, byte_in}
-use Rattle.xl_paint.specs.Paint.{Paints, fills}
+use Rattle.xl_paint.specs.Paint.{spread_over, Paints, fills}
 use Rattle.xl_paint.proofs.PaintMade.{of_kept, fill_painted}
 use Rattle.xl_paint.proofs.pixels.fill_bytes.Goals as goal
 
@@ -17,7 +17,7 @@ returns-clause-paints c =
     let pixel = c.args.pixel.now in
     let s = c.in_ok-layer.layer.now in
     let keeps = c.keeps_alpha-keeps.result in
-    let bytes = c.in_ok-bytes.bytes.items in
+    let bytes = spread_over rect c.in_ok-bytes.bytes.spread c.in_ok-bytes.bytes.given.items in
     let new : ℕ → ℕ → ℕ → ℕ = λ column row b. slice_index pixel b in
     let Seen : Sheet → Type 0 = λ q.
     AreRows rect.w rect.h q.plane.bpp (byte_in d c.site_of-site.result q.plane rect (but_alpha_in keeps q.plane rect new)) bytes in
