@@ -23,7 +23,7 @@ from xcf_reading import read
 from xcf_verdicts import verdict_of
 
 HERE = os.path.dirname(os.path.abspath(__file__))
-FILE = os.path.join(HERE, "..", "crates", "xcfedit_edits", "data", "one.xcf")
+FILE = os.path.join(HERE, "..", "crates", "stored_runs", "data", "one.xcf")
 SCRIPT = b"0 opacity 1 128\n0 tile 0 0 0\n0 save\n1 peek 0 0 0\n1 undo\n1 top\n1 tile 0 0 0\n"
 MOST = 1 << 28
 

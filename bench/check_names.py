@@ -20,8 +20,8 @@ import subprocess
 import sys
 
 TOP = os.path.dirname(os.path.dirname(os.path.abspath(__file__)))
-CODE = (".rt", ".antt", ".py", ".sh", ".c", ".txt", ".rs")
-ENDS = (".antt", ".rt", ".py", ".md", ".txt", ".sh", ".c", ".1", ".xcf", ".png", ".edit")
+CODE = (".rt", ".antt", ".py", ".sh", ".c", ".txt", ".rs", ".rows")
+ENDS = (".antt", ".rt", ".rows", ".py", ".md", ".txt", ".sh", ".c", ".1", ".xcf", ".png", ".edit")
 # Parts of programs and of Rattle that no file here names, and files that the pages tell the reader to make.
 OUTSIDE = {"anyhow", "checked_add", "fchmod", "inverse", "jq", "llvm-mca", "make_mut", "photo.xcf", "must-fail", "Lts", "Proof",
            "the_sync"}

@@ -15,7 +15,7 @@ import tempfile
 
 HERE = os.path.dirname(os.path.abspath(__file__))
 TOP = os.path.dirname(HERE)
-PHOTO, ONE = "crates/written_files/data/groups-3.xcf", "crates/xcfedit_edits/data/one.xcf"
+PHOTO, ONE = "crates/written_files/data/groups-3.xcf", "crates/stored_runs/data/one.xcf"
 # The files that each page finds in its folder.
 PAGES = {"docs/TOUR.md": {"photo.xcf": PHOTO}, "README.md": {"photo.xcf": PHOTO, "one.xcf": ONE}}
 INDENT, PROMPT = "    ", "    $ "
