@@ -16,6 +16,7 @@ use std::alloc::{AllocError, Global};
 use std::sync::ledger::Ledger;
 use xl_blend::Steps;
 use xl_cache::Cache;
+use xl_calls::Reply;
 use xl_compose::{CleanTiles, Picture, compose, job};
 use xl_doc::{Document, NodeId, TileAt};
 use xl_grid::grid;
