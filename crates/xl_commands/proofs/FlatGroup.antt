@@ -18,9 +18,9 @@ use Rattle.spec_tables.specs.Tables.{expected_tables, tables_for}
 use Rattle.spec_tables.proofs.Chests.{some_list}
 use Rattle.spec_world.specs.World.{World}
 use Rattle.spec_world.specs.Events.{submit}
-use Rattle.xl_core.specs.Editing.{Editing, world, IsSubmitted}
-use Rattle.xl_core.specs.History.{document}
-use Rattle.xl_core.specs.Now.{world_of}
+use Rattle.xl_play.specs.Editing.{Editing, world, IsSubmitted}
+use Rattle.xl_play.specs.History.{document}
+use Rattle.xl_play.specs.Now.{world_of}
 use Rattle.spec_tables.specs.Agrees.{Agrees}
 
 -- no edit asks a filter

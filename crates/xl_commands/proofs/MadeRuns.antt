@@ -30,8 +30,8 @@ use Rattle.xl_outcome.specs.Endings.{HaveFailed}
 use Rattle.xl_outcome.specs.Making.{IsMadeHistory, IsRunOf, IsSummary}
 use Rattle.xl_filters.specs.Chests.{states_of}
 use Rattle.xl_outcome.specs.Outcome.{Comes, opened, ShelfCauseOf}
-use Rattle.xl_core.specs.Editing.{Editing, IsRight}
-use Rattle.xl_core.specs.History.{document as last_document}
+use Rattle.xl_play.specs.Editing.{Editing, IsRight}
+use Rattle.xl_play.specs.History.{document as last_document}
 use Rattle.xl_outcome.specs.Parts.{StopsMaking}
 use Rattle.xl_commands.specs.Played.{IsSummedUp, SumsUp, WritesReplies}
 use Rattle.spec_run.specs.Versions.{AreWithin}

@@ -15,13 +15,12 @@ use std::sync::ledger::{Blank, Ledger};
 use std::thread::Threads;
 use xl_blend::Steps;
 use xl_calls::{Call, Group};
-use xl_core::{Core, next_id_of};
 use xl_doc::Document;
 use xl_flat::{FlatRefusedOrMemory, flatten as flat_group};
 use xl_outcome::{CommandEnd, Stopped};
+use xl_play::{Core, desk_of, next_id_of, open_core};
 use xl_ports::{Shelf, Sink, write_all};
 use xl_rle::Keeping;
-use xl_run::{desk_of, open_core};
 use xl_snapshot::{FileBytes, file_of, save_file};
 
 /// The session that makes the group.

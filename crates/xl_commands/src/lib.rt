@@ -27,3 +27,6 @@ pub use rendering::render;
 pub use replies::{sum_up, write_replies};
 pub use scripts::read_script;
 pub use viewing::view;
+pub use xl_outcome::{CommandEnd, MEMORY, Rejection, Stopped, write_line, write_stop};
+pub use xl_play::{Core, Played, Viewing, is_alone, know_eight, open_core, play_alone, replies_of};
+pub use xl_report::Made;

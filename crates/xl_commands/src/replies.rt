@@ -4,7 +4,7 @@ ghost use Rattle.spec_generated.specs.Summary.{summary_of};
 ghost use Rattle.spec_run.specs.Failed.{WhetherFailed};
 ghost use Rattle.spec_saves.specs.Names.{save_faults};
 ghost use Rattle.xl_commands.specs.Played.{WritesReplies};
-ghost use Rattle.xl_core.specs.History.{document as last_document};
+ghost use Rattle.xl_play.specs.History.{document as last_document};
 ghost use Rattle.xl_outcome.specs.AtSource.{IfOfSource};
 
 use crate::made::picture_digest;

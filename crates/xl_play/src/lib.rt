@@ -15,5 +15,4 @@ mod windows;
 pub use playing::{Replies, has_save_fault};
 pub use script_runs::{Played, is_alone, know_eight, play_alone, replies_of};
 pub use viewing::Viewing;
-pub use xl_core::{Core, next_id_of};
-pub use xl_run::{desk_of, open_core};
+pub use xl_run::{Core, desk_of, next_id_of, open_core};

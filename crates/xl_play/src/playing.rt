@@ -31,11 +31,10 @@ use std::marker::Brand;
 use std::sync::ledger::{Blank, Ledger};
 use xl_blend::Steps;
 use xl_calls::{Call, Reply};
-use xl_core::{Core, Desk, Entry, EntryKind};
 use xl_filters::PointFilter;
 use xl_ports::{Actor, Gate, Place, Shelf};
 use xl_report::digest;
-use xl_run::{desk_of, first_boxes, order_words};
+use xl_run::{Core, Desk, Entry, EntryKind, desk_of, first_boxes, order_words};
 use xl_script::{Line, Script, print_order, print_reply};
 
 /// The session that is alone.

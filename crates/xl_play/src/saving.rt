@@ -9,9 +9,9 @@ ghost use Rattle.xl_script.specs.Printed.{HasText};
 
 use std::alloc::{AllocError, Global};
 use xl_calls::Reply;
-use xl_core::{Begun, Core, SaveEnd};
 use xl_ports::Shelf;
 use xl_rle::Keeping;
+use xl_run::{Begun, Core, SaveEnd};
 use xl_snapshot::save_document;
 
 /// Makes a save of a session, from its start to its end.

@@ -12,9 +12,9 @@ ghost use Rattle.xl_filters.specs.Chests.{states_of};
 
 use crate::playing::{Replies, has_save_fault, play};
 use std::alloc::{AllocError, Global};
-use xl_core::Core;
 use xl_filters::PointFilter;
 use xl_ports::{Gate, Shelf};
+use xl_run::Core;
 use xl_script::{SESSIONS, Script};
 
 /// The replies of a run, and the shelf on which its saves were made.

@@ -34,12 +34,11 @@ use std::marker::Brand;
 use std::sync::ledger::{Blank, Ledger};
 use xl_blend::Steps;
 use xl_calls::{Call, Reply};
-use xl_core::{Core, Desk};
 use xl_doc::{NodeId, TileAt};
 use xl_filters::PointFilter;
 use xl_ports::Shelf;
 use xl_report::digest;
-use xl_run::{desk_of, first_boxes};
+use xl_run::{Core, Desk, desk_of, first_boxes};
 use xl_script::{Line, Script, print_reply};
 use xl_window::{Viewer, WindowRefusedOrMemory};
 

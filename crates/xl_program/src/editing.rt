@@ -2,17 +2,16 @@ ghost use Rattle.std.specs.Prelude.{◌≡◌, ◌<◌, ◌≤◌, ◌^◌, ◌�
 ghost use Rattle.std.specs.List.{AllByRecursion};
 ghost use Rattle.spec_command.specs.Arguments.{edit as edit_of};
 ghost use Rattle.xl_ports.specs.Disk.{read_at};
-ghost use Rattle.xl_outcome.specs.AtSource.{IfOfSource};
-ghost use Rattle.xl_outcome.specs.Outcome.{given_of, ComesTo, LoadsFew, ReadsToEnd, SourceCause, ShelfCause, TakesFront};
-ghost use Rattle.xl_outcome.specs.Parts.{StopsEdit};
+ghost use Rattle.xl_commands.specs.AtSource.{IfOfSource};
+ghost use Rattle.xl_commands.specs.Outcome.{given_of, ComesTo, LoadsFew, ReadsToEnd, SourceCause, ShelfCause, TakesFront};
+ghost use Rattle.xl_commands.specs.Parts.{StopsEdit};
 
 use crate::host::Host;
 use crate::script_runs::run_script;
 use std::sync::Wait;
 use std::thread::Threads;
-use xl_commands::{read_document, read_script, write_replies};
+use xl_commands::{CommandEnd, read_document, read_script, write_replies};
 use xl_filters::PointFilter;
-use xl_outcome::CommandEnd;
 use xl_ports::{Gate, Shelf, Sink, Source};
 
 /// Makes the calls and saves of a script on the document of a file, and writes the replies. The sessions are played

@@ -20,4 +20,4 @@ mod running;
 mod script_runs;
 
 pub use running::{Ended, run};
-pub use xl_outcome::{Rejection, Stopped};
+pub use xl_commands::{Rejection, Stopped};

@@ -5,19 +5,18 @@ ghost use Rattle.spec_generated.specs.Generated.{document, script};
 ghost use Rattle.spec_script.specs.Fits.{FitsFilters};
 ghost use Rattle.spec_world.specs.declared.SaveEnd.TheVariants as save_end;
 ghost use Rattle.xl_doc.specs.Numbered.{AreNumbered};
-ghost use Rattle.xl_outcome.specs.Outcome.{Given, ComesTo, LoadsFew, ShelfCauseOf};
-ghost use Rattle.xl_outcome.specs.Parts.{StopsMaking};
+ghost use Rattle.xl_commands.specs.Outcome.{Given, ComesTo, LoadsFew, ShelfCauseOf};
+ghost use Rattle.xl_commands.specs.Parts.{StopsMaking};
 ghost use Rattle.xl_commands.specs.Played.{IsSummedUp};
 ghost use Rattle.xl_script.specs.Lines.{lists_of};
 
 use std::alloc::{AllocError, Global};
 use std::sync::Wait;
 use std::thread::Threads;
-use xl_commands::{made_with_file, save_first, sum_up, write_replies};
-use xl_outcome::{CommandEnd, Stopped};
-use xl_play::{Played, open_core};
+use xl_commands::{
+    CommandEnd, Made, Played, Stopped, made_with_file, open_core, save_first, sum_up, write_replies,
+};
 use xl_ports::{Gate, Shelf, Sink};
-use xl_report::Made;
 use xl_sessions::{PlayedBeside, play_beside};
 
 /// How many workers are beside the sessions of what is made.

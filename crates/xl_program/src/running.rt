@@ -10,13 +10,13 @@ ghost use Rattle.xl_ports.specs.Faults.{Rose};
 ghost use Rattle.xl_ports.specs.Shelf.{selected_content};
 ghost use Rattle.xl_ports.specs.Source.{IsEnded};
 ghost use Rattle.xl_ports.specs.Disk.{read_at};
-ghost use Rattle.xl_outcome.specs.AtSource.{StopsBeforeShelf};
-ghost use Rattle.xl_outcome.specs.Command.{IsFlatten, ReadsFile, ReadsSource};
-ghost use Rattle.xl_outcome.specs.Files.{CannotBeFlat, HasFault};
-ghost use Rattle.xl_outcome.specs.Lines.{WritesLine};
-ghost use Rattle.xl_outcome.specs.Outcome.{given_of, ComesWell, ShelfFails, WritesInPart, WritesRejection, ComesAfterScript};
-ghost use Rattle.xl_outcome.specs.Outcome.{MaySave, IsUntouched, StopsBefore, RefusesSource, InGrammar, Keeps};
-ghost use Rattle.xl_outcome.specs.Outcome.{Takes, IsStatus, LoadsFew, OtherNamesStay};
+ghost use Rattle.xl_commands.specs.AtSource.{StopsBeforeShelf};
+ghost use Rattle.xl_commands.specs.Command.{IsFlatten, ReadsFile, ReadsSource};
+ghost use Rattle.xl_commands.specs.Files.{CannotBeFlat, HasFault};
+ghost use Rattle.xl_commands.specs.Lines.{WritesLine};
+ghost use Rattle.xl_commands.specs.Outcome.{given_of, ComesWell, ShelfFails, WritesInPart, WritesRejection, ComesAfterScript};
+ghost use Rattle.xl_commands.specs.Outcome.{MaySave, IsUntouched, StopsBefore, RefusesSource, InGrammar, Keeps};
+ghost use Rattle.xl_commands.specs.Outcome.{Takes, IsStatus, LoadsFew, OtherNamesStay};
 
 use crate::host::Host;
 use crate::obeying::obey;
@@ -24,8 +24,8 @@ use std::alloc::Global;
 use std::sync::Wait;
 use std::thread::Threads;
 use xl_command::command_of;
+use xl_commands::{MEMORY, Stopped, write_line, write_stop};
 use xl_filters::PointFilter;
-use xl_outcome::{MEMORY, Stopped, write_line, write_stop};
 use xl_ports::{Gate, Shelf, Sink, Source};
 
 /// The status where all went well.

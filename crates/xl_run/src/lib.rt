@@ -11,3 +11,4 @@ pub use desk::{desk_of, first_boxes};
 pub use opening::open_core;
 pub use printing::{asks_tile, each_entry_is_printed, order_words, print_history};
 pub use unplayed::Unplayed;
+pub use xl_core::{Begun, Core, Desk, Entry, EntryKind, SaveEnd, next_id_of};

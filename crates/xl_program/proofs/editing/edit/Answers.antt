@@ -1,10 +1,10 @@
 use Rattle.std.proofs.Common.{◌∙◌, arith, refl}
 use Rattle.std.specs.Prelude.{Err}
 use Rattle.xl_script.specs.Lines.{lists_of}
-use Rattle.xl_outcome.proofs.AtSource.{past_source}
+use Rattle.xl_commands.proofs.AtSource.{past_source}
 use Rattle.xl_commands.proofs.Edited.{IsOpened, played_comes, read_stopped, load_stops, play_stops}
-use Rattle.xl_outcome.proofs.FirstSaves.{ok_any}
-use Rattle.xl_outcome.proofs.ScriptEnded.{ended_anyhow, unread}
+use Rattle.xl_commands.proofs.FirstSaves.{ok_any}
+use Rattle.xl_commands.proofs.ScriptEnded.{ended_anyhow, unread}
 use Rattle.xl_program.proofs.editing.edit.Goals as goal
 use Rattle.xl_ports.specs.State.{ShelfState}
 use Rattle.xl_ports.specs.Disk.{read_at}

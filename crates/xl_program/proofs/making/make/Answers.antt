@@ -5,12 +5,12 @@ use Rattle.spec_generated.specs.Generated.{document, script}
 use Rattle.spec_script.specs.Fits.{FitsFilters}
 use Rattle.spec_script.specs.Script.{Line}
 use Rattle.xl_doc.specs.Numbered.{AreNumbered}
-use Rattle.xl_outcome.specs.Outcome.{opened}
-use Rattle.xl_outcome.proofs.FirstSaves.{ok_any, ok_at, err_at}
+use Rattle.xl_commands.specs.Outcome.{opened}
+use Rattle.xl_commands.proofs.FirstSaves.{ok_any, ok_at, err_at}
 use Rattle.xl_commands.proofs.MadeRuns.{seed_is_made, made_comes, made_stops, made_cause, saved_as_now}
 use Rattle.spec_merged.proofs.MadeScripts.{script_fits}
-use Rattle.xl_outcome.proofs.Taken.{untouched}
-use Rattle.xl_report.proofs.MadeNumbered.{made_is_numbered}
+use Rattle.xl_commands.proofs.Taken.{untouched}
+use Rattle.xl_commands.proofs.MadeNumbered.{made_is_numbered}
 use Rattle.xl_program.proofs.making.make.Goals as goal
 use Rattle.xl_ports.specs.State.{ShelfState}
 

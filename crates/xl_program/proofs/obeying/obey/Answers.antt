@@ -1,7 +1,7 @@
 use Rattle.std.proofs.Common.{arith}
 use Rattle.spec_command.specs.Arguments.{render, info, edit, view, audit}
-use Rattle.xl_outcome.specs.Outcome.{Given, given_of}
-use Rattle.xl_outcome.proofs.Causes.{cause_of}
+use Rattle.xl_commands.specs.Outcome.{Given, given_of}
+use Rattle.xl_commands.proofs.Causes.{cause_of}
 use Rattle.xl_program.proofs.obeying.obey.Goals as goal
 
 pub returns-in-Render-clause-comes : goal.returns-in-Render-clause-comes

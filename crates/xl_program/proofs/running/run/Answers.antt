@@ -7,17 +7,17 @@ use Rattle.xl_command.specs.Asking.{asked_of, arguments_of}
 use Rattle.xl_ports.specs.Shelf.{Content, selected_content}
 use Rattle.xl_ports.specs.State.{ShelfState}
 use Rattle.xl_ports.specs.Disk.{read_at}
-use Rattle.xl_outcome.specs.AtSource.{StopsBeforeShelf}
-use Rattle.xl_outcome.specs.Command.{IsFlatten, ReadsFile, ReadsSource}
-use Rattle.xl_outcome.specs.Files.{CannotBeFlat, HasFault}
-use Rattle.xl_outcome.specs.Lines.{WritesLine}
-use Rattle.xl_outcome.specs.Outcome.{Given, given_of, InGrammar, OtherNamesStay}
-use Rattle.xl_outcome.proofs.AtSource.{at_source}
-use Rattle.xl_outcome.proofs.Taken.{nothing_taken, nothing_saved}
-use Rattle.xl_outcome.proofs.OtherNames.{all_stay, names_stay}
-use Rattle.xl_outcome.proofs.ScriptEnded.{ended_written}
-use Rattle.xl_outcome.proofs.StopLines.{bad_source_written, flat_refusal_written, refusal_written, rejection_asked}
-use Rattle.xl_outcome.proofs.StopLines.{script_in_grammar, shelf_fault_asked, source_fault_written, source_refused}
+use Rattle.xl_commands.specs.AtSource.{StopsBeforeShelf}
+use Rattle.xl_commands.specs.Command.{IsFlatten, ReadsFile, ReadsSource}
+use Rattle.xl_commands.specs.Files.{CannotBeFlat, HasFault}
+use Rattle.xl_commands.specs.Lines.{WritesLine}
+use Rattle.xl_commands.specs.Outcome.{Given, given_of, InGrammar, OtherNamesStay}
+use Rattle.xl_commands.proofs.AtSource.{at_source}
+use Rattle.xl_commands.proofs.Taken.{nothing_taken, nothing_saved}
+use Rattle.xl_commands.proofs.OtherNames.{all_stay, names_stay}
+use Rattle.xl_commands.proofs.ScriptEnded.{ended_written}
+use Rattle.xl_commands.proofs.StopLines.{bad_source_written, flat_refusal_written, refusal_written, rejection_asked}
+use Rattle.xl_commands.proofs.StopLines.{script_in_grammar, shelf_fault_asked, source_fault_written, source_refused}
 use Rattle.xl_program.proofs.running.run.Goals as goal
 use Rattle.xl_program.proofs.running.run.Goals.{in-Ok-result, in-Err}
 

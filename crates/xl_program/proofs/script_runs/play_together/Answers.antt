@@ -1,5 +1,5 @@
 use Rattle.xl_script.specs.Lines.{lists_of}
-use Rattle.xl_play.proofs.ScriptPlayed.{played_on, told_together}
+use Rattle.xl_commands.proofs.ScriptPlayed.{played_on, told_together}
 use Rattle.xl_program.proofs.script_runs.play_together.Goals as goal
 
 pub returns : goal.returns

@@ -1,6 +1,6 @@
 use Rattle.std.proofs.Common.{ap}
 use Rattle.xl_script.specs.Lines.{lists_of}
-use Rattle.xl_play.proofs.ScriptPlayed.{nothing_played, same_played, without_workers}
+use Rattle.xl_commands.proofs.ScriptPlayed.{nothing_played, same_played, without_workers}
 use Rattle.xl_program.proofs.script_runs.run_script.Goals as goal
 
 pub returns-in-Err : goal.returns-in-Err
