@@ -1,18 +1,21 @@
-ghost use Rattle.std.specs.Prelude.{◌≡◌, ◌+◌, ◌*◌, ◌≤◌, ◌<◌, ◌^◌, ◌||◌, not, is_none, nat_lt, length, IsTrue};
+ghost use Rattle.std.specs.Prelude.{◌≡◌, ◌+◌, ◌*◌, ◌≤◌, ◌<◌, ◌^◌, ◌||◌, not, is_none, nat_lt, length, IsTrue, IfOk};
 ghost use Rattle.spec_document.specs.Document.{area, all_kept, kept_bytes};
 ghost use Rattle.spec_file.specs.declared.TheConstants.{FILE_LIMIT};
 ghost use Rattle.spec_file.specs.Channels.{with_channel, channel_at};
+ghost use Rattle.spec_props.specs.Meaning.{is_selection};
+ghost use Rattle.xl_read.specs.ChannelHead.{channel_rule};
 ghost use Rattle.xl_read.specs.Yields.{Yields};
 ghost use Rattle.spec_document.specs.declared.TheConstants.{MAX_KEPT_BYTES};
 
+use crate::channel_head::ChannelHead;
 use crate::draft::DocumentDraft;
 use crate::listing::Listing;
 use crate::owners::OfChannel;
-use crate::words::{Shape, plane_at, pointer_at, same_word_at};
+use crate::words::Shape;
 use spec_document::MAX_AREA;
 use std::alloc::Global;
-use xl_doc::{Bytes, Channel, MAX_CHANNELS};
-use xl_fields::{Kind, ReadRefusedOrMemory, refuse, string_at};
+use xl_doc::{Channel, MAX_CHANNELS};
+use xl_fields::{Kind, ReadRefused, ReadRefusedOrMemory, refuse};
 use xl_hier::TileFile;
 
 /// Whether it is no second selection.
@@ -44,9 +47,38 @@ fn put(draft: &mut DocumentDraft, selection: bool, channel: Channel)
     }
 }
 
+/// Refuses a second selection, a channel too many, and a channel for whose pixels there is no room. It stands at `at`,
+/// and the pointer to it at `place`.
+#[tactic(auto, unfolding(crate::specs::ChannelHead::channel_rule))]
+fn check_channel(
+    draft: &DocumentDraft,
+    props: &Listing<OfChannel>,
+    at: usize,
+    place: usize,
+) -> Result<(), ReadRefused>
+    ensures rule { result ≡ channel_rule draft.now props.now at place }
+    ensures first { IfOk result (λ _. IsTrue (not (is_selection props.now.list)
+        || is_none draft.now.selection)) }
+    ensures few { IfOk result (λ _. IsTrue (is_selection props.now.list
+        || nat_lt (length draft.now.channels) MAX_CHANNELS)) }
+    ensures area { IfOk result (λ _. area draft.now + draft.now.width * draft.now.height
+        ≤ MAX_AREA) }
+{
+    let selection = props.is_selection();
+    if !is_first(draft, selection) {
+        return Err(refuse(Kind::TwoSelections, props.selection_place()));
+    }
+    if !has_place(draft, selection) {
+        return Err(refuse(Kind::TooMany, place));
+    }
+    if draft.area() + draft.canvas() > MAX_AREA {
+        return Err(refuse(Kind::TooLarge, at));
+    }
+    Ok(())
+}
+
 /// Reads the channel at the offset `at`, and makes it the selection or puts it last; or its first fault. At `place`
 /// stands the pointer to it.
-#[tactic(auto, unfolding(spec_file::specs::Channels::channel_at))]
 pub fn channel_at<F: TileFile>(
     alloc: Global,
     file: &[u8],
@@ -61,25 +93,19 @@ pub fn channel_at<F: TileFile>(
     requires at { at < 2 ^ 32 }
     ensures { Yields result (λ _. draft.new) (channel_at file.now at place draft.old) }
 {
-    same_word_at(file, at, draft.width(), Kind::ChannelSize)?;
-    same_word_at(file, at + 4, draft.height(), Kind::ChannelSize)?;
-    let name = string_at(file, at + 8)?;
-    let props: Listing<OfChannel> = Listing::read(alloc, file, name.next)?;
-    props.check_kept(draft.kept_bytes())?;
-    let hierarchy = pointer_at(file, props.end() + 8, Kind::BadHierarchy)?;
-    let selection = props.is_selection();
-    if !is_first(draft, selection) {
-        return Err(refuse(Kind::TwoSelections, props.selection_place()).into());
-    }
-    if !has_place(draft, selection) {
-        return Err(refuse(Kind::TooMany, place).into());
-    }
-    if draft.area() + draft.canvas() > MAX_AREA {
-        return Err(refuse(Kind::TooLarge, at).into());
-    }
-    let plane = plane_at(alloc, file, shared, hierarchy, Shape::of_canvas(draft))?;
-    let name = Bytes::from_slice(alloc, &file[name.start..name.start + name.len])?;
-    let kept = props.into_kept();
-    put(draft, selection, Channel { name, kept, plane });
+    let shape = Shape::of_canvas(draft);
+    let before = draft.kept_bytes();
+    let head: ChannelHead<OfChannel> = ChannelHead::read(
+        alloc,
+        file,
+        at,
+        shape,
+        Kind::ChannelSize,
+        before,
+    )?;
+    check_channel(draft, &head.props, at, place)?;
+    let selection = head.props.is_selection();
+    let channel = head.into_channel(alloc, file, shared, shape)?;
+    put(draft, selection, channel);
     Ok(())
 }

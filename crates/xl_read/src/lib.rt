@@ -2,6 +2,7 @@
 #![tactic(auto)]
 
 mod channel;
+mod channel_head;
 mod document_fields;
 mod draft;
 mod file;

@@ -1,11 +1,20 @@
 use Rattle.std.proofs.Common.{rules}
-use Rattle.xl_fields.specs.Gives.{text_of}
-use Rattle.xl_read.proofs.Channels.{channel_placed}
+use Rattle.xl_read.specs.ChannelHead.{channel_read}
+use Rattle.xl_read.proofs.ChannelHeads.{channel_is}
 use Rattle.xl_read.proofs.channel.channel_at.Goals as goal
 
+pub returns-in_err-head : goal.returns-in_err-head
+unfolding channel_read
+returns-in_err-head g c = rw (← channel_is c.args.file.now c.args.at c.args.place c.args.draft.now) (search rules)
+
+pub returns-in_err-check_channel : goal.returns-in_err-check_channel
+unfolding channel_read
+returns-in_err-check_channel g c = rw (← channel_is c.args.file.now c.args.at c.args.place c.args.draft.now) (search rules)
+
+pub returns-in_err-channel : goal.returns-in_err-channel
+unfolding channel_read
+returns-in_err-channel g c = rw (← channel_is c.args.file.now c.args.at c.args.place c.args.draft.now) (search rules)
+
 pub returns : goal.returns
-returns g c =
-    channel_placed c.args.file.now c.args.at c.args.place c.args.draft.now c.put.new.draft
-    (text_of c.args.file.now c.in_ok-name.name) c.in_ok-props.props c.in_ok-hierarchy.hierarchy c.in_ok-plane.plane
-    (search rules) (search rules) (search rules) (search rules) (search rules) (search rules) (search rules) (search rules)
-    (search rules) (search rules) (search rules)
+unfolding channel_read
+returns g c = rw (← channel_is c.args.file.now c.args.at c.args.place c.args.draft.now) (search rules)
