@@ -1,6 +1,8 @@
-//! The desk of a session, from its filters.
-ghost use Rattle.std.specs.Prelude.{◌≡◌, ◌^◌, ◌<◌, Some, length, map, IfOk};
+//! The filters of the sessions, and the desk of one.
+ghost use Rattle.std.specs.List.{AllByRecursion};
+ghost use Rattle.std.specs.Prelude.{◌≡◌, ◌^◌, ◌<◌, Some, drop, length, map, IfOk};
 ghost use Rattle.xl_filters.specs.Chests.{states};
+ghost use Rattle.xl_run.specs.Filters.{boxes_at};
 
 use std::alloc::{AllocError, Global};
 use xl_core::Desk;
