@@ -90,31 +90,44 @@ fn is_right<R: Threads + Wait + Sync>(
     Ok(false)
 }
 
-fn show_set<R: Threads + Wait + Sync>(
+// How many rows came to what they want, and how many did not.
+fn tally<R: Threads + Wait + Sync>(
     player: &Player<'_, R>,
     known: &str,
-    name: &str,
-) -> io::Result<()> {
-    let rows = fs::read_to_string(player.rt, name)?;
+    rows: &str,
+) -> io::Result<(u64, u64)> {
     let mut right: u64 = 0;
     let mut wrong: u64 = 0;
-    for text in rows.as_str().split(ROW_MARK).skip(1) {
+    for text in rows.split(ROW_MARK).skip(1) {
         if is_right(player, known, text)? {
             right = right.saturating_add(1);
         } else {
             wrong = wrong.saturating_add(1);
         }
     }
+    Ok((right, wrong))
+}
+
+fn show_set<R: Threads + Wait + Sync>(
+    player: &Player<'_, R>,
+    known: &str,
+    name: &str,
+) -> io::Result<()> {
+    let rows = fs::read_to_string(player.rt, name)?;
+    let (right, wrong) = tally(player, known, rows.as_str())?;
     println!(player.rt; "{name}: {right} right, {wrong} wrong")
 }
 
-fn show_all<R: Threads + Wait + Sync>(rt: &HostRuntime, threads: &R) -> io::Result<()> {
-    let player = Player { rt, threads };
-    let known = fs::read_to_string(rt, CONTENTS)?;
+fn show_sets<R: Threads + Wait + Sync>(player: &Player<'_, R>, known: &str) -> io::Result<()> {
     for name in SETS {
-        show_set(&player, known.as_str(), name)?;
+        show_set(player, known, name)?;
     }
-    show_set(&player, known.as_str(), WRONG)
+    show_set(player, known, WRONG)
+}
+
+fn show_all<R: Threads + Wait + Sync>(rt: &HostRuntime, threads: &R) -> io::Result<()> {
+    let known = fs::read_to_string(rt, CONTENTS)?;
+    show_sets(&Player { rt, threads }, known.as_str())
 }
 
 fn main(rt: HostRuntime) -> ExitCode {
