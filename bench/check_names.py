@@ -22,8 +22,10 @@ import sys
 TOP = os.path.dirname(os.path.dirname(os.path.abspath(__file__)))
 CODE = (".rt", ".antt", ".py", ".sh", ".c", ".txt", ".rs", ".rows")
 ENDS = (".antt", ".rt", ".rows", ".py", ".md", ".txt", ".sh", ".c", ".1", ".xcf", ".png", ".edit")
-# Parts of programs and of Rattle that no file here names, and files that the pages tell the reader to make.
-OUTSIDE = {"anyhow", "checked_add", "fchmod", "inverse", "jq", "llvm-mca", "make_mut", "photo.xcf", "must-fail", "Lts", "Proof",
+# Parts of programs and of Rattle that no file here names, files that the pages tell the reader to make, and what docs/FAILURE.md
+# makes of a function to show it.
+OUTSIDE = {"After-add_tile", "In_ok-add_tile", "add_tile", "column_next",
+           "anyhow", "checked_add", "fchmod", "inverse", "jq", "llvm-mca", "make_mut", "photo.xcf", "must-fail", "Lts", "Proof",
            "the_sync"}
 PLACEHOLDER = re.compile(r"(?<![A-Za-z_])[A-Z]{3,}(?![A-Za-z_])|\*|\.\.|^/|^out/|/out/")
 WORD = re.compile(r"[A-Za-z_][A-Za-z0-9_]*(?:-[A-Za-z0-9_]+)*")
