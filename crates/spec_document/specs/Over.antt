@@ -1,7 +1,9 @@
 -- One pixel laid over another.
 use Rattle.std.specs.Prelude.{ℕ, ◌+◌, ◌-◌, ◌*◌, ◌/◌, ◌≤◌, min, ◌==◌, if◌then◌else◌}
 use Rattle.spec_document.specs.declared.Mode.{Mode}
-use Rattle.spec_document.specs.declared.Mode.TheVariants.{Normal}
+use Rattle.spec_document.specs.declared.Mode.TheVariants.{Normal, Multiply, Screen, Overlay, Difference, Addition}
+use Rattle.spec_document.specs.declared.Mode.TheVariants.{Subtract, DarkenOnly, LightenOnly, Divide, Dodge, Burn}
+use Rattle.spec_document.specs.declared.Mode.TheVariants.{HardLight, SoftLight, GrainExtract, GrainMerge}
 use Rattle.spec_document.specs.declared.Pixel.{Pixel}
 use Rattle.spec_document.specs.Blend.{mul, blend}
 
@@ -47,4 +49,18 @@ over_blended mode below above =
 
 abbrev pub over : Mode → Pixel → Pixel → Pixel
 over Normal below above = over_normal below above
-over mode below above = over_blended mode below above
+over Multiply below above = over_blended Multiply below above
+over Screen below above = over_blended Screen below above
+over Overlay below above = over_blended Overlay below above
+over Difference below above = over_blended Difference below above
+over Addition below above = over_blended Addition below above
+over Subtract below above = over_blended Subtract below above
+over DarkenOnly below above = over_blended DarkenOnly below above
+over LightenOnly below above = over_blended LightenOnly below above
+over Divide below above = over_blended Divide below above
+over Dodge below above = over_blended Dodge below above
+over Burn below above = over_blended Burn below above
+over HardLight below above = over_blended HardLight below above
+over SoftLight below above = over_blended SoftLight below above
+over GrainExtract below above = over_blended GrainExtract below above
+over GrainMerge below above = over_blended GrainMerge below above

@@ -4,8 +4,10 @@
 
 mod faults;
 mod lines;
+mod names;
 mod stops;
 #[cfg(test)]
 mod tests;
+mod words;
 
 pub use stops::{VERSION, message};

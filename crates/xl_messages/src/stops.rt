@@ -1,21 +1,21 @@
 use crate::faults::fault_text;
 use crate::lines::cause_text;
+use crate::names::shown;
+use crate::words::words_fault;
 use spec_audit::MAX_SOURCE_BYTES;
 use spec_fields::ReadRefused;
 use spec_script::MAX_SCRIPT_BYTES;
 use std::alloc::{AllocError, Global};
+use std::slice::EscapeAscii;
 use xl_command::{Command, command_of};
-use xl_outcome::{Rejection, Stopped};
+use xl_outcome::{MEMORY, Rejection, Stopped};
 use xl_script::BadLine;
 
 const USAGE: &str =
-    "these words are no command; the commands are\n  xcfedit render FILE              writes the picture of FILE as a PAM\n  xcfedit info FILE                writes the layers of FILE as a line of JSON\n  xcfedit edit FILE [--workers N]  runs a script from standard input on FILE, N from 0 to 8\n  xcfedit make FILE --seed N       saves the document of the seed N, runs the seed's script on FILE and sums the run up in a line\n  xcfedit pack FILE [--plan]       saves FILE as small as it can be with run-length coded tiles\n  xcfedit flatten FILE             puts one layer in the place of all nodes of FILE\n  xcfedit view FILE --cols W --rows H  runs a script of session 0 on FILE, a tile with its neighbours, W and H from 1 to 16\n  xcfedit audit FILE               judges a script and what an edit of FILE by it is said to have printed, from standard input";
+    "the commands are\n  xcfedit render FILE              writes the picture of FILE as a PAM\n  xcfedit info FILE                writes the layers of FILE as a line of JSON\n  xcfedit edit FILE [--workers N]  runs a script from standard input on FILE, N from 0 to 8\n  xcfedit make FILE --seed N       saves the document of the seed N, runs the seed's script on FILE and sums the run up in a line\n  xcfedit pack FILE [--plan]       saves FILE as small as it can be with run-length coded tiles\n  xcfedit flatten FILE             puts one layer in the place of all nodes of FILE\n  xcfedit view FILE --cols W --rows H  runs a script of session 0 on FILE, a tile with its neighbours, W and H from 1 to 16\n  xcfedit audit FILE               judges a script and what an edit of FILE by it is said to have printed, from standard input";
 
 /// The version of the program, which stands in the manual page and in the changelog too.
 pub const VERSION: &str = "0.1.0";
-
-/// The status where memory ran out.
-const MEMORY: u8 = 8;
 
 /// A sentence on how the words came to this status, other than 0: which file, what is wrong and where. `cause` is that
 /// of `Ended` of `xl_program`. It has no newline at its end.
@@ -25,13 +25,31 @@ pub fn message<'a>(
     status: u8,
     cause: Option<Stopped>,
 ) -> Result<String, AllocError> {
+    let command = command_of(alloc, words)?;
     if status == MEMORY {
-        return String::from_str(alloc, "out of memory");
+        return memory_text(alloc, command);
     }
-    let (Some(command), Some(stopped)) = (command_of(alloc, words)?, cause) else {
-        return format!(in alloc; "xcfedit {VERSION}: {USAGE}");
+    let (Some(command), Some(stopped)) = (command, cause) else {
+        return usage_text(alloc, words);
     };
     stop_text(alloc, command, stopped)
+}
+
+// That memory ran out, and with which file.
+fn memory_text(alloc: Global, command: Option<Command<'_>>) -> Result<String, AllocError> {
+    match command {
+        Some(command) => {
+            let name = shown(file_of(command));
+            format!(in alloc; "{name}: out of memory")
+        }
+        None => String::from_str(alloc, "out of memory"),
+    }
+}
+
+// What is wrong with words that are no command, and the commands.
+fn usage_text(alloc: Global, words: &[&str]) -> Result<String, AllocError> {
+    let fault = words_fault(alloc, words)?;
+    format!(in alloc; "xcfedit {VERSION}: {fault}; {USAGE}")
 }
 
 // The name of a command's file.
@@ -44,7 +62,7 @@ fn file_of(command: Command<'_>) -> &str {
 }
 
 fn stop_text(alloc: Global, command: Command<'_>, stopped: Stopped) -> Result<String, AllocError> {
-    let name = file_of(command);
+    let name = shown(file_of(command));
     match stopped {
         Stopped::SourceFault => String::from_str(alloc, "the script cannot be read"),
         Stopped::BadHead => head_text(alloc),
@@ -56,8 +74,8 @@ fn stop_text(alloc: Global, command: Command<'_>, stopped: Stopped) -> Result<St
         ),
         Stopped::SaveFault => format!(in alloc; "{name}: a save failed"),
         Stopped::Rejected(why) => rejection_text(alloc, name, why),
-        Stopped::SinkFault => String::from_str(alloc, "the output cannot be written"),
-        Stopped::Memory => String::from_str(alloc, "out of memory"),
+        Stopped::SinkFault => format!(in alloc; "{name}: the output cannot be written"),
+        Stopped::Memory => memory_text(alloc, Some(command)),
     }
 }
 
@@ -78,7 +96,7 @@ fn line_text(alloc: Global, bad: BadLine) -> Result<String, AllocError> {
 // A fault of the shelf before the output: what is made is not read, but saved, and two commands may have failed at
 // either.
 fn shelf_text(alloc: Global, command: Command<'_>) -> Result<String, AllocError> {
-    let name = file_of(command);
+    let name = shown(file_of(command));
     let done = match command {
         Command::Make(_, _) => "saved",
         Command::Edit(_, _)
@@ -92,7 +110,11 @@ fn shelf_text(alloc: Global, command: Command<'_>) -> Result<String, AllocError>
 }
 
 // Why what was printed is none of the script's runs.
-fn rejection_text(alloc: Global, name: &str, why: Rejection) -> Result<String, AllocError> {
+fn rejection_text(
+    alloc: Global,
+    name: EscapeAscii<'_>,
+    why: Rejection,
+) -> Result<String, AllocError> {
     match why {
         Rejection::Shape => format!(in alloc;
             "{name}: the output is not one line for each call of the script and the line of their order"
@@ -103,7 +125,11 @@ fn rejection_text(alloc: Global, name: &str, why: Rejection) -> Result<String, A
     }
 }
 
-fn refusal_text(alloc: Global, name: &str, refused: ReadRefused) -> Result<String, AllocError> {
+fn refusal_text(
+    alloc: Global,
+    name: EscapeAscii<'_>,
+    refused: ReadRefused,
+) -> Result<String, AllocError> {
     let fault = fault_text(alloc, refused)?;
     let at = refused.at;
     format!(in alloc; "{name}: {fault}, at byte {at}")

@@ -199,11 +199,11 @@ fn the_output_and_memory(rt: HostRuntime) -> Result<(), Fail> {
     let alloc = rt.alloc();
     assert_eq!(rt;
         of_edit(alloc, 7, Stopped::SinkFault)?.as_str(),
-        "the output cannot be written"
+        "photo.xcf: the output cannot be written"
     );
     assert_eq!(rt;
         of_edit(alloc, 8, Stopped::Memory)?.as_str(),
-        "out of memory"
+        "photo.xcf: out of memory"
     );
     // Memory ran out for the line of a refused script.
     assert_eq!(rt;
@@ -216,7 +216,7 @@ fn the_output_and_memory(rt: HostRuntime) -> Result<(), Fail> {
             })
         )?
         .as_str(),
-        "out of memory"
+        "photo.xcf: out of memory"
     );
     Ok(())
 }
@@ -266,14 +266,83 @@ fn an_audit_is_told_of(rt: HostRuntime) -> Result<(), Fail> {
     Ok(())
 }
 
+// Arguments that are no command, with one blank between two, and what is said of the first wrong one.
+const NO_COMMANDS: [(&'static str, &'static str); 13] = [
+    ("blur photo.xcf", "\"blur\" is no command"),
+    ("edit", "edit takes a FILE"),
+    ("edit --workers", "--workers has no number behind it"),
+    (
+        "edit photo.xcf --workers 9",
+        "--workers takes a number from 0 to 8, not \"9\"",
+    ),
+    (
+        "edit photo.xcf --workers=two",
+        "--workers takes a number from 0 to 8, not \"two\"",
+    ),
+    (
+        "edit photo.xcf --lanes 2",
+        "\"--lanes\" is no option of edit",
+    ),
+    (
+        "render photo.xcf other.xcf",
+        "\"other.xcf\" is one word too many",
+    ),
+    ("render -o", "\"-o\" begins with a minus"),
+    ("make photo.xcf", "make takes --seed N"),
+    (
+        "make photo.xcf --seed -1",
+        "--seed takes a number from 0 to 4294967295, not \"-1\"",
+    ),
+    ("view photo.xcf --cols 3", "view takes --rows N"),
+    (
+        "view photo.xcf --rows 17 --cols 3",
+        "--rows takes a number from 1 to 16, not \"17\"",
+    ),
+    ("pack photo.xcf --plan=all", "--plan takes no number"),
+];
+
+// What is said of arguments that are no command, behind the version.
+fn of_words(alloc: Global, line: &str) -> Result<String, AllocError> {
+    let mut words = Vec::new(alloc);
+    for word in line.split(' ') {
+        words.push(word)?;
+    }
+    message(alloc, words.as_slice(), 2, None)
+}
+
+// What is said of each, where it does not begin with what stands beside it.
+fn fault_said_otherwise(alloc: Global) -> Result<Option<String>, AllocError> {
+    for (line, fault) in &NO_COMMANDS {
+        let said = of_words(alloc, *line)?;
+        let front = format!(in alloc; "xcfedit {VERSION}: {fault}; the commands are\n")?;
+        if !said.as_str().starts_with(front.as_str()) {
+            return Ok(Some(said));
+        }
+    }
+    Ok(None)
+}
+
+#[test]
+fn the_first_wrong_word_is_named(rt: HostRuntime) -> Result<(), Fail> {
+    assert_eq!(rt; fault_said_otherwise(rt.alloc())?, None);
+    Ok(())
+}
+
 #[test]
 fn the_commands_are_listed(rt: HostRuntime) -> Result<(), Fail> {
     let alloc = rt.alloc();
-    let words = ["edit"];
-    let text = message(alloc, words.as_slice(), 2, None)?;
-    let front = format!(in alloc; "xcfedit {VERSION}: these words are no command;")?;
+    let text = message(alloc, &[], 2, None)?;
+    let front = format!(in alloc; "xcfedit {VERSION}: there is no command;")?;
     assert!(rt; text.as_str().starts_with(front.as_str()));
     assert_eq!(rt; text.as_str().lines().count(), 9);
+    Ok(())
+}
+
+#[test]
+fn a_name_brings_no_codes(rt: HostRuntime) -> Result<(), Fail> {
+    let words = ["edit", "a\x1b[2J\nb.xcf"];
+    let text = message(rt.alloc(), words.as_slice(), 6, Some(Stopped::ShelfFault))?;
+    assert_eq!(rt; text.as_str(), "a\\x1b[2J\\nb.xcf: the file cannot be read");
     Ok(())
 }
 

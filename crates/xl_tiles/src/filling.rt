@@ -11,7 +11,7 @@ ghost use Rattle.xl_tiles.specs.Table.{AreTiled, plane_by, tile, tile_of};
 ghost use Rattle.xl_tiles.specs.Written.{written};
 
 use crate::area::{Area, Sheet, TilePlace, Tiles, spot_of, tiles_of_area};
-use crate::fill::repeat;
+use crate::fill::repeat_in_rows;
 use crate::reading::tile_in;
 use crate::table::TileTable;
 use crate::writing::{copied_tile, overlay_of, tile_pixels};
@@ -40,7 +40,7 @@ fn uniform_of(
     ensures buffer { IfOk result (λ uniform. IsRepeated pixel.now (min 64 area.w * min 64 area.h)
         (arc_value uniform.buffer).items) }
 {
-    let bytes = repeat(alloc, pixel, area.w.min(64) * area.h.min(64))?;
+    let bytes = repeat_in_rows(alloc, pixel, area.w.min(64), area.h.min(64))?;
     Ok(Uniform {
         pixel,
         buffer: Arc::new(alloc, bytes)?,
