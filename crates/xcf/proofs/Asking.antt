@@ -13,7 +13,7 @@ use Rattle.spec_tables.proofs.Asked.{no_filters-tables}
 use Rattle.xl_core.specs.Editing.{Editing, IsSubmitted}
 use Rattle.xl_core.specs.History.{Answers}
 use Rattle.xl_core.proofs.Submitted.{submitted_answers}
-use Rattle.xl_calls.specs.Built.{IsNoPeek}
+use Rattle.xl_calls.specs.Applicable.{IsNoPeek}
 use Rattle.xcf.specs.Asked.{IsPlainCall}
 use Rattle.xcf.specs.Plain.{is_plain, unplain_from}
 use Rattle.xcf.proofs.Plain.{first_plain, no_filters}

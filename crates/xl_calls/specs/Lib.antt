@@ -1,4 +1,4 @@
 pub mod Edits
 pub mod Calls
 pub mod Replies
-pub mod Built
+pub mod Applicable

@@ -1,7 +1,7 @@
 pub mod Needs
 pub mod Places
 pub mod TileJobs
-pub use Rattle.xl_calls.specs.Built
+pub use Rattle.xl_calls.specs.Applicable
 pub use Rattle.xl_calls.specs.Calls
 pub use Rattle.xl_calls.specs.Edits
 pub use Rattle.xl_calls.specs.Replies

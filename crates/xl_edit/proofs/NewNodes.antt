@@ -16,7 +16,7 @@ use Rattle.xl_tree.specs.Places.{alone}
 use Rattle.xl_doc.specs.declared.node.Node.{Node}
 use Rattle.xl_doc.specs.Nodes.{nodes_of, layer_of, group_of, is_group_body, MarksAgree}
 use Rattle.xl_paint.specs.Applied.{at}
-use Rattle.xl_calls.specs.Built.{HasNext}
+use Rattle.xl_calls.specs.Applicable.{HasNext}
 use Rattle.xl_edit.specs.Kept.{KeepsLimits}
 use Rattle.xl_edit.specs.Nodes.{one_node}
 use Rattle.xl_checks.proofs.Seen.{Sees, sees}

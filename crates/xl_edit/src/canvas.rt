@@ -5,7 +5,7 @@ ghost use Rattle.spec_edit.specs.Edit.{IsEdit};
 ghost use Rattle.spec_edit.specs.Effect.{colours_from, selection_of, with_plane, with_rect};
 ghost use Rattle.spec_document.specs.Limits.{AreBytes};
 ghost use Rattle.xl_paint.specs.Applied.{Makes};
-ghost use Rattle.xl_edit.specs.Canvas.{AreFlat};
+ghost use Rattle.xl_edit.specs.Flat.{AreFlat};
 ghost use Rattle.xl_tiles.specs.Written.{IsWithin};
 
 use crate::blank::zeros;

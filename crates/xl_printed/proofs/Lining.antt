@@ -7,7 +7,7 @@ use Rattle.spec_script.specs.Words.{◌>>=◌, split_at, words_of}
 use Rattle.spec_text.specs.declared.OrderWord.{OrderWord}
 use Rattle.spec_audit.specs.Output.{Printed}
 use Rattle.spec_audit.specs.Reading.{cut_at, read_line, read_lines, read_sessions, read_word, read_words, unmarked}
-use Rattle.xl_printed.specs.Lines.{first_line}
+use Rattle.xl_printed.specs.FirstLine.{first_line}
 
 -- ---- lines
 

@@ -1,6 +1,6 @@
 ghost use Rattle.std.specs.Prelude.{◌≡◌, ◌+◌, ◌<◌, Some, None, MatchOption, IfOk};
 ghost use Rattle.spec_audit.specs.Reading as reading;
-ghost use Rattle.xl_printed.specs.Lines.{first_line};
+ghost use Rattle.xl_printed.specs.FirstLine.{first_line};
 
 use crate::pieces::cut_at;
 use crate::printed::{Printed, SessionReplies};

@@ -1,7 +1,7 @@
 ghost use Rattle.std.specs.Prelude.{◌≡◌, Some, None, MatchOption, IfOk};
 ghost use Rattle.spec_script.specs.Words.{words_of};
 ghost use Rattle.spec_audit.specs.Reading as reading;
-ghost use Rattle.xl_printed.specs.Lines.{words_behind};
+ghost use Rattle.xl_printed.specs.FirstLine.{words_behind};
 
 use crate::lines::read_place;
 use crate::pieces::{cut_at, strip};

@@ -2,7 +2,7 @@
 ghost use Rattle.std.specs.Prelude.{◌≡◌, ◌+◌, ◌*◌, ◌<◌, ◌≤◌, ℕ, length, take, IfOk, slice_index_or};
 ghost use Rattle.spec_document.specs.Picture.{picture_bytes};
 ghost use Rattle.xl_compose.specs.Depth.{levels_below};
-ghost use Rattle.xl_report.specs.Lanes.{row_of, HasRoom, IsBand};
+ghost use Rattle.xl_report.specs.Bands.{row_of, HasRoom, IsBand};
 
 use rayon::prelude::*;
 use std::alloc::{AllocError, Global};

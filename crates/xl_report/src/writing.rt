@@ -3,7 +3,7 @@ ghost use Rattle.std.specs.Prelude.{◌≡◌, ℕ, ◌-◌, ◌<◌, ◌≤◌,
 ghost use Rattle.spec_document.specs.Picture.{picture_bytes};
 ghost use Rattle.spec_report.specs.Pam.{pam as pam_of, pam_head};
 ghost use Rattle.xl_ports.specs.Sink.{Writes};
-ghost use Rattle.xl_report.specs.Lanes.{row_of, HasRoom, IsBand};
+ghost use Rattle.xl_report.specs.Bands.{row_of, HasRoom, IsBand};
 ghost use Rattle.xl_report.specs.Written.{WritesText};
 
 use crate::fault::PamFaultOrMemory;

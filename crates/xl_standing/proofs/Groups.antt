@@ -20,7 +20,7 @@ use Rattle.spec_tables.proofs.Asked.{view}
 use Rattle.xl_damage.specs.Between.{IsMade}
 use Rattle.spec_standing.specs.Group.{HasIds, damage_along}
 use Rattle.xl_calls.specs.declared.edit.Edit.{Edit}
-use Rattle.xl_calls.specs.Built.{HasNext}
+use Rattle.xl_calls.specs.Applicable.{HasNext}
 use Rattle.xl_calls.specs.Edits.{edit_of, edits_of}
 use Rattle.xl_desk.proofs.AskedSoFar.{front}
 

@@ -13,7 +13,7 @@ ghost use Rattle.spec_standing.specs.Group.{HasIds, damage_along};
 ghost use Rattle.xl_standing.specs.Group.{IsAppliedOne, AppliesGroup, IsRefusal, LeavesChest};
 ghost use Rattle.xl_standing.specs.declared.group.GroupRefusedOrMemory.TheVariants.{Memory};
 ghost use Rattle.xl_edit.specs.Applied.{at};
-ghost use Rattle.xl_calls.specs.Built.{HasNext};
+ghost use Rattle.xl_calls.specs.Applicable.{HasNext};
 ghost use Rattle.xl_calls.specs.Edits.{edit_of, edits_of};
 ghost use Rattle.xl_filters.specs.Chests.{states_in};
 

@@ -16,7 +16,7 @@ use Rattle.xl_damage.specs.Between.{IsMade}
 use Rattle.xl_doc.specs.declared.node.Node.{Node}
 use Rattle.xl_doc.specs.Nodes.{nodes_of}
 use Rattle.xl_paint.specs.Applied.{at}
-use Rattle.xl_calls.specs.Built.{HasNext}
+use Rattle.xl_calls.specs.Applicable.{HasNext}
 use Rattle.xl_checks.proofs.Seen.{ids-nodes_of}
 
 -- the document after it

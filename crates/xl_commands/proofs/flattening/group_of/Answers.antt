@@ -1,6 +1,6 @@
 -- The next id is above every id, and one more is left.
 use Rattle.spec_flat.specs.Flat.{layer_edit}
-use Rattle.xl_calls.specs.Built.{HasNext}
+use Rattle.xl_calls.specs.Applicable.{HasNext}
 use Rattle.xl_commands.proofs.flattening.group_of.Goals as goal
 
 pub flatten-requires : goal.flatten-requires

@@ -4,7 +4,7 @@ use Rattle.spec_edit.specs.Edit as edits
 use Rattle.xl_calls.specs.declared.edit.Edit.{Edit}
 use Rattle.xl_paint.specs.Applied.{at}
 use Rattle.spec_edit.specs.Edit.{IsEdit}
-use Rattle.xl_calls.specs.Built.{HasNext}
+use Rattle.xl_calls.specs.Applicable.{HasNext}
 use Rattle.xl_calls.specs.Edits.{edit_of}
 use Rattle.xl_edit.proofs.Accepted.{any_made}
 use Rattle.xl_edit.proofs.applying.make_node.Goals as goal

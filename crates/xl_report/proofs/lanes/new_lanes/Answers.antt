@@ -1,5 +1,5 @@
 use Rattle.std.proofs.Common.{rules}
-use Rattle.xl_report.specs.Lanes.{HasRoom}
+use Rattle.xl_report.specs.Bands.{HasRoom}
 use Rattle.xl_report.proofs.Behind.{behind}
 use Rattle.xl_report.proofs.lanes.new_lanes.Goals as goal
 

@@ -1,6 +1,6 @@
 use Rattle.std.proofs.Common.{◌-◌, ◌<◌, ◌≤◌, ℕ, length}
 use Rattle.std.specs.Prelude.{slice_index_or, vec_capacity}
-use Rattle.xl_report.specs.Lanes.{HasRoom}
+use Rattle.xl_report.specs.Bands.{HasRoom}
 use Rattle.xl_report.proofs.lanes.new_lanes.Given as goal
 
 -- there is room for some bands, and each of these has it

@@ -2,7 +2,7 @@ use Rattle.std.proofs.Common.{◌≡◌, ◌-◌, ◌≤◌, ◌<◌, ℕ, lengt
 use Rattle.std.specs.Prelude.{slice_index_or}
 use Rattle.spec_document.specs.Picture.{picture_bytes}
 use Rattle.xl_ports.specs.Sink.{WritesAll}
-use Rattle.xl_report.specs.Lanes.{HasRoom}
+use Rattle.xl_report.specs.Bands.{HasRoom}
 use Rattle.xl_report.proofs.writing.write_rows.Given as goal
 
 -- the rows so far are written, and there is room as before
