@@ -89,6 +89,7 @@ fn value_fault(
 }
 
 // What was met so far of the arguments behind a command's name.
+#[derive(Drop)]
 struct Walk<'a> {
     name: &'a str,
     options: &'a [CommandOption],
