@@ -3,8 +3,8 @@ use Rattle.std.proofs.lemmas.Nat.{mul-le}
 use Rattle.xl_tiles.proofs.FilledTiles.{few_pixels, length_repeated}
 use Rattle.xl_tiles.proofs.filling.uniform_of.Goals as goal
 
-pub repeat-requires : goal.repeat-requires
-repeat-requires c =
+pub repeat_in_rows-requires : goal.repeat_in_rows-requires
+repeat_in_rows-requires c =
     let w = c.args.area.w in
     let h = c.args.area.h in
     let n = length c.args.pixel.now in
