@@ -33,9 +33,10 @@ use Rattle.spec_props.specs.Unit.{names_end, named_end}
 use Rattle.spec_props.specs.Reading.{payload_length_at, property_at, end_at, list_at}
 use Rattle.spec_hierarchy.specs.Reading.{plain_at, planes_at, tile_at, tiles_at, hierarchy_at}
 use Rattle.spec_file.specs.Header.{header_of, side_at}
-use Rattle.spec_file.specs.Layers.{head_at, placed, path_of, group_in, mask_at, layer_in, node_at, nodes_at}
-use Rattle.spec_file.specs.Channels.{channel_at, channels_at}
-use Rattle.spec_file.specs.Reading.{reading}
+use Rattle.spec_file.specs.ChannelHead.{named_at, pixels_at, channel_head_at, channel_of}
+use Rattle.spec_file.specs.Layers.{pointers_at, head_at, placed, path_of, group_at, mask_at, layer_rule, layer_at, node_at, nodes_at}
+use Rattle.spec_file.specs.Channels.{channel_rule, channel_at, channels_at}
+use Rattle.spec_file.specs.Reading.{image_rule, beginning, reading}
 use Rattle.spec_document.specs.Picture.{picture_bytes}
 
 abbrev answer : List ℕ → Read (List ℕ)
@@ -45,9 +46,10 @@ answer file = do
 
 """ % ", ".join(KINDS[1:])
 
-UNFOLDING = ("unfolding reading header_of side_at payload_length_at property_at end_at list_at head_at placed path_of "
-             "group_in mask_at layer_in node_at nodes_at channel_at channels_at name_at plain_at planes_at tile_at "
-             "tiles_at hierarchy_at codes_at code_at names_end named_end")
+UNFOLDING = ("unfolding reading beginning image_rule header_of side_at payload_length_at property_at end_at list_at "
+             "pointers_at head_at placed path_of group_at mask_at layer_rule layer_at node_at nodes_at named_at pixels_at "
+             "channel_head_at channel_of channel_rule channel_at channels_at name_at plain_at planes_at tile_at tiles_at "
+             "hierarchy_at codes_at code_at names_end named_end")
 
 PIXELS_HEAD = """-- Pixels laid over one another, and blended bytes.
 use Rattle.std.specs.Prelude.{◌≡◌, ℕ, List, [], ◌∷◌, refl}

@@ -1,25 +1,22 @@
 -- The channels that were read stand in the file.
 use Rattle.std.proofs.Common.{◌≡◌, ℕ, zero, suc, ◌+◌, ◌*◌, ◌^◌, ◌≤◌, Bool, true, false, cond, ◌||◌, not, List, [], ◌∷◌}
-use Rattle.std.proofs.Common.{length, nat_lt, refl, subst, arith}
-use Rattle.std.specs.Prelude.{Ok, Option, Some, None, is_none, nat_le, ◌==◌}
+use Rattle.std.proofs.Common.{length, nat_lt, refl, sym, ◌∙◌, ap, subst, arith}
+use Rattle.std.specs.Prelude.{Ok, Option, Some, None, is_none, ◌==◌}
 use Rattle.std.proofs.lemmas.Bool.{leb-true, ltb-true, eqb-true, eqb-false}
 use Rattle.spec_document.specs.declared.Owner.TheVariants as owners
-use Rattle.spec_document.specs.Document.{Document, Channel, area, all_kept}
+use Rattle.spec_document.specs.Document.{Document, Channel, area, all_kept, kept_bytes}
 use Rattle.spec_document.specs.Limits.{AreBytes}
-use Rattle.spec_fields.specs.declared.Kind.TheVariants.{ChannelSize, TwoSelections, BadHierarchy, TooLarge, TooMany}
+use Rattle.spec_fields.specs.declared.Kind.TheVariants.{ChannelSize, TwoSelections, TooLarge, TooMany}
 use Rattle.spec_fields.specs.Reading.{Read, ◌>>=◌, fault}
-use Rattle.spec_fields.specs.Field.{name_at, HasWord}
+use Rattle.spec_fields.specs.Field.{HasWord}
 use Rattle.spec_fields.proofs.Back.{bind_back, wants_back}
-use Rattle.spec_fields.proofs.FieldsBack.{one_read, word_first, unless_back, choice_back, name_has}
-use Rattle.spec_props.specs.Meaning.{is_selection, kept_of}
-use Rattle.spec_props.specs.Reading.{properties_at}
-use Rattle.spec_props.proofs.ListedBack.{properties_have}
-use Rattle.spec_hierarchy.specs.Reading.{same_word_at, pointer_at, hierarchy_at}
-use Rattle.spec_hierarchy.proofs.PlanesBack.{same_word_has, pointer_has, plane_has}
-use Rattle.spec_file.specs.Placing.{place_of, passes}
-use Rattle.spec_file.specs.Channels.{with_channel, channel_at, channels_at}
+use Rattle.spec_fields.proofs.FieldsBack.{one_read, word_first, choice_back}
+use Rattle.spec_props.specs.Meaning.{is_selection}
+use Rattle.spec_file.specs.Placing.{place_of}
+use Rattle.spec_file.specs.ChannelHead.{channel_head_at, channel_of}
+use Rattle.spec_file.specs.Channels.{with_channel, channel_rule, channel_at, channels_at}
 use Rattle.spec_file.specs.Holds.{AddsChannel, AddChannels}
-use Rattle.spec_file.proofs.SumsBack.{passes_back}
+use Rattle.spec_file.proofs.ChannelHeads.{rule_back, channel_head_back, channel_of_back}
 use Rattle.spec_file.proofs.NodesAre.{IsWithin}
 use Rattle.spec_file.proofs.ChannelsAre.{what_adds}
 use Rattle.spec_document.specs.declared.numbers.TheConstants.{SELECTION}
@@ -44,47 +41,45 @@ at_most x y n e h = omega (arith, e, h)
 
 channel_back : (file : List ℕ) (at place : ℕ) (old new : Document) → AreBytes file → IsWithin old → length old.channels ≤ 64
     → channel_at file at place old ≡ Ok new → IsChannel file at old new
-unfolding channel_at
+unfolding channel_at channel_rule
 channel_back file at place old new all w few e =
-    let a = bind_back (same_word_at file at old.width ChannelSize) _ new e in
-    let b = bind_back (same_word_at file (at + 4) old.height ChannelSize) _ new a.2 in
-    let text = bind_back (name_at file (at + 8)) _ new b.2 in
-    let props = bind_back (properties_at file owners.Channel text.0.next) _ new text.2 in
-    let c = unless_back (passes owners.Channel (all_kept old) props.0.list) _ new props.2 in
-    let hierarchy = bind_back (pointer_at file (props.0.end + 8) BadHierarchy) _ new c.1 in
-    let selection = is_selection props.0.list in
+    let head = bind_back (channel_head_at file owners.Channel ChannelSize at old.width old.height (all_kept old)) _ new e in
+    let rule = bind_back (channel_rule old head.0.props at place) _ new head.2 in
+    let channel = bind_back (channel_of file owners.Channel head.0 old.width old.height old.compression) _ new rule.2 in
+    let h = channel_head_back file owners.Channel ChannelSize at old.width old.height (all_kept old) head.0 w.kept head.1 in
+    let q = channel_of_back file owners.Channel head.0 old.width old.height old.compression channel.0 all channel.1 in
+    let selection = is_selection head.0.props.list in
     let d = wants_back (not selection
-    || is_none old.selection) (fault TwoSelections (place_of SELECTION props.0.list)) _ new hierarchy.2 in
-    let f = wants_back (selection || nat_lt (length old.channels) 64) (fault TooMany place) _ new d.1 in
-    let g = wants_back (nat_le (area old + old.width * old.height) (2 ^ 28)) (fault TooLarge at) _ new f.1 in
-    let plane = bind_back (hierarchy_at file hierarchy.0 old.width old.height 1 old.compression) _ new g.1 in
-    let m : Channel = record { name = text.0.name; kept = kept_of owners.Channel props.0.list; plane = plane.0 } in
-    let is : with_channel old selection m ≡ new = one_read (with_channel old selection m) new plane.2 in
-    let pointer = pointer_has file (props.0.end + 8) hierarchy.0 BadHierarchy hierarchy.1 in
-    let q = plane_has file hierarchy.0 old.width old.height 1 old.compression plane.0 all plane.1 in
+    || is_none old.selection) (fault TwoSelections (place_of SELECTION head.0.props.list)) _ tt rule.1 in
+    let f = wants_back (selection || nat_lt (length old.channels) 64) (fault TooMany place) _ tt d.1 in
+    let fits = leb-true (area old + old.width * old.height) (2 ^ 28) (rule_back _ (fault TooLarge at) f.1) in
+    let is : with_channel old selection channel.0 ≡ new = one_read (with_channel old selection channel.0) new channel.2 in
     let first = is_free selection old.selection d.0 in
-    let grow = what_adds old selection m first in
-    let kept = passes_back owners.Channel (all_kept old) props.0.list w.kept c.0 in
+    let grow = what_adds old selection channel.0 first in
     subst (IsChannel file at old) is (record {
       adds = record {
-        width = same_word_has file at old.width ChannelSize a.1;
-        height = same_word_has file (at + 4) old.height ChannelSize b.1;
-        text = text.0;
-        has_name = name_has file (at + 8) text.0 text.1;
-        props = props.0;
-        has_props = properties_have file owners.Channel text.0.next props.0 props.1;
-        hierarchy = hierarchy.0;
-        has_hierarchy = pointer.word;
-        some_hierarchy = pointer.some;
-        plane = plane.0;
-        plane_is = q.is;
-        has_plane = q.has;
+        width = h.width_is;
+        height = h.height_is;
+        text = h.text;
+        has_name = h.has_name;
+        props = head.0.props;
+        has_props = h.has_props;
+        hierarchy = head.0.hierarchy;
+        has_hierarchy = h.has_hierarchy;
+        some_hierarchy = h.some_hierarchy;
+        plane = channel.0.plane;
+        plane_is = q.plane.is;
+        has_plane = q.plane.has;
         first = first;
-        adds = refl;
+        adds = λ i. with_channel old selection (record {
+          name = (q.name ∙ sym h.name) i;
+          kept = q.kept i;
+          plane = channel.0.plane;
+        });
       };
       within = record {
-        area = at_most _ _ (2 ^ 28) grow.area (leb-true (area old + old.width * old.height) (2 ^ 28) g.0);
-        kept = at_most _ _ (2 ^ 28) grow.kept kept;
+        area = at_most _ _ (2 ^ 28) grow.area fits;
+        kept = at_most _ _ (2 ^ 28) (grow.kept ∙ ap (λ k. all_kept old + kept_bytes k) q.kept) h.kept;
       };
       few = at_most _ _ 64 grow.count (room_left selection (length old.channels) f.0 few);
     })

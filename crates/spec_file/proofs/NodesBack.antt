@@ -18,14 +18,16 @@ use Rattle.spec_fields.proofs.FieldsBack.{one_read, word_first, given_back, unle
 use Rattle.spec_props.specs.Meaning.{is_group, kept_of}
 use Rattle.spec_props.specs.Reading.{properties_at}
 use Rattle.spec_props.proofs.ListedBack.{properties_have}
-use Rattle.spec_hierarchy.specs.Reading.{same_word_at, pointer_at, hierarchy_at}
-use Rattle.spec_hierarchy.proofs.PlanesBack.{same_word_has, pointer_has, plane_has}
+use Rattle.spec_hierarchy.specs.Reading.{hierarchy_at}
+use Rattle.spec_hierarchy.proofs.PlanesBack.{plane_has}
 use Rattle.spec_file.specs.Header.{is_side}
 use Rattle.spec_file.specs.Placing.{path_to, place_of, passes}
-use Rattle.spec_file.specs.Layers.{Head, Upto, hierarchy_place, mask_place, head_at, placed, path_of, group_of}
-use Rattle.spec_file.specs.Layers.{group_in, mask_at, layer_of, layer_in, node_at, nodes_at}
+use Rattle.spec_file.specs.ChannelHead.{channel_head_at, channel_of}
+use Rattle.spec_file.specs.Layers.{Head, Upto, hierarchy_place, mask_place, pointers_at, head_at, placed, path_of, group_of}
+use Rattle.spec_file.specs.Layers.{group_at, mask_at, layer_of, layer_rule, layer_at, branch_at, node_at, nodes_at}
 use Rattle.spec_file.specs.Holds.{HasHead, HasMaskIfAny, Places, AddsGroup, AddsLayer, AddsNode, AddNodes}
 use Rattle.spec_file.proofs.SumsBack.{passes_back}
+use Rattle.spec_file.proofs.ChannelHeads.{rule_back, channel_head_back, channel_of_back}
 use Rattle.spec_file.proofs.NodesAre.{IsWithin, places_area, places_kept}
 use Rattle.spec_file.proofs.HeaderBack.{both_hold, side_back}
 use Rattle.spec_document.specs.declared.numbers.TheConstants.{GROUP_ITEM, ITEM_PATH}
@@ -51,7 +53,7 @@ record IsHead (file : List ℕ) (at : ℕ) (d : Document) (h : Head) : Type 0 wh
   groups : not (is_indexed d.base && is_group h.props.list) ≡ true
 
 head_back : (file : List ℕ) (at : ℕ) (d : Document) (h : Head) → IsWithin d → head_at file at d ≡ Ok h → IsHead file at d h
-unfolding head_at
+unfolding head_at pointers_at
 head_back file at d h w e =
     let width = word_first file at _ h e in
     let height = word_first file (at + 4) _ h width.2 in
@@ -59,11 +61,13 @@ head_back file at d h w e =
     let a = wants_back (nat_le kind.0 5 && base_of_kind kind.0 == base_code d.base) (fault LayerType (at + 8)) _ h kind.2 in
     let text = bind_back (name_at file (at + 12)) _ h a.1 in
     let props = bind_back (properties_at file owners.Layer text.0.next) _ h text.2 in
-    let b = unless_back (passes owners.Layer (all_kept d) props.0.list) _ h props.2 in
+    let pointers = bind_back (pointers_at file d props.0) _ h props.2 in
+    let b = unless_back (passes owners.Layer (all_kept d) props.0.list) _ pointers.0 pointers.1 in
     let c = wants_back (not (is_indexed d.base && is_group props.0.list))
-    (fault GroupInIndexed (place_of GROUP_ITEM props.0.list)) _ h b.1 in
-    let hierarchy = word_first file (props.0.end + 8) _ h c.1 in
-    let mask = word_first file (props.0.end + 12) _ h hierarchy.2 in
+    (fault GroupInIndexed (place_of GROUP_ITEM props.0.list)) _ pointers.0 b.1 in
+    let hierarchy = word_first file (props.0.end + 8) _ pointers.0 c.1 in
+    let mask = word_first file (props.0.end + 12) _ pointers.0 hierarchy.2 in
+    let last : record { hierarchy = hierarchy.0; mask = mask.0 } ≡ pointers.0 = one_read _ pointers.0 mask.2 in
     let both = both_hold (nat_le kind.0 5) (base_of_kind kind.0 == base_code d.base) a.0 in
     let g : Head = record {
       at = at;
@@ -72,11 +76,10 @@ head_back file at d h w e =
       kind = kind.0;
       text = text.0;
       props = props.0;
-      hierarchy =
-          hierarchy.0;
-      mask = mask.0;
+      hierarchy = pointers.0.hierarchy;
+      mask = pointers.0.mask;
     } in
-    let is : g ≡ h = one_read g h mask.2 in
+    let is : g ≡ h = one_read g h pointers.2 in
     subst (IsHead file at d) is (record {
       stands = record {
         at_is = refl;
@@ -87,8 +90,8 @@ head_back file at d h w e =
         base = eqb-true (base_of_kind kind.0) (base_code d.base) both.1;
         name = name_has file (at + 12) text.0 text.1;
         props = properties_have file owners.Layer text.0.next props.0 props.1;
-        hierarchy = hierarchy.1;
-        mask = mask.1;
+        hierarchy = subst (λ n. HasWord file (props.0.end + 8) n) (ap (λ p. p.hierarchy) last) hierarchy.1;
+        mask = subst (λ n. HasWord file (props.0.end + 12) n) (ap (λ p. p.mask) last) mask.1;
       };
       kept = passes_back owners.Layer (all_kept d) props.0.list w.kept b.0;
       groups = c.0;
@@ -99,20 +102,20 @@ record IsGroup (old : Document) (h : Head) (new : Document) : Type 0 where
   adds : AddsGroup old h new
   within : IsWithin new
 
-group_back : (old : Document) (h : Head) (new : Document) → is_indexed old.base ≡ false
+group_back : (old : Document) (h : Head) (branch : Nodes) (new : Document) → is_indexed old.base ≡ false
     → all_kept old + kept_bytes (kept_of owners.Layer h.props.list) ≤ 2 ^ 28
-    → group_in old h ≡ Ok new → IsGroup old h new
-unfolding group_in
-group_back old h new base kept e =
-    let branch : Nodes = group (1 + size old.nodes) (group_of h) none none in
-    let a = wants_back (h.mask == 0) (fault GroupMask (mask_place h)) _ new e in
-    let b = wants_back (nat_le (area old + old.width * old.height) (2 ^ 28)) (fault TooLarge h.at) _ new a.1 in
-    let places = placed_back old h branch new b.1 in
+    → group_at old h ≡ Ok branch → placed old h branch ≡ Ok new → IsGroup old h new
+unfolding group_at
+group_back old h branch new base kept e put =
+    let a = wants_back (h.mask == 0) (fault GroupMask (mask_place h)) _ branch e in
+    let b = wants_back (nat_le (area old + old.width * old.height) (2 ^ 28)) (fault TooLarge h.at) _ branch a.1 in
+    let alone : Nodes = group (1 + size old.nodes) (group_of h) none none in
+    let places = placed_back old h alone new (ap (placed old h) (one_read alone branch b.1) ∙ put) in
     record {
       adds = record { base = base; mask = eqb-true h.mask 0 a.0; places = places };
       within = record {
-        area = omega (arith, places_area old h branch new places, leb-true (area old + old.width * old.height) (2 ^ 28) b.0);
-        kept = omega (arith, places_kept old h branch new places, kept);
+        area = omega (arith, places_area old h alone new places, leb-true (area old + old.width * old.height) (2 ^ 28) b.0);
+        kept = omega (arith, places_kept old h alone new places, kept);
       };
     }
 
@@ -139,60 +142,56 @@ mask_back file old h mask all area_fits kept_fits e = by (h.mask == 0) refl
               omega (arith, kept_fits);
         })
     by false t =
-        let kept = all_kept old + kept_bytes (kept_of owners.Layer h.props.list) in
-        let a = bind_back (same_word_at file h.mask h.width MaskSize) _ mask ((choice_back (h.mask == 0) _ _ mask e).1 t) in
-        let b = bind_back (same_word_at file (h.mask + 4) h.height MaskSize) _ mask a.2 in
-        let text = bind_back (name_at file (h.mask + 8)) _ mask b.2 in
-        let props = bind_back (properties_at file owners.Mask text.0.next) _ mask text.2 in
-        let c = unless_back (passes owners.Mask kept props.0.list) _ mask props.2 in
-        let hierarchy = bind_back (pointer_at file (props.0.end + 8) BadHierarchy) _ mask c.1 in
-        let d = wants_back (nat_le (area old + 2 * (h.width * h.height)) (2 ^ 28)) (fault TooLarge h.mask) _ mask hierarchy.2 in
-        let plane = bind_back (hierarchy_at file hierarchy.0 h.width h.height 1 old.compression) _ mask d.1 in
-        let m : Channel = record { name = text.0.name; kept = kept_of owners.Mask props.0.list; plane = plane.0 } in
-        let is : Some m ≡ mask = one_read (Some m) mask plane.2 in
-        let pointer = pointer_has file (props.0.end + 8) hierarchy.0 BadHierarchy hierarchy.1 in
-        let q = plane_has file hierarchy.0 h.width h.height 1 old.compression plane.0 all plane.1 in
-        let same : plane.0.width * plane.0.height ≡ h.width * h.height = λ i. q.is.width_is i * q.is.height_is i in
-        subst (IsMask file old h) is (record {
+        let before = all_kept old + kept_bytes (kept_of owners.Layer h.props.list) in
+        let head = bind_back (channel_head_at file owners.Mask MaskSize h.mask h.width h.height before) _ mask
+        ((choice_back (h.mask == 0) _ _ mask e).1 t) in
+        let d = wants_back (nat_le (area old + 2 * (h.width * h.height)) (2 ^ 28)) (fault TooLarge h.mask) _ mask head.2 in
+        let m = bind_back (channel_of file owners.Mask head.0 h.width h.height old.compression) _ mask d.1 in
+        let p = channel_head_back file owners.Mask MaskSize h.mask h.width h.height before head.0 kept_fits head.1 in
+        let q = channel_of_back file owners.Mask head.0 h.width h.height old.compression m.0 all m.1 in
+        let same : m.0.plane.width * m.0.plane.height ≡ h.width * h.height =
+        λ i. q.plane.is.width_is i * q.plane.is.height_is i in
+        subst (IsMask file old h) (one_read (Some m.0) mask m.2) (record {
           has = (
             omega (arith, eqb-false h.mask 0 t),
             record {
-              width_is = same_word_has file h.mask h.width MaskSize a.1;
-              height_is = same_word_has file (h.mask + 4) h.height MaskSize b.1;
-              text = text.0;
-              has_name = name_has file (h.mask + 8) text.0 text.1;
-              name = refl;
-              props = props.0;
-              has_props = properties_have file owners.Mask text.0.next props.0 props.1;
-              kept = refl;
-              hierarchy = hierarchy.0;
-              has_hierarchy = pointer.word;
-              some_hierarchy = pointer.some;
-              plane = q.has;
-              plane_is = q.is;
+              width_is = p.width_is;
+              height_is = p.height_is;
+              text = p.text;
+              has_name = p.has_name;
+              name = q.name ∙ sym p.name;
+              props = head.0.props;
+              has_props = p.has_props;
+              kept = q.kept;
+              hierarchy = head.0.hierarchy;
+              has_hierarchy = p.has_hierarchy;
+              some_hierarchy = p.some_hierarchy;
+              plane = q.plane.has;
+              plane_is = q.plane.is;
             },
           );
           area_fits = omega (arith, leb-true (area old + 2 * (h.width * h.height)) (2 ^ 28) d.0, same);
-          kept_fits = omega (arith, passes_back owners.Mask kept props.0.list kept_fits c.0);
+          kept_fits = omega (arith, p.kept, ap kept_bytes q.kept);
         })
 
 record IsLayer (file : List ℕ) (old : Document) (h : Head) (new : Document) : Type 0 where
   adds : AddsLayer file old h new
   within : IsWithin new
 
-layer_back : (file : List ℕ) (old : Document) (h : Head) (new : Document) → AreBytes file
+layer_back : (file : List ℕ) (old : Document) (h : Head) (branch : Nodes) (new : Document) → AreBytes file
     → all_kept old + kept_bytes (kept_of owners.Layer h.props.list) ≤ 2 ^ 28
-    → layer_in file old h ≡ Ok new → IsLayer file old h new
-unfolding layer_in
-layer_back file old h new all kept e =
-    let a = wants_back (is_side h.width) (fault BadSize h.at) _ new e in
-    let b = wants_back (is_side h.height) (fault BadSize (h.at + 4)) _ new a.1 in
-    let c = wants_back (nat_le (area old + h.width * h.height) (2 ^ 28)) (fault TooLarge h.at) _ new b.1 in
-    let d = wants_back (nat_lt 0 h.hierarchy) (fault BadHierarchy (hierarchy_place h)) _ new c.1 in
-    let plane = bind_back (hierarchy_at file h.hierarchy h.width h.height (bytes_of_kind h.kind) old.compression) _ new d.1 in
-    let mask = bind_back (mask_at file old h) _ new plane.2 in
-    let branch : Nodes = leaf (1 + size old.nodes) (layer_of h plane.0 mask.0) none in
-    let places = placed_back old h branch new mask.2 in
+    → layer_at file old h ≡ Ok branch → placed old h branch ≡ Ok new → IsLayer file old h new
+unfolding layer_at layer_rule
+layer_back file old h branch new all kept e put =
+    let rule = bind_back (layer_rule old h) _ branch e in
+    let a = wants_back (is_side h.width) (fault BadSize h.at) _ tt rule.1 in
+    let b = wants_back (is_side h.height) (fault BadSize (h.at + 4)) _ tt a.1 in
+    let c = wants_back (nat_le (area old + h.width * h.height) (2 ^ 28)) (fault TooLarge h.at) _ tt b.1 in
+    let d = rule_back (nat_lt 0 h.hierarchy) (fault BadHierarchy (hierarchy_place h)) c.1 in
+    let plane = bind_back (hierarchy_at file h.hierarchy h.width h.height (bytes_of_kind h.kind) old.compression) _ branch rule.2 in
+    let mask = bind_back (mask_at file old h) _ branch plane.2 in
+    let alone : Nodes = leaf (1 + size old.nodes) (layer_of h plane.0 mask.0) none in
+    let places = placed_back old h alone new (ap (placed old h) (one_read alone branch mask.2) ∙ put) in
     let q = plane_has file h.hierarchy h.width h.height (bytes_of_kind h.kind) old.compression plane.0 all plane.1 in
     let same : plane.0.width * plane.0.height ≡ h.width * h.height = λ i. q.is.width_is i * q.is.height_is i in
     let m = mask_back file old h mask.0 all (leb-true (area old + h.width * h.height) (2 ^ 28) c.0) kept mask.1 in
@@ -202,15 +201,15 @@ layer_back file old h new all kept e =
         height = side_back h.height b.0;
         plane = plane.0;
         plane_is = q.is;
-        some_hierarchy = ltb-true 0 h.hierarchy d.0;
+        some_hierarchy = ltb-true 0 h.hierarchy d;
         has_plane = q.has;
         mask = mask.0;
         has_mask = m.has;
         places = places;
       };
       within = record {
-        area = omega (arith, places_area old h branch new places, same, m.area_fits);
-        kept = omega (arith, places_kept old h branch new places, m.kept_fits);
+        area = omega (arith, places_area old h alone new places, same, m.area_fits);
+        kept = omega (arith, places_kept old h alone new places, m.kept_fits);
       };
     }
 
@@ -224,13 +223,14 @@ not_indexed : (indexed grouped : Bool) → grouped ≡ true → not (indexed && 
 not_indexed true grouped g e = cc
 not_indexed false grouped g e = refl
 
-node_by : (file : List ℕ) (at : ℕ) (old new : Document) (h : Head) → AreBytes file → IsHead file at old h
-    → length (path_to h.props.list) < 8
-    → (b : Bool) → is_group h.props.list ≡ b → (is_group h.props.list ≡ true → group_in old h ≡ Ok new)
-    → (is_group h.props.list ≡ false → layer_in file old h ≡ Ok new)
+node_by : (file : List ℕ) (at : ℕ) (old new : Document) (h : Head) (branch : Nodes) → AreBytes file → IsHead file at old h
+    → length (path_to h.props.list) < 8 → placed old h branch ≡ Ok new
+    → (b : Bool) → is_group h.props.list ≡ b → (is_group h.props.list ≡ true → group_at old h ≡ Ok branch)
+    → (is_group h.props.list ≡ false → layer_at file old h ≡ Ok branch)
     → IsNode file at old new
-node_by file at old new h all head short true t grouped layered =
-    let g = group_back old h new (not_indexed (is_indexed old.base) (is_group h.props.list) t head.groups) head.kept (grouped t) in
+node_by file at old new h branch all head short put true t grouped layered =
+    let g = group_back old h branch new (not_indexed (is_indexed old.base) (is_group h.props.list) t head.groups) head.kept
+    (grouped t) put in
     record {
       adds = record {
         head = h;
@@ -242,8 +242,8 @@ node_by file at old new h all head short true t grouped layered =
       within = g.within;
       channels = ap (λ d. d.channels) g.adds.places.2;
     }
-node_by file at old new h all head short false t grouped layered =
-    let l = layer_back file old h new all head.kept (layered t) in
+node_by file at old new h branch all head short put false t grouped layered =
+    let l = layer_back file old h branch new all head.kept (layered t) put in
     record {
       adds = record {
         head = h;
@@ -262,8 +262,9 @@ unfolding node_at
 node_back file at old new all w e =
     let h = bind_back (head_at file at old) _ new e in
     let path = bind_back (path_of old h.0) _ new h.2 in
-    let c = choice_back (is_group h.0.props.list) _ _ new path.2 in
-    node_by file at old new h.0 all (head_back file at old h.0 w h.1) (path_back old h.0 path.1)
+    let branch = bind_back (branch_at file old h.0) _ new path.2 in
+    let c = choice_back (is_group h.0.props.list) _ _ branch.0 branch.1 in
+    node_by file at old new h.0 branch.0 all (head_back file at old h.0 w h.1) (path_back old h.0 path.1) branch.2
     (is_group h.0.props.list) refl c.0 c.1
 
 pub record HasNodes (room : ℕ) (file : List ℕ) (at : ℕ) (old : Document) (upto : Upto) : Type 0 where

@@ -6,7 +6,6 @@ pub mod Hierarchies
 pub mod Paths
 pub mod Pointers
 pub mod Branches
-pub mod ChannelHeads
 pub mod NumberedNodes
 pub mod Decoded
 pub mod Placed

@@ -3,6 +3,5 @@ pub mod Listing
 pub mod Draft
 pub mod Parts
 pub mod Head
-pub mod ChannelHead
 pub mod Room
 pub mod Yields

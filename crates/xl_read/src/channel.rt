@@ -1,9 +1,8 @@
 ghost use Rattle.std.specs.Prelude.{◌≡◌, ◌+◌, ◌*◌, ◌≤◌, ◌<◌, ◌^◌, ◌||◌, not, is_none, nat_lt, length, IsTrue, IfOk};
 ghost use Rattle.spec_document.specs.Document.{area, all_kept, kept_bytes};
 ghost use Rattle.spec_file.specs.declared.TheConstants.{FILE_LIMIT};
-ghost use Rattle.spec_file.specs.Channels.{with_channel, channel_at};
+ghost use Rattle.spec_file.specs.Channels.{with_channel, channel_rule, channel_at};
 ghost use Rattle.spec_props.specs.Meaning.{is_selection};
-ghost use Rattle.xl_read.specs.ChannelHead.{channel_rule};
 ghost use Rattle.xl_read.specs.Yields.{Yields};
 ghost use Rattle.spec_document.specs.declared.TheConstants.{MAX_KEPT_BYTES};
 
@@ -49,7 +48,7 @@ fn put(draft: &mut DocumentDraft, selection: bool, channel: Channel)
 
 /// Refuses a second selection, a channel too many, and a channel for whose pixels there is no room. It stands at `at`,
 /// and the pointer to it at `place`.
-#[tactic(auto, unfolding(crate::specs::ChannelHead::channel_rule))]
+#[tactic(auto, unfolding(spec_file::specs::Channels::channel_rule))]
 fn check_channel(
     draft: &DocumentDraft,
     props: &Listing<OfChannel>,
@@ -79,6 +78,7 @@ fn check_channel(
 
 /// Reads the channel at the offset `at`, and makes it the selection or puts it last; or its first fault. At `place`
 /// stands the pointer to it.
+#[tactic(auto, unfolding(spec_file::specs::Channels::channel_at))]
 pub fn channel_at<F: TileFile>(
     alloc: Global,
     file: &[u8],

@@ -4,7 +4,7 @@ ghost use Rattle.spec_document.specs.Limits.{IsSide};
 ghost use Rattle.spec_file.specs.declared.TheConstants.{FILE_LIMIT};
 ghost use Rattle.spec_props.specs.Meaning.{kept_of};
 ghost use Rattle.xl_fields.specs.Gives.{Gives, SpanOf};
-ghost use Rattle.xl_read.specs.ChannelHead.{named_at, pixels_at, channel_head_at, channel_of};
+ghost use Rattle.spec_file.specs.ChannelHead.{named_at, pixels_at, channel_head_at, channel_of};
 ghost use Rattle.spec_document.specs.declared.TheConstants.{MAX_KEPT_BYTES};
 
 use crate::listing::{Listing, Owned};
@@ -24,7 +24,7 @@ pub struct ChannelHead<'a, O: Owned> {
 }
 
 impl<'a, O: Owned> Model for ChannelHead<'a, O> {
-    ghost use Rattle.xl_read.specs.ChannelHead as head;
+    ghost use Rattle.spec_file.specs.ChannelHead as head;
 
     ghost Value = { head.ChannelHead };
 
@@ -32,7 +32,7 @@ impl<'a, O: Owned> Model for ChannelHead<'a, O> {
 }
 
 /// The name behind the sides, which are refused, as this kind, where they are not those of this shape.
-#[tactic(auto, unfolding(crate::specs::ChannelHead::named_at))]
+#[tactic(auto, unfolding(spec_file::specs::ChannelHead::named_at))]
 fn named_at(file: &[u8], at: usize, shape: Shape, kind: Kind) -> Result<Span, ReadRefused>
     requires file { length file.now ≤ FILE_LIMIT }
     requires at { at < 2 ^ 32 }
@@ -46,7 +46,7 @@ fn named_at(file: &[u8], at: usize, shape: Shape, kind: Kind) -> Result<Span, Re
 }
 
 /// The pointer to the pixels. Refuses before it what the properties keep, where so many bytes are kept before them.
-#[tactic(auto, unfolding(crate::specs::ChannelHead::pixels_at))]
+#[tactic(auto, unfolding(spec_file::specs::ChannelHead::pixels_at))]
 fn pixels_at<O: Owned>(file: &[u8], props: &Listing<O>, before: u64) -> Result<u32, ReadRefused>
     requires before { before ≤ MAX_KEPT_BYTES }
     ensures read { result ≡ pixels_at file.now O.owner props.now before }
@@ -60,7 +60,7 @@ fn pixels_at<O: Owned>(file: &[u8], props: &Listing<O>, before: u64) -> Result<u
 impl<'a, O: Owned> ChannelHead<'a, O> {
     /// The head at an offset, or its first fault: `kind` where its sides are not those of this shape. So many bytes of
     /// payload are kept before.
-    #[tactic(auto, unfolding(crate::specs::ChannelHead::channel_head_at))]
+    #[tactic(auto, unfolding(spec_file::specs::ChannelHead::channel_head_at))]
     pub fn read(
         alloc: Global,
         file: &'a [u8],
@@ -89,7 +89,7 @@ impl<'a, O: Owned> ChannelHead<'a, O> {
     }
 
     /// The channel or the mask, with its pixels, or their first fault.
-    #[tactic(auto, unfolding(crate::specs::ChannelHead::channel_of))]
+    #[tactic(auto, unfolding(spec_file::specs::ChannelHead::channel_of))]
     pub fn into_channel<F: TileFile>(
         self,
         alloc: Global,

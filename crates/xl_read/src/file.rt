@@ -1,17 +1,18 @@
-ghost use Rattle.std.specs.Prelude.{◌≡◌, ◌≤◌, length, IfOk};
+ghost use Rattle.std.specs.Prelude.{◌≡◌, ◌≤◌, ◌^◌, length, IfOk};
 ghost use Rattle.std.specs.Arc.{arc_value};
 ghost use Rattle.spec_document.specs.Document.{Document as Plain};
 ghost use Rattle.spec_document.specs.declared.Owner.TheVariants as owners;
+ghost use Rattle.spec_document.specs.Forest.{size};
 ghost use Rattle.spec_document.specs.Document.{kept_bytes};
 ghost use Rattle.spec_document.specs.Limits.{IsSide, IsDocument};
 ghost use Rattle.spec_file.specs.declared.TheConstants.{FILE_LIMIT};
 ghost use Rattle.spec_file.specs.Holds.{Holds};
-ghost use Rattle.spec_file.specs.Reading.{blank, reading};
+ghost use Rattle.spec_file.specs.Reading.{blank, image_rule, beginning, reading};
 ghost use Rattle.spec_props.specs.Meaning.{kept_of};
 ghost use Rattle.xl_doc.specs.Numbered.{AreNumbered};
 ghost use Rattle.xl_fields.specs.Gives.{Gives};
 ghost use Rattle.xl_read.specs.Decoded.{IsDecoded};
-ghost use Rattle.xl_read.specs.Yields.{OnRefused};
+ghost use Rattle.xl_read.specs.Yields.{Yields, OnRefused};
 ghost use Rattle.spec_document.specs.declared.TheConstants.{MAX_KEPT_BYTES};
 
 use crate::draft::DocumentDraft;
@@ -23,7 +24,7 @@ use std::alloc::{AllocError, Global};
 use std::sync::Arc;
 use std::thread::Threads;
 use xl_doc::{ColourMap, Document, know_bytes};
-use xl_fields::{Kind, ReadRefusedOrMemory, refuse};
+use xl_fields::{Kind, ReadRefused, ReadRefusedOrMemory, refuse};
 use xl_hier::{FileBeside, TileFile};
 
 /// The offset of the properties of the image.
@@ -50,6 +51,43 @@ fn blank(
     DocumentDraft::new(alloc, header, compression, colours, kept)
 }
 
+/// Refuses what the list of the image keeps, where there is no room for it, and an indexed image without colours.
+#[tactic(auto, unfolding(spec_file::specs::Reading::image_rule))]
+fn check_image(header: &Header, props: &Listing<OfImage>) -> Result<(), ReadRefused>
+    ensures rule { result ≡ image_rule header.now props.now }
+    ensures kept { IfOk result (λ _. kept_bytes (kept_of owners.Image props.now.list) ≤ MAX_KEPT_BYTES) }
+{
+    props.check_kept(0)?;
+    if is_indexed(header.base) && !props.has_colours() {
+        return Err(refuse(Kind::NoColourMap, props.end()));
+    }
+    Ok(())
+}
+
+/// A document before any layer or channel, and the offset of the layer pointers.
+#[derive(Drop)]
+struct Beginning {
+    draft: DocumentDraft,
+    layers: usize,
+}
+
+/// What stands before the layer pointers, or its first fault.
+#[tactic(auto, unfolding(spec_file::specs::Reading::beginning))]
+fn begin(alloc: Global, bytes: &[u8]) -> Result<Beginning, ReadRefusedOrMemory>
+    requires length { length bytes.now ≤ FILE_LIMIT }
+    ensures read { Yields result (λ first. record { document = first.draft; next = first.layers })
+        (beginning bytes.now) }
+    ensures empty { IfOk result (λ first. size first.draft.nodes ≡ 0) }
+    ensures place { IfOk result (λ first. first.layers ≤ 2 ^ 33) }
+{
+    let header = header_at(bytes)?;
+    let props: Listing<OfImage> = Listing::read(alloc, bytes, PROPERTIES)?;
+    check_image(&header, &props)?;
+    let layers = props.end() + 8;
+    let draft = blank(alloc, header, props)?;
+    Ok(Beginning { draft, layers })
+}
+
 /// What reading a file in order gives, or its first fault.
 #[tactic(auto, unfolding(spec_file::specs::Reading::reading))]
 fn read<F: TileFile>(
@@ -62,14 +100,7 @@ fn read<F: TileFile>(
     requires can { F.can_read shared.now }
     ensures { Gives result (reading bytes.now) }
 {
-    let header = header_at(bytes)?;
-    let props: Listing<OfImage> = Listing::read(alloc, bytes, PROPERTIES)?;
-    props.check_kept(0)?;
-    if is_indexed(header.base) && !props.has_colours() {
-        return Err(refuse(Kind::NoColourMap, props.end()).into());
-    }
-    let layers = props.end() + 8;
-    let mut draft = blank(alloc, header, props)?;
+    let Beginning { mut draft, layers } = begin(alloc, bytes)?;
     let channels = nodes_at(alloc, bytes, shared, layers, &mut draft)?;
     channels_at(alloc, bytes, shared, channels, &mut draft)?;
     Ok(draft)
