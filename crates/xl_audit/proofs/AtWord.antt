@@ -88,6 +88,14 @@ module _ {X : Type 0} {H : X → Type 0} (state : (x : X) × H x → FilterState
       subst (λ (x : OrderWord). x.session < 8) (sym is)
       (along_eight s o b.first place d old (chests_of state desks) along b.merge inside)
 
+  -- the session has a desk
+  pub word_has_desk : w.session < length desks
+  word_has_desk =
+      let few = eight in
+      let long = along.eight in
+      let as_many = length-map desks (chest_of state) in
+      omega (arith, few, long, as_many)
+
   -- the session has few calls
   pub word_counts : slice_index old.made w.session < 2 ^ 31
   word_counts = along_counts s.base along.earlier old w.session along.has eight
@@ -95,11 +103,7 @@ module _ {X : Type 0} {H : X → Type 0} (state : (x : X) × H x → FilterState
   -- the desk of its session
   module _ (desk : Desk X H) (at : desk ≡ get_or desks w.session desk) where
     chest_is : chest_of state desk ≡ get_or (chests_of state desks) w.session []
-    chest_is =
-        let few = eight in
-        let long = along.eight in
-        let as_many = length-map desks (chest_of state) in
-        chest_at state desks w.session desk desk (omega (arith, few, long, as_many)) at
+    chest_is = chest_at state desks w.session desk desk word_has_desk at
 
     -- has the filters of its call
     pub word_finds : FitsChest (chest_of state desk) (line_in calls w)

@@ -1,11 +1,22 @@
-use Rattle.std.proofs.Common.{◌∙◌, ap}
+use Rattle.std.proofs.Common.{◌≡◌, false, length, rules, arith, ◌∙◌, ap}
 use Rattle.spec_audit.specs.Output.{Output}
 use Rattle.xl_audit.proofs.Along.{along_goes}
-use Rattle.xl_audit.proofs.AtWord.{along_first, word_counts, word_finds, word_fails, word_passes, words_pass}
+use Rattle.xl_audit.proofs.AtWord.{along_first, word_counts, word_has_desk, word_finds, word_fails, word_passes, words_pass}
 use Rattle.xl_audit.proofs.verdict.first_to_fail.Goals as goal
 
 pub loop-word-init : goal.loop-word-init
 loop-word-init g c = λ s b. along_first _ _ _ _ _ b
+
+pub index_mut-desk-requires : goal.index_mut-desk-requires
+index_mut-desk-requires g c =
+    let full : c.loop-word.desks.len ≡ length c.loop-word.desks.items = search rules in
+    omega (
+      arith,
+      full,
+      word_has_desk (λ x. (goal.PointFilter-dyn g x).state x.1) _ _ _ _ _ c.requires.1 _ _ (record { session = 0; index = 0; end = false }) _
+          c.loop-word.desks.items (c.loop-word.invariant _ c.requires.1) (c.as_slice-word-items.ensures.value ∙ ap (λ (o : Output). o.order) c.output.view_is)
+          c.loop-word-test.true,
+    )
 
 pub word-requires-clause-few : goal.word-requires-clause-few
 word-requires-clause-few g c =

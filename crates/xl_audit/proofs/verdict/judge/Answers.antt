@@ -10,7 +10,7 @@ first_to_fail-requires g c = (
   _,
   begun_first c.args.base (lists_of c.args.script.now) _ (first_chests (λ x. (goal.PointFilter-dyn g x).state x.1) c.args.chests.items)
       _ _ _ (few_chests (λ x. (goal.PointFilter-dyn g x).state x.1) c.args.chests.items c.requires.few) c.requires.full c.requires.fits
-      c.requires.merge c.requires.prints c.in_ok-desks.ensures c.in_ok-walk.ensures.come (c.as_slice.ensures.value ∙ c.in_ok-calls.ensures)
+      c.requires.merge c.requires.prints c.in_ok-desks.ensures c.in_ok-walk.ensures.come (c.as_slice-calls.ensures.value ∙ c.in_ok-calls.ensures)
       c.in_ok-walk.ensures.wanted,
 )
 
@@ -20,6 +20,6 @@ returns g c =
     is _
     (begun_first c.args.base (lists_of c.args.script.now) _ (first_chests (λ x. (goal.PointFilter-dyn g x).state x.1) c.args.chests.items)
     _ _ _ (few_chests (λ x. (goal.PointFilter-dyn g x).state x.1) c.args.chests.items c.requires.few) c.requires.full c.requires.fits
-    c.requires.merge c.requires.prints c.in_ok-desks.ensures c.in_ok-walk.ensures.come (c.as_slice.ensures.value ∙ c.in_ok-calls.ensures)
+    c.requires.merge c.requires.prints c.in_ok-desks.ensures c.in_ok-walk.ensures.come (c.as_slice-calls.ensures.value ∙ c.in_ok-calls.ensures)
     c.in_ok-walk.ensures.wanted))
     c.first_to_fail.ensures
