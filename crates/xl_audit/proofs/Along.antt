@@ -25,12 +25,12 @@ use Rattle.spec_audit.proofs.Merged.{all_get, merge_named, call_line, names_save
 use Rattle.spec_audit.proofs.Walking.{Walked, OutFits, walked_begin, walked_more, walked_index, walked_out}
 use Rattle.spec_standing.proofs.GoesOn.{few-versions, few_made, kept-stands}
 use Rattle.spec_standing.proofs.Ids.{has_ids}
-use Rattle.xl_audit.specs.Auditing.{filters_in, IsFull}
-use Rattle.xl_audit.specs.Calls.{calls_in, line_in, IsNoCall, FitsChest}
-use Rattle.xl_audit.specs.Versions.{version_named, WantsIfAny, WantsOfWord, AreWanted}
+use Rattle.xl_audit.specs.Auditing.{filters_in, IsFull, FitsChest}
+use Rattle.xl_judging.specs.Calls.{calls_in, line_in, IsNoCall}
+use Rattle.xl_judging.specs.Versions.{version_named, WantsIfAny, WantsOfWord, AreWanted}
 use Rattle.xl_audit.specs.Walking.{MayGoOn, HasCome, IsNextWord, IsJudged, MayStand, filters_at}
 use Rattle.xl_audit.specs.declared.walk.Walk.{Walk}
-use Rattle.xl_audit.proofs.Calling.{line_is}
+use Rattle.xl_judging.proofs.Calling.{line_is}
 use Rattle.xl_audit.proofs.Fitting.{full_agrees, full_at, word_fits}
 
 -- ---- what the shape says of a word
@@ -192,22 +192,22 @@ along_more s o first place d old new chests chest merge along lt judged same kep
 module _ (s : Start) (o : Output) (first : List (List (Option FilterState))) (place : ℕ) (d : OrderWord) (walk : Walk)
     (chests : List (List (Option FilterState))) (along : IsAlong s o first place walk chests) (merge : IsMerge s.scripts o.order)
     (lt : place < length o.order) where
-  pub word_eight : (get_or o.order place d).session < 8
-  word_eight = all_get (λ (x : OrderWord). x.session < 8) o.order place d merge.sessions lt
+  pub along_eight : (get_or o.order place d).session < 8
+  along_eight = all_get (λ (x : OrderWord). x.session < 8) o.order place d merge.sessions lt
 
   -- its version is wanted
-  pub word_wants : WantsIfAny walk.versions.wanted.items
+  pub along_wants : WantsIfAny walk.versions.wanted.items
       (version_named (call_at s.scripts (get_or o.order place d)) (printed_at o.replies (get_or o.order place d)).reply)
-  word_wants =
+  along_wants =
       let w = get_or o.order place d in
       let all = all_get (WantsOfWord (calls_in s.scripts) o.replies walk.versions.wanted.items) o.order place d along.wanted lt in
       subst (λ (l : Line). WantsIfAny walk.versions.wanted.items (version_named l (printed_at o.replies w).reply))
-      (line_is s.scripts (calls_in s.scripts) w refl word_eight) all
+      (line_is s.scripts (calls_in s.scripts) w refl along_eight) all
 
   -- and its filters are there
-  pub word_finds : FitsFilters (map length first) s.scripts → AllByRecursion IsFull first
+  pub along_finds : FitsFilters (map length first) s.scripts → AllByRecursion IsFull first
       → FitsChest (get_or chests (get_or o.order place d).session []) (line_in (calls_in s.scripts) (get_or o.order place d))
-  word_finds fits full =
+  along_finds fits full =
       let w = get_or o.order place d in
-      subst (FitsChest (get_or chests w.session [])) (sym (line_is s.scripts (calls_in s.scripts) w refl word_eight))
-      (word_fits s.scripts first (get_or chests w.session []) w fits full (along.slots w.session word_eight))
+      subst (FitsChest (get_or chests w.session [])) (sym (line_is s.scripts (calls_in s.scripts) w refl along_eight))
+      (word_fits s.scripts first (get_or chests w.session []) w fits full (along.slots w.session along_eight))

@@ -9,10 +9,10 @@ use Rattle.xl_doc.specs.Numbered.{AreNumbered}
 use Rattle.spec_history.specs.Machine.{initial}
 use Rattle.spec_standing.specs.Now.{Now, first_now, world_of}
 use Rattle.xl_desk.proofs.Opened.{stands_opened}
-use Rattle.xl_audit.specs.Versions.{with_share, HasVersions}
+use Rattle.xl_judging.specs.Versions.{with_share, HasVersions}
 use Rattle.xl_audit.specs.Walking.{HasCome}
-use Rattle.xl_audit.specs.declared.versions.Versions.{Versions}
-use Rattle.xl_audit.proofs.Sharing.{versions_begin}
+use Rattle.xl_judging.specs.declared.versions.Versions.{Versions}
+use Rattle.xl_judging.proofs.Sharing.{versions_begin}
 
 none_seen : (n i : ℕ) → slice_index (replicate n 0) i ≡ 0
 none_seen zero i = refl

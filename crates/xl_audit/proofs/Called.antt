@@ -27,7 +27,7 @@ use Rattle.spec_audit.proofs.Decides.{plain_passes, passes_plain}
 use Rattle.spec_audit.proofs.Going as going
 use Rattle.spec_standing.specs.Now.{Now, world_of, Stands}
 use Rattle.spec_standing.proofs.GoesOn.{GoesOn, goes_on, shows}
-use Rattle.xl_audit.specs.Judging.{digest_with}
+use Rattle.xl_judging.specs.Judging.{digest_with}
 use Rattle.xl_audit.specs.Walking.{HasCome, IsNextWord, IsJudged, IsCounted, IsCalled, filters_at}
 use Rattle.xl_audit.specs.declared.walk.Walk.{Walk}
 use Rattle.xl_audit.proofs.Entering.{come_called}

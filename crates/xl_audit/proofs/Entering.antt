@@ -22,10 +22,10 @@ use Rattle.spec_audit.proofs.Going.{seen_set}
 use Rattle.spec_standing.specs.Now.{Now, now_of, world_of, Stands}
 use Rattle.spec_standing.proofs.GoesOn.{GoesOn, counted, out-call, submitted}
 use Rattle.spec_standing.proofs.Pictures.{pictures-entry, is_right}
-use Rattle.xl_audit.specs.Versions.{with_share, HasVersions}
+use Rattle.xl_judging.specs.Versions.{with_share, HasVersions}
 use Rattle.xl_audit.specs.Walking.{HasCome, IsCounted}
 use Rattle.xl_audit.specs.declared.walk.Walk.{Walk}
-use Rattle.xl_audit.proofs.Sharing.{versions_step, versions_stay}
+use Rattle.xl_judging.proofs.Sharing.{versions_step, versions_stay}
 
 -- ---- the versions behind an entry
 

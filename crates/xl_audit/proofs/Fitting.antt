@@ -19,8 +19,7 @@ use Rattle.spec_text.specs.declared.OrderWord.{OrderWord}
 use Rattle.spec_text.specs.Text.{calls_of}
 use Rattle.spec_audit.specs.Walk.{call_at}
 use Rattle.spec_audit.proofs.Pieces.{and_parts}
-use Rattle.xl_audit.specs.Auditing.{filters_in, IsFull}
-use Rattle.xl_audit.specs.Calls.{FitsChest}
+use Rattle.xl_audit.specs.Auditing.{filters_in, IsFull, FitsChest}
 
 -- ---- chests
 

@@ -32,12 +32,12 @@ use Rattle.spec_audit.proofs.Going as going
 use Rattle.spec_standing.specs.Now.{Now, world_of, Stands}
 use Rattle.spec_standing.proofs.GoesOn.{few-versions}
 use Rattle.spec_standing.proofs.Pictures.{is_right}
-use Rattle.xl_audit.specs.Judging.{peek_fits, Decides, shows_of, shows_version, PeekIsRight}
-use Rattle.xl_audit.specs.Versions.{version_named, version_shown, WantsIfAny, HasVersions}
+use Rattle.xl_judging.specs.Judging.{peek_fits, Decides, shows_of, shows_version, PeekIsRight}
+use Rattle.xl_judging.specs.Versions.{version_named, version_shown, WantsIfAny, HasVersions}
 use Rattle.xl_audit.specs.Walking.{HasCome, IsNextWord, IsJudged, IsCounted, filters_at}
 use Rattle.xl_audit.specs.declared.walk.Walk.{Walk}
 use Rattle.xl_audit.proofs.Entering.{come_quietly, stands_peeked, out_called, entry_peek}
-use Rattle.xl_audit.proofs.Judged.{IsThereAt, fits_peek, peek_is_fit}
+use Rattle.xl_judging.proofs.Judged.{IsThereAt, fits_peek, peek_is_fit}
 use Rattle.xl_audit.proofs.Shown.{same_bytes, bytes_same, kept_is}
 
 -- ---- a peek makes no version

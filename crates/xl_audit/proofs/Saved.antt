@@ -16,13 +16,13 @@ use Rattle.spec_audit.specs.Walk.{Start, call_at, printed_at, entry_at, IsAllowe
 use Rattle.spec_audit.proofs.Going as going
 use Rattle.spec_standing.specs.Now.{Now, Stands}
 use Rattle.spec_standing.proofs.SaveEntries.{stands_started, stands_ended}
-use Rattle.xl_audit.specs.Calls.{IsNoCall}
-use Rattle.xl_audit.specs.Judging.{end_fits}
+use Rattle.xl_judging.specs.Calls.{IsNoCall}
+use Rattle.xl_judging.specs.Judging.{end_fits}
 use Rattle.xl_audit.specs.Walking.{HasCome, IsNextWord, IsJudged, MayStand, filters_at}
-use Rattle.xl_audit.specs.declared.versions.Versions.{Versions}
+use Rattle.xl_judging.specs.declared.versions.Versions.{Versions}
 use Rattle.xl_audit.specs.declared.walk.Walk.{Walk}
 use Rattle.xl_audit.proofs.Entering.{come_quietly}
-use Rattle.xl_audit.proofs.Judged.{fits_end, end_is_fit}
+use Rattle.xl_judging.proofs.Judged.{fits_end, end_is_fit}
 
 -- no save is out where one starts
 none_out : (out : Option Saving) (w : OrderWord) → MayStand out w lines.save false → out ≡ None

@@ -26,7 +26,7 @@ use Rattle.spec_world.specs.Right.{IsRight}
 use Rattle.spec_world.specs.Exact.{SlotsAreExact}
 use Rattle.spec_audit.specs.Deciding.{IsPlainCall}
 use Rattle.spec_standing.specs.History.{Shows}
-use Rattle.xl_audit.specs.Judging.{digest_with}
+use Rattle.xl_judging.specs.Judging.{digest_with}
 
 -- ---- bytes that are compared
 

@@ -15,12 +15,13 @@ use Rattle.spec_text.specs.declared.OrderWord.{OrderWord}
 use Rattle.spec_audit.specs.Deciding.{IsPlainCall}
 use Rattle.spec_audit.specs.Output.{Printed, Output}
 use Rattle.spec_audit.specs.Walk.{Start, call_at, printed_at}
-use Rattle.xl_audit.specs.Calls.{calls_in, line_in, IsNoCall, FitsChest}
-use Rattle.xl_audit.specs.Judging.{end_fits}
-use Rattle.xl_audit.specs.Versions.{version_named, WantsIfAny}
+use Rattle.xl_audit.specs.Auditing.{FitsChest}
+use Rattle.xl_judging.specs.Calls.{calls_in, line_in, IsNoCall}
+use Rattle.xl_judging.specs.Judging.{end_fits}
+use Rattle.xl_judging.specs.Versions.{version_named, WantsIfAny}
 use Rattle.xl_audit.specs.Walking.{HasCome, IsNextWord, IsJudged, IsPeeked, IsCalled, filters_at}
 use Rattle.xl_audit.specs.declared.walk.Walk.{Walk}
-use Rattle.xl_audit.proofs.Calling.{line_is}
+use Rattle.xl_judging.proofs.Calling.{line_is}
 use Rattle.xl_audit.proofs.Called.{called}
 use Rattle.xl_audit.proofs.Peeked.{peeked}
 use Rattle.xl_audit.proofs.Saved.{started, ended}

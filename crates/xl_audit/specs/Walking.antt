@@ -22,9 +22,9 @@ use Rattle.spec_audit.specs.Output.{Printed, Output}
 use Rattle.spec_audit.specs.Walk.{Start, call_at, printed_at, entry_at, seen_by, Passes}
 use Rattle.spec_standing.specs.Group.{HasIds}
 use Rattle.spec_standing.specs.Now.{Now, at_now, response, world_of, Gives, ShowsNow, IsKeptNow, Stands}
-use Rattle.xl_audit.specs.Calls.{IsNoCall}
-use Rattle.xl_audit.specs.Judging.{digest_with, Decides, PeekIsRight}
-use Rattle.xl_audit.specs.Versions.{shares_after, HasVersions}
+use Rattle.xl_judging.specs.Calls.{IsNoCall}
+use Rattle.xl_judging.specs.Judging.{digest_with, Decides, PeekIsRight}
+use Rattle.xl_judging.specs.Versions.{shares_after, HasVersions}
 use Rattle.xl_audit.specs.declared.walk.Walk.{Walk}
 
 -- ---- what stands at a place

@@ -3,10 +3,10 @@ ghost use Rattle.std.specs.Prelude.{◌≡◌, [], IfOk};
 ghost use Rattle.xl_audit.specs.Walking.{HasCome};
 ghost use Rattle.xl_doc.specs.Numbered.{AreNumbered};
 
-use crate::versions::Versions;
 use crate::walk::Walk;
 use std::alloc::{AllocError, Global};
 use xl_doc::Document;
+use xl_judging::Versions;
 use xl_standing::{Standing, Trail, first_cache};
 
 /// A walk that has not begun, from the document of the run and the versions that it will be asked for.

@@ -6,15 +6,14 @@ ghost use Rattle.spec_audit.specs.Output.{IsMerge};
 ghost use Rattle.spec_audit.specs.Verdicts.{IsVerdict};
 ghost use Rattle.spec_audit.specs.Walk.{AllPass, FailsAt};
 ghost use Rattle.xl_audit.specs.Auditing.{ArePrintable, IsFull, padded, start_of};
-ghost use Rattle.xl_audit.specs.Versions.{AreWanted};
+ghost use Rattle.xl_judging.specs.Versions.{AreWanted};
+ghost use Rattle.xl_audit.specs.Begun.{HasBegun, IsFirst};
 ghost use Rattle.xl_audit.specs.Walking.{HasCome};
 ghost use Rattle.xl_doc.specs.Numbered.{AreNumbered};
 ghost use Rattle.xl_filters.specs.Chests.{states, states_in};
 ghost use Rattle.xl_script.specs.Lines.{lists_of};
 
 use crate::beginning::first_walk;
-use crate::calls::{SessionCalls, script_calls};
-use crate::versions::wanted_versions;
 use crate::walk::Walk;
 use spec_audit::Verdict;
 use std::alloc::{AllocError, Global};
@@ -23,7 +22,7 @@ use xl_blend::Steps;
 use xl_compose::Picture;
 use xl_doc::Document;
 use xl_filters::{Chest, PointFilter};
-use xl_printed::{Output, read_shaped};
+use xl_judging::{Output, SessionCalls, read_shaped, script_calls, wanted_versions};
 use xl_script::{OrderWord, SESSIONS, Script};
 use xl_standing::Desk;
 
@@ -101,6 +100,29 @@ fn walk_along(
     first_walk(alloc, base, wanted)
 }
 
+// The first word of the order that fails, where the walk has not begun.
+fn first_to_fail<L: Ledger>(
+    alloc: Global,
+    walk: &mut Walk,
+    desks: &mut Vec<Desk>,
+    calls: &[SessionCalls],
+    output: &Output,
+    steps: &mut Steps<L>,
+) -> Result<Option<OrderWord>, AllocError>
+    requires { HasBegun output.now calls.now walk.old
+        (map (λ d. states_in state d.chest) desks.old.items) }
+    ensures { IfOk result (IsFirst output.now calls.now walk.old
+        (map (λ d. states_in state d.chest) desks.old.items)) }
+{
+    for word in output.order.as_slice() {
+        let desk = &mut desks[word.session as usize];
+        if !walk.word(alloc, calls, output, *word, desk, steps)? {
+            return Ok(Some(*word));
+        }
+    }
+    Ok(None)
+}
+
 // The first word of the order that fails.
 fn judge<L: Ledger>(
     alloc: Global,
@@ -125,15 +147,10 @@ fn judge<L: Ledger>(
         w.index)) }
 {
     let calls = script_calls(alloc, script)?;
-    let mut walk = walk_along(alloc, base, calls.as_slice(), output)?;
+    let calls = calls.as_slice();
+    let mut walk = walk_along(alloc, base, calls, output)?;
     let mut desks = session_desks(alloc, chests)?;
-    for word in output.order.as_slice() {
-        let desk = &mut desks[word.session as usize];
-        if !walk.word(alloc, calls.as_slice(), output, *word, desk, steps)? {
-            return Ok(Some(*word));
-        }
-    }
-    Ok(None)
+    first_to_fail(alloc, &mut walk, &mut desks, calls, output, steps)
 }
 
 /// The verdict on an output of a run of the script, which started with this document and these filters.

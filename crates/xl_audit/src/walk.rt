@@ -1,5 +1,5 @@
 //! What a walk along an order keeps.
-use crate::versions::Versions;
+use xl_judging::Versions;
 use xl_standing::Standing;
 
 /// What stands at a place of the order.

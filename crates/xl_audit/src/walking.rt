@@ -9,27 +9,28 @@ ghost use Rattle.spec_audit.specs.Deciding.{IsPlainCall};
 ghost use Rattle.spec_script.specs.Script.{Line};
 ghost use Rattle.spec_tables.specs.Agrees.{Agrees, AreThere, SameSlots};
 ghost use Rattle.spec_audit.specs.Walk.{Start, call_at, printed_at};
-ghost use Rattle.xl_audit.specs.Calls.{calls_in, line_in, FitsChest};
-ghost use Rattle.xl_audit.specs.Judging as judging;
-ghost use Rattle.xl_audit.specs.Versions.{shares_after, version_named, WantsIfAny};
+ghost use Rattle.xl_audit.specs.Auditing.{FitsChest};
+ghost use Rattle.xl_judging.specs.Calls.{calls_in, line_in};
+ghost use Rattle.xl_judging.specs.Judging as judging;
+ghost use Rattle.xl_judging.specs.Versions.{shares_after, version_named, WantsIfAny};
 ghost use Rattle.xl_audit.specs.Walking.{MayGoOn, HasCome, IsNextWord, IsJudged, IsPeeked, IsCalled, filters_at};
-ghost use Rattle.xl_calls.specs.Calls.{call_of};
-ghost use Rattle.xl_calls.specs.Replies.{reply_of};
+ghost use Rattle.xl_desk.specs.Calls.{call_of};
+ghost use Rattle.xl_desk.specs.Replies.{reply_of};
 ghost use Rattle.xl_filters.specs.Chests.{states_in};
 
-use crate::calls::{SessionCalls, call_at};
-use crate::judging::{end_fits, is_plain, is_printed, peek_fits, shows_version};
 use crate::walk::Walk;
 use std::alloc::{AllocError, Global};
 use std::sync::ledger::Ledger;
 use xl_blend::Steps;
-use xl_calls::{Call, Reply};
 use xl_compose::Picture;
 use xl_doc::{NodeId, TileAt};
 use xl_filters::PointFilter;
-use xl_printed::{Output, Printed};
+use xl_judging::{
+    Output, Printed, SessionCalls, call_at, end_fits, is_plain, is_printed, peek_fits,
+    shows_version,
+};
 use xl_script::OrderWord;
-use xl_standing::{Desk, has_stack, has_tile};
+use xl_standing::{Call, Desk, Reply, has_stack, has_tile};
 
 // Whether a reply says that a version was made.
 fn is_changed(reply: Reply) -> bool

@@ -1,5 +1,5 @@
 use Rattle.std.proofs.Common.{◌∙◌, ap}
-use Rattle.xl_audit.specs.Versions.{with_share}
+use Rattle.xl_judging.specs.Versions.{with_share}
 use Rattle.xl_audit.proofs.Begun.{begun}
 use Rattle.xl_audit.proofs.beginning.first_walk.Goals as goal
 

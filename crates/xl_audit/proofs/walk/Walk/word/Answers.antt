@@ -3,8 +3,8 @@ use Rattle.std.proofs.Common.{rules, ◌∙◌, ap}
 use Rattle.std.proofs.lemmas.Result.{IfOk-weaker}
 use Rattle.spec_script.specs.Script as lines
 use Rattle.spec_audit.specs.Output.{Printed}
-use Rattle.xl_calls.specs.Calls.{call_of}
-use Rattle.xl_calls.specs.Replies.{reply_of}
+use Rattle.xl_desk.specs.Calls.{call_of}
+use Rattle.xl_desk.specs.Replies.{reply_of}
 use Rattle.xl_filters.specs.Chests.{states_in}
 use Rattle.xl_audit.proofs.Worded.{word_started, word_ended, word_called, word_peeked}
 use Rattle.xl_audit.proofs.walk.Walk.word.Goals as goal

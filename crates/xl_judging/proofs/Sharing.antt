@@ -6,7 +6,7 @@ use Rattle.std.proofs.lemmas.Bool.{ltb-true, ltb-false}
 use Rattle.std.proofs.lemmas.Bool.Decides.{eqb_tells}
 use Rattle.spec_document.specs.Document.{Document}
 use Rattle.spec_history.specs.Machine.{State, latest, document_at, initial}
-use Rattle.xl_audit.specs.Versions.{is_wanted, share_at, with_share, HasVersions}
+use Rattle.xl_judging.specs.Versions.{is_wanted, share_at, with_share, HasVersions}
 
 wanted_within : (wanted : List Bool) (v : ℕ) → is_wanted wanted v ≡ true → v < length wanted
 wanted_within [] v is = let bad : false ≡ true = is in cc

@@ -1,12 +1,8 @@
 -- The call of a word, by the calls of each session.
-use Rattle.std.specs.Prelude.{ℕ, List, [], map, Option, slice_get, unwrap_or}
+use Rattle.std.specs.Prelude.{ℕ, List, [], map, slice_get, unwrap_or}
 use Rattle.spec_document.specs.Rect.{count_from}
-use Rattle.spec_filters.specs.declared.FilterState.{FilterState}
-use Rattle.spec_history.specs.Calls.{IsCall}
-use Rattle.spec_history.specs.Limited.{edits_of}
 use Rattle.spec_script.specs.Script as lines
 use Rattle.spec_script.specs.Script.{Line}
-use Rattle.spec_tables.specs.Agrees.{AreThere}
 use Rattle.spec_text.specs.declared.OrderWord.{OrderWord}
 use Rattle.spec_audit.specs.Output.{calls_for}
 
@@ -24,9 +20,3 @@ abbrev pub IsNoCall : Line → Type 0
 IsNoCall (lines.call c) = ⊥
 IsNoCall lines.save = Unit {0}
 IsNoCall (lines.forget slot) = Unit {0}
-
--- a call is within its type, and its filters are in the chest
-abbrev pub FitsChest : (chest : List (Option FilterState)) → Line → Type 0
-FitsChest chest (lines.call c) = IsCall c × AreThere chest (edits_of c)
-FitsChest chest lines.save = Unit {0}
-FitsChest chest (lines.forget slot) = Unit {0}

@@ -1,7 +1,7 @@
 //! The versions that printed peeks show.
 ghost use Rattle.std.specs.Prelude.{◌≡◌, ◌≤◌, true, [], length, OnOk, IfOk, Some, None, MatchOption};
-ghost use Rattle.xl_audit.specs.Calls.{line_in};
-ghost use Rattle.xl_audit.specs.Versions.{version_named, is_wanted, WantsMore, WantsOfWord, AreWanted, share_at, with_share};
+ghost use Rattle.xl_judging.specs.Calls.{line_in};
+ghost use Rattle.xl_judging.specs.Versions.{version_named, is_wanted, WantsMore, WantsOfWord, AreWanted, share_at, with_share};
 ghost use Rattle.spec_audit.specs.Walk.{printed_at};
 
 use crate::calls::{SessionCalls, call_at};
@@ -60,7 +60,7 @@ fn want_of_word(
 }
 
 /// Which versions are shown by the printed replies to peeks.
-pub(crate) fn wanted_versions(
+pub fn wanted_versions(
     alloc: Global,
     calls: &[SessionCalls],
     output: &Output,
@@ -77,14 +77,14 @@ pub(crate) fn wanted_versions(
 
 /// Shares of the versions that are wanted, as far as they were made.
 #[derive(Drop)]
-pub(crate) struct Versions {
-    pub(crate) wanted: Vec<bool>,
-    pub(crate) shares: Vec<Option<Document>>,
+pub struct Versions {
+    pub wanted: Vec<bool>,
+    pub shares: Vec<Option<Document>>,
 }
 
 impl Versions {
     /// No version was made.
-    pub(crate) fn new(alloc: Global, wanted: Vec<bool>) -> Versions
+    pub fn new(alloc: Global, wanted: Vec<bool>) -> Versions
         ensures wanted { result.wanted ≡ wanted }
         ensures shares { result.shares.items ≡ [] }
     {
@@ -104,7 +104,7 @@ impl Versions {
     }
 
     /// The document of the next version.
-    pub(crate) fn add(&mut self, alloc: Global, document: &Document) -> Result<(), AllocError>
+    pub fn add(&mut self, alloc: Global, document: &Document) -> Result<(), AllocError>
         ensures wanted { OnOk result (self.new.wanted ≡ self.old.wanted) }
         ensures shares { OnOk result (self.new.shares.items
             ≡ with_share self.old.wanted.items document.now self.old.shares.items) }
@@ -123,7 +123,7 @@ impl Versions {
     }
 
     /// The document of a version that is wanted and was made.
-    pub(crate) fn document(&self, version: u32) -> Option<&Document>
+    pub fn document(&self, version: u32) -> Option<&Document>
         ensures { MatchOption result
             (share_at self.now.shares.items version ≡ None)
             (λ d. share_at self.now.shares.items version ≡ Some d.now) }

@@ -2,7 +2,7 @@
 ghost use Rattle.std.specs.Prelude.{◌≡◌, [], ◌∷◌, ◌++◌, map, OnOk, IfOk, MatchOption};
 ghost use Rattle.spec_script.specs.Script as script;
 ghost use Rattle.spec_text.specs.Text.{calls_of};
-ghost use Rattle.xl_audit.specs.Calls.{calls_in, line_at, line_in, IsNoCall};
+ghost use Rattle.xl_judging.specs.Calls.{calls_in, line_at, line_in, IsNoCall};
 ghost use Rattle.xl_calls.specs.Calls.{call_of};
 ghost use Rattle.xl_script.specs.Lines.{line_of, lines_of, lists_of};
 
@@ -13,7 +13,7 @@ use xl_script::{Line, OrderWord, SESSIONS, Script};
 
 /// The calls of a session: its lines but those by which it drops a filter.
 #[derive(Drop)]
-pub(crate) struct SessionCalls<'a> {
+pub struct SessionCalls<'a> {
     items: Vec<&'a Line>,
 }
 
@@ -70,7 +70,7 @@ fn session_calls<'a>(alloc: Global, lines: &'a [Line]) -> Result<SessionCalls<'a
 }
 
 /// The calls of each of the eight sessions.
-pub(crate) fn script_calls<'a>(
+pub fn script_calls<'a>(
     alloc: Global,
     script: &'a Script,
 ) -> Result<Vec<SessionCalls<'a>>, AllocError>
@@ -84,7 +84,7 @@ pub(crate) fn script_calls<'a>(
 }
 
 /// The call of a word. None where it is a save.
-pub(crate) fn call_at<'a>(calls: &[SessionCalls<'a>], word: OrderWord) -> Option<&'a Call>
+pub fn call_at<'a>(calls: &[SessionCalls<'a>], word: OrderWord) -> Option<&'a Call>
     ensures { MatchOption result
         (IsNoCall (line_in calls.now word))
         (λ c. line_in calls.now word ≡ script.call (call_of c.now)) }

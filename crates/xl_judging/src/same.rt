@@ -53,7 +53,7 @@ fn is_top(group: Option<u32>, version: u32, printed: Reply) -> bool
 }
 
 /// Whether a reply is the printed one.
-pub(crate) fn is_same(reply: Reply, printed: Reply) -> bool
+pub fn is_same(reply: Reply, printed: Reply) -> bool
     ensures same { result ≡ true → reply_of printed ≡ reply_of reply }
     ensures found { reply_of printed ≡ reply_of reply → result ≡ true }
 {

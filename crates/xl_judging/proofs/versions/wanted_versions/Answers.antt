@@ -1,7 +1,7 @@
 use Rattle.std.proofs.Common.{◌≡◌, ◌∙◌, ap}
 use Rattle.spec_audit.specs.Output.{Output}
-use Rattle.xl_audit.proofs.Wanting.{wanted_on}
-use Rattle.xl_audit.proofs.versions.wanted_versions.Goals as goal
+use Rattle.xl_judging.proofs.Wanting.{wanted_on}
+use Rattle.xl_judging.proofs.versions.wanted_versions.Goals as goal
 
 pub loop-word-preserved : goal.loop-word-preserved
 loop-word-preserved c =

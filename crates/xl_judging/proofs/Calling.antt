@@ -12,7 +12,7 @@ use Rattle.spec_audit.specs.Output.{calls_for}
 use Rattle.spec_audit.specs.Walk.{call_at}
 use Rattle.xl_script.specs.declared.script.Line.{Line}
 use Rattle.xl_script.specs.Lines.{line_of, lines_of, lists_of}
-use Rattle.xl_audit.specs.Calls.{calls_in, line_in}
+use Rattle.xl_judging.specs.Calls.{calls_in, line_in}
 
 -- ---- one session
 

@@ -2,8 +2,8 @@ use Rattle.std.proofs.Common.{◌+◌, List, sym, ◌∙◌, ap, subst}
 use Rattle.spec_text.specs.Text.{calls_of}
 use Rattle.xl_script.specs.declared.script.Line.{Line}
 use Rattle.xl_script.specs.Lines.{lines_of}
-use Rattle.xl_audit.proofs.Calling.{AreGathered, gathered_more}
-use Rattle.xl_audit.proofs.calls.script_calls.Goals as goal
+use Rattle.xl_judging.proofs.Calling.{AreGathered, gathered_more}
+use Rattle.xl_judging.proofs.calls.script_calls.Goals as goal
 
 pub loop-session-preserved : goal.loop-session-preserved
 loop-session-preserved c =

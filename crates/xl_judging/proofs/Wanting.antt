@@ -8,8 +8,8 @@ use Rattle.spec_text.specs.declared.OrderWord.{OrderWord}
 use Rattle.spec_audit.specs.Output.{Printed}
 use Rattle.spec_audit.specs.Walk.{printed_at}
 use Rattle.spec_script.specs.Script.{Line}
-use Rattle.xl_audit.specs.Calls.{line_in}
-use Rattle.xl_audit.specs.Versions.{version_named, WantsIfAny, WantsMore, WantsOfWord, AreWanted}
+use Rattle.xl_judging.specs.Calls.{line_in}
+use Rattle.xl_judging.specs.Versions.{version_named, WantsIfAny, WantsMore, WantsOfWord, AreWanted}
 
 pub wants_more : (old new : List Bool) (named : Option ℕ) → WantsMore old new → WantsIfAny old named → WantsIfAny new named
 wants_more old new None more wants = tt

@@ -11,7 +11,7 @@ use Rattle.spec_script.specs.Script.{Line}
 use Rattle.spec_text.specs.declared.OrderWord.{OrderWord}
 use Rattle.spec_audit.specs.Output.{Printed}
 use Rattle.spec_audit.specs.Walk.{printed_at}
-use Rattle.xl_audit.specs.Calls.{line_in}
+use Rattle.xl_judging.specs.Calls.{line_in}
 
 -- ---- which versions are shown
 

@@ -1,0 +1,4 @@
+pub mod Judged
+pub mod Calling
+pub mod Wanting
+pub mod Sharing
