@@ -11,7 +11,7 @@ use Rattle.spec_history.specs.declared.TheConstants.{MAX_ENTRIES}
 use Rattle.spec_world.specs.World.{World, entries_owed, free_entries}
 use Rattle.spec_world.specs.Events as events
 use Rattle.spec_world.specs.Events.{Outcome}
-use Rattle.xl_desk.specs.Built.{IsNoPeek}
+use Rattle.xl_desk.specs.Applicable.{IsNoPeek}
 use Rattle.spec_cache.specs.Cache.{install}
 use Rattle.spec_filters.specs.declared.FilterState.{FilterState}
 use Rattle.spec_history.specs.Machine.{Call, Reply, answer}
