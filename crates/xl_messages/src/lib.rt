@@ -5,7 +5,5 @@
 mod faults;
 mod lines;
 mod stops;
-#[cfg(test)]
-mod tests;
 
 pub use stops::{VERSION, message};
