@@ -8,6 +8,8 @@ mod lines;
 #[cfg(test)]
 mod made;
 #[cfg(test)]
+mod messages;
+#[cfg(test)]
 mod scripts;
 #[cfg(test)]
 mod shapes;

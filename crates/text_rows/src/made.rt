@@ -2,22 +2,13 @@
 use crate::lines::keyword_and_number;
 use std::alloc::{AllocError, Global};
 use std::test::Fail;
-use xl_doc::NodeId;
+use xl_doc::{Document, NodeId};
 use xl_report::{Made, make};
-use xl_script::Line;
+use xl_script::{Line, Script};
 
 // Without a clause, so that a test need not carry one.
 fn make_seed(alloc: Global, seed: u32) -> Result<Made, AllocError> {
     make(alloc, seed)
-}
-
-#[test]
-fn document_has_ten_nodes(rt: HostRuntime) -> Result<(), Fail> {
-    let made = make_seed(rt.alloc(), 7)?;
-    assert_eq!(rt; made.document.tree.len(), 10);
-    assert_eq!(rt; made.document.area(), 8 * 512 * 384 + 2 * 1024 * 768);
-    assert!(rt; made.document.tree.find(NodeId(10)).is_some());
-    Ok(())
 }
 
 // How many lines have a keyword.
@@ -38,12 +29,35 @@ fn counts(lines: &[Line]) -> [usize; 4] {
     ]
 }
 
-#[test]
-fn each_session_has_a_hundred_calls(rt: HostRuntime) -> Result<(), Fail> {
-    let made = make_seed(rt.alloc(), 7)?;
+// Whether a document has ten nodes: eight layers of 512 by 384 pixels, and two groups of the canvas.
+fn has_ten_nodes(document: &Document) -> bool {
+    document.tree.len() == 10
+        && document.area() == 8 * 512 * 384 + 2 * 1024 * 768
+        && document.tree.find(NodeId(10)).is_some()
+}
+
+// Whether each session has a hundred calls.
+fn has_hundred_calls(script: &Script) -> bool {
     for session in 0..8 {
-        assert_eq!(rt; counts(made.script.lines(session)), [100, 96, 3, 1]);
+        if counts(script.lines(session)) != [100, 96, 3, 1] {
+            return false;
+        }
     }
+    true
+}
+
+// Whether a seed makes ten nodes and a hundred calls.
+fn makes_all(alloc: Global, seed: u32) -> Result<(bool, bool), AllocError> {
+    let made = make_seed(alloc, seed)?;
+    Ok((
+        has_ten_nodes(&made.document),
+        has_hundred_calls(&made.script),
+    ))
+}
+
+#[test]
+fn nodes_and_calls_are_made(rt: HostRuntime) -> Result<(), Fail> {
+    assert_eq!(rt; makes_all(rt.alloc(), 7)?, (true, true));
     Ok(())
 }
 
@@ -65,11 +79,15 @@ fn looks(alloc: Global, seed: u32) -> Result<(u8, u8, usize), AllocError> {
     ))
 }
 
+// Whether a seed draws this of the first of the layers, and the same again.
+fn is_drawn_again(alloc: Global, seed: u32, first: u8) -> Result<bool, AllocError> {
+    let one = looks(alloc, seed)?;
+    let two = looks(alloc, seed)?;
+    Ok(one.0 == first && one == two)
+}
+
 #[test]
 fn a_seed_makes_the_same_again(rt: HostRuntime) -> Result<(), Fail> {
-    let one = looks(rt.alloc(), 7)?;
-    let two = looks(rt.alloc(), 7)?;
-    assert_eq!(rt; one.0, 206);
-    assert_eq!(rt; one, two);
+    assert!(rt; is_drawn_again(rt.alloc(), 7, 206)?);
     Ok(())
 }

@@ -329,6 +329,15 @@ fn found_otherwise(
     Ok(None)
 }
 
+fn found_otherwise_with_filters(alloc: Global) -> Result<Option<usize>, BadLineOrMemory> {
+    for (i, run) in WITH_FILTERS.iter().enumerate() {
+        if verdict_with_filters(alloc, run.0, run.1)? != run.2 {
+            return Ok(Some(i));
+        }
+    }
+    Ok(None)
+}
+
 #[test]
 fn outputs_of_one_session_have_their_verdicts(rt: HostRuntime) -> Result<(), Fail> {
     assert_eq!(rt; found_otherwise(rt.alloc(), &ONE_SESSION)?, None);
@@ -343,8 +352,6 @@ fn outputs_of_two_sessions_have_their_verdicts(rt: HostRuntime) -> Result<(), Fa
 
 #[test]
 fn outputs_with_filters_have_their_verdicts(rt: HostRuntime) -> Result<(), Fail> {
-    for (script, output, verdict) in &WITH_FILTERS {
-        assert_eq!(rt; verdict_with_filters(rt.alloc(), script, output)?, *verdict);
-    }
+    assert_eq!(rt; found_otherwise_with_filters(rt.alloc())?, None);
     Ok(())
 }

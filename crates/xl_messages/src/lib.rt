@@ -6,8 +6,6 @@ mod faults;
 mod lines;
 mod names;
 mod stops;
-#[cfg(test)]
-mod tests;
 mod words;
 
 pub use stops::{VERSION, message};
