@@ -53,12 +53,10 @@ fn last_tile<L: Ledger>(
     )
 }
 
-// The picture of the last tile.
-fn last_picture(alloc: Global) -> Result<Picture, AllocError> {
+// Writes the picture of the last tile of the document. So nothing but the document is to be let go here.
+fn write_last(alloc: Global, out: &mut Picture) -> Result<(), AllocError> {
     let doc = blank(alloc)?;
-    let mut picture = Picture::blank(alloc)?;
-    last_tile::<Brand>(alloc, &doc, &mut picture, Blank::new(1))?;
-    Ok(picture)
+    last_tile::<Brand>(alloc, &doc, out, Blank::new(1))
 }
 
 // Whether there are so many bytes, and all are 0.
@@ -73,26 +71,45 @@ fn copied_len(alloc: Global, picture: &Picture) -> Result<usize, AllocError> {
     Ok(copy.bytes().len())
 }
 
-#[test]
-fn a_tile_is_recomposed(rt: HostRuntime) -> Result<(), Fail> {
-    let picture = last_picture(rt.alloc())?;
-    assert!(rt; is_clear(picture.bytes(), 864));
-    assert_eq!(rt; copied_len(rt.alloc(), &picture)?, 864);
-    Ok(())
+// Whether the picture of the last tile is clear, and its copy as long.
+fn last_is_clear(alloc: Global) -> Result<bool, AllocError> {
+    let mut picture = Picture::blank(alloc)?;
+    write_last(alloc, &mut picture)?;
+    let is_clear = is_clear(picture.bytes(), 864);
+    Ok(is_clear && copied_len(alloc, &picture)? == 864)
+}
+
+/// The last six pixels.
+const LAST: Rect = Rect {
+    x: 97,
+    y: 68,
+    w: 3,
+    h: 2,
+};
+
+// Writes the picture of the last pixels.
+fn fill_last(alloc: Global, doc: &Document, out: &mut [u8; 24]) -> Result<(), AllocError>
+    requires width { doc.now.width ≡ 100 }
+    requires height { doc.now.height ≡ 70 }
+{
+    Recompose::new().fill(alloc, doc, NodeId(0), LAST, out)
+}
+
+fn write_last_pixels(alloc: Global, out: &mut [u8; 24]) -> Result<(), AllocError> {
+    let doc = blank(alloc)?;
+    fill_last(alloc, &doc, out)
+}
+
+// Whether the last pixels are clear, written over sevens.
+fn last_pixels_are_clear(alloc: Global) -> Result<bool, AllocError> {
+    let mut out = [7; 24];
+    write_last_pixels(alloc, &mut out)?;
+    Ok(out == [0; 24])
 }
 
 #[test]
-fn a_rectangle_is_recomposed(rt: HostRuntime) -> Result<(), Fail> {
-    let alloc = rt.alloc();
-    let doc = blank(alloc)?;
-    let mut out = [7; 24];
-    let rect = Rect {
-        x: 97,
-        y: 68,
-        w: 3,
-        h: 2,
-    };
-    Recompose::new().fill(alloc, &doc, NodeId(0), rect, &mut out)?;
-    assert_eq!(rt; out, [0; 24]);
+fn a_tile_and_a_rectangle_are_recomposed(rt: HostRuntime) -> Result<(), Fail> {
+    assert!(rt; last_is_clear(rt.alloc())?);
+    assert!(rt; last_pixels_are_clear(rt.alloc())?);
     Ok(())
 }

@@ -13,12 +13,6 @@ fn next_bytes<F: PointFilter>(filter: &mut F, byte: u8) -> [u8; 4] {
     bytes
 }
 
-#[test]
-fn fade_lessens_more_with_each_use(rt: HostRuntime) {
-    let mut fade = Fade::new(100);
-    assert_eq!(rt; next_bytes(&mut fade, 200), [200, 122, 43, 0]);
-}
-
 /// A kind of filter that no use changes.
 #[derive(Clone, Copy)]
 enum Steady {
@@ -46,11 +40,24 @@ fn steady_bytes(kind: Steady, amount: u8, byte: u8) -> [u8; 4] {
     }
 }
 
+// The first of these, counted from 0, that makes something else at one of its uses.
+fn first_made_otherwise() -> Option<usize> {
+    for (i, row) in STEADY_BYTES.iter().enumerate() {
+        if steady_bytes(row.0, row.1, row.2) != [row.3; 4] {
+            return Some(i);
+        }
+    }
+    None
+}
+
 #[test]
 fn other_kinds_stay_the_same(rt: HostRuntime) {
-    for (kind, amount, byte, made) in &STEADY_BYTES {
-        assert_eq!(rt; steady_bytes(*kind, *amount, *byte), [*made; 4]);
-    }
+    assert_eq!(rt; first_made_otherwise(), None);
+}
+
+#[test]
+fn fade_lessens_more_with_each_use(rt: HostRuntime) {
+    assert_eq!(rt; next_bytes(&mut Fade::new(100), 200), [200, 122, 43, 0]);
 }
 
 // The first two of the usual filters.
@@ -89,6 +96,15 @@ fn byte_by(chest: &mut Chest, slot: u32, byte: u8) -> Option<u8> {
     }
 }
 
+// Whether there was a filter to forget.
+fn forgets(chest: &mut Chest, slot: u32) -> bool {
+    let is_there = chest.has(slot);
+    if is_there {
+        chest.forget(slot);
+    }
+    is_there
+}
+
 /// A slot of the usual filters, a byte, and what is made of it, one after another.
 const USES: [(u32, u8, Option<u8>); 6] = [
     (0, 55, Some(200)),
@@ -99,33 +115,49 @@ const USES: [(u32, u8, Option<u8>); 6] = [
     (4, 200, None),
 ];
 
+/// The same with the second one forgotten behind the first use.
+const FIRST_USE: [(u32, u8, Option<u8>); 1] = [(3, 200, Some(200))];
+
+const LATER_USES: [(u32, u8, Option<u8>); 2] = [(1, 200, None), (3, 200, Some(122))];
+
+// Whether uses make what they are to make.
+fn are_made(chest: &mut Chest, uses: &[(u32, u8, Option<u8>)]) -> bool {
+    for (slot, byte, made) in uses {
+        if byte_by(chest, *slot, *byte) != *made {
+            return false;
+        }
+    }
+    true
+}
+
+// Whether each filter stands in its slot.
+fn are_kept(chest: &mut Chest) -> bool {
+    slots(chest) == [true, true, true, true, false] && are_made(chest, &USES)
+}
+
+// Whether a slot is empty once its filter is forgotten, and the others are as they were.
+fn stays_empty(chest: &mut Chest) -> bool {
+    let is_used = are_made(chest, &FIRST_USE);
+    let is_forgotten = forgets(chest, 1);
+    let is_forgotten_again = forgets(chest, 1);
+    [is_used, is_forgotten, is_forgotten_again] == [true, true, false]
+        && slots(chest) == [true, false, true, true, false]
+        && are_made(chest, &LATER_USES)
+}
+
+fn usual_are_kept(alloc: Global) -> Result<bool, AllocError> {
+    let mut chest = usual_filters(alloc)?;
+    Ok(are_kept(&mut chest))
+}
+
+fn usual_stays_empty(alloc: Global) -> Result<bool, AllocError> {
+    let mut chest = usual_filters(alloc)?;
+    Ok(stays_empty(&mut chest))
+}
+
 #[test]
 fn chest_keeps_each_filter_in_its_slot(rt: HostRuntime) -> Result<(), Fail> {
-    let mut chest = usual_filters(rt.alloc())?;
-    assert_eq!(rt; slots(&chest), [true, true, true, true, false]);
-    for (slot, byte, made) in &USES {
-        assert_eq!(rt; byte_by(&mut chest, *slot, *byte), *made);
-    }
-    Ok(())
-}
-
-// Whether there was a filter to forget.
-fn forgets(chest: &mut Chest, slot: u32) -> bool {
-    let is_there = chest.has(slot);
-    if is_there {
-        chest.forget(slot);
-    }
-    is_there
-}
-
-#[test]
-fn forgotten_slot_stays_empty(rt: HostRuntime) -> Result<(), Fail> {
-    let mut chest = usual_filters(rt.alloc())?;
-    assert_eq!(rt; byte_by(&mut chest, 3, 200), Some(200));
-    assert!(rt; forgets(&mut chest, 1));
-    assert!(rt; !forgets(&mut chest, 1));
-    assert_eq!(rt; slots(&chest), [true, false, true, true, false]);
-    assert_eq!(rt; byte_by(&mut chest, 1, 200), None);
-    assert_eq!(rt; byte_by(&mut chest, 3, 200), Some(122));
+    assert!(rt; usual_are_kept(rt.alloc())?);
+    assert!(rt; usual_stays_empty(rt.alloc())?);
     Ok(())
 }

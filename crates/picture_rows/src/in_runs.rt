@@ -200,39 +200,56 @@ fn row_64(plane: &Plane) -> [u8; 8]
     ]
 }
 
-// How many bytes a tile has, and four of them from a place on.
-fn part_of(plane: &Plane, at: TileAt, from: usize) -> (usize, [Option<u8>; 4])
+// Whether the whole of a plane's bytes are so many, and these are four of them from a place on.
+fn is_part(bytes: &[u8], count: usize, from: usize, part: &[u8]) -> bool {
+    let is_there = match bytes.split_at_checked(from) {
+        Some((_, rest)) => rest.starts_with(part),
+        None => false,
+    };
+    is_there && bytes.len() == count
+}
+
+// Whether a tile has so many bytes, and these from a place on.
+fn has_part(plane: &Plane, at: TileAt, count: usize, from: usize, part: &[u8]) -> bool
     requires column { at.col < 2 }
     requires row { at.row < 2 }
-    requires place { from < 8192 }
     requires width { plane.now.width ≡ 100 }
     requires height { plane.now.height ≡ 70 }
 {
     let mut scratch = [0; SCRATCH];
-    let bytes = plane.tile_bytes(at, &mut scratch);
-    (
-        bytes.len(),
-        [
-            bytes.get(from).copied(),
-            bytes.get(from + 1).copied(),
-            bytes.get(from + 2).copied(),
-            bytes.get(from + 3).copied(),
-        ],
-    )
+    is_part(plane.tile_bytes(at, &mut scratch), count, from, part)
 }
 
-// The two pixels round the corner that each tile has, two bytes each: the last ones of its last row, the first ones of
-// that, the last ones of its first row, the first ones of that.
-fn tile_parts(plane: &Plane) -> [(usize, [Option<u8>; 4]); 4]
+// Whether each tile has its two pixels round the corner, two bytes each: the last ones of its last row, the first ones
+// of that, the last ones of its first row, the first ones of that.
+fn have_parts(plane: &Plane, pixels: &[u8; 32]) -> [bool; 4]
     requires width { plane.now.width ≡ 100 }
     requires height { plane.now.height ≡ 70 }
 {
     [
-        part_of(plane, TileAt { col: 0, row: 0 }, 8188),
-        part_of(plane, TileAt { col: 1, row: 0 }, 4536),
-        part_of(plane, TileAt { col: 0, row: 1 }, 124),
-        part_of(plane, TileAt { col: 1, row: 1 }, 0),
+        has_part(plane, TileAt { col: 0, row: 0 }, 8192, 8188, &pixels[8..12]),
+        has_part(
+            plane,
+            TileAt { col: 1, row: 0 },
+            4608,
+            4536,
+            &pixels[12..16],
+        ),
+        has_part(plane, TileAt { col: 0, row: 1 }, 768, 124, &pixels[16..20]),
+        has_part(plane, TileAt { col: 1, row: 1 }, 432, 0, &pixels[20..24]),
     ]
+}
+
+// Whether these are the pixels round the corner, as a rectangle, as rows and in the tiles.
+fn shows(plane: &Plane, pixels: &[u8; 32]) -> bool
+    requires width { plane.now.width ≡ 100 }
+    requires height { plane.now.height ≡ 70 }
+    requires bpp { plane.now.bpp ≡ 2 }
+{
+    around(plane) == *pixels
+        && row_63(plane).as_slice() == &pixels[8..16]
+        && row_64(plane).as_slice() == &pixels[16..24]
+        && have_parts(plane, pixels) == [true; 4]
 }
 
 // Whether the codes that a writer may copy of a tile are these. None where it may copy none.
@@ -261,100 +278,6 @@ fn have_codes(plane: &Plane) -> Result<[Option<bool>; 4], AllocError>
     ])
 }
 
-#[test]
-fn tiles_in_runs_are_read(rt: HostRuntime) -> Result<(), Fail> {
-    let plane = plane_in_runs(rt.alloc())?;
-    assert_eq!(rt; around(&plane), AS_READ);
-    assert_eq!(rt; row_63(&plane), [12, 14, 13, 14, 21, 24, 22, 24]);
-    assert_eq!(rt; row_64(&plane), [31, 34, 32, 34, 40, 44, 41, 44]);
-    assert_eq!(rt;
-        tile_parts(&plane),
-        [
-            (8192, [Some(12), Some(14), Some(13), Some(14)]),
-            (4608, [Some(21), Some(24), Some(22), Some(24)]),
-            (768, [Some(31), Some(34), Some(32), Some(34)]),
-            (432, [Some(40), Some(44), Some(41), Some(44)]),
-        ]
-    );
-    Ok(())
-}
-
-#[test]
-fn a_write_is_laid_over_four_tiles(rt: HostRuntime) -> Result<(), Fail> {
-    let alloc = rt.alloc();
-    let mut plane = plane_in_runs(alloc)?;
-    write_corner(alloc, &mut plane)?;
-    assert_eq!(rt; around(&plane), WITH_CORNER);
-    assert_eq!(rt; row_63(&plane), [12, 14, 101, 102, 103, 104, 22, 24]);
-    assert_eq!(rt; row_64(&plane), [31, 34, 105, 106, 107, 108, 41, 44]);
-    assert_eq!(rt;
-        tile_parts(&plane),
-        [
-            (8192, [Some(12), Some(14), Some(101), Some(102)]),
-            (4608, [Some(103), Some(104), Some(22), Some(24)]),
-            (768, [Some(31), Some(34), Some(105), Some(106)]),
-            (432, [Some(107), Some(108), Some(41), Some(44)]),
-        ]
-    );
-    Ok(())
-}
-
-#[test]
-fn a_second_write_is_laid_over_the_first(rt: HostRuntime) -> Result<(), Fail> {
-    let alloc = rt.alloc();
-    let mut plane = plane_in_runs(alloc)?;
-    write_corner(alloc, &mut plane)?;
-    write_columns(alloc, &mut plane)?;
-    assert_eq!(rt; around(&plane), WITH_BOTH);
-    assert_eq!(rt; row_63(&plane), [115, 116, 117, 118, 103, 104, 22, 24]);
-    assert_eq!(rt; row_64(&plane), [119, 120, 121, 122, 107, 108, 41, 44]);
-    assert_eq!(rt;
-        tile_parts(&plane),
-        [
-            (8192, [Some(115), Some(116), Some(117), Some(118)]),
-            (4608, [Some(103), Some(104), Some(22), Some(24)]),
-            (768, [Some(119), Some(120), Some(121), Some(122)]),
-            (432, [Some(107), Some(108), Some(41), Some(44)]),
-        ]
-    );
-    Ok(())
-}
-
-// The shares are taken as it is read, and behind the first write.
-#[test]
-fn shares_stay_as_they_were_taken(rt: HostRuntime) -> Result<(), Fail> {
-    let alloc = rt.alloc();
-    let mut plane = plane_in_runs(alloc)?;
-    let first = plane.share(alloc)?;
-    write_corner(alloc, &mut plane)?;
-    let second = plane.share(alloc)?;
-    write_columns(alloc, &mut plane)?;
-    assert_eq!(rt; around(&second), WITH_CORNER);
-    assert_eq!(rt; around(&first), AS_READ);
-    write_columns(alloc, &mut plane)?;
-    assert_eq!(rt; around(&plane), WITH_BOTH);
-    assert_eq!(rt; row_63(&first), [12, 14, 13, 14, 21, 24, 22, 24]);
-    assert_eq!(rt; have_codes(&first)?, [Some(true); 4]);
-    Ok(())
-}
-
-#[test]
-fn a_tile_that_is_written_has_no_codes(rt: HostRuntime) -> Result<(), Fail> {
-    let alloc = rt.alloc();
-    let mut plane = plane_in_runs(alloc)?;
-    assert_eq!(rt; have_codes(&plane)?, [Some(true); 4]);
-    write_inside(alloc, &mut plane)?;
-    assert_eq!(rt; row_63(&plane), [1, 2, 13, 14, 21, 24, 22, 24]);
-    assert_eq!(rt;
-        have_codes(&plane)?,
-        [None, Some(true), Some(true), Some(true)]
-    );
-    write_corner(alloc, &mut plane)?;
-    assert_eq!(rt; row_63(&plane), [1, 2, 101, 102, 103, 104, 22, 24]);
-    assert_eq!(rt; have_codes(&plane)?, [None; 4]);
-    Ok(())
-}
-
 // Which tiles stand plain.
 fn are_plain(plane: &Plane) -> Result<[bool; 4], AllocError>
     requires width { plane.now.width ≡ 100 }
@@ -368,14 +291,151 @@ fn are_plain(plane: &Plane) -> Result<[bool; 4], AllocError>
     ])
 }
 
+// What a plane shows as it is read, behind a write over four tiles, and behind one over that.
+fn shown_along(alloc: Global, plane: &mut Plane) -> Result<[bool; 3], AllocError>
+    requires width { plane.old.width ≡ 100 }
+    requires height { plane.old.height ≡ 70 }
+    requires bpp { plane.old.bpp ≡ 2 }
+{
+    let is_read = shows(plane, &AS_READ);
+    write_corner(alloc, plane)?;
+    let is_written = shows(plane, &WITH_CORNER);
+    write_columns(alloc, plane)?;
+    Ok([is_read, is_written, shows(plane, &WITH_BOTH)])
+}
+
+fn are_shown(alloc: Global) -> Result<[bool; 3], AllocError> {
+    let mut plane = plane_in_runs(alloc)?;
+    shown_along(alloc, &mut plane)
+}
+
+#[test]
+fn writes_are_laid_over_tiles_in_runs(rt: HostRuntime) -> Result<(), Fail> {
+    assert!(rt; are_shown(rt.alloc())? == [true; 3]);
+    Ok(())
+}
+
+// Writes the corner and then the columns. A share that is taken between.
+fn shared_between(alloc: Global, plane: &mut Plane) -> Result<Plane, AllocError>
+    requires width { plane.old.width ≡ 100 }
+    requires height { plane.old.height ≡ 70 }
+    requires bpp { plane.old.bpp ≡ 2 }
+    ensures width { plane.new.width ≡ 100 }
+    ensures height { plane.new.height ≡ 70 }
+    ensures bpp { plane.new.bpp ≡ 2 }
+    ensures result_width { IfOk result (λ p. p.width ≡ 100) }
+    ensures result_height { IfOk result (λ p. p.height ≡ 70) }
+    ensures result_bpp { IfOk result (λ p. p.bpp ≡ 2) }
+{
+    write_corner(alloc, plane)?;
+    let second = plane.share(alloc)?;
+    write_columns(alloc, plane)?;
+    Ok(second)
+}
+
+// What is shown by a share that was taken as the plane was read, by one that is taken behind the first write, and by the
+// plane itself, once it is written again.
+fn shown_by_shares(alloc: Global, plane: &mut Plane, first: &Plane) -> Result<[bool; 4], AllocError>
+    requires width { plane.old.width ≡ 100 }
+    requires height { plane.old.height ≡ 70 }
+    requires bpp { plane.old.bpp ≡ 2 }
+    requires first_width { first.now.width ≡ 100 }
+    requires first_height { first.now.height ≡ 70 }
+    requires first_bpp { first.now.bpp ≡ 2 }
+{
+    let second = shared_between(alloc, plane)?;
+    let is_second = shows(&second, &WITH_CORNER);
+    let is_again = write_columns(alloc, plane).is_ok();
+    Ok([
+        shows(first, &AS_READ),
+        has_all_codes(first),
+        is_second && shows(&second, &WITH_CORNER),
+        is_again && shows(plane, &WITH_BOTH),
+    ])
+}
+
+// Whether a writer may copy the codes of all tiles.
+fn has_all_codes(plane: &Plane) -> bool
+    requires width { plane.now.width ≡ 100 }
+    requires height { plane.now.height ≡ 70 }
+{
+    match have_codes(plane) {
+        Ok(codes) => codes == [Some(true); 4],
+        Err(AllocError) => false,
+    }
+}
+
+fn shares_stay(alloc: Global) -> Result<[bool; 4], AllocError> {
+    let mut plane = plane_in_runs(alloc)?;
+    let first = plane.share(alloc)?;
+    shown_by_shares(alloc, &mut plane, &first)
+}
+
+#[test]
+fn shares_stay_as_they_were_taken(rt: HostRuntime) -> Result<(), Fail> {
+    assert!(rt; shares_stay(rt.alloc())? == [true; 4]);
+    Ok(())
+}
+
+// Row 63 and the codes behind a write of one pixel, and behind one over four tiles.
+fn coded_along(
+    alloc: Global,
+    plane: &mut Plane,
+) -> Result<([[u8; 8]; 2], [[Option<bool>; 4]; 2]), AllocError>
+    requires width { plane.old.width ≡ 100 }
+    requires height { plane.old.height ≡ 70 }
+    requires bpp { plane.old.bpp ≡ 2 }
+{
+    write_inside(alloc, plane)?;
+    let inside = row_63(plane);
+    let inside_codes = have_codes(plane)?;
+    write_corner(alloc, plane)?;
+    Ok(([inside, row_63(plane)], [inside_codes, have_codes(plane)?]))
+}
+
+fn codes_are_lost(alloc: Global) -> Result<bool, AllocError> {
+    let mut plane = plane_in_runs(alloc)?;
+    let has_all = has_all_codes(&plane);
+    let (rows, codes) = coded_along(alloc, &mut plane)?;
+    Ok(
+        has_all
+            && rows
+                == [
+                    [1, 2, 13, 14, 21, 24, 22, 24],
+                    [1, 2, 101, 102, 103, 104, 22, 24],
+                ]
+            && codes == [[None, Some(true), Some(true), Some(true)], [None; 4]],
+    )
+}
+
+#[test]
+fn a_tile_that_is_written_has_no_codes(rt: HostRuntime) -> Result<(), Fail> {
+    assert!(rt; codes_are_lost(rt.alloc())?);
+    Ok(())
+}
+
+// Which tiles stand plain as they are read, behind a write, and behind one over that.
+fn plain_along(alloc: Global, plane: &mut Plane) -> Result<[[bool; 4]; 3], AllocError>
+    requires width { plane.old.width ≡ 100 }
+    requires height { plane.old.height ≡ 70 }
+    requires bpp { plane.old.bpp ≡ 2 }
+{
+    let read = are_plain(plane)?;
+    write_corner(alloc, plane)?;
+    let written = are_plain(plane)?;
+    write_columns(alloc, plane)?;
+    Ok([read, written, are_plain(plane)?])
+}
+
+fn tiles_are_unpacked(alloc: Global) -> Result<[[bool; 4]; 3], AllocError> {
+    let mut plane = plane_in_runs(alloc)?;
+    plain_along(alloc, &mut plane)
+}
+
 #[test]
 fn a_tile_is_unpacked_by_the_second_write(rt: HostRuntime) -> Result<(), Fail> {
-    let alloc = rt.alloc();
-    let mut plane = plane_in_runs(alloc)?;
-    assert_eq!(rt; are_plain(&plane)?, [false; 4]);
-    write_corner(alloc, &mut plane)?;
-    assert_eq!(rt; are_plain(&plane)?, [false; 4]);
-    write_columns(alloc, &mut plane)?;
-    assert_eq!(rt; are_plain(&plane)?, [true, false, true, false]);
+    assert!(rt;
+        tiles_are_unpacked(rt.alloc())? == [[false; 4], [false; 4], [true, false, true, false]]
+    );
     Ok(())
 }

@@ -33,6 +33,14 @@ enum Row {
     Ends(u32, u32, u32, u32, Finished),
     /// A stack loses its slots. Whether it had some.
     Drops(u32, bool),
+    /// Points of the two tiles of the image's first row are marked with this version.
+    Marks(u32),
+    /// Whether the slots of three tiles of the image are clean: the first two of its first row, and one below.
+    Slots([bool; 3]),
+    /// The last version, as far as this one, of which the picture that is kept of a tile is known to be.
+    Keeps(u32, u32, u32, u32, Option<u32>),
+    /// Whether there is a clean picture of a tile.
+    IsClean(u32, u32, u32, bool),
 }
 
 // One tile is clean before its turn comes.
@@ -66,12 +74,21 @@ const LATE_AND_GONE: [Row; 7] = [
     Row::Ends(7, 0, 0, 4, Finished::Gone),
 ];
 
-// Pictures of version 1 of all tiles of the image.
-const ALL_CLEAN: [Row; 4] = [
+// Pictures of version 1 of all tiles of the image, and marks on two of them.
+const ALL_CLEAN_THEN_MARKED: [Row; 13] = [
     Row::Ends(0, 0, 0, 1, Finished::Installed),
     Row::Ends(0, 0, 1, 1, Finished::Installed),
     Row::Ends(0, 1, 0, 1, Finished::Installed),
     Row::Ends(0, 1, 1, 1, Finished::Installed),
+    Row::Marks(5),
+    Row::Slots([false, false, true]),
+    Row::Keeps(0, 0, 0, 5, Some(4)),
+    Row::Keeps(0, 0, 1, 5, Some(5)),
+    Row::Keeps(7, 0, 0, 5, None),
+    Row::IsClean(0, 0, 0, false),
+    Row::IsClean(0, 0, 1, true),
+    Row::Marks(6),
+    Row::Keeps(0, 0, 0, 6, Some(4)),
 ];
 
 /// The top stack of a canvas of two times two tiles, and a group of it.
@@ -121,6 +138,36 @@ fn drops(cache: &mut Cache, stack: u32) -> bool {
     cache.drop_node(NodeId(stack)).is_some()
 }
 
+// Whether the slots of three tiles of the image are clean.
+fn clean_slots(cache: &Cache) -> [bool; 3] {
+    [
+        cache.clean(IMAGE, LEFT),
+        cache.clean(IMAGE, RIGHT),
+        cache.clean(IMAGE, BELOW),
+    ]
+}
+
+// The last version of which the picture that is kept of a tile is known to be.
+fn kept_version(cache: &Cache, tile: (NodeId, TileAt), latest: u32) -> Option<u32> {
+    match cache.kept(tile.0, tile.1, latest) {
+        Some((version, _)) => Some(version),
+        None => None,
+    }
+}
+
+fn is_clean(cache: &Cache, tile: (NodeId, TileAt)) -> bool {
+    cache.clean_tile(tile.0, tile.1).is_some()
+}
+
+// Marks the points of the first row with a version, which is not 0.
+fn marks(cache: &mut Cache, version: u32) -> bool {
+    if version == 0 {
+        return false;
+    }
+    cache.mark(IMAGE, ACROSS, version);
+    true
+}
+
 // Whether a row holds.
 fn holds(alloc: Global, cache: &mut Cache, row: Row) -> Result<bool, AllocError> {
     match row {
@@ -130,6 +177,14 @@ fn holds(alloc: Global, cache: &mut Cache, row: Row) -> Result<bool, AllocError>
             ends(alloc, cache, tile(stack, col, row), version, finished)
         }
         Row::Drops(stack, had_slots) => Ok(drops(cache, stack) == had_slots),
+        Row::Marks(version) => Ok(marks(cache, version)),
+        Row::Slots(clean) => Ok(clean_slots(cache) == clean),
+        Row::Keeps(stack, col, row, latest, version) => {
+            Ok(kept_version(cache, tile(stack, col, row), latest) == version)
+        }
+        Row::IsClean(stack, col, row, clean) => {
+            Ok(is_clean(cache, tile(stack, col, row)) == clean)
+        }
     }
 }
 
@@ -147,56 +202,27 @@ fn first_wrong(
     Ok(None)
 }
 
-#[test]
-fn tiles_are_taken_in_order_and_round(rt: HostRuntime) -> Result<(), Fail> {
-    let mut cache = two_stacks(rt.alloc())?;
-    assert_eq!(rt; first_wrong(rt.alloc(), &mut cache, &ROUND)?, None);
-    Ok(())
+fn wrong_of_two_stacks(alloc: Global, rows: &[Row]) -> Result<Option<usize>, AllocError> {
+    let mut cache = two_stacks(alloc)?;
+    first_wrong(alloc, &mut cache, rows)
+}
+
+fn wrong_of_one_tile(alloc: Global, rows: &[Row]) -> Result<Option<usize>, AllocError> {
+    let mut cache = one_tile(alloc)?;
+    first_wrong(alloc, &mut cache, rows)
+}
+
+fn wrong_rows(alloc: Global) -> Result<[Option<usize>; 4], AllocError> {
+    Ok([
+        wrong_of_two_stacks(alloc, &ROUND)?,
+        wrong_of_one_tile(alloc, &NONE_MARKED)?,
+        wrong_of_two_stacks(alloc, &LATE_AND_GONE)?,
+        wrong_of_two_stacks(alloc, &ALL_CLEAN_THEN_MARKED)?,
+    ])
 }
 
 #[test]
-fn none_is_taken_where_none_is_marked(rt: HostRuntime) -> Result<(), Fail> {
-    let mut cache = one_tile(rt.alloc())?;
-    assert_eq!(rt; first_wrong(rt.alloc(), &mut cache, &NONE_MARKED)?, None);
-    Ok(())
-}
-
-#[test]
-fn late_and_gone_pictures_are_not_kept(rt: HostRuntime) -> Result<(), Fail> {
-    let mut cache = two_stacks(rt.alloc())?;
-    assert_eq!(rt; first_wrong(rt.alloc(), &mut cache, &LATE_AND_GONE)?, None);
-    Ok(())
-}
-
-// Whether the slots of three tiles of the image are clean.
-fn clean_slots(cache: &Cache) -> [bool; 3] {
-    [
-        cache.clean(IMAGE, LEFT),
-        cache.clean(IMAGE, RIGHT),
-        cache.clean(IMAGE, BELOW),
-    ]
-}
-
-// The last version of which the picture that is kept of a tile is known to be.
-fn kept_version(cache: &Cache, node: NodeId, at: TileAt, latest: u32) -> Option<u32> {
-    match cache.kept(node, at, latest) {
-        Some((version, _)) => Some(version),
-        None => None,
-    }
-}
-
-#[test]
-fn a_mark_reaches_the_tiles_of_its_rectangle(rt: HostRuntime) -> Result<(), Fail> {
-    let mut cache = two_stacks(rt.alloc())?;
-    assert_eq!(rt; first_wrong(rt.alloc(), &mut cache, &ALL_CLEAN)?, None);
-    cache.mark(IMAGE, ACROSS, 5);
-    assert_eq!(rt; clean_slots(&cache), [false, false, true]);
-    assert_eq!(rt; kept_version(&cache, IMAGE, LEFT, 5), Some(4));
-    assert_eq!(rt; kept_version(&cache, IMAGE, BELOW, 5), Some(5));
-    assert_eq!(rt; kept_version(&cache, NodeId(7), LEFT, 5), None);
-    assert!(rt; cache.clean_tile(IMAGE, LEFT).is_none());
-    assert!(rt; cache.clean_tile(IMAGE, BELOW).is_some());
-    cache.mark(IMAGE, ACROSS, 6);
-    assert_eq!(rt; kept_version(&cache, IMAGE, LEFT, 6), Some(4));
+fn tiles_are_taken_handed_in_and_marked(rt: HostRuntime) -> Result<(), Fail> {
+    assert_eq!(rt; wrong_rows(rt.alloc())?, [None; 4]);
     Ok(())
 }

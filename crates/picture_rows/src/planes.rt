@@ -46,15 +46,27 @@ fn last_bytes(plane: &Plane) -> [u8; 3]
     ]
 }
 
-#[test]
-fn a_write_leaves_the_other_holder(rt: HostRuntime) -> Result<(), Fail> {
-    let alloc = rt.alloc();
+// The last bytes of a plane that was written, and of one that shared its tiles before.
+fn written_beside_a_share(alloc: Global) -> Result<[[u8; 3]; 2], AllocError> {
     let mut plane = sevens(alloc)?;
     let other = plane.share(alloc)?;
-    write_nines(alloc, &mut plane)?;
-    assert_eq!(rt; last_bytes(&plane), [7, 9, 9]);
-    assert_eq!(rt; last_bytes(&other), [7, 7, 7]);
-    Ok(())
+    written_beside(alloc, &mut plane, &other)
+}
+
+fn written_beside(
+    alloc: Global,
+    plane: &mut Plane,
+    other: &Plane,
+) -> Result<[[u8; 3]; 2], AllocError>
+    requires width { plane.old.width ≡ 65 }
+    requires height { plane.old.height ≡ 1 }
+    requires bpp { plane.old.bpp ≡ 1 }
+    requires other_width { other.now.width ≡ 65 }
+    requires other_height { other.now.height ≡ 1 }
+    requires other_bpp { other.now.bpp ≡ 1 }
+{
+    write_nines(alloc, plane)?;
+    Ok([last_bytes(plane), last_bytes(other)])
 }
 
 // Holds so many shares of a plane at once. How many they are.
@@ -66,12 +78,9 @@ fn held_at_once(alloc: Global, plane: &Plane, count: usize) -> Result<usize, All
     Ok(held.len())
 }
 
-#[test]
-fn a_thousand_shares_are_held_at_once(rt: HostRuntime) -> Result<(), Fail> {
-    let alloc = rt.alloc();
+fn thousand_held_at_once(alloc: Global) -> Result<usize, AllocError> {
     let plane = Plane::new(alloc, 2048, 2048, 4, &[1, 2, 3, 4])?;
-    assert_eq!(rt; held_at_once(alloc, &plane, 1000)?, 1000);
-    Ok(())
+    held_at_once(alloc, &plane, 1000)
 }
 
 /// A plane of a row of two pixels.
@@ -124,15 +133,27 @@ fn pair_bytes(plane: &Plane) -> [u8; 4]
     out
 }
 
-#[test]
-fn a_tile_is_exchanged(rt: HostRuntime) -> Result<(), Fail> {
-    let alloc = rt.alloc();
+// Whether a tile is handed back that was exchanged, and the bytes of the plane since.
+fn exchanged(alloc: Global) -> Result<(bool, [u8; 4]), AllocError> {
     let mut plane = pair(alloc, [1, 2, 3, 4])?;
     let other = pair(alloc, [5, 6, 7, 8])?;
-    let old = exchange(alloc, &mut plane, &other)?;
-    assert!(rt; has_bytes(&old, &[1, 2, 3, 4]));
-    assert_eq!(rt; pair_bytes(&plane), [5, 6, 7, 8]);
-    Ok(())
+    exchanged_with(alloc, &mut plane, &other)
+}
+
+fn exchanged_with(
+    alloc: Global,
+    plane: &mut Plane,
+    other: &Plane,
+) -> Result<(bool, [u8; 4]), AllocError>
+    requires width { plane.old.width ≡ 2 }
+    requires height { plane.old.height ≡ 1 }
+    requires bpp { plane.old.bpp ≡ 2 }
+    requires other_width { other.now.width ≡ 2 }
+    requires other_height { other.now.height ≡ 1 }
+    requires other_bpp { other.now.bpp ≡ 2 }
+{
+    let old = exchange(alloc, plane, other)?;
+    Ok((has_bytes(&old, &[1, 2, 3, 4]), pair_bytes(plane)))
 }
 
 fn tiles_changed(plane: &Plane, old: &Plane) -> u32
@@ -156,9 +177,7 @@ fn changed_by(alloc: Global, rect: Rect, value: u8) -> Result<u32, AllocError>
     Ok(tiles_changed(&plane, &old))
 }
 
-#[test]
-fn changed_tiles_are_counted(rt: HostRuntime) -> Result<(), Fail> {
-    let alloc = rt.alloc();
+fn changed_by_each(alloc: Global) -> Result<[u32; 4], AllocError> {
     let pixel = Rect {
         x: 100,
         y: 100,
@@ -177,11 +196,12 @@ fn changed_tiles_are_counted(rt: HostRuntime) -> Result<(), Fail> {
         w: 0,
         h: 0,
     };
-    assert_eq!(rt; changed_by(alloc, pixel, 8)?, 1);
-    assert_eq!(rt; changed_by(alloc, corner, 8)?, 4);
-    assert_eq!(rt; changed_by(alloc, corner, 7)?, 0);
-    assert_eq!(rt; changed_by(alloc, none, 8)?, 0);
-    Ok(())
+    Ok([
+        changed_by(alloc, pixel, 8)?,
+        changed_by(alloc, corner, 8)?,
+        changed_by(alloc, corner, 7)?,
+        changed_by(alloc, none, 8)?,
+    ])
 }
 
 /// Fills a rectangle with a byte.
@@ -208,9 +228,7 @@ fn other_than_written(alloc: Global, rect: Rect, value: u8) -> Result<u32, Alloc
     Ok(tiles_changed(&filled, &written))
 }
 
-#[test]
-fn a_fill_is_a_write_of_one_pixel(rt: HostRuntime) -> Result<(), Fail> {
-    let alloc = rt.alloc();
+fn other_than_each_written(alloc: Global) -> Result<[u32; 3], AllocError> {
     let inside = Rect {
         x: 10,
         y: 20,
@@ -229,8 +247,24 @@ fn a_fill_is_a_write_of_one_pixel(rt: HostRuntime) -> Result<(), Fail> {
         w: 200,
         h: 200,
     };
-    assert_eq!(rt; other_than_written(alloc, inside, 8)?, 0);
-    assert_eq!(rt; other_than_written(alloc, to_the_edges, 8)?, 0);
-    assert_eq!(rt; other_than_written(alloc, whole, 8)?, 0);
+    Ok([
+        other_than_written(alloc, inside, 8)?,
+        other_than_written(alloc, to_the_edges, 8)?,
+        other_than_written(alloc, whole, 8)?,
+    ])
+}
+
+#[test]
+fn planes_share_and_exchange_tiles(rt: HostRuntime) -> Result<(), Fail> {
+    assert!(rt; written_beside_a_share(rt.alloc())? == [[7, 9, 9], [7, 7, 7]]);
+    assert!(rt; thousand_held_at_once(rt.alloc())? == 1000);
+    assert!(rt; exchanged(rt.alloc())? == (true, [5, 6, 7, 8]));
+    Ok(())
+}
+
+#[test]
+fn changed_tiles_are_counted(rt: HostRuntime) -> Result<(), Fail> {
+    assert!(rt; changed_by_each(rt.alloc())? == [1, 4, 0, 0]);
+    assert!(rt; other_than_each_written(rt.alloc())? == [0; 3]);
     Ok(())
 }

@@ -49,40 +49,57 @@ const LAID: [(Mode, (u8, u8), (u8, u8), (u8, u8)); 4] = [
     (Mode::Normal, (100, 255), (200, 255), (200, 255)),
 ];
 
-#[test]
-fn rows_are_laid(rt: HostRuntime) {
-    for (mode, below, above, mixed) in &LAID {
-        assert_eq!(rt;
-            lay_pixels(*mode, grey(*below), grey(*above), grey(*above)),
-            [grey(*mixed); 6]
-        );
-    }
+fn is_laid(mode: Mode, below: Pixel, above: Pixel, mixed: Pixel) -> bool {
+    lay_pixels(mode, below, above, above) == [mixed; 6]
 }
 
 // A clear pixel leaves the one below it.
-#[test]
-fn rows_of_two_pixels_are_laid(rt: HostRuntime) {
-    for (mode, below, above, mixed) in &LAID {
-        let mixed = grey(*mixed);
-        assert_eq!(rt;
-            lay_pixels(*mode, grey(*below), grey(*above), grey((0, 0))),
-            [mixed, mixed, mixed, mixed, mixed, grey(*below)]
-        );
-    }
+fn is_laid_but_for_one(mode: Mode, below: Pixel, above: Pixel, mixed: Pixel) -> bool {
+    let row = [mixed, mixed, mixed, mixed, mixed, below];
+    lay_pixels(mode, below, above, grey((0, 0))) == row
 }
 
-#[test]
-fn rows_are_faded(rt: HostRuntime) {
+// The first of the rows, counted from 0, of which something else comes.
+fn first_laid_otherwise() -> Option<usize> {
+    for (i, row) in LAID.iter().enumerate() {
+        let (below, above, mixed) = (grey(row.1), grey(row.2), grey(row.3));
+        if !is_laid(row.0, below, above, mixed)
+            || !is_laid_but_for_one(row.0, below, above, mixed)
+        {
+            return Some(i);
+        }
+    }
+    None
+}
+
+fn faded() -> [Pixel; 5] {
     let mut row = [grey((7, 200)); 5];
     fade_row(&mut row, 128);
     fade_row_by(&mut row, &[100; 5]);
-    assert_eq!(rt; row, [grey((7, 39)); 5]);
+    row
+}
+
+fn modes_have_codes() -> bool {
+    mode_of(19) == Some(Mode::SoftLight) && code_of(Mode::Overlay) == 5
+}
+
+fn bytes_are_mixed() -> bool {
+    blend(Mode::SoftLight, 100, 200) == 134 && mul(200, 128) == 100
 }
 
 #[test]
-fn modes_have_codes(rt: HostRuntime) {
-    assert_eq!(rt; mode_of(19), Some(Mode::SoftLight));
-    assert_eq!(rt; code_of(Mode::Overlay), 5);
-    assert_eq!(rt; blend(Mode::SoftLight, 100, 200), 134);
-    assert_eq!(rt; mul(200, 128), 100);
+fn rows_are_laid(rt: HostRuntime) {
+    assert_eq!(rt; first_laid_otherwise(), None);
+}
+
+#[test]
+fn bytes_and_rows_are_faded_and_mixed(rt: HostRuntime) {
+    assert_eq!(rt;
+        [
+            faded() == [grey((7, 39)); 5],
+            modes_have_codes(),
+            bytes_are_mixed(),
+        ],
+        [true; 3]
+    );
 }

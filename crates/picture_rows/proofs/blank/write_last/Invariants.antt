@@ -1,4 +1,4 @@
-use Rattle.picture_rows.proofs.blank.last_picture.Given as goal
+use Rattle.picture_rows.proofs.blank.write_last.Given as goal
 
 abbrev pub ghosts-last_tile : goal.ghosts-last_tile
 ghosts-last_tile a = record { name = a.blank.name; parts = a.blank.parts }
