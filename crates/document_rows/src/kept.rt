@@ -18,7 +18,7 @@ fn documents_around(alloc: Global, edit: Edit) -> Result<(Document, Document), A
         Err(_) => return Err(AllocError),
     };
     let before = image.document().share(alloc)?;
-    match image.edit(alloc, edits.as_slice()) {
+    match image.edit(alloc, edits) {
         Ok(()) => Ok((before, image.document().share(alloc)?)),
         Err(_) => Err(AllocError),
     }

@@ -1,5 +1,5 @@
-//! One session: a file is opened, edited by a group, looked at, put on a shelf, and taken back to what it was and forth
-//! again. Then it is opened as an image without a history, whose colours a filter inverts.
+//! One session: a file is opened, edited by a group, looked at, saved as another file, and taken back to what it was and
+//! forth again. Then it is opened as an image without a history, whose colours a filter inverts.
 #![tactic(auto)]
 
 use sha2::{Digest, Sha256};
@@ -7,10 +7,10 @@ use std::alloc::{AllocError, Global};
 use std::process::ExitCode;
 use std::{fs, io};
 use xcf::{
-    Bytes, Document, Edit, Editor, Edits, FilterKind, Image, NodeId, Rect, TileAt, save, tile,
+    Body, Bytes, Changed, Document, Edit, Editor, Edits, FilterKind, Image, Name, Node, NodeId,
+    NotEdited, Rect, TileAt, nodes, plane_bytes, tile,
 };
-use xl_fakes::MemoryShelf;
-use xl_ports::{Failed, Shelf};
+use xcf_disk::{edit_file, open_file, save_file};
 
 /// The image, and its one layer, which has one pixel.
 const IMAGE: NodeId = NodeId(0);
@@ -40,22 +40,17 @@ fn fade_and_fill(alloc: Global) -> Result<Edits, AllocError> {
     Ok(edits)
 }
 
-fn edit(rt: &HostRuntime, editor: &mut Editor) -> io::Result<()> {
-    let edits = fade_and_fill(rt.alloc())?;
-    match editor.edit(rt.alloc(), edits) {
-        Ok(reply) => println!(rt; "{reply:?}"),
-        Err(flaw) => println!(rt; "not asked: {flaw}"),
+// Shows the version that was made, or why there is none. A group that is refused is an error.
+fn tell(rt: &HostRuntime, made: Result<Changed, NotEdited>) -> io::Result<()> {
+    match made {
+        Ok(changed) => println!(rt; "{changed:?}"),
+        Err(flaw) => println!(rt; "not edited: {flaw}"),
     }
 }
 
-fn undo(rt: &HostRuntime, editor: &mut Editor) -> io::Result<()> {
-    let reply = editor.undo(rt.alloc())?;
-    println!(rt; "{reply:?}")
-}
-
-fn redo(rt: &HostRuntime, editor: &mut Editor) -> io::Result<()> {
-    let reply = editor.redo(rt.alloc())?;
-    println!(rt; "{reply:?}")
+fn edit(rt: &HostRuntime, editor: &mut Editor) -> io::Result<()> {
+    let edits = fade_and_fill(rt.alloc())?;
+    tell(rt, editor.edit(rt.alloc(), edits))
 }
 
 fn show_pixels(rt: &HostRuntime, pixels: &[u8]) -> io::Result<()> {
@@ -72,33 +67,24 @@ fn show(rt: &HostRuntime, document: &Document) -> io::Result<()> {
     }
 }
 
-// Puts the bytes of a file on a shelf.
-fn put(file: &[u8], shelf: &mut MemoryShelf) -> Result<(), Failed> {
-    shelf.select("one.xcf")?;
-    xl_save::save(file, shelf)
-}
-
 fn show_file(rt: &HostRuntime, file: &[u8]) -> io::Result<()> {
     let length = file.len();
     let digest = hex::encode(rt.alloc(), &Sha256::digest(file))?;
     println!(rt; "file {length} {digest}")
 }
 
-// Puts the file of the last version on a shelf in memory, and shows what stands there.
+// Saves the last version as a file, and shows what stands there.
 fn keep(rt: &HostRuntime, editor: &Editor) -> io::Result<()> {
-    let alloc = rt.alloc();
-    let mut shelf = MemoryShelf::new(alloc, Vec::new(alloc), Vec::new(alloc), None)?;
-    let file = save(alloc, editor.document())?;
-    match put(&file, &mut shelf) {
-        Ok(()) => show_file(rt, shelf.file("one.xcf").unwrap_or(&[])),
-        Err(flaw) => println!(rt; "not saved: {flaw}"),
+    match save_file(rt, "new.xcf", editor.document()) {
+        Ok(()) => show_file(rt, &fs::read(rt, "new.xcf")?),
+        Err(failure) => println!(rt; "{failure}"),
     }
 }
 
 fn go_back_and_forth(rt: &HostRuntime, editor: &mut Editor) -> io::Result<()> {
-    undo(rt, editor)?;
+    tell(rt, editor.undo(rt.alloc()))?;
     show(rt, editor.document())?;
-    redo(rt, editor)?;
+    tell(rt, editor.redo(rt.alloc()))?;
     show(rt, editor.document())
 }
 
@@ -110,11 +96,30 @@ fn go_on(rt: &HostRuntime, editor: &mut Editor) -> io::Result<()> {
 }
 
 fn try_session(rt: &HostRuntime) -> io::Result<()> {
-    let file = fs::read(rt, "one.xcf")?;
-    match Editor::open(rt.alloc(), file) {
+    match edit_file(rt, "one.xcf") {
         Ok(mut editor) => go_on(rt, &mut editor),
-        Err(flaw) => println!(rt; "not opened: {flaw}"),
+        Err(failure) => println!(rt; "{failure}"),
     }
+}
+
+fn show_node(rt: &HostRuntime, id: NodeId, node: &Node) -> io::Result<()> {
+    let name = Name::of(&node.name);
+    match &node.body {
+        Body::Leaf(layer) => {
+            let pixels = plane_bytes(rt.alloc(), &layer.plane)?;
+            let text = hex::encode(rt.alloc(), &pixels)?;
+            println!(rt; "layer {} {name} {text}", id.0)
+        }
+        Body::Group => println!(rt; "group {} {name}", id.0),
+    }
+}
+
+// Shows the layers and groups from the top down, and the layers' own pixels.
+fn show_nodes(rt: &HostRuntime, document: &Document) -> io::Result<()> {
+    for (id, node) in nodes(rt.alloc(), document)? {
+        show_node(rt, id, node)?;
+    }
+    Ok(())
 }
 
 fn invert(rt: &HostRuntime, image: &mut Image) -> io::Result<()> {
@@ -124,11 +129,15 @@ fn invert(rt: &HostRuntime, image: &mut Image) -> io::Result<()> {
     }
 }
 
+fn go_through(rt: &HostRuntime, image: &mut Image) -> io::Result<()> {
+    invert(rt, image)?;
+    show_nodes(rt, image.document())
+}
+
 fn try_image(rt: &HostRuntime) -> io::Result<()> {
-    let file = fs::read(rt, "one.xcf")?;
-    match Image::open(rt.alloc(), file) {
-        Ok(mut image) => invert(rt, &mut image),
-        Err(flaw) => println!(rt; "not opened: {flaw}"),
+    match open_file(rt, "one.xcf") {
+        Ok(mut image) => go_through(rt, &mut image),
+        Err(failure) => println!(rt; "{failure}"),
     }
 }
 

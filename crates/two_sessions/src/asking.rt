@@ -13,7 +13,7 @@ use std::io;
 use std::marker::Brand;
 use std::sync::Wait;
 use std::sync::ledger::{Blank, Ledger};
-use xcf::{Edit, Edits, NotAsked, Reply, check_group};
+use xcf::{Edit, Edits, NotEdited, Reply, check_group};
 use xl_blend::Steps;
 use xl_calls::{Call, Group};
 use xl_core::Desk;
@@ -79,7 +79,7 @@ pub(crate) fn ask<W: Wait + Print>(
 }
 
 // A group of one edit, which is asked for at a version.
-fn group_of(alloc: Global, version: u32, edit: Edit) -> Result<Group, NotAsked>
+fn group_of(alloc: Global, version: u32, edit: Edit) -> Result<Group, NotEdited>
     ensures built { IfOk result (λ group. IsGroupOfEdits (edits_meant group.edits)) }
     ensures there { IfOk result (λ group. AreThere [] (edits_meant group.edits)) }
 {

@@ -3,3 +3,7 @@ mod Checking
 mod Plain
 mod Asking
 mod Outcomes
+mod Own
+mod Tiles
+mod Heads
+mod Walked

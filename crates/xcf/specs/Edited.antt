@@ -6,6 +6,7 @@ use Rattle.spec_history.specs.declared.TheConstants.{MAX_EDITS}
 use Rattle.xcf.specs.Plain.{IsPlainGroup, IsChecked}
 use Rattle.xcf.specs.declared.errors.NotEdited.{NotEdited}
 use Rattle.xcf.specs.declared.errors.NotEdited.TheVariants.{Memory, NotGroup, NoIds, Refused}
+use Rattle.xcf.specs.declared.errors.NotEdited.TheVariants.{NothingToUndo, NothingToRedo, HistoryFull}
 
 -- more ids are left than a group may take
 abbrev pub HasIds : At → Type 0
@@ -20,6 +21,9 @@ Edits old new edits (Err (Refused index cause)) =
 Edits old new edits (Err (NotGroup flaw)) = IsChecked edits (Err flaw) × (new ≡ old)
 Edits old new edits (Err NoIds) = IsPlainGroup edits × (HasIds old → ⊥) × (new ≡ old)
 Edits old new edits (Err Memory) = new ≡ old
+Edits old new edits (Err NothingToUndo) = ⊥
+Edits old new edits (Err NothingToRedo) = ⊥
+Edits old new edits (Err HistoryFull) = ⊥
 
 -- the same of one edit that takes a table
 abbrev pub EditsBy : (table : List ℕ) → (old new : At) → Edit → Result (Unit {0}) NotEdited → Type 0
@@ -28,3 +32,6 @@ EditsBy table old new edit (Err (Refused index cause)) = (index ≡ 0) × (apply
 EditsBy table old new edit (Err (NotGroup flaw)) = ⊥
 EditsBy table old new edit (Err NoIds) = ⊥
 EditsBy table old new edit (Err Memory) = new ≡ old
+EditsBy table old new edit (Err NothingToUndo) = ⊥
+EditsBy table old new edit (Err NothingToRedo) = ⊥
+EditsBy table old new edit (Err HistoryFull) = ⊥

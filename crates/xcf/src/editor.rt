@@ -1,18 +1,21 @@
-ghost use Rattle.std.specs.Prelude.{◌≡◌, ◌<◌, [], None, IfOk, IfErr, OnOk, OnErr};
+ghost use Rattle.std.specs.Prelude.{◌≡◌, ◌<◌, [], None, IfOk, IfErr, IfSome, IsSome, OnErr};
 ghost use Rattle.spec_history.specs.Machine as machine;
-ghost use Rattle.xcf.specs.Asked.{IsPlainCall, Fails};
+ghost use Rattle.xcf.specs.Asked.{IsPlainCall, IsOwnCall, Fails, reply_in};
 ghost use Rattle.xcf.specs.Opened.{Opens, history_of};
 ghost use Rattle.xcf.specs.Plain.{IsPlainGroup};
+ghost use Rattle.xcf.specs.declared.errors.NotEdited.TheVariants.{Memory};
 ghost use Rattle.xl_core.specs.History.{Answers, document, version};
 ghost use Rattle.xl_calls.specs.Calls.{call_of};
 ghost use Rattle.xl_calls.specs.Edits.{edits_of};
 ghost use Rattle.xl_calls.specs.Replies.{reply_of};
 ghost use Rattle.xl_filters.specs.Chests.{states_in};
 
-use crate::errors::{NotAsked, NotOpened};
+use crate::changed::Changed;
+use crate::errors::{NotEdited, NotOpened};
 use crate::group::check_group;
 use crate::no_shelf::NoShelf;
 use crate::opening::open;
+use crate::replies::outcome;
 use std::alloc::{AllocError, Global};
 use std::marker::{Brand, Model};
 use std::sync::ledger::{Blank, Ledger};
@@ -95,41 +98,59 @@ impl Editor {
         submit::<Brand>(alloc, &mut self.core, call, &mut desk, Blank::new(1))
     }
 
-    /// Makes a group of 1 to 1024 edits in turn, all or none. The reply is `Changed` with the new version, `Refused`
-    /// with the first edit that is refused and why, or `HistoryFull`; after the last two the document is as before.
+    // Makes a call that names no filter, no guard and no group: what its reply stands for.
+    fn tell(&mut self, alloc: Global, call: Call) -> Result<Changed, NotEdited>
+        requires plain { IsPlainCall (call_of call) }
+        requires own { IsOwnCall (call_of call) }
+        ensures answered { IfSome (reply_in result) (λ reply. Answers self.old 0 (call_of call) []
+            reply self.new) }
+        ensures as_before { reply_in result ≡ None → self.new ≡ self.old }
+        ensures memory { IfErr result (λ e. reply_in result ≡ None → e ≡ Memory) }
+    {
+        let reply = self.ask(alloc, call)?;
+        outcome(reply)
+    }
+
+    /// Makes a group of 1 to 1024 edits in turn, all or none: with Ok a new version was made.
     ///
-    /// Errors, after which the history is as before: `NotGroup` for no edits, too many, a filter among them, or one
-    /// that is past the limits of its type, and `Memory`.
-    pub fn edit(&mut self, alloc: Global, edits: Edits) -> Result<Reply, NotAsked>
-        ensures answered { IfOk result (λ reply.
-            Answers self.old 0 (machine.edit None (edits_of edits)) [] (reply_of reply) self.new) }
-        ensures group { OnOk result (IsPlainGroup (edits_of edits)) }
+    /// Errors: `Refused` with the first edit that is refused and why, which is an entry of the history; the document is
+    /// as before. After all others the history is too: `HistoryFull`, `NotGroup` for no edits, too many, a filter among
+    /// them, or one that is past the limits of its type, and `Memory`.
+    pub fn edit(&mut self, alloc: Global, edits: Edits) -> Result<Changed, NotEdited>
+        ensures answered { IfSome (reply_in result) (λ reply.
+            Answers self.old 0 (machine.edit None (edits_of edits)) [] reply self.new) }
+        ensures as_before { reply_in result ≡ None → self.new ≡ self.old }
+        ensures group { IsSome (reply_in result) → IsPlainGroup (edits_of edits) }
         ensures fails { IfErr result (Fails (edits_of edits)) }
-        ensures as_before { OnErr result (self.new ≡ self.old) }
     {
         check_group(edits.as_slice())?;
-        let call = Call::Edit(Group { guard: None, edits });
-        Ok(self.ask(alloc, call)?)
+        self.tell(alloc, Call::Edit(Group { guard: None, edits }))
     }
 
-    /// Undoes the last group: the document before it is the next version. The reply is `Changed`, `NothingToUndo` or
-    /// `HistoryFull`. Its one error is that memory ran out; the history is as before then.
-    pub fn undo(&mut self, alloc: Global) -> Result<Reply, AllocError>
-        ensures answered { IfOk result (λ reply. Answers self.old 0 (machine.undo None) []
-            (reply_of reply) self.new) }
-        ensures as_before { OnErr result (self.new ≡ self.old) }
+    /// Undoes the last group: the document before it is the next version.
+    ///
+    /// Errors: `NothingToUndo`, which is an entry of the history; the document is as before. After `HistoryFull` and
+    /// `Memory` the history is too.
+    pub fn undo(&mut self, alloc: Global) -> Result<Changed, NotEdited>
+        ensures answered { IfSome (reply_in result) (λ reply.
+            Answers self.old 0 (machine.undo None) [] reply self.new) }
+        ensures as_before { reply_in result ≡ None → self.new ≡ self.old }
+        ensures memory { IfErr result (λ e. reply_in result ≡ None → e ≡ Memory) }
     {
-        self.ask(alloc, Call::Undo(None))
+        self.tell(alloc, Call::Undo(None))
     }
 
-    /// Makes the group again that was undone last. The reply is `Changed`, `NothingToRedo` or `HistoryFull`. Its one
-    /// error is that memory ran out; the history is as before then.
-    pub fn redo(&mut self, alloc: Global) -> Result<Reply, AllocError>
-        ensures answered { IfOk result (λ reply. Answers self.old 0 machine.redo [] (reply_of reply)
-            self.new) }
-        ensures as_before { OnErr result (self.new ≡ self.old) }
+    /// Makes the group again that was undone last: the document after it is the next version.
+    ///
+    /// Errors: `NothingToRedo`, which is an entry of the history; the document is as before. After `HistoryFull` and
+    /// `Memory` the history is too.
+    pub fn redo(&mut self, alloc: Global) -> Result<Changed, NotEdited>
+        ensures answered { IfSome (reply_in result) (λ reply.
+            Answers self.old 0 machine.redo [] reply self.new) }
+        ensures as_before { reply_in result ≡ None → self.new ≡ self.old }
+        ensures memory { IfErr result (λ e. reply_in result ≡ None → e ≡ Memory) }
     {
-        self.ask(alloc, Call::Redo)
+        self.tell(alloc, Call::Redo)
     }
 
     /// The last version's number. The file is version 0.

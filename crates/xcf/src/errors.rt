@@ -1,5 +1,4 @@
 ghost use Rattle.std.specs.Prelude.{◌≡◌};
-ghost use Rattle.xcf.specs.declared.errors.NotAsked.TheVariants as asked;
 ghost use Rattle.xcf.specs.declared.errors.NotEdited.TheVariants as edited;
 
 use std::alloc::AllocError;
@@ -31,8 +30,10 @@ pub enum NotGroup {
     NotPlain(u32),
 }
 
-/// Why an image was not edited. It is as before then.
-#[derive(Debug, Drop, Error)]
+/// Why no group of edits was made, undone or made again. The document is as before then.
+///
+/// Of an [`crate::Image`] there are the first four alone, of an [`crate::Editor`] all but `NoIds`.
+#[derive(Clone, Copy, Debug, PartialEq, Eq, Error)]
 pub enum NotEdited {
     #[error("out of memory")]
     Memory,
@@ -44,6 +45,13 @@ pub enum NotEdited {
     /// The first edit that is refused, counted from 0, and why.
     #[error("edit {index} is refused: {cause}")]
     Refused { index: u32, cause: EditRefused },
+    #[error("there is no group to undo")]
+    NothingToUndo,
+    #[error("there is no group to make again")]
+    NothingToRedo,
+    /// A history has at most 2^20 entries.
+    #[error("the history has no room")]
+    HistoryFull,
 }
 
 impl From<AllocError> for NotEdited {
@@ -59,31 +67,6 @@ impl From<NotGroup> for NotEdited {
 
     fn from(flaw: NotGroup) -> Self {
         NotEdited::NotGroup(flaw)
-    }
-}
-
-/// Why an editor was not asked. Its history is as before then.
-#[derive(Clone, Copy, Debug, PartialEq, Eq, Error)]
-pub enum NotAsked {
-    #[error("out of memory")]
-    Memory,
-    #[error("no group: {0}")]
-    NotGroup(NotGroup),
-}
-
-impl From<AllocError> for NotAsked {
-    ghost from_gives = { λ _ e. e ≡ asked.Memory };
-
-    fn from(_: AllocError) -> Self {
-        NotAsked::Memory
-    }
-}
-
-impl From<NotGroup> for NotAsked {
-    ghost from_gives = { λ flaw e. e ≡ asked.NotGroup flaw };
-
-    fn from(flaw: NotGroup) -> Self {
-        NotAsked::NotGroup(flaw)
     }
 }
 

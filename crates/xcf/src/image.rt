@@ -3,7 +3,8 @@ ghost use Rattle.spec_document.specs.Limits.{AreBytes};
 ghost use Rattle.spec_edit.specs.Edit as edits;
 ghost use Rattle.spec_filters.specs.Filters.{table_of};
 ghost use Rattle.xcf.specs.Opened.{Opens, image_of};
-ghost use Rattle.xcf.specs.Edited.{Edits, EditsBy};
+ghost use Rattle.xcf.specs.Edited.{EditsBy};
+ghost use Rattle.xcf.specs.Edited.{Edits as ComesTo};
 ghost use Rattle.xl_doc.specs.Numbered.{AreNumbered};
 ghost use Rattle.xl_calls.specs.Edits.{edits_of};
 
@@ -13,7 +14,7 @@ use crate::opening::open;
 use spec_history::MAX_EDITS;
 use std::alloc::Global;
 use std::marker::Model;
-use xl_calls::Edit;
+use xl_calls::{Edit, Edits};
 use xl_doc::{Document, NodeId, Rect};
 use xl_edit::{EditRefusedOrMemory, apply};
 use xl_filters::{FilterKind, FilterState, Table, Tables};
@@ -90,9 +91,16 @@ impl Image {
     /// Errors, after each of which the image is as before: `Refused` with the first edit that is refused and why,
     /// `NotGroup` for no edits, too many, a filter among them, or one that is past the limits of its type, `NoIds`
     /// where at most 1024 ids are left for new nodes, `Memory`.
+    pub fn edit(&mut self, alloc: Global, edits: Edits) -> Result<(), NotEdited>
+        ensures { ComesTo self.old self.new (edits_of edits) result }
+    {
+        self.edit_by(alloc, edits.as_slice())
+    }
+
+    // The same of edits that are lent.
     #[tactic(auto, using(crate::proofs::Plain::few, crate::proofs::Plain::each, crate::proofs::Plain::no_tables, crate::proofs::Plain::bare))]
-    pub fn edit(&mut self, alloc: Global, edits: &[Edit]) -> Result<(), NotEdited>
-        ensures { Edits self.old self.new (edits_of edits.now) result }
+    fn edit_by(&mut self, alloc: Global, edits: &[Edit]) -> Result<(), NotEdited>
+        ensures { ComesTo self.old self.new (edits_of edits.now) result }
     {
         check_group(edits)?;
         if self.next_id >= u32::MAX - MAX_EDITS {

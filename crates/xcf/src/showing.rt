@@ -4,15 +4,17 @@ ghost use Rattle.spec_file.specs.Reading.{reading};
 ghost use Rattle.spec_document.specs.Forest.{stack_at};
 ghost use Rattle.spec_document.specs.Grid.{is_on_grid};
 ghost use Rattle.spec_layout.specs.Layout.{Written};
-ghost use Rattle.spec_document.specs.Picture.{picture_bytes, project};
+ghost use Rattle.spec_document.specs.Picture.{picture_bytes};
 ghost use Rattle.xcf.specs.Shown.{Shows};
+ghost use Rattle.xcf.specs.TilePicture.{tile_picture};
 
 use crate::errors::NotShown;
+use crate::tile_picture::Picture;
 use std::alloc::{AllocError, Global};
 use std::marker::Brand;
 use std::sync::ledger::{Blank, Ledger};
 use xl_blend::Steps;
-use xl_compose::{Picture, Recompose, recompose_tile};
+use xl_compose::{Picture as Tile, Recompose, recompose_tile};
 use xl_doc::{Document, NodeId, Pictures, Rect, TileAt};
 use xl_standing::{has_stack, has_tile};
 use xl_write::{Keeping, encode};
@@ -30,12 +32,13 @@ fn compose_tile<L: Ledger>(
     requires some { 0 < blank.parts }
     requires stack { IsSome (stack_at stack.0 document.now.nodes) }
     requires on_grid { IsTrue (is_on_grid document.now.width document.now.height at) }
-    ensures { IfOk result (λ picture. picture ≡ project document.now stack.0 at) }
+    ensures { IfOk result (λ picture. picture
+        ≡ tile_picture document.now stack.0 at) }
 {
     let mut steps = Steps::<L>::new(blank);
-    let mut picture = Picture::blank(alloc)?;
-    recompose_tile(alloc, document, stack, at, &mut picture, &mut steps)?;
-    Ok(picture)
+    let mut tile = Tile::blank(alloc)?;
+    recompose_tile(alloc, document, stack, at, &mut tile, &mut steps)?;
+    Ok(Picture::of(document, stack, at, tile))
 }
 
 /// The picture of a tile of 64 by 64 pixels, cut to the canvas: RGBA, four bytes a pixel, row by row. The stack is node

@@ -1,7 +1,7 @@
 use Rattle.std.proofs.Common.{arith}
 use Rattle.xl_calls.specs.Edits.{edits_of}
 use Rattle.xcf.proofs.Plain.{few, no_tables}
-use Rattle.xcf.proofs.image.Image.edit.Goals as goal
+use Rattle.xcf.proofs.image.Image.edit_by.Goals as goal
 
 pub try_group-requires-clause-few : goal.try_group-requires-clause-few
 try_group-requires-clause-few c = few c.args.edits.now c.in_ok-check_group.ensures.checked
