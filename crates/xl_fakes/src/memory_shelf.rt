@@ -12,12 +12,16 @@ ghost use Rattle.xl_fakes.specs.Kept.{is_known_at, standing, found, disk_of, con
 ghost use Rattle.xl_fakes.specs.Kept.{handed_in, Notes, NotesOrNot, KeepsFiles, EndsReading, EndsSaving, IsSwapped};
 ghost use Rattle.xl_fakes.specs.Kept.{IsSettled, KnowsToo, LeavesBoth, draft_in, shown, known_content};
 
-use crate::draft::Draft;
-use crate::files::{bring, place_of};
+use crate::draft::{Draft, close_if, open_if, set_synced};
+use crate::files::place_of;
+use crate::given::{end_giving, give_noted};
 use crate::named_file::NamedFile;
 use crate::settled::Settled;
 use crate::shelf_calls::ShelfCalls;
-use crate::steps::{conclude_reading, conclude_saving, note, settle_kept};
+use crate::steps::{
+    add_noted, bring_noted, conclude_saving, end_reading, end_saving, note, settle_kept,
+};
+use crate::swapped::{end_swapping, swap_noted};
 use std::alloc::{AllocError, Global};
 use std::marker::Model;
 use xl_ports::{Failed, Shelf};
@@ -175,17 +179,17 @@ impl MemoryShelf {
         ensures loads { self.new.loads ≡ self.old.loads }
         ensures ends { EndsReading ⊥ result self.old self.new }
     {
-        let failed = self.calls.next_fails();
-        let noted = note(&mut self.log);
-        if failed || noted.is_err() {
-            return conclude_reading(&mut self.calls, &mut self.starved, failed, noted);
-        }
-        let brought = bring(self.alloc, &mut self.here, &mut self.files, name);
-        if brought.is_err() {
-            return conclude_reading(&mut self.calls, &mut self.starved, false, brought);
-        }
-        self.draft = None;
-        conclude_reading(&mut self.calls, &mut self.starved, false, Ok(()))
+        let brought = bring_noted(
+            self.alloc,
+            &mut self.here,
+            &mut self.files,
+            &mut self.log,
+            &self.calls,
+            name,
+        );
+        let ended = end_reading(&mut self.calls, &mut self.starved, brought);
+        close_if(&mut self.draft, ended.is_ok());
+        ended
     }
 
     fn open_draft(&mut self) -> Result<(), Failed>
@@ -196,14 +200,10 @@ impl MemoryShelf {
         ensures loads { self.new.loads ≡ self.old.loads }
         ensures ends { EndsSaving NextCallFails result self.old self.new }
     {
-        self.draft = None;
-        let failed = self.calls.next_fails();
         let noted = note(&mut self.log);
-        if failed || noted.is_err() {
-            return conclude_saving(&mut self.calls, &mut self.starved, failed, noted);
-        }
-        self.draft = Some(Draft::new(self.alloc));
-        conclude_saving(&mut self.calls, &mut self.starved, false, Ok(()))
+        let ended = end_saving(&mut self.calls, &mut self.starved, noted);
+        self.draft = open_if(self.alloc, ended.is_ok());
+        ended
     }
 
     fn add_to_draft(&mut self, bytes: &[u8]) -> Result<(), Failed>
@@ -217,17 +217,8 @@ impl MemoryShelf {
         ensures loads { self.new.loads ≡ self.old.loads }
         ensures ends { EndsSaving NextCallFails result self.old self.new }
     {
-        let mut draft = self.draft.take().unwrap();
-        let failed = self.calls.next_fails();
-        let noted = note(&mut self.log);
-        if failed || noted.is_err() {
-            draft.set_synced(false);
-            self.draft = Some(draft);
-            return conclude_saving(&mut self.calls, &mut self.starved, failed, noted);
-        }
-        let added = draft.add(bytes);
-        self.draft = Some(draft);
-        conclude_saving(&mut self.calls, &mut self.starved, false, added)
+        let added = add_noted(&mut self.draft, &mut self.log, &self.calls, bytes);
+        end_saving(&mut self.calls, &mut self.starved, added)
     }
 
     fn sync_draft(&mut self) -> Result<(), Failed>
@@ -240,17 +231,10 @@ impl MemoryShelf {
         ensures loads { self.new.loads ≡ self.old.loads }
         ensures ends { EndsSaving NextCallFails result self.old self.new }
     {
-        let mut draft = self.draft.take().unwrap();
-        let failed = self.calls.next_fails();
         let noted = note(&mut self.log);
-        if failed || noted.is_err() {
-            draft.set_synced(false);
-            self.draft = Some(draft);
-            return conclude_saving(&mut self.calls, &mut self.starved, failed, noted);
-        }
-        draft.set_synced(true);
-        self.draft = Some(draft);
-        conclude_saving(&mut self.calls, &mut self.starved, false, Ok(()))
+        let ended = end_saving(&mut self.calls, &mut self.starved, noted);
+        set_synced(&mut self.draft, ended.is_ok());
+        ended
     }
 
     fn swap_draft(&mut self) -> Result<(), Failed>
@@ -271,22 +255,8 @@ impl MemoryShelf {
         ensures ends { EndsSaving IsStopped result self.old self.new }
     {
         let bytes = self.draft.take().unwrap().into_bytes();
-        let stopped = self.calls.is_stopped();
-        let listed = self.calls.is_listed();
-        let noted = note(&mut self.log);
-        if stopped || noted.is_err() {
-            return conclude_saving(&mut self.calls, &mut self.starved, stopped, noted);
-        }
-        let mut here = self.here.take().unwrap();
-        if listed {
-            let added = here.add(bytes);
-            self.here = Some(here);
-            // Where there is no memory for the draft, that is why it fails, and not its number.
-            return conclude_saving(&mut self.calls, &mut self.starved, added.is_ok(), added);
-        }
-        let swapped = here.swap(bytes);
-        self.here = Some(here);
-        conclude_saving(&mut self.calls, &mut self.starved, false, swapped)
+        let swapped = swap_noted(&mut self.here, &mut self.log, &self.calls, bytes);
+        end_swapping(&mut self.calls, &mut self.starved, swapped)
     }
 
     fn settle_name(&mut self) -> Result<(), Failed>
@@ -321,15 +291,8 @@ impl MemoryShelf {
         ensures ends { EndsReading (shown self.old ≡ Some absent) result self.old self.new }
     {
         self.loads = self.loads.saturating_add(1);
-        let failed = self.calls.next_fails();
-        let noted = note(&mut self.log);
-        if failed || noted.is_err() {
-            conclude_reading(&mut self.calls, &mut self.starved, failed, noted)?;
-            return Ok(0);
-        }
-        let given = give(self.here.as_ref().unwrap(), at, buf);
-        conclude_reading(&mut self.calls, &mut self.starved, given.is_err(), Ok(()))?;
-        given
+        let given = give_noted(&self.here, &mut self.log, &self.calls, at, buf);
+        end_giving(&mut self.calls, &mut self.starved, given)
     }
 }
 
@@ -483,31 +446,4 @@ impl Shelf for MemoryShelf {
     {
         self.settle_name()
     }
-}
-
-// The bytes that a read gives from an offset on, as many as there is room for.
-fn give(kept: &NamedFile, at: u64, buf: &mut [u8]) -> Result<usize, Failed>
-    ensures within { IfOk result (λ k. k ≤ length buf.old) }
-    ensures given { IfOk result (λ k. GivesPart kept.now.read at (length buf.old)
-        (take k buf.new)) }
-    ensures absent { OnErr result (kept.now.read ≡ absent) }
-{
-    let Some(bytes) = kept.read() else {
-        return Err(Failed);
-    };
-    Ok(give_rest(bytes, at, buf))
-}
-
-// The bytes from an offset on, as many as there is room for.
-fn give_rest(bytes: &[u8], at: u64, buf: &mut [u8]) -> usize
-    ensures within { result ≤ length buf.old }
-    ensures given { GivesPart (file bytes.now) at (length buf.old) (take result buf.new) }
-{
-    if at >= bytes.len() as u64 {
-        return 0;
-    }
-    let rest = &bytes[at as usize..];
-    let taken = rest.len().min(buf.len());
-    buf[..taken].copy_from_slice(&rest[..taken]);
-    taken
 }
