@@ -12,13 +12,13 @@ use Rattle.spec_fields.specs.Reading.{fault}
 use Rattle.spec_file.specs.declared.TheConstants.{FILE_LIMIT}
 use Rattle.spec_file.specs.Header.{header_of}
 use Rattle.spec_file.specs.Holds.{Holds}
-use Rattle.spec_file.specs.Reading.{reading, fault_in}
+use Rattle.spec_file.specs.Reading.{reading, beginning, fault_in}
 use Rattle.xl_ports.specs.Shelf.{Content, absent, file, GivesFront}
 use Rattle.xl_outcome.specs.Files.{HoldsDocument, HasFault, HasLength}
 
 -- a file as long as the limit is refused, whatever is in it
 too_long : (bytes : List ℕ) → FILE_LIMIT ≤ length bytes → reading bytes ≡ Err (fault TooLarge (FILE_LIMIT - 1))
-unfolding reading header_of
+unfolding reading beginning header_of
 too_long bytes long =
     let test : nat_lt (length bytes) FILE_LIMIT ≡ false = grind (arith, nat_tests) in
     rw test refl
