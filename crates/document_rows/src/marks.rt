@@ -56,11 +56,21 @@ fn change_to_itself(alloc: Global, doc: &Document) -> Result<Change, AllocError>
     Change::new(alloc, doc, doc, damage)
 }
 
+// Whether a document with a change to itself begins with marked slots.
+fn changes(alloc: Global) -> Result<bool, AllocError> {
+    let doc = empty_canvas(alloc)?;
+    changes_to_itself(alloc, &doc)
+}
+
+fn changes_to_itself(alloc: Global, doc: &Document) -> Result<bool, AllocError>
+    requires { doc.now ≡ canvas_of none }
+{
+    let _change = change_to_itself(alloc, doc)?;
+    begins_marked(alloc, doc)
+}
+
 #[test]
 fn there_is_memory(rt: HostRuntime) -> Result<(), Fail> {
-    let alloc = rt.alloc();
-    let doc = empty_canvas(alloc)?;
-    let _change = change_to_itself(alloc, &doc)?;
-    assert!(rt; begins_marked(alloc, &doc)?);
+    assert!(rt; changes(rt.alloc())?);
     Ok(())
 }

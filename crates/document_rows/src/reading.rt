@@ -82,16 +82,20 @@ fn byte_of(document: &Document, col: u8, row: u8) -> Option<u8> {
 }
 
 // Whether each tile of the channel has its number.
-fn has_numbers(answer: Result<Document, ReadRefusedOrMemory>) -> bool {
-    let Ok(document) = answer else {
-        return false;
-    };
+fn is_numbered(document: &Document) -> bool {
     for tile in 0..=255u8 {
-        if byte_of(&document, tile % 16, tile / 16) != Some(tile) {
+        if byte_of(document, tile % 16, tile / 16) != Some(tile) {
             return false;
         }
     }
     true
+}
+
+fn has_numbers(answer: Result<Document, ReadRefusedOrMemory>) -> bool {
+    match answer {
+        Ok(document) => is_numbered(&document),
+        Err(_) => false,
+    }
 }
 
 // Where a run is refused.
@@ -110,25 +114,37 @@ fn bad_run(answer: Result<Document, ReadRefusedOrMemory>) -> Option<u64> {
     }
 }
 
+// Whether each tile is read in its place, alone and in threads.
+fn are_numbered<R: Threads + Sync>(rt: &R, alloc: Global) -> Result<[bool; 2], AllocError> {
+    let file = numbered_tiles(alloc)?;
+    let copy = file.as_slice().to_vec(alloc)?;
+    let alone = has_numbers(read_alone(alloc, copy));
+    Ok([alone, has_numbers(read_beside(rt, alloc, file))])
+}
+
+fn damaged_tiles(alloc: Global) -> Result<Vec<u8>, AllocError> {
+    let mut file = numbered_tiles(alloc)?;
+    damage(&mut file, 200);
+    damage(&mut file, 70);
+    Ok(file)
+}
+
+// Which of two bad runs is told, alone and in threads.
+fn bad_runs<R: Threads + Sync>(rt: &R, alloc: Global) -> Result<[Option<u64>; 2], AllocError> {
+    let file = damaged_tiles(alloc)?;
+    let copy = file.as_slice().to_vec(alloc)?;
+    let alone = bad_run(read_alone(alloc, copy));
+    Ok([alone, bad_run(read_beside(rt, alloc, file))])
+}
+
 #[test]
 fn each_tile_is_read_in_its_place(rt: HostRuntime) -> Result<(), Fail> {
-    let alloc = rt.alloc();
-    let file = numbered_tiles(alloc)?;
-    assert!(rt; has_numbers(read_alone(alloc, file.as_slice().to_vec(alloc)?)));
-    assert!(rt; has_numbers(read_beside(&rt, alloc, file)));
+    assert_eq!(rt; are_numbered(&rt, rt.alloc())?, [true; 2]);
     Ok(())
 }
 
 #[test]
 fn the_first_of_two_bad_runs_is_told(rt: HostRuntime) -> Result<(), Fail> {
-    let alloc = rt.alloc();
-    let mut file = numbered_tiles(alloc)?;
-    damage(&mut file, 200);
-    damage(&mut file, 70);
-    assert_eq!(rt;
-        bad_run(read_alone(alloc, file.as_slice().to_vec(alloc)?)),
-        Some(1415)
-    );
-    assert_eq!(rt; bad_run(read_beside(&rt, alloc, file)), Some(1415));
+    assert_eq!(rt; bad_runs(&rt, rt.alloc())?, [Some(1415); 2]);
     Ok(())
 }
