@@ -10,8 +10,6 @@ use Rattle.spec_history.specs.Machine.{Call, Reply, Saving, saved, save_fault, s
 use Rattle.spec_history.specs.History.{Entry, replay}
 use Rattle.spec_history.specs.Kept.{IsLegal}
 use Rattle.xl_ports.specs.State.{ShelfState}
-use Rattle.spec_tables.specs.Agrees.{Agrees}
-use Rattle.spec_tables.proofs.Chests.{some_list}
 use Rattle.spec_world.specs.World.{entries_owed}
 use Rattle.spec_world.specs.declared.SaveEnd.{SaveEnd}
 use Rattle.spec_world.specs.declared.SaveEnd.TheVariants.{Done, Fault, Memory}
@@ -26,10 +24,12 @@ use Rattle.xl_sessions.proofs.Counts.{made_more}
 use Rattle.xl_run.proofs.Lined.{last_is_printed}
 use Rattle.xl_studio.specs.declared.moment.Moment.{Moment}
 use Rattle.xl_studio.specs.declared.moment.Moment.TheVariants.{Made}
-use Rattle.xl_studio.specs.Calling.{called_entry, Known, IsCalled, HasHeard}
+use Rattle.xl_studio.specs.Answered.{IsReplied}
+use Rattle.xl_studio.specs.Calling.{called_entry, Known, HasHeard}
 use Rattle.xl_studio.specs.Moments.{entries_in}
 use Rattle.xl_studio.specs.Saving.{IsSaved, IsWhole}
 use Rattle.xl_studio.specs.Seats.{history_of}
+use Rattle.xl_studio.proofs.Answered.{called_with}
 use Rattle.xl_studio.proofs.Grown.{entries-append}
 
 owed_le : (out : Option Saving) → entries_owed out ≤ 1
@@ -73,17 +73,14 @@ module _ {K : Type 0} where
       let one = length-append old.made (length (entries_in entered) ∷ []) in
       omega (arith, size, one)
 
-  pub count_after_call : {E : Type 0} (R : Type 0) (reply_of : R → Reply) (tables_of : List FilterState → R → List (List ℕ))
-      (r : Result R E) (base : Document) (session : ℕ) (c : Call) (old new : Known K) (chest : List (Option FilterState))
-      → ((filters : List FilterState) → Agrees chest filters
-      → IfOk r (λ reply. IsCalled base session c (tables_of filters reply) (reply_of reply) old new))
+  pub count_after_call : {E : Type 0} (R : Type 0) (reply_of : R → Reply) (r : Result R E) (base : Document) (session : ℕ) (c : Call)
+      (before after : List (Option FilterState)) (bytes : List ℕ) (old new : Known K)
+      → IfOk r (λ reply. IsReplied base session c before after bytes old new (reply_of reply))
       → OnErr r (HasHeard old new) → MakesAtMost 1 old new
-  count_after_call R reply_of tables_of (Ok reply) base session c old new chest answered heard =
-      let some = some_list chest in
-      let called = answered some.0 some.1 in
-      count_where (is_full (history_of base called.entered)) _ session c (tables_of some.0 reply) (reply_of reply) old new
-      called.entered called.made
-  count_after_call R reply_of tables_of (Err e) base session c old new chest answered heard = heard_none old new heard.made 1
+  count_after_call R reply_of (Ok reply) base session c before after bytes old new replied heard =
+      let with = called_with replied in
+      count_where (is_full (history_of base with.1.entered)) _ session c with.0 (reply_of reply) old new with.1.entered with.1.made
+  count_after_call R reply_of (Err e) base session c before after bytes old new replied heard = heard_none old new heard.made 1
 
   full_where : (full : Bool) (base : Document) (session : ℕ) (c : Call) (tables : List (List ℕ)) (reply : Reply) (old new : Known K)
       (entered : List (Moment K)) → is_full (history_of base entered) ≡ full
@@ -103,17 +100,15 @@ module _ {K : Type 0} where
       absurd (full_is_not_printed reply
       (last_is_printed base (entries_in entered) e c tables refl (subst (IsLegal base) last legal)) so)
 
-  pub full_after_call : {E : Type 0} (R : Type 0) (reply_of : R → Reply) (tables_of : List FilterState → R → List (List ℕ))
-      (r : Result R E) (base : Document) (session : ℕ) (c : Call) (old new : Known K) (chest : List (Option FilterState))
-      → ((filters : List FilterState) → Agrees chest filters
-      → IfOk r (λ reply. IsCalled base session c (tables_of filters reply) (reply_of reply) old new))
+  pub full_after_call : {E : Type 0} (R : Type 0) (reply_of : R → Reply) (r : Result R E) (base : Document) (session : ℕ) (c : Call)
+      (before after : List (Option FilterState)) (bytes : List ℕ) (old new : Known K)
+      → IfOk r (λ reply. IsReplied base session c before after bytes old new (reply_of reply))
       → IsLegal base (entries_in new.front) → IfOk r (λ reply. reply_of reply ≡ history_full → FindsFull old new)
-  full_after_call R reply_of tables_of (Ok reply) base session c old new chest answered legal = λ so.
-      let some = some_list chest in
-      let called = answered some.0 some.1 in
-      full_where (is_full (history_of base called.entered)) base session c (tables_of some.0 reply) (reply_of reply) old new
-      called.entered refl called.made legal so
-  full_after_call R reply_of tables_of (Err e) base session c old new chest answered legal = tt
+  full_after_call R reply_of (Ok reply) base session c before after bytes old new replied legal = λ so.
+      let with = called_with replied in
+      full_where (is_full (history_of base with.1.entered)) base session c with.0 (reply_of reply) old new with.1.entered refl
+      with.1.made legal so
+  full_after_call R reply_of (Err e) base session c before after bytes old new replied legal = tt
 
   -- ---- a line
 

@@ -1,5 +1,5 @@
 -- A session's seat, from before its calls to behind them.
-use Rattle.std.proofs.Common.{◌≡◌, ℕ, refl, ◌∙◌}
+use Rattle.std.proofs.Common.{ℕ}
 use Rattle.spec_seats.specs.Made.{IsOf}
 use Rattle.xl_studio.specs.declared.moment.Moment.{Moment}
 use Rattle.xl_studio.specs.declared.seat.Seat.{Seat}
@@ -7,27 +7,16 @@ use Rattle.xl_studio.specs.declared.seat.Studio.{Studio}
 use Rattle.xl_studio.specs.Moments.{entries_in}
 use Rattle.xl_studio.specs.Seats.{front_of, made_of, IsSeatOf}
 use Rattle.xl_studio.specs.State.{State}
+use Rattle.xl_studio.proofs.Answered.{goes_on_same, goes_on_then}
 use Rattle.xl_turn.specs.declared.view.Chronicle.{Ghosts}
-use Rattle.xl_turn.proofs.Fronts.{prefix_self, prefix_trans}
 use Rattle.xl_sessions.specs.Keeping.{KeepsSeat}
 
 module _ {K : Type 0} {C : Ghosts (State K) (Moment K)} (studio : Studio K) (session : ℕ) where
   pub keeps_same : (seat : Seat K C) → IsSeatOf studio seat → IsOf session (made_of seat) (entries_in (front_of seat))
       → KeepsSeat studio session seat seat
-  keeps_same seat of_studio of = record {
-    seat = of_studio;
-    weight = refl;
-    job = refl;
-    begins = prefix_self (front_of seat);
-    of = of;
-  }
+  keeps_same seat of_studio of = record { goes_on = goes_on_same studio seat of_studio; of = of }
 
   pub keeps_on : (old mid new : Seat K C) → KeepsSeat studio session old mid → KeepsSeat studio session mid new
       → KeepsSeat studio session old new
-  keeps_on old mid new first then = record {
-    seat = then.seat;
-    weight = then.weight ∙ first.weight;
-    job = then.job ∙ first.job;
-    begins = prefix_trans (front_of old) (front_of mid) (front_of new) first.begins then.begins;
-    of = then.of;
-  }
+  keeps_on old mid new first then =
+      record { goes_on = goes_on_then studio old mid new first.goes_on then.goes_on; of = then.of }

@@ -7,8 +7,6 @@ use Rattle.spec_document.specs.Document.{Document}
 use Rattle.spec_filters.specs.declared.FilterState.{FilterState}
 use Rattle.spec_history.specs.Machine.{Call, Reply}
 use Rattle.spec_history.specs.History.{Entry}
-use Rattle.spec_tables.specs.Agrees.{Agrees}
-use Rattle.spec_tables.proofs.Chests.{some_list}
 use Rattle.xl_ports.specs.State.{ShelfState}
 use Rattle.spec_seats.specs.Made.{IsOf}
 use Rattle.spec_seats.proofs.More.{before_end, with_save, of_grows, of_call, of_save}
@@ -16,6 +14,7 @@ use Rattle.xl_studio.specs.Editing.{start_of}
 use Rattle.xl_studio.specs.declared.moment.Moment.{Moment}
 use Rattle.xl_studio.specs.declared.moment.Moment.TheVariants.{Made}
 use Rattle.xl_studio.specs.Moments.{entries_in}
+use Rattle.xl_studio.specs.Answered.{IsReplied}
 use Rattle.xl_studio.specs.Calling.{called_entry, Known, IsCalled, HasHeard}
 use Rattle.xl_studio.specs.Saving.{IsSaved, IsWhole, end_behind}
 use Rattle.xl_studio.specs.Seats.{history_of}
@@ -23,6 +22,7 @@ use Rattle.xl_script.specs.Lines.{line_of}
 use Rattle.xl_script.specs.declared.script.Line.{Line}
 use Rattle.xl_script.specs.declared.script.Line.TheVariants.{Save, Forget}
 use Rattle.xl_sessions.specs.Playing.{IsSaveMade, IsLineMade}
+use Rattle.xl_studio.proofs.Answered.{called_with}
 use Rattle.xl_studio.proofs.Grown.{entries-append, entries-prefix}
 
 of_moved : (session : ℕ) (made made' : List ℕ) (es es' : List Entry) → made ≡ made' → es ≡ es' → IsOf session made es
@@ -65,15 +65,13 @@ module _ {K : Type 0} where
   of_called base session c tables reply old new called of =
       of_where _ _ session c tables reply old new called.entered called.begins called.made of
 
-  pub of_after_call : {E : Type 0} (R : Type 0) (reply_of : R → Reply) (tables_of : List FilterState → R → List (List ℕ))
-      (r : Result R E) (base : Document) (session : ℕ) (c : Call) (old new : Known K) (chest : List (Option FilterState))
-      → ((filters : List FilterState) → Agrees chest filters
-      → IfOk r (λ reply. IsCalled base session c (tables_of filters reply) (reply_of reply) old new))
+  pub of_after_call : {E : Type 0} (R : Type 0) (reply_of : R → Reply) (r : Result R E) (base : Document) (session : ℕ) (c : Call)
+      (before after : List (Option FilterState)) (bytes : List ℕ) (old new : Known K)
+      → IfOk r (λ reply. IsReplied base session c before after bytes old new (reply_of reply))
       → OnErr r (HasHeard old new) → IsOf session old.made (entries_in old.front) → IsOf session new.made (entries_in new.front)
-  of_after_call R reply_of tables_of (Ok reply) base session c old new chest answered heard of =
-      let some = some_list chest in
-      of_called base session c (tables_of some.0 reply) (reply_of reply) old new (answered some.0 some.1) of
-  of_after_call R reply_of tables_of (Err e) base session c old new chest answered heard of =
+  of_after_call R reply_of (Ok reply) base session c before after bytes old new replied heard of =
+      let with = called_with replied in of_called base session c with.0 (reply_of reply) old new with.1 of
+  of_after_call R reply_of (Err e) base session c before after bytes old new replied heard of =
       of_longer session old new heard.begins heard.made of
 
   -- ---- a save

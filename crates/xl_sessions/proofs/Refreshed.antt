@@ -10,15 +10,16 @@ use Rattle.spec_history.specs.Machine.{Call, edit, undo, redo, tile, peek, top, 
 use Rattle.spec_history.specs.Machine.{State, latest, document_at, has_stack, initial}
 use Rattle.spec_history.specs.History.{Entry, asked, after_entry, latest_of, MayBe, RunFrom}
 use Rattle.spec_history.specs.Kept.{IsFreshReply, IsLegal}
-use Rattle.spec_tables.specs.Agrees.{Agrees}
-use Rattle.spec_tables.proofs.Chests.{some_list}
+use Rattle.spec_tables.specs.Tables.{expected_tables}
 use Rattle.xl_studio.specs.History.{is_full}
 use Rattle.xl_turn.proofs.Fronts.{prefix_trans}
 use Rattle.xl_studio.specs.declared.moment.Moment.{Moment}
 use Rattle.xl_studio.specs.declared.moment.Moment.TheVariants.{Made}
+use Rattle.xl_studio.specs.Answered.{IsReplied}
 use Rattle.xl_studio.specs.Calling.{called_entry, Known, IsCalled, HasHeard, IsNoTile}
 use Rattle.xl_studio.specs.Moments.{entries_in}
 use Rattle.xl_studio.specs.Seats.{history_of}
+use Rattle.xl_studio.proofs.Answered.{called_with}
 use Rattle.xl_studio.proofs.Grown.{entries-append, entries-prefix}
 use Rattle.xl_studio.proofs.Refreshed.{heard_on}
 use Rattle.xl_studio.proofs.Seated.{latest_prefix}
@@ -63,14 +64,6 @@ module _ {K : Type 0} where
             × (new.made ≡ made ++ length (entries_in entered) ∷ []))) heard.made called.made;
       }
 
-  pub answered_on : {E : Type 0} (R : Type 0) (reply_of : R → Reply) (tables_of : R → List (List ℕ)) (r : Result R E)
-      (base : Document) (session : ℕ) (call : Call) (old mid new : Known K) → HasHeard old mid
-      → IfOk r (λ reply. IsCalled base session call (tables_of reply) (reply_of reply) mid new)
-      → IfOk r (λ reply. IsCalled base session call (tables_of reply) (reply_of reply) old new)
-  answered_on R reply_of tables_of (Ok reply) base session call old mid new heard called =
-      called_on base session call (tables_of reply) (reply_of reply) old mid new heard called
-  answered_on R reply_of tables_of (Err e) base session call old mid new heard called = tt
-
   pub failed_on : {R E : Type 0} (r : Result R E) (old mid new : Known K) → HasHeard old mid → OnErr r (HasHeard mid new)
       → OnErr r (HasHeard old new)
   failed_on (Ok reply) old mid new heard then = tt
@@ -113,15 +106,19 @@ module _ {K : Type 0} where
   fresh_call base session top tables reply old mid new heard same called legal fresh =
       subst (λ (k : Known K). IsFreshReply (latest_of (entries_in k.front)) reply) (same tt) fresh
 
-  pub fresh_on : {E : Type 0} (R : Type 0) (reply_of : R → Reply) (tables_of : List FilterState → R → List (List ℕ))
-      (r : Result R E) (base : Document) (session : ℕ) (call : Call) (old mid new : Known K) (chest : List (Option FilterState))
-      → ((filters : List FilterState) → Agrees chest filters
-      → IfOk r (λ reply. IsCalled base session call (tables_of filters reply) (reply_of reply) mid new))
+  pub replied_on : {E : Type 0} (R : Type 0) (reply_of : R → Reply) (r : Result R E) (base : Document) (session : ℕ) (call : Call)
+      (before after : List (Option FilterState)) (bytes : List ℕ) (old mid new : Known K)
       → HasHeard old mid → (IsNoTile call → mid ≡ old) → IsLegal base (entries_in new.front)
-      → IfOk r (λ reply. IsFreshReply (latest_of (entries_in mid.front)) (reply_of reply))
-      → IfOk r (λ reply. IsFreshReply (latest_of (entries_in old.front)) (reply_of reply))
-  fresh_on R reply_of tables_of (Ok reply) base session call old mid new chest answered heard same legal fresh =
-      let some = some_list chest in
-      fresh_call base session call (tables_of some.0 reply) (reply_of reply) old mid new heard same (answered some.0 some.1) legal
-      fresh
-  fresh_on R reply_of tables_of (Err e) base session call old mid new chest answered heard same legal fresh = tt
+      → IfOk r (λ reply. IsReplied base session call before after bytes mid new (reply_of reply))
+      → IfOk r (λ reply. IsReplied base session call before after bytes old new (reply_of reply))
+  replied_on R reply_of (Ok reply) base session call before after bytes old mid new heard same legal replied =
+      let with = called_with replied in
+      record {
+        called = λ filters agrees. called_on base session call (expected_tables filters (asked call []) (reply_of reply))
+            (reply_of reply) old mid new heard (replied.called filters agrees);
+        made = λ none. called_on base session call [] (reply_of reply) old mid new heard (replied.made none);
+        fresh = fresh_call base session call with.0 (reply_of reply) old mid new heard same with.1 legal replied.fresh;
+        shown = replied.shown;
+        chest = replied.chest;
+      }
+  replied_on R reply_of (Err e) base session call before after bytes old mid new heard same legal replied = tt

@@ -68,7 +68,7 @@ module _ {K : Type 0} where
     called_more c after new said made filters agrees =
         let now = filters_along filters (picked old.made (entries_in old.front)) in
         call_more base session c (expected_tables now (asked c []) made.reply) made.reply old new
-        (made.called now (so_far.agrees filters agrees)) made.printed
+        (made.replied.called now (so_far.agrees filters agrees)) made.printed
 
     so_far_call : (c : Call) (after : List (Option FilterState)) (new : Known K) (said : List (List ℕ))
         → IsCallMade base session c before after old new said
@@ -84,12 +84,12 @@ module _ {K : Type 0} where
           up = call_up of more;
           made = λ filters agrees.
               call_made session filters lines c made.reply old.made es new.made then_es (so_far.made filters agrees) so_far.up
-              (called_more c after new said made filters agrees) made.printed made.fresh;
+              (called_more c after new said made filters agrees) made.printed made.replied.fresh;
           agrees = λ filters agrees.
               subst (Agrees after) (sym (call_filters of (called_more c after new said made filters agrees) filters))
-              (made.used.states (filters_along filters (picked old.made es)) (so_far.agrees filters agrees));
+              (made.replied.chest.states (filters_along filters (picked old.made es)) (so_far.agrees filters agrees));
           told =
-              (λ i. so_far.told i ++ (made.digests_are ∙ call_said base then_es c tables made.reply made.bytes made.shown) i)
+              (λ i. so_far.told i ++ (made.digests_are ∙ call_said base then_es c tables made.reply made.bytes made.replied.shown) i)
               ∙ sym (call_told of more base legal);
         }
 

@@ -15,7 +15,7 @@ pub line_stocked : {K : Type 0} (see : K → ShelfState) (opening : K) (given : 
     → IsLineMade see opening base session line before after old new told → IsStocked given dropped before
     → IsStocked given (dropped_by dropped line) after
 line_stocked see opening given dropped base session (script.call c) before after old new told made stocked =
-    stocked_after given dropped before after made.used.slots stocked
+    stocked_after given dropped before after made.replied.chest.slots stocked
 line_stocked see opening given dropped base session script.save before after old new told made stocked =
     subst (IsStocked given dropped) (sym made.1) stocked
 line_stocked see opening given dropped base session (script.forget slot) before after old new told made stocked =

@@ -4,17 +4,11 @@ use Rattle.std.specs.Prelude.{option_map, unwrap_or}
 use Rattle.spec_document.specs.Document.{Document}
 use Rattle.spec_filters.specs.declared.FilterState.{FilterState}
 use Rattle.spec_history.specs.Machine.{Call, Reply, version_shown}
-use Rattle.spec_history.specs.History.{asked, latest_of}
-use Rattle.spec_history.specs.Kept.{IsFreshReply}
 use Rattle.xl_ports.specs.State.{ShelfState}
 use Rattle.spec_script.specs.Script.{Line, call, save, forget}
-use Rattle.spec_tables.specs.Agrees.{Agrees, IsAfter}
-use Rattle.spec_tables.specs.Tables.{expected_tables}
 use Rattle.spec_text.specs.Text.{digest_of}
-use Rattle.xl_studio.specs.History.{Shows}
-use Rattle.xl_studio.specs.Calling.{Known, IsCalled}
-use Rattle.xl_studio.specs.Moments.{entries_in}
-use Rattle.xl_studio.specs.Seats.{history_of}
+use Rattle.xl_studio.specs.Answered.{IsReplied}
+use Rattle.xl_studio.specs.Calling.{Known}
 use Rattle.spec_seats.specs.Digests.{asks_tile}
 use Rattle.xl_studio.specs.Saving.{IsSaved}
 use Rattle.xl_run.specs.Printing.{IsPrinted}
@@ -32,13 +26,9 @@ module _ {K : Type 0} where
   pub record IsCallMade (base : Document) (session : ℕ) (c : Call) (before after : List (Option FilterState)) (old new : Known K)
       (digests : List (List ℕ)) : Type 0 where
     pub reply : Reply
-    pub called : (filters : List FilterState) → Agrees before filters
-        → IsCalled base session c (expected_tables filters (asked c []) reply) reply old new
-    pub printed : IsPrinted reply
-    pub fresh : IsFreshReply (latest_of (entries_in old.front)) reply
-    pub used : IsAfter before after c reply
     pub bytes : List ℕ
-    pub shown : Shows (history_of base new.front) c reply bytes
+    pub replied : IsReplied base session c before after bytes old new reply
+    pub printed : IsPrinted reply
     pub digests_are : digests ≡ said (asks_tile c) reply bytes
 
   -- a save was answered, and printably

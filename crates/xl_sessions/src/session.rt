@@ -1,24 +1,18 @@
 //! One line of a session: a call, a save, or a filter that it drops.
 ghost use Rattle.std.specs.Prelude.{◌≡◌, ℕ, ◌<◌, true, [], ◌∷◌, ◌++◌, map, IfOk, IfErr, OnOk, List, string_bytes};
-ghost use Rattle.spec_filters.specs.declared.FilterState.{FilterState};
 ghost use Rattle.spec_history.specs.Calls.{IsCall};
-ghost use Rattle.spec_history.specs.History.{asked, latest_of};
-ghost use Rattle.spec_history.specs.Kept.{IsFreshReply};
 ghost use Rattle.spec_history.specs.Limited.{edits_of};
 ghost use Rattle.spec_history.specs.Machine.{history_full};
-ghost use Rattle.spec_tables.specs.Agrees.{Agrees, AreThere, IsAfter};
-ghost use Rattle.spec_tables.specs.Tables.{expected_tables};
+ghost use Rattle.spec_tables.specs.Agrees.{AreThere};
 ghost use Rattle.spec_text.specs.Text.{is_save_memory};
 ghost use Rattle.xl_calls.specs.Calls.{call_of};
 ghost use Rattle.xl_calls.specs.Replies.{reply_of};
 ghost use Rattle.xl_filters.specs.Chests.{states_in};
 ghost use Rattle.xl_script.specs.Lines.{line_of};
-ghost use Rattle.xl_studio.specs.Calling.{IsCalled, HasHeard, IsNoTile};
-ghost use Rattle.xl_studio.specs.History.{Shows};
-ghost use Rattle.xl_studio.specs.Jobs.{job_out};
+ghost use Rattle.xl_studio.specs.Answered.{IsReplied, SeatGoesOn};
+ghost use Rattle.xl_studio.specs.Calling.{HasHeard, IsNoTile};
 ghost use Rattle.xl_studio.specs.Moments.{entries_in};
-ghost use Rattle.xl_studio.specs.Seats.{base_of, opening_shelf, history_of, front_of, made_of, weight_of, known_by};
-ghost use Rattle.xl_studio.specs.Seats.{IsSeatOf};
+ghost use Rattle.xl_studio.specs.Seats.{base_of, opening_shelf, front_of, made_of, known_by, IsSeatOf};
 ghost use Rattle.spec_seats.specs.Made.{IsOf};
 ghost use Rattle.xl_studio.specs.Saving.{IsSaved};
 ghost use Rattle.xl_sessions.specs.Full.{most_made, MakesAtMost, FindsFull};
@@ -81,9 +75,7 @@ impl<'a, W: Wait, D: Shelf, G: Gate> Setting<'a, W, D, G> {
     fn refresh_asked<L: Ledger>(&self, call: &Call, seat: &mut Seat<D>, steps: &mut Steps<L>)
         requires seat { IsSeatOf self.now.studio.now seat.old }
 
-        ensures seat { IsSeatOf self.now.studio.now seat.new }
-        ensures weight { weight_of seat.new ≡ weight_of seat.old }
-        ensures job { job_out seat.new ≡ job_out seat.old }
+        ensures goes_on { SeatGoesOn self.now.studio.now seat.old seat.new }
         ensures heard { HasHeard (known_by seat.old) (known_by seat.new) }
         ensures no_tile { IsNoTile (call_of call.now) → known_by seat.new ≡ known_by seat.old }
     {
@@ -110,16 +102,10 @@ impl<'a, W: Wait, D: Shelf, G: Gate> Setting<'a, W, D, G> {
         requires of { IsOf self.now.session (made_of seat.old) (entries_in (front_of seat.old)) }
 
         ensures keeps { KeepsSeat self.now.studio.now self.now.session seat.old seat.new }
-        ensures answered { (filters : List FilterState) → Agrees (states_in state desk.old.chest)
-            filters → IfOk result (λ reply. IsCalled (base_of self.now.studio.now) self.now.session
-            (call_of call) (expected_tables filters (asked (call_of call) []) (reply_of reply))
-            (reply_of reply) (known_by seat.old) (known_by seat.new)) }
-        ensures fresh { IfOk result
-            (λ reply. IsFreshReply (latest_of (entries_in (front_of seat.old))) (reply_of reply)) }
-        ensures shown { IfOk result (λ reply. Shows (history_of (base_of self.now.studio.now)
-            (front_of seat.new)) (call_of call) (reply_of reply) desk.new.out) }
-        ensures chest { IfOk result (λ reply. IsAfter (states_in state desk.old.chest)
-            (states_in state desk.new.chest) (call_of call) (reply_of reply)) }
+        ensures replied { IfOk result (λ reply. IsReplied (base_of self.now.studio.now)
+            self.now.session (call_of call) (states_in state desk.old.chest)
+            (states_in state desk.new.chest) desk.new.out (known_by seat.old) (known_by seat.new)
+            (reply_of reply)) }
         ensures count { MakesAtMost 1 (known_by seat.old) (known_by seat.new) }
         ensures full { IfOk result (λ reply. reply_of reply ≡ history_full
             → FindsFull (known_by seat.old) (known_by seat.new)) }

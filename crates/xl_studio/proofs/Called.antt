@@ -6,7 +6,7 @@ use Rattle.std.proofs.lemmas.Bool.{ltb-false}
 use Rattle.std.proofs.lemmas.Bool.Decides.{nat_tests}
 use Rattle.spec_document.specs.Document.{Document}
 use Rattle.spec_cache.specs.Slots.{Shown}
-use Rattle.spec_cache.specs.Cache.{kept}
+use Rattle.spec_cache.specs.Cache.{Cache, kept}
 use Rattle.spec_history.specs.Machine as machine
 use Rattle.spec_history.specs.Machine.{Call, Reply, tile_of, stale, history_full, State, latest}
 use Rattle.spec_history.specs.History.{Entry, Kind, asked, starts, ends, replay, latest_of}
@@ -25,12 +25,13 @@ use Rattle.spec_world.specs.Events.{Outcome, with_call, peek_reply, where_tile, 
 use Rattle.spec_saves.specs.Names.{saves_started, is_start}
 use Rattle.spec_saves.proofs.Staying.{saves_started-snoc}
 use Rattle.xl_history.specs.History.{is_full}
+use Rattle.xl_history.specs.Needs.{TakesNoStep}
 use Rattle.xl_history.specs.Editing.{Editing, world, out_of, IsSubmitted, KeepsShelf, IsAsBefore}
 use Rattle.xl_studio.specs.declared.moment.Moment.{Moment}
 use Rattle.xl_studio.specs.declared.moment.Moment.TheVariants.{Made}
 use Rattle.xl_studio.specs.Moments.{IsAsked, moments, entries_in}
 use Rattle.xl_studio.specs.State.{moments_of, IsKept}
-use Rattle.xl_studio.specs.Calling.{called_entry, Adds, AddsCalls}
+use Rattle.xl_studio.specs.Calling.{called_entry, Adds, AddsCalls, IsNoTile}
 use Rattle.xl_studio.proofs.Grown.{moments-call, entries-append, entries-moments}
 use Rattle.xl_studio.proofs.StillOut.{out_stays}
 
@@ -44,6 +45,14 @@ no_start : (k : Kind) → IsAsked k → one_if (is_start k) ≡ 0
 no_start (asked call tables) is = refl
 no_start starts is = absurd is
 no_start ends is = absurd is
+
+pub takes_none : (cache : Cache) (call : Call) → IsNoTile call → TakesNoStep cache call
+takes_none cache (machine.tile stack at) none = absurd none
+takes_none cache (machine.edit guard edits) none = tt
+takes_none cache (machine.undo named) none = tt
+takes_none cache machine.redo none = tt
+takes_none cache (machine.peek stack at) none = tt
+takes_none cache machine.top none = tt
 
 -- ---- no older than what was seen
 
@@ -180,6 +189,11 @@ module _ {K : Type 0} where
   same_after old new same =
       same_moments old new old.history.entries (ap (λ h. h.base) same.history)
       (record { opening = same.opening; handed = same.handed; shelf = same.shelf }) (ap (λ h. h.entries) same.history)
+
+  pub failed_after : {R E : Type 0} (r : Result R E) (old was new : Editing K) → old ≡ was → OnErr r (IsAsBefore old new)
+      → OnErr r (moments_of new ≡ moments_of was)
+  failed_after (Ok reply) old was new same as_before = tt
+  failed_after (Err e) old was new same as_before = same_after old new as_before ∙ ap moments_of same
 
   -- a call leaves one call more at most, whatever its filters have answered
   pub calls_after : {E : Type 0} (R : Type 0) (reply_of : R

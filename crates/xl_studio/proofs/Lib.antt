@@ -3,6 +3,7 @@ pub mod StillOut
 pub mod Called
 pub mod Seated
 pub mod Entered
+pub mod Answered
 pub mod Joined
 pub mod Started
 pub mod Handed

@@ -10,10 +10,6 @@ use Rattle.spec_document.specs.Document.{Document}
 use Rattle.spec_history.specs.Machine.{Call, Reply, history_full}
 use Rattle.spec_history.specs.History.{Entry, Kind, asked, starts, ends, is_changed, latest_of}
 use Rattle.spec_history.specs.Kept.{IsLegal}
-use Rattle.spec_filters.specs.declared.FilterState.{FilterState}
-use Rattle.spec_tables.specs.Agrees.{Agrees}
-use Rattle.spec_tables.specs.Tables.{expected_tables}
-use Rattle.spec_tables.proofs.Chests.{some_list}
 use Rattle.xl_history.specs.History.{is_full, Shows}
 use Rattle.xl_history.specs.Editing.{Editing}
 use Rattle.xl_turn.specs.Turns.{Closes}
@@ -219,18 +215,3 @@ module _ {K : Type 0} where
       subst (λ (b : Document). Shows (record { base = b; entries = entries_in front' }) call (reply_of reply) bytes) (sym same)
       (subst (λ (l : List Entry). Shows (record { base = new.history.base; entries = l }) call (reply_of reply) bytes) es shows)
   shown_after R reply_of (Err e) base front' new call bytes same is shows = tt
-
-  -- a call that asks no filter has no tables
-  pub plain_after : {E : Type 0} (R : Type 0) (reply_of : R
-      → Reply) (r : Result R E) (base : Document) (session : ℕ) (call : Call) (old new : Known K)
-      (chest : List (Option FilterState))
-      → ((filters : List FilterState) (reply : Reply) → expected_tables filters (asked call []) reply ≡ [])
-      → ((filters : List FilterState) → Agrees chest filters
-      → IfOk r (λ reply. IsCalled base session call (expected_tables filters (asked call []) (reply_of reply))
-      (reply_of reply) old new))
-      → IfOk r (λ reply. IsCalled base session call [] (reply_of reply) old new)
-  plain_after R reply_of (Ok reply) base session call old new chest none answered =
-      let some = some_list chest in
-      subst (λ (tables : List (List ℕ)). IsCalled base session call tables (reply_of reply) old new) (none some.0 (reply_of reply))
-      (answered some.0 some.1)
-  plain_after R reply_of (Err e) base session call old new chest none answered = tt

@@ -12,6 +12,8 @@ pub mod UnderWay
 -- which jobs are given out, and which seat has one
 pub mod Taking
 pub mod Jobs
+-- what a call came to
+pub mod Answered
 -- a tile that is composed outside the turn, before the call that asks for it
 pub mod Refreshing
 -- of a core

@@ -1,24 +1,13 @@
-ghost use Rattle.std.specs.Prelude.{◌≡◌, ◌+◌, ◌<◌, ◌≤◌, List, [], None, IfOk, OnErr};
-ghost use mathlib.Core.List.{IsPrefix};
-ghost use Rattle.spec_filters.specs.declared.FilterState.{FilterState};
+ghost use Rattle.std.specs.Prelude.{◌≡◌, ◌<◌};
 ghost use Rattle.spec_history.specs.Calls.{IsCall, IsGroupOfEdits};
-ghost use Rattle.spec_history.specs.History.{asked, latest_of};
-ghost use Rattle.spec_history.specs.Kept.{IsFreshReply};
 ghost use Rattle.spec_history.specs.Limited.{edits_of};
 ghost use Rattle.spec_history.specs.Machine as machine;
-ghost use Rattle.spec_tables.specs.Agrees.{Agrees, AreThere, IsAfter, IsPartAfter};
-ghost use Rattle.spec_tables.specs.Tables.{expected_tables};
-ghost use Rattle.xl_history.specs.History.{document, is_accepted, Shows, NeedsNoStep};
-ghost use Rattle.xl_history.specs.Needs.{most_cost};
-ghost use Rattle.xl_history.specs.Now.{KeepsDesk};
+ghost use Rattle.spec_tables.specs.Agrees.{AreThere};
 ghost use Rattle.xl_calls.specs.Calls.{call_of};
 ghost use Rattle.xl_calls.specs.Edits.{edits_of as edits_meant};
-ghost use Rattle.xl_calls.specs.Replies.{reply_of};
 ghost use Rattle.xl_filters.specs.Chests.{states_in};
-ghost use Rattle.xl_studio.specs.Calling.{IsCalled, HasHeard, IsNoTile, before_last};
-ghost use Rattle.xl_studio.specs.Jobs.{job_out, tally_of};
-ghost use Rattle.xl_studio.specs.Moments.{entries_in};
-ghost use Rattle.xl_studio.specs.Seats.{base_of, history_of, front_of, weight_of, known_by, IsSeatOf};
+ghost use Rattle.xl_studio.specs.Answered.{IsAnswered};
+ghost use Rattle.xl_studio.specs.Seats.{IsSeatOf};
 
 use crate::seat::{Seat, Studio};
 use std::alloc::{AllocError, Global};
@@ -62,40 +51,9 @@ impl<D: Shelf> Studio<D> {
         requires built { IsCall (call_of call) }
         requires there { AreThere (states_in state desk.old.chest) (edits_of (call_of call)) }
 
-        ensures seat { IsSeatOf self.now seat.new }
-        ensures weight { weight_of seat.new ≡ weight_of seat.old }
-        ensures job { job_out seat.new ≡ job_out seat.old }
-        ensures closed { seat.new.closed ≡ seat.old.closed }
-        ensures tally { tally_of seat.new ≡ tally_of seat.old }
-        ensures answered { (filters : List FilterState) → Agrees (states_in state desk.old.chest)
-            filters → IfOk result (λ reply. IsCalled (base_of self.now) session (call_of call)
-            (expected_tables filters (asked (call_of call) []) (reply_of reply)) (reply_of reply)
-            (known_by seat.old) (known_by seat.new)) }
-        ensures begins { IsPrefix (front_of seat.old) (front_of seat.new) }
-        ensures failed { OnErr result (HasHeard (known_by seat.old) (known_by seat.new)) }
-        ensures fresh { IfOk result
-            (λ reply. IsFreshReply (latest_of (entries_in (front_of seat.old))) (reply_of reply)) }
-        ensures shown { IfOk result
-            (λ reply. Shows (history_of (base_of self.now) (front_of seat.new)) (call_of call)
-            (reply_of reply) desk.new.out) }
-        ensures steps { IsNoTile (call_of call) → steps.new ≡ steps.old }
-        ensures no_step { IfOk result
-            (λ _. NeedsNoStep (history_of (base_of self.now) (before_last (front_of seat.new)))
-            (call_of call) → steps.new ≡ steps.old) }
-        ensures cost { IfOk result (λ _. steps.new ≤ steps.old + most_cost
-            (document (history_of (base_of self.now) (before_last (front_of seat.new))))
-            (call_of call)) }
-        ensures steps_as_before { OnErr result (steps.new ≡ steps.old) }
-        ensures no_tile { IfOk result (λ reply. machine.version_shown (reply_of reply) ≡ None
-            → steps.new ≡ steps.old) }
-        ensures chest { IfOk result (λ reply. IsAfter (states_in state desk.old.chest)
-            (states_in state desk.new.chest) (call_of call) (reply_of reply)) }
-        ensures desk { IfOk result (λ reply. KeepsDesk (reply_of reply) desk.old.out desk.new.out) }
-        ensures out_as_before { OnErr result (desk.new.out ≡ desk.old.out) }
-        ensures part { OnErr result
-            (IsPartAfter (is_accepted (history_of (base_of self.now) (front_of seat.new))
-            (call_of call)) (states_in state desk.old.chest) (states_in state desk.new.chest)
-            (call_of call)) }
+        ensures { IsAnswered self.now session (call_of call) result seat.old seat.new
+            (states_in state desk.old.chest) (states_in state desk.new.chest) desk.old.out
+            desk.new.out steps.old steps.new }
     {
         self.announce(&call);
         let mut held = self.lock.enter(rt, &mut seat.seat);
@@ -126,28 +84,9 @@ impl<D: Shelf> Studio<D> {
         requires built { IsGroupOfEdits (edits_meant group.edits) }
         requires there { AreThere (states_in state desk.old.chest) (edits_meant group.edits) }
 
-        ensures seat { IsSeatOf self.now seat.new }
-        ensures weight { weight_of seat.new ≡ weight_of seat.old }
-        ensures job { job_out seat.new ≡ job_out seat.old }
-        ensures closed { seat.new.closed ≡ seat.old.closed }
-        ensures tally { tally_of seat.new ≡ tally_of seat.old }
-        ensures answered { (filters : List FilterState) → Agrees (states_in state desk.old.chest)
-            filters → IfOk result (λ reply. IsCalled (base_of self.now) session
-            (machine.edit group.guard (edits_meant group.edits))
-            (expected_tables filters (asked (machine.edit group.guard (edits_meant group.edits)) [])
-            (reply_of reply)) (reply_of reply) (known_by seat.old) (known_by seat.new)) }
-        ensures begins { IsPrefix (front_of seat.old) (front_of seat.new) }
-        ensures failed { OnErr result (HasHeard (known_by seat.old) (known_by seat.new)) }
-        ensures steps { steps.new ≡ steps.old }
-        ensures chest { IfOk result (λ reply.
-            IsAfter (states_in state desk.old.chest) (states_in state desk.new.chest)
-            (machine.edit group.guard (edits_meant group.edits)) (reply_of reply)) }
-        ensures desk { IfOk result (λ reply. KeepsDesk (reply_of reply) desk.old.out desk.new.out) }
-        ensures out_as_before { OnErr result (desk.new.out ≡ desk.old.out) }
-        ensures part { OnErr result
-            (IsPartAfter (is_accepted (history_of (base_of self.now) (front_of seat.new))
-            (machine.edit group.guard (edits_meant group.edits))) (states_in state desk.old.chest)
-            (states_in state desk.new.chest) (machine.edit group.guard (edits_meant group.edits))) }
+        ensures { IsAnswered self.now session (machine.edit group.guard (edits_meant group.edits)) result seat.old seat.new
+            (states_in state desk.old.chest) (states_in state desk.new.chest) desk.old.out
+            desk.new.out steps.old steps.new }
     {
         self.call(rt, alloc, seat, session, Call::Edit(group), desk, steps)
     }
@@ -166,24 +105,9 @@ impl<D: Shelf> Studio<D> {
         requires seat { IsSeatOf self.now seat.old }
         requires session { session < 8 }
 
-        ensures seat { IsSeatOf self.now seat.new }
-        ensures weight { weight_of seat.new ≡ weight_of seat.old }
-        ensures job { job_out seat.new ≡ job_out seat.old }
-        ensures closed { seat.new.closed ≡ seat.old.closed }
-        ensures tally { tally_of seat.new ≡ tally_of seat.old }
-        ensures made { IfOk result (λ reply. IsCalled (base_of self.now) session
-            (machine.undo which) [] (reply_of reply) (known_by seat.old) (known_by seat.new)) }
-        ensures begins { IsPrefix (front_of seat.old) (front_of seat.new) }
-        ensures failed { OnErr result (HasHeard (known_by seat.old) (known_by seat.new)) }
-        ensures steps { steps.new ≡ steps.old }
-        ensures chest { IfOk result (λ reply. IsAfter (states_in state desk.old.chest)
-            (states_in state desk.new.chest) (machine.undo which) (reply_of reply)) }
-        ensures desk { IfOk result (λ reply. KeepsDesk (reply_of reply) desk.old.out desk.new.out) }
-        ensures out_as_before { OnErr result (desk.new.out ≡ desk.old.out) }
-        ensures part { OnErr result
-            (IsPartAfter (is_accepted (history_of (base_of self.now) (front_of seat.new))
-            (machine.undo which)) (states_in state desk.old.chest) (states_in state desk.new.chest)
-            (machine.undo which)) }
+        ensures { IsAnswered self.now session (machine.undo which) result seat.old seat.new
+            (states_in state desk.old.chest) (states_in state desk.new.chest) desk.old.out
+            desk.new.out steps.old steps.new }
     {
         self.call(rt, alloc, seat, session, Call::Undo(which), desk, steps)
     }
@@ -201,24 +125,9 @@ impl<D: Shelf> Studio<D> {
         requires seat { IsSeatOf self.now seat.old }
         requires session { session < 8 }
 
-        ensures seat { IsSeatOf self.now seat.new }
-        ensures weight { weight_of seat.new ≡ weight_of seat.old }
-        ensures job { job_out seat.new ≡ job_out seat.old }
-        ensures closed { seat.new.closed ≡ seat.old.closed }
-        ensures tally { tally_of seat.new ≡ tally_of seat.old }
-        ensures made { IfOk result (λ reply. IsCalled (base_of self.now) session (machine.redo) []
-            (reply_of reply) (known_by seat.old) (known_by seat.new)) }
-        ensures begins { IsPrefix (front_of seat.old) (front_of seat.new) }
-        ensures failed { OnErr result (HasHeard (known_by seat.old) (known_by seat.new)) }
-        ensures steps { steps.new ≡ steps.old }
-        ensures chest { IfOk result (λ reply. IsAfter (states_in state desk.old.chest)
-            (states_in state desk.new.chest) (machine.redo) (reply_of reply)) }
-        ensures desk { IfOk result (λ reply. KeepsDesk (reply_of reply) desk.old.out desk.new.out) }
-        ensures out_as_before { OnErr result (desk.new.out ≡ desk.old.out) }
-        ensures part { OnErr result
-            (IsPartAfter (is_accepted (history_of (base_of self.now) (front_of seat.new))
-            machine.redo) (states_in state desk.old.chest) (states_in state desk.new.chest)
-            machine.redo) }
+        ensures { IsAnswered self.now session machine.redo result seat.old seat.new
+            (states_in state desk.old.chest) (states_in state desk.new.chest) desk.old.out
+            desk.new.out steps.old steps.new }
     {
         self.call(rt, alloc, seat, session, Call::Redo, desk, steps)
     }
@@ -236,24 +145,9 @@ impl<D: Shelf> Studio<D> {
         requires seat { IsSeatOf self.now seat.old }
         requires session { session < 8 }
 
-        ensures seat { IsSeatOf self.now seat.new }
-        ensures weight { weight_of seat.new ≡ weight_of seat.old }
-        ensures job { job_out seat.new ≡ job_out seat.old }
-        ensures closed { seat.new.closed ≡ seat.old.closed }
-        ensures tally { tally_of seat.new ≡ tally_of seat.old }
-        ensures made { IfOk result (λ reply. IsCalled (base_of self.now) session (machine.top) []
-            (reply_of reply) (known_by seat.old) (known_by seat.new)) }
-        ensures begins { IsPrefix (front_of seat.old) (front_of seat.new) }
-        ensures failed { OnErr result (HasHeard (known_by seat.old) (known_by seat.new)) }
-        ensures steps { steps.new ≡ steps.old }
-        ensures chest { IfOk result (λ reply. IsAfter (states_in state desk.old.chest)
-            (states_in state desk.new.chest) (machine.top) (reply_of reply)) }
-        ensures desk { IfOk result (λ reply. KeepsDesk (reply_of reply) desk.old.out desk.new.out) }
-        ensures out_as_before { OnErr result (desk.new.out ≡ desk.old.out) }
-        ensures part { OnErr result
-            (IsPartAfter (is_accepted (history_of (base_of self.now) (front_of seat.new))
-            machine.top) (states_in state desk.old.chest) (states_in state desk.new.chest)
-            machine.top) }
+        ensures { IsAnswered self.now session machine.top result seat.old seat.new
+            (states_in state desk.old.chest) (states_in state desk.new.chest) desk.old.out
+            desk.new.out steps.old steps.new }
     {
         self.call(rt, alloc, seat, session, Call::Top, desk, steps)
     }
@@ -276,37 +170,9 @@ impl<D: Shelf> Studio<D> {
         requires seat { IsSeatOf self.now seat.old }
         requires session { session < 8 }
 
-        ensures seat { IsSeatOf self.now seat.new }
-        ensures weight { weight_of seat.new ≡ weight_of seat.old }
-        ensures job { job_out seat.new ≡ job_out seat.old }
-        ensures closed { seat.new.closed ≡ seat.old.closed }
-        ensures tally { tally_of seat.new ≡ tally_of seat.old }
-        ensures made { IfOk result (λ reply. IsCalled (base_of self.now) session
-            (machine.tile node.0 at) [] (reply_of reply) (known_by seat.old) (known_by seat.new)) }
-        ensures begins { IsPrefix (front_of seat.old) (front_of seat.new) }
-        ensures failed { OnErr result (HasHeard (known_by seat.old) (known_by seat.new)) }
-        ensures fresh { IfOk result
-            (λ reply. IsFreshReply (latest_of (entries_in (front_of seat.old))) (reply_of reply)) }
-        ensures shown { IfOk result
-            (λ reply. Shows (history_of (base_of self.now) (front_of seat.new))
-            (machine.tile node.0 at) (reply_of reply) desk.new.out) }
-        ensures no_step { IfOk result
-            (λ _. NeedsNoStep (history_of (base_of self.now) (before_last (front_of seat.new)))
-            (machine.tile node.0 at) → steps.new ≡ steps.old) }
-        ensures cost { IfOk result (λ _. steps.new ≤ steps.old + most_cost
-            (document (history_of (base_of self.now) (before_last (front_of seat.new))))
-            (machine.tile node.0 at)) }
-        ensures steps_as_before { OnErr result (steps.new ≡ steps.old) }
-        ensures no_tile { IfOk result (λ reply. machine.version_shown (reply_of reply) ≡ None
-            → steps.new ≡ steps.old) }
-        ensures chest { IfOk result (λ reply. IsAfter (states_in state desk.old.chest)
-            (states_in state desk.new.chest) (machine.tile node.0 at) (reply_of reply)) }
-        ensures desk { IfOk result (λ reply. KeepsDesk (reply_of reply) desk.old.out desk.new.out) }
-        ensures out_as_before { OnErr result (desk.new.out ≡ desk.old.out) }
-        ensures part { OnErr result
-            (IsPartAfter (is_accepted (history_of (base_of self.now) (front_of seat.new))
-            (machine.tile node.0 at)) (states_in state desk.old.chest)
-            (states_in state desk.new.chest) (machine.tile node.0 at)) }
+        ensures { IsAnswered self.now session (machine.tile node.0 at) result seat.old seat.new
+            (states_in state desk.old.chest) (states_in state desk.new.chest) desk.old.out
+            desk.new.out steps.old steps.new }
     {
         self.call(rt, alloc, seat, session, Call::Tile(node, at), desk, steps)
     }
@@ -327,29 +193,9 @@ impl<D: Shelf> Studio<D> {
         requires seat { IsSeatOf self.now seat.old }
         requires session { session < 8 }
 
-        ensures seat { IsSeatOf self.now seat.new }
-        ensures weight { weight_of seat.new ≡ weight_of seat.old }
-        ensures job { job_out seat.new ≡ job_out seat.old }
-        ensures closed { seat.new.closed ≡ seat.old.closed }
-        ensures tally { tally_of seat.new ≡ tally_of seat.old }
-        ensures made { IfOk result (λ reply. IsCalled (base_of self.now) session
-            (machine.peek node.0 at) [] (reply_of reply) (known_by seat.old) (known_by seat.new)) }
-        ensures begins { IsPrefix (front_of seat.old) (front_of seat.new) }
-        ensures failed { OnErr result (HasHeard (known_by seat.old) (known_by seat.new)) }
-        ensures fresh { IfOk result
-            (λ reply. IsFreshReply (latest_of (entries_in (front_of seat.old))) (reply_of reply)) }
-        ensures shown { IfOk result
-            (λ reply. Shows (history_of (base_of self.now) (front_of seat.new))
-            (machine.peek node.0 at) (reply_of reply) desk.new.out) }
-        ensures steps { steps.new ≡ steps.old }
-        ensures chest { IfOk result (λ reply. IsAfter (states_in state desk.old.chest)
-            (states_in state desk.new.chest) (machine.peek node.0 at) (reply_of reply)) }
-        ensures desk { IfOk result (λ reply. KeepsDesk (reply_of reply) desk.old.out desk.new.out) }
-        ensures out_as_before { OnErr result (desk.new.out ≡ desk.old.out) }
-        ensures part { OnErr result
-            (IsPartAfter (is_accepted (history_of (base_of self.now) (front_of seat.new))
-            (machine.peek node.0 at)) (states_in state desk.old.chest)
-            (states_in state desk.new.chest) (machine.peek node.0 at)) }
+        ensures { IsAnswered self.now session (machine.peek node.0 at) result seat.old seat.new
+            (states_in state desk.old.chest) (states_in state desk.new.chest) desk.old.out
+            desk.new.out steps.old steps.new }
     {
         self.call(rt, alloc, seat, session, Call::Peek(node, at), desk, steps)
     }

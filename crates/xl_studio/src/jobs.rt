@@ -1,8 +1,9 @@
 ghost use Rattle.std.specs.Prelude.{◌≡◌, option_map};
 ghost use Rattle.xl_history.specs.Jobs.{says_closing};
+ghost use Rattle.xl_studio.specs.Answered.{SeatGoesOn};
 ghost use Rattle.xl_studio.specs.Calling.{HasHeard};
-ghost use Rattle.xl_studio.specs.Jobs.{job_out, out_of, out_after, tally_of};
-ghost use Rattle.xl_studio.specs.Seats.{weight_of, known_by, IsSeatOf};
+ghost use Rattle.xl_studio.specs.Jobs.{out_of, out_after};
+ghost use Rattle.xl_studio.specs.Seats.{known_by, IsSeatOf};
 
 use crate::seat::{Away, Seat, Studio};
 use crate::taking::Taking;
@@ -134,11 +135,7 @@ impl<D: Shelf> Studio<D> {
     /// From now on the desk gives no job out.
     pub fn closing<W: Wait>(&self, rt: &W, seat: &mut Seat<D>)
         requires seat { IsSeatOf self.now seat.old }
-        ensures seat { IsSeatOf self.now seat.new }
-        ensures weight { weight_of seat.new ≡ weight_of seat.old }
-        ensures job { job_out seat.new ≡ job_out seat.old }
-        ensures closed { seat.new.closed ≡ seat.old.closed }
-        ensures tally { tally_of seat.new ≡ tally_of seat.old }
+        ensures goes_on { SeatGoesOn self.now seat.old seat.new }
         ensures heard { HasHeard (known_by seat.old) (known_by seat.new) }
     {
         let mut held = self.lock.enter(rt, &mut seat.seat);

@@ -2,11 +2,11 @@ ghost use Rattle.std.specs.Prelude.{◌≡◌, None, IfOk, IfSome};
 ghost use Rattle.xl_history.specs.Editing.{IsPictureOf};
 ghost use Rattle.xl_history.specs.Jobs.{finished_by};
 ghost use Rattle.xl_history.specs.Places.{place_done};
+ghost use Rattle.xl_studio.specs.Answered.{SeatGoesOn};
 ghost use Rattle.xl_studio.specs.Calling.{HasHeard};
-ghost use Rattle.xl_studio.specs.Jobs.{job_out, tally_of};
 ghost use Rattle.xl_studio.specs.Moments.{entries_in};
 ghost use Rattle.xl_studio.specs.Refreshing.{IsJobAt, IsRefreshed};
-ghost use Rattle.xl_studio.specs.Seats.{base_of, history_of, front_of, weight_of, known_by, IsSeatOf};
+ghost use Rattle.xl_studio.specs.Seats.{base_of, history_of, front_of, known_by, IsSeatOf};
 
 use crate::seat::{Seat, Studio};
 use crate::taking::Taking;
@@ -30,11 +30,7 @@ impl<D: Shelf> Studio<D> {
         at: TileAt,
     ) -> Result<Option<Job>, AllocError>
         requires seat { IsSeatOf self.now seat.old }
-        ensures seat { IsSeatOf self.now seat.new }
-        ensures weight { weight_of seat.new ≡ weight_of seat.old }
-        ensures job { job_out seat.new ≡ job_out seat.old }
-        ensures closed { seat.new.closed ≡ seat.old.closed }
-        ensures tally { tally_of seat.new ≡ tally_of seat.old }
+        ensures goes_on { SeatGoesOn self.now seat.old seat.new }
         ensures heard { HasHeard (known_by seat.old) (known_by seat.new) }
         ensures made { IfOk result (λ job. IfSome job
             (IsJobAt (history_of (base_of self.now) (front_of seat.new)) node.0 at)) }
@@ -51,11 +47,7 @@ impl<D: Shelf> Studio<D> {
     fn hand_in<W: Wait>(&self, rt: &W, seat: &mut Seat<D>, done: Done) -> Finished
         requires seat { IsSeatOf self.now seat.old }
         requires done { IsPictureOf (history_of (base_of self.now) (front_of seat.old)) done }
-        ensures seat { IsSeatOf self.now seat.new }
-        ensures weight { weight_of seat.new ≡ weight_of seat.old }
-        ensures job { job_out seat.new ≡ job_out seat.old }
-        ensures closed { seat.new.closed ≡ seat.old.closed }
-        ensures tally { tally_of seat.new ≡ tally_of seat.old }
+        ensures goes_on { SeatGoesOn self.now seat.old seat.new }
         ensures heard { HasHeard (known_by seat.old) (known_by seat.new) }
         ensures finished { result ≡ finished_by (base_of self.now) (entries_in (front_of seat.new))
             (place_done done) done.version }
@@ -88,11 +80,7 @@ impl<D: Shelf> Studio<D> {
     ) -> Option<Finished>
         requires seat { IsSeatOf self.now seat.old }
 
-        ensures seat { IsSeatOf self.now seat.new }
-        ensures weight { weight_of seat.new ≡ weight_of seat.old }
-        ensures job { job_out seat.new ≡ job_out seat.old }
-        ensures closed { seat.new.closed ≡ seat.old.closed }
-        ensures tally { tally_of seat.new ≡ tally_of seat.old }
+        ensures goes_on { SeatGoesOn self.now seat.old seat.new }
         ensures heard { HasHeard (known_by seat.old) (known_by seat.new) }
         ensures refreshed { IfSome result
             (IsRefreshed (history_of (base_of self.now) (front_of seat.new)) node.0 at steps.old

@@ -1,21 +1,15 @@
-ghost use Rattle.std.specs.Prelude.{◌≡◌, ◌+◌, ◌≤◌, ◌<◌, List, [], true, false, None, IfOk, OnErr, IsSome};
-ghost use Rattle.spec_filters.specs.declared.FilterState.{FilterState};
+ghost use Rattle.std.specs.Prelude.{◌≡◌, ◌+◌, ◌≤◌, ◌<◌, true, false, IfOk, OnErr, IsSome};
 ghost use Rattle.spec_history.specs.Calls.{IsCall};
-ghost use Rattle.spec_history.specs.History.{asked};
-ghost use Rattle.spec_history.specs.Kept.{IsFreshReply, IsLegal};
+ghost use Rattle.spec_history.specs.Kept.{IsLegal};
 ghost use Rattle.spec_history.specs.Limited.{edits_of};
-ghost use Rattle.spec_history.specs.Machine.{version_shown};
-ghost use Rattle.spec_tables.specs.Agrees.{Agrees, AreThere, IsAfter, IsPartAfter};
-ghost use Rattle.spec_tables.specs.Tables.{expected_tables};
+ghost use Rattle.spec_tables.specs.Agrees.{AreThere};
 ghost use Rattle.spec_world.specs.Events.{IsOutOf};
 ghost use Rattle.xl_history.specs.Editing.{out_of, ComesBack};
-ghost use Rattle.xl_history.specs.History.{version, document, is_full, is_accepted, Shows, NeedsNoStep};
-ghost use Rattle.xl_history.specs.Needs.{call_cost};
-ghost use Rattle.xl_history.specs.Now.{KeepsDesk};
+ghost use Rattle.xl_history.specs.History.{version};
 ghost use Rattle.xl_calls.specs.Calls.{call_of};
 ghost use Rattle.xl_calls.specs.Replies.{reply_of};
 ghost use Rattle.xl_filters.specs.Chests.{states_in};
-ghost use Rattle.xl_studio.specs.Calling.{Adds, AddsCalls, IsNoTile};
+ghost use Rattle.xl_studio.specs.Answered.{IsAnsweredUnderLock};
 ghost use Rattle.xl_studio.specs.State.{IsKept, moments_of};
 ghost use Rattle.xl_studio.specs.UnderWay.{AddsStart, Hands, AddsEnd};
 
@@ -108,33 +102,9 @@ impl<D: Shelf> Shared<D> {
         requires built { IsCall (call_of call) }
         requires there { AreThere (states_in state desk.old.chest) (edits_of (call_of call)) }
 
-        ensures answered { (filters : List FilterState) → Agrees (states_in state desk.old.chest)
-            filters
-            → IfOk result (λ reply. Adds self.old.core.history.base (moments_of self.old.core)
-            session (call_of call) (expected_tables filters (asked (call_of call) [])
-            (reply_of reply)) (reply_of reply) (moments_of self.new.core)) }
-        ensures calls { AddsCalls (moments_of self.old.core) (moments_of self.new.core) }
-        ensures closing { self.new.closing ≡ self.old.closing }
-        ensures failed { OnErr result (moments_of self.new.core ≡ moments_of self.old.core) }
-        ensures base { self.new.core.history.base ≡ self.old.core.history.base }
-        ensures kept { IsKept self.new.core }
-        ensures fresh { IfOk result (λ reply. IsFreshReply seen (reply_of reply)) }
-        ensures shown { IfOk result (λ reply. Shows self.new.core.history (call_of call)
-            (reply_of reply) desk.new.out) }
-        ensures steps { IsNoTile (call_of call) → steps.new ≡ steps.old }
-        ensures no_step { NeedsNoStep self.old.core.history (call_of call) → steps.new ≡ steps.old }
-        ensures full { is_full self.old.core.history ≡ true → steps.new ≡ steps.old }
-        ensures steps_as_before { OnErr result (steps.new ≡ steps.old) }
-        ensures cost { steps.new ≤ steps.old
-            + call_cost self.old.core.cache (document self.old.core.history) (call_of call) }
-        ensures no_tile { IfOk result (λ reply. version_shown (reply_of reply) ≡ None
-            → steps.new ≡ steps.old) }
-        ensures chest { IfOk result (λ reply. IsAfter (states_in state desk.old.chest)
-            (states_in state desk.new.chest) (call_of call) (reply_of reply)) }
-        ensures desk { IfOk result (λ reply. KeepsDesk (reply_of reply) desk.old.out desk.new.out) }
-        ensures out_as_before { OnErr result (desk.new.out ≡ desk.old.out) }
-        ensures part { OnErr result (IsPartAfter (is_accepted self.old.core.history (call_of call))
-            (states_in state desk.old.chest) (states_in state desk.new.chest) (call_of call)) }
+        ensures { IsAnsweredUnderLock session (call_of call) seen result self.old self.new
+            (states_in state desk.old.chest) (states_in state desk.new.chest) desk.old.out
+            desk.new.out steps.old steps.new }
     {
         let reply = self.core.submit(alloc, session, call, seen, desk, steps);
         self.core.know_right();

@@ -7,7 +7,7 @@ pub returns : goal.returns
 returns g c =
     has_played (in_slots (λ b. (goal.PointFilter-dyn g b).state b.1))
     c.args.studio.now c.args.player.now.part _ _ c.replace-lines.result c.play_session-played.result
-    c.replace-lines.ensures.value c.err-player.ensures.value c.play_session-played.ensures.keeps.seat
-    c.play_session-played.ensures.keeps.weight (c.play_session-played.ensures.keeps.job ∙ c.requires.free) c.play_session-played.ensures.keeps.of
+    c.replace-lines.ensures.value c.err-player.ensures.value c.play_session-played.ensures.keeps.goes_on.seat
+    c.play_session-played.ensures.keeps.goes_on.weight (c.play_session-played.ensures.keeps.goes_on.job ∙ c.requires.free) c.play_session-played.ensures.keeps.of
     c.play_session-played.ensures.made c.play_session-played.ensures.told
     c.play_session-played.ensures.count c.play_session-played.ensures.full

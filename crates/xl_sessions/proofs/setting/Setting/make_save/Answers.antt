@@ -6,10 +6,7 @@ use Rattle.xl_sessions.proofs.setting.Setting.make_save.Goals as goal
 
 pub returns-clause-keeps : goal.returns-clause-keeps
 returns-clause-keeps g c = record {
-  seat = c.save-reply.ensures.seat;
-  weight = c.save-reply.ensures.weight;
-  job = c.save-reply.ensures.job;
-  begins = c.save-reply.ensures.begins;
+  goes_on = c.save-reply.ensures.goes_on;
   of = of_after_save _ reply_of c.save-reply.result
       g.D.Shelf.shelf_state (opening_shelf c.args.self.now.studio.now)
       (base_of c.args.self.now.studio.now) c.args.self.now.session (known_by c.args.seat.now) (known_by c.save-reply.new.seat)

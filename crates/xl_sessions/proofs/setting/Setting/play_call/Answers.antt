@@ -9,12 +9,9 @@ returns-clause-made g c = (
   c.in_ok-say.ensures,
   record {
     reply = reply_of c.in_ok-reply.reply;
-    called = λ filters agrees. c.in_ok-reply.ensures.answered filters agrees;
-    printed = c.in_ok-check_printed.ensures.printed;
-    fresh = c.in_ok-reply.ensures.fresh;
-    used = c.in_ok-reply.ensures.chest;
     bytes = c.make_call.new.desk.out;
-    shown = c.in_ok-reply.ensures.shown;
+    replied = c.in_ok-reply.ensures.replied;
+    printed = c.in_ok-check_printed.ensures.printed;
     digests_are = ap (λ b. said b (reply_of c.in_ok-reply.reply) c.make_call.new.desk.out) c.asks_tile-asks.ensures;
   },
 )

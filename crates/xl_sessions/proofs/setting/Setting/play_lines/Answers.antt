@@ -37,7 +37,7 @@ loop-line-preserved g c = (
   under_way_more c.loop-line.invariant.1 g.D.Shelf.shelf_state
       (opening_shelf c.args.self.now.studio.now) (line_of c.in-Some.line) (lines_of c.next.new.self.rest.items)
       (ap lines_of c.in-Some.ensures.steps.0)
-      _ (known_by c.play_line.new.seat) _ c.loop-line.invariant.0.seat.front.legal c.play_line.ensures.keeps.begins
+      _ (known_by c.play_line.new.seat) _ c.loop-line.invariant.0.goes_on.seat.front.legal c.play_line.ensures.keeps.goes_on.begins
       c.in_ok-play_line.ensures.made,
   made_more (length (made_of c.loop-line.seat)) (length (made_of c.play_line.new.seat)) (lines_of c.args.lines.items)
       (lines_of c.loop-line.line-iterator.rest.items) (lines_of c.next.new.self.rest.items) (line_of c.in-Some.line)

@@ -1,4 +1,4 @@
-use Rattle.std.proofs.Common.{◌≡◌, ℕ, List, ap, sym, ◌∙◌, subst}
+use Rattle.std.proofs.Common.{◌≡◌, ℕ, List, refl, ap, sym, ◌∙◌, subst}
 use mathlib.Core.List.{IsPrefix}
 use Rattle.xl_turn.specs.Seats as turns
 use Rattle.xl_turn.specs.Seats.{opened_with, start_of, made_after}
@@ -36,18 +36,22 @@ begins g c =
     (begins_with (front_of c.args.seat.now) (moments_of c.enter-held.result.value.core)
     (moments_of c.begin-begun.new.self.core) c.enter-held.ensures.front (grows g c))
 
-pub returns-clause-begins : goal.returns-clause-begins
-returns-clause-begins g c = begins g (goal.at.returns-clause-begins g c).After-leave
-
-pub returns-clause-seat : goal.returns-clause-seat
-returns-clause-seat g c =
-    let at = (goal.at.returns-clause-seat g c).After-leave in
+pub returns-clause-goes_on : goal.returns-clause-goes_on
+returns-clause-goes_on g c =
+    let at = (goal.at.returns-clause-goes_on g c).After-leave in
     record {
-      of = c.leave.ensures.seat.0;
-      idle = c.leave.ensures.seat.1;
-      front = front_after _ _ _ _ _ _ _ c.begin-begun.new.self.core c.requires.seat.front (begins g at) c.leave.ensures.front
-          (base_is g at ∙ sym c.begin-begun.ensures.base) c.begin-begun.ensures.kept.right.legal
-          c.version-seen.ensures _ (c.leave.ensures.seat.0.1 ∙ sym c.requires.seat.of.1);
+      seat = record {
+        of = c.leave.ensures.seat.0;
+        idle = c.leave.ensures.seat.1;
+        front = front_after _ _ _ _ _ _ _ c.begin-begun.new.self.core c.requires.seat.front (begins g at) c.leave.ensures.front
+            (base_is g at ∙ sym c.begin-begun.ensures.base) c.begin-begun.ensures.kept.right.legal
+            c.version-seen.ensures _ (c.leave.ensures.seat.0.1 ∙ sym c.requires.seat.of.1);
+      };
+      weight = c.leave.ensures.seat.2 ∙ c.enter-held.ensures.seat.2.weight_stays;
+      job = refl;
+      closed = refl;
+      tally = refl;
+      begins = begins g at;
     }
 
 pub returns-clause-begun : goal.returns-clause-begun

@@ -1,6 +1,5 @@
-use Rattle.std.proofs.Common.{◌∙◌}
-use Rattle.xl_turn.proofs.Fronts.{prefix_trans}
 use Rattle.xl_studio.specs.Seats.{base_of, opening_shelf, known_by}
+use Rattle.xl_studio.proofs.Answered.{goes_on_then}
 use Rattle.xl_studio.proofs.FirstHold.{after_wait}
 use Rattle.xl_studio.proofs.seat.Studio.begin_when_in.Goals as goal
 
@@ -8,12 +7,7 @@ pub returns-in_default : goal.returns-in_default
 returns-in_default g c =
     let i = c.loop.invariant in
     record {
-      seat = c.begin.ensures.seat;
-      weight = c.begin.ensures.weight ∙ i.4;
-      job = c.begin.ensures.job ∙ i.5;
-      closed = c.begin.ensures.closed ∙ i.6;
-      tally = c.begin.ensures.tally ∙ i.7;
-      begins = prefix_trans _ _ _ i.3.begins c.begin.ensures.begins;
+      goes_on = goes_on_then c.args.self.now c.args.seat.now c.loop.seat c.begin.new.seat i.2 c.begin.ensures.goes_on;
       begun = after_wait g.D.Shelf.shelf_state
           (opening_shelf c.args.self.now) (base_of c.args.self.now) c.args.session
           c.in_ok-begun.begun (known_by c.args.seat.now) (known_by c.loop.seat)

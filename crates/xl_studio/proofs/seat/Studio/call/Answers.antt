@@ -1,16 +1,19 @@
-use Rattle.std.proofs.Common.{◌≡◌, ℕ, List, [], ap, sym, ◌∙◌, subst, arith}
+use Rattle.std.proofs.Common.{◌≡◌, ℕ, List, [], refl, ap, sym, ◌∙◌, subst, arith}
 use mathlib.Core.List.{IsPrefix}
+use Rattle.std.specs.Prelude.{IfOk}
 use Rattle.spec_history.specs.History.{asked}
+use Rattle.spec_history.specs.Kept.{IsFreshReply}
 use Rattle.spec_tables.specs.Tables.{expected_tables}
 use Rattle.xl_calls.specs.Calls.{call_of}
 use Rattle.xl_calls.specs.Replies.{reply_of}
 use Rattle.xl_turn.specs.Seats as turns
 use Rattle.xl_turn.specs.Seats.{opened_with, start_of, entered_by, made_after}
 use Rattle.xl_studio.specs.State.{moments_of}
-use Rattle.xl_studio.specs.Seats.{base_of, front_of}
+use Rattle.xl_studio.specs.Seats.{base_of, front_of, made_of}
 use Rattle.xl_studio.proofs.Seated.{seen_entered, start_within, call_may_leave, base_entered, begins_after}
-use Rattle.xl_studio.proofs.Seated.{front_after, called_after, shown_after}
+use Rattle.xl_studio.proofs.Seated.{front_after, called_after, heard_after, shown_after}
 use Rattle.xl_studio.proofs.Entered.{stepless_after, part_failed, cost_after}
+use Rattle.xl_studio.proofs.Answered.{replied_after}
 use Rattle.xl_studio.proofs.seat.Studio.call.Given as given
 use Rattle.xl_studio.proofs.seat.Studio.call.Goals as goal
 use Rattle.xl_studio.proofs.seat.Studio.call.Goals.{After-leave}
@@ -42,58 +45,63 @@ begins g c =
     (begins_after (front_of c.args.seat.now) (moments_of c.enter-held.result.value.core)
     (moments_of c.submit-reply.new.self.core) c.enter-held.ensures.front c.submit-reply.ensures.calls)
 
-pub returns-clause-begins : goal.returns-clause-begins
-returns-clause-begins g c = begins g (goal.at.returns-clause-begins g c).After-leave
+-- the places that the seat has made
+made_then : (g : given.Over) (c : After-leave g) → turns.made_of c.leave.new.seat
+    ≡ made_after (start_of c.enter-held.new.seat) (made_of c.args.seat.now) (entered_by c.enter-held.new.seat)
+    (moments_of c.submit-reply.new.self.core)
+made_then g c =
+    c.leave.ensures.made ∙ ap (λ (made : List ℕ).
+    made_after (start_of c.enter-held.new.seat) made (entered_by c.enter-held.new.seat)
+    (moments_of c.submit-reply.new.self.core)) c.enter-held.ensures.seat.2.made_stays
 
-pub returns-clause-seat : goal.returns-clause-seat
-returns-clause-seat g c =
-    let at = (goal.at.returns-clause-seat g c).After-leave in
-    record {
-      of = c.leave.ensures.seat.0;
-      idle = c.leave.ensures.seat.1;
-      front = front_after _ _ _ _ _ _ _ c.submit-reply.new.self.core c.requires.seat.front (begins g at) c.leave.ensures.front
-          (base_then g at) c.submit-reply.ensures.kept.right.legal c.version-seen.ensures _
-          (c.leave.ensures.seat.0.1 ∙ sym c.requires.seat.of.1);
-    }
-
-pub returns-clause-answered : goal.returns-clause-answered
-returns-clause-answered g c = λ filters agrees.
-    let at = (goal.at.returns-clause-answered g c).After-leave in
+pub returns : goal.returns
+returns g c =
+    let at = (goal.at.returns g c).After-leave in
+    let told = c.submit-reply.ensures in
+    let base = base_of c.args.self.now in
+    let held = c.enter-held.result.value.core in
+    let left = c.submit-reply.new.self.core in
+    let call = call_of c.args.call in
+    let session = c.args.session in
     let one : start_of c.enter-held.new.seat ≡ 1 = c.enter-held.ensures.seat.0.1
     ∙ (sym c.requires.seat.of.1 ∙ c.requires.seat.front.start_is) in
-    called_after _ reply_of (λ reply. expected_tables filters (asked (call_of c.args.call) []) (reply_of reply))
-    c.submit-reply.result (base_of c.args.self.now) c.args.session (call_of c.args.call)
-    _ _ (start_of c.enter-held.new.seat) c.enter-held.result.value.core (entered_by c.enter-held.new.seat)
-    (moments_of c.submit-reply.new.self.core)
-    one c.enter-held.ensures.entered (base_is g at) c.enter-held.ensures.front c.leave.ensures.front
-    (c.leave.ensures.made ∙ ap (λ (made : List ℕ).
-    made_after (start_of c.enter-held.new.seat) made (entered_by c.enter-held.new.seat)
-    (moments_of c.submit-reply.new.self.core)) c.enter-held.ensures.seat.2.made_stays)
-    (c.submit-reply.ensures.answered filters agrees)
-
-pub returns-clause-shown : goal.returns-clause-shown
-returns-clause-shown g c =
-    let at = (goal.at.returns-clause-shown g c).After-leave in
-    shown_after _ reply_of c.submit-reply.result (base_of c.args.self.now) _ c.submit-reply.new.self.core (call_of c.args.call) _
-    (base_then g at) c.leave.ensures.front c.submit-reply.ensures.shown
-
-pub returns-clause-no_step : goal.returns-clause-no_step
-returns-clause-no_step g c =
-    let at = (goal.at.returns-clause-no_step g c).After-leave in
-    stepless_after _ reply_of c.submit-reply.result _ (base_of c.args.self.now) c.args.session
-    (call_of c.args.call) _ c.enter-held.result.value.core (moments_of c.submit-reply.new.self.core) _ (base_is g at)
-    c.leave.ensures.front c.submit-reply.ensures.answered c.submit-reply.ensures.no_step c.submit-reply.ensures.full
-
-pub returns-clause-part : goal.returns-clause-part
-returns-clause-part g c =
-    let at = (goal.at.returns-clause-part g c).After-leave in
-    part_failed c.submit-reply.result _ _ (base_of c.args.self.now) (call_of c.args.call) c.enter-held.result.value.core
-    (moments_of c.submit-reply.new.self.core) _ (base_is g at) c.leave.ensures.front
-    c.submit-reply.ensures.failed c.submit-reply.ensures.part
-
-pub returns-clause-cost : goal.returns-clause-cost
-returns-clause-cost g c =
-    let at = (goal.at.returns-clause-cost g c).After-leave in
-    cost_after _ reply_of c.submit-reply.result _ _ (base_of c.args.self.now) c.args.session
-    (call_of c.args.call) _ c.enter-held.result.value.core (moments_of c.submit-reply.new.self.core) _ (base_is g at)
-    c.leave.ensures.front c.submit-reply.ensures.answered c.submit-reply.ensures.cost c.submit-reply.ensures.full
+    record {
+      goes_on = record {
+        seat = record {
+          of = c.leave.ensures.seat.0;
+          idle = c.leave.ensures.seat.1;
+          front = front_after _ _ _ _ _ _ _ left c.requires.seat.front (begins g at) c.leave.ensures.front
+              (base_then g at) told.kept.right.legal c.version-seen.ensures _
+              (c.leave.ensures.seat.0.1 ∙ sym c.requires.seat.of.1);
+        };
+        weight = c.leave.ensures.seat.2 ∙ c.enter-held.ensures.seat.2.weight_stays;
+        job = refl;
+        closed = refl;
+        tally = refl;
+        begins = begins g at;
+      };
+      replied = replied_after _ reply_of c.submit-reply.result base session call _ _ _ _ _
+          (λ filters agrees.
+          called_after _ reply_of (λ reply. expected_tables filters (asked call []) (reply_of reply))
+          c.submit-reply.result base session call _ _ (start_of c.enter-held.new.seat) held (entered_by c.enter-held.new.seat)
+          (moments_of left) one c.enter-held.ensures.entered (base_is g at) c.enter-held.ensures.front c.leave.ensures.front
+          (made_then g at) (told.answered filters agrees))
+          (subst (λ (seen : ℕ). IfOk c.submit-reply.result (λ reply. IsFreshReply seen (reply_of reply)))
+          c.requires.seat.front.seen_is told.fresh)
+          (shown_after _ reply_of c.submit-reply.result base _ left call _ (base_then g at) c.leave.ensures.front told.shown)
+          told.chest;
+      failed = heard_after c.submit-reply.result _ _ (start_of c.enter-held.new.seat) (entered_by c.enter-held.new.seat)
+          (moments_of held) (moments_of left) c.enter-held.ensures.entered c.enter-held.ensures.front c.leave.ensures.front
+          (made_then g at) told.failed;
+      part = part_failed c.submit-reply.result _ _ base call held (moments_of left) _ (base_is g at) c.leave.ensures.front
+          told.failed told.part;
+      steps = told.steps;
+      no_step = stepless_after _ reply_of c.submit-reply.result _ base session call _ held (moments_of left) _ (base_is g at)
+          c.leave.ensures.front told.answered told.no_step told.full;
+      cost = cost_after _ reply_of c.submit-reply.result _ _ base session call _ held (moments_of left) _ (base_is g at)
+          c.leave.ensures.front told.answered told.cost told.full;
+      no_tile = told.no_tile;
+      steps_as_before = told.steps_as_before;
+      desk = told.desk;
+      out_as_before = told.out_as_before;
+    }

@@ -1,4 +1,4 @@
-use Rattle.std.proofs.Common.{◌≡◌, ℕ, List, ap, sym, ◌∙◌, subst}
+use Rattle.std.proofs.Common.{◌≡◌, ℕ, List, refl, ap, sym, ◌∙◌, subst}
 use mathlib.Core.List.{IsPrefix}
 use Rattle.xl_calls.specs.Replies.{reply_of}
 use Rattle.xl_turn.specs.Seats as turns
@@ -56,19 +56,23 @@ begins g c =
     c.know_kept.ensures (start_of c.args.seat.now.seat) c.requires.seat.front.start_is c.enter-held.ensures.closed
     c.args.how (reply_of c.end-reply.result) _ _ c.end-reply.ensures.ended c.leave.ensures.front
 
-pub returns-clause-begins : goal.returns-clause-begins
-returns-clause-begins g c = begins g (goal.at.returns-clause-begins g c).After-leave
-
-pub returns-clause-seat : goal.returns-clause-seat
-returns-clause-seat g c =
-    let at = (goal.at.returns-clause-seat g c).After-leave in
+pub returns-clause-goes_on : goal.returns-clause-goes_on
+returns-clause-goes_on g c =
+    let at = (goal.at.returns-clause-goes_on g c).After-leave in
     record {
-      of = c.leave.ensures.seat.0;
-      idle = c.leave.ensures.seat.1;
-      front = front_after _ _ _ _ _ _ _ c.end-reply.new.self.core c.requires.seat.front (begins g at) c.leave.ensures.front
-          (base_entered (opened_with c.args.self.now.lock).core c.enter-held.result.value.core
-          (front_of c.args.seat.now) c.requires.seat.front.begins c.enter-held.ensures.front ∙ sym c.end-reply.ensures.base)
-          c.end-reply.ensures.kept.right.legal c.version-seen.ensures _ (c.leave.ensures.seat.0.1 ∙ sym c.requires.seat.of.1);
+      seat = record {
+        of = c.leave.ensures.seat.0;
+        idle = c.leave.ensures.seat.1;
+        front = front_after _ _ _ _ _ _ _ c.end-reply.new.self.core c.requires.seat.front (begins g at) c.leave.ensures.front
+            (base_entered (opened_with c.args.self.now.lock).core c.enter-held.result.value.core
+            (front_of c.args.seat.now) c.requires.seat.front.begins c.enter-held.ensures.front ∙ sym c.end-reply.ensures.base)
+            c.end-reply.ensures.kept.right.legal c.version-seen.ensures _ (c.leave.ensures.seat.0.1 ∙ sym c.requires.seat.of.1);
+      };
+      weight = c.leave.ensures.seat.2 ∙ c.enter-held.ensures.seat.2.weight_stays;
+      job = refl;
+      closed = refl;
+      tally = refl;
+      begins = begins g at;
     }
 
 pub returns-clause-ended : goal.returns-clause-ended

@@ -1,4 +1,4 @@
-use Rattle.std.proofs.Common.{◌≡◌, ap, sym, ◌∙◌, subst}
+use Rattle.std.proofs.Common.{◌≡◌, refl, ap, sym, ◌∙◌, subst}
 use mathlib.Core.List.{IsPrefix}
 use Rattle.xl_history.specs.Places.{place_done}
 use Rattle.xl_history.specs.Jobs.{finished_by}
@@ -35,19 +35,26 @@ base_is g c =
     base_entered (opened_with c.args.self.now.lock).core c.enter-held.result.value.core (front_of c.args.seat.now)
     c.requires.seat.front.begins c.enter-held.ensures.front
 
-pub returns-clause-seat : goal.returns-clause-seat
-returns-clause-seat g c =
-    let at = (goal.at.returns-clause-seat g c).After-leave in
+pub returns-clause-goes_on : goal.returns-clause-goes_on
+returns-clause-goes_on g c =
+    let at = (goal.at.returns-clause-goes_on g c).After-leave in
     let stays = c.finish-finished.ensures.stays in
     let begins : IsPrefix (front_of c.args.seat.now) (turns.front_of c.leave.new.seat) =
     subst (IsPrefix (front_of c.args.seat.now)) (sym c.leave.ensures.front)
     (begins_stayed _ c.enter-held.result.value c.finish-finished.new.self c.enter-held.ensures.front stays) in
     record {
-      of = c.leave.ensures.seat.0;
-      idle = c.leave.ensures.seat.1;
-      front = front_after _ _ _ _ _ _ _ c.finish-finished.new.self.core c.requires.seat.front begins c.leave.ensures.front
-          (base_is g at ∙ sym (ap (λ h. h.base) stays.history)) stays.kept.right.legal c.last_version-seen.ensures _
-          (c.leave.ensures.seat.0.1 ∙ sym c.requires.seat.of.1);
+      seat = record {
+        of = c.leave.ensures.seat.0;
+        idle = c.leave.ensures.seat.1;
+        front = front_after _ _ _ _ _ _ _ c.finish-finished.new.self.core c.requires.seat.front begins c.leave.ensures.front
+            (base_is g at ∙ sym (ap (λ h. h.base) stays.history)) stays.kept.right.legal c.last_version-seen.ensures _
+            (c.leave.ensures.seat.0.1 ∙ sym c.requires.seat.of.1);
+      };
+      weight = c.leave.ensures.seat.2 ∙ c.enter-held.ensures.seat.2.weight_stays;
+      job = refl;
+      closed = refl;
+      tally = refl;
+      begins = begins;
     }
 
 pub returns-clause-finished : goal.returns-clause-finished

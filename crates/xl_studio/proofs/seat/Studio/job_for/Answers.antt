@@ -1,4 +1,4 @@
-use Rattle.std.proofs.Common.{◌≡◌, sym, ◌∙◌, subst}
+use Rattle.std.proofs.Common.{◌≡◌, refl, sym, ◌∙◌, subst}
 use mathlib.Core.List.{IsPrefix}
 use Rattle.xl_turn.specs.Seats as turns
 use Rattle.xl_turn.specs.Seats.{opened_with, start_of}
@@ -23,17 +23,24 @@ base_is g c =
     base_entered (opened_with c.args.self.now.lock).core c.enter-held.result.value.core (front_of c.args.seat.now)
     c.requires.seat.front.begins c.enter-held.ensures.front
 
-pub returns-clause-seat : goal.returns-clause-seat
-returns-clause-seat g c =
-    let at = (goal.at.returns-clause-seat g c).After-leave in
+pub returns-clause-goes_on : goal.returns-clause-goes_on
+returns-clause-goes_on g c =
+    let at = (goal.at.returns-clause-goes_on g c).After-leave in
     let begins : IsPrefix (front_of c.args.seat.now) (turns.front_of c.leave.new.seat) =
     subst (IsPrefix (front_of c.args.seat.now)) (sym c.leave.ensures.front) c.enter-held.ensures.front in
     record {
-      of = c.leave.ensures.seat.0;
-      idle = c.leave.ensures.seat.1;
-      front = front_after _ _ _ _ _ _ _ c.enter-held.result.value.core c.requires.seat.front begins c.leave.ensures.front
-          (base_is g at) c.job_for-job.ensures.stays.kept.right.legal c.last_version-seen.ensures _
-          (c.leave.ensures.seat.0.1 ∙ sym c.requires.seat.of.1);
+      seat = record {
+        of = c.leave.ensures.seat.0;
+        idle = c.leave.ensures.seat.1;
+        front = front_after _ _ _ _ _ _ _ c.enter-held.result.value.core c.requires.seat.front begins c.leave.ensures.front
+            (base_is g at) c.job_for-job.ensures.stays.kept.right.legal c.last_version-seen.ensures _
+            (c.leave.ensures.seat.0.1 ∙ sym c.requires.seat.of.1);
+      };
+      weight = c.leave.ensures.seat.2 ∙ c.enter-held.ensures.seat.2.weight_stays;
+      job = refl;
+      closed = refl;
+      tally = refl;
+      begins = begins;
     }
 
 pub returns-clause-made : goal.returns-clause-made

@@ -1,5 +1,6 @@
 -- The picture is that of the first hold's job, and the second hold says what became of it.
 use Rattle.xl_studio.specs.Seats.{base_of, history_of, front_of}
+use Rattle.xl_studio.proofs.Answered.{goes_on_then}
 use Rattle.xl_studio.proofs.Refreshed.{picture_of_job, is_refreshed}
 use Rattle.xl_studio.proofs.seat.Studio.refresh.Goals as goal
 
@@ -12,6 +13,11 @@ pub returns-in-Ok-Some-clause-refreshed : goal.returns-in-Ok-Some-clause-refresh
 returns-in-Ok-Some-clause-refreshed g c =
     is_refreshed (base_of c.args.self.now) (front_of c.job_for.new.seat) (front_of c.hand_in.new.seat) c.args.node.0 c.args.at
     c.in-Ok-Some.job c.compose-done.result c.args.steps.now c.compose-done.new.steps c.hand_in.result
-    c.job_for.ensures.seat.front.legal c.hand_in.ensures.heard.begins
+    c.job_for.ensures.goes_on.seat.front.legal c.hand_in.ensures.heard.begins
     (rw c.in-Ok-Some.field-0-is at c.in-Ok-Some.ensures.made) c.compose-done.ensures.done c.compose-done.ensures.cost
     c.hand_in.ensures.finished
+
+pub returns-in-Ok-Some-clause-goes_on : goal.returns-in-Ok-Some-clause-goes_on
+returns-in-Ok-Some-clause-goes_on g c =
+    goes_on_then c.args.self.now c.args.seat.now c.job_for.new.seat c.hand_in.new.seat c.job_for.ensures.goes_on
+    c.hand_in.ensures.goes_on

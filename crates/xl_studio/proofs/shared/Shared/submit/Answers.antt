@@ -9,7 +9,7 @@ use Rattle.xl_calls.specs.Calls.{call_of}
 use Rattle.xl_calls.specs.Replies.{reply_of}
 use Rattle.xl_studio.specs.State.{State, moments_of, IsKept}
 use Rattle.xl_studio.specs.Calling.{AddsCalls}
-use Rattle.xl_studio.proofs.Called.{calls_after, adds_after, base_after, fresh_after, kept_after}
+use Rattle.xl_studio.proofs.Called.{takes_none, calls_after, adds_after, base_after, fresh_after, failed_after, kept_after}
 use Rattle.xl_studio.proofs.shared.Shared.submit.Given as given
 use Rattle.xl_studio.proofs.shared.Shared.submit.Goals as goal
 
@@ -32,43 +32,6 @@ invariant_of-self g c = (
   subst (λ (k : _). IsSome (g.D.Shelf.shelf_state k).selected) (sym c.submit-reply.ensures.shelf.opening) c.self.invariant.2,
 )
 
-pub returns-clause-kept : goal.returns-clause-kept
-returns-clause-kept g c = kept g c
-
-pub returns-clause-calls : goal.returns-clause-calls
-returns-clause-calls g c =
-    let e = c.submit-reply.ensures in
-    calls_after _ reply_of c.submit-reply.result _ _ _ c.args.session (call_of c.args.call) c.args.seen _
-    (ap (λ (s : State _). s.core) c.self.view_is) e.shelf e.answered e.as_before
-
-pub returns-clause-answered : goal.returns-clause-answered
-returns-clause-answered g c =
-    let e = c.submit-reply.ensures in
-    adds_after _ reply_of c.submit-reply.result _ _ _ c.args.session (call_of c.args.call) c.args.seen _
-    (ap (λ (s : State _). s.core) c.self.view_is) e.shelf e.answered
-
-pub returns-clause-base : goal.returns-clause-base
-returns-clause-base g c =
-    let e = c.submit-reply.ensures in
-    base_after _ reply_of c.submit-reply.result _ _ _ c.args.session (call_of c.args.call) c.args.seen _
-    (ap (λ (s : State _). s.core) c.self.view_is) e.answered e.as_before
-
-pub returns-clause-fresh : goal.returns-clause-fresh
-returns-clause-fresh g c =
-    let e = c.submit-reply.ensures in
-    fresh_after _ reply_of c.submit-reply.result c.self.inside.core c.args.self.now.core c.submit-reply.new.self c.args.session
-    (call_of c.args.call) c.args.seen _
-    (ap (λ (s : State _). s.core) c.self.view_is) e.answered c.self.invariant.0.right.legal c.requires.seen
-
-pub returns-clause-no_step : goal.returns-clause-no_step
-returns-clause-no_step g c = λ needs.
-    c.submit-reply.ensures.no_step (subst (λ (s : State _). NeedsNoStep s.core.history (call_of c.args.call))
-    (sym c.self.view_is) needs)
-
-pub returns-clause-full : goal.returns-clause-full
-returns-clause-full g c =
-    λ full. c.submit-reply.ensures.full (subst (λ (s : State _). is_full s.core.history ≡ true) (sym c.self.view_is) full)
-
 -- what is said of a state is said of it by another name
 part_said : {K R E : Type 0} (r : Result R E) (one old : State K) (call : Call) (before after : List (Option FilterState)) → one ≡ old
     → OnErr r (IsPartAfter (is_accepted one.core.history call) before after call)
@@ -76,13 +39,33 @@ part_said : {K R E : Type 0} (r : Result R E) (one old : State K) (call : Call) 
 part_said r one old call before after same part =
     subst (λ s. OnErr r (IsPartAfter (is_accepted s.core.history call) before after call)) same part
 
-pub returns-clause-part : goal.returns-clause-part
-returns-clause-part g c =
-    part_said c.submit-reply.result _ _ (call_of c.args.call) _ _ c.self.view_is c.submit-reply.ensures.part
-
-pub returns-clause-cost : goal.returns-clause-cost
-returns-clause-cost g c =
-    let old = c.args.steps.now in
-    let new = c.submit-reply.new.steps in
-    subst (λ (s : State _). new ≤ old + call_cost s.core.cache (document s.core.history) (call_of c.args.call))
-    c.self.view_is c.submit-reply.ensures.cost
+pub returns : goal.returns
+returns g c =
+    let e = c.submit-reply.ensures in
+    let call = call_of c.args.call in
+    let reply = c.submit-reply.result in
+    let same = ap (λ (s : State _). s.core) c.self.view_is in
+    let steps_before = c.args.steps.now in
+    let steps_after = c.submit-reply.new.steps in
+    record {
+      answered = adds_after _ reply_of reply _ _ _ c.args.session call c.args.seen _ same e.shelf e.answered;
+      calls = calls_after _ reply_of reply _ _ _ c.args.session call c.args.seen _ same e.shelf e.answered e.as_before;
+      failed = failed_after reply _ _ _ same e.as_before;
+      closing = ap (λ (s : State _). s.closing) c.self.view_is;
+      base = base_after _ reply_of reply _ _ _ c.args.session call c.args.seen _ same e.answered e.as_before;
+      kept = kept g c;
+      fresh = fresh_after _ reply_of reply c.self.inside.core c.args.self.now.core c.submit-reply.new.self c.args.session call
+          c.args.seen _ same e.answered c.self.invariant.0.right.legal c.requires.seen;
+      shown = e.shown;
+      chest = e.chest;
+      part = part_said reply _ _ call _ _ c.self.view_is e.part;
+      steps = λ none. e.steps (takes_none c.self.inside.core.cache call none);
+      no_step = λ needs. e.no_step (subst (λ (s : State _). NeedsNoStep s.core.history call) (sym c.self.view_is) needs);
+      full = λ full. e.full (subst (λ (s : State _). is_full s.core.history ≡ true) (sym c.self.view_is) full);
+      cost = subst (λ (s : State _). steps_after ≤ steps_before + call_cost s.core.cache (document s.core.history) call)
+          c.self.view_is e.cost;
+      no_tile = e.no_tile;
+      steps_as_before = e.steps_as_before;
+      desk = e.desk;
+      out_as_before = e.out_as_before;
+    }
