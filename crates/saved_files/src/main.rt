@@ -1,8 +1,11 @@
 //! Saves files of the system and writes what came of each: through symbolic links, over an older draft, with the
-//! permission bits of the old file, where there was no file, and where a save cannot be; and what becomes of a draft
-//! when another name is selected.
+//! permission bits of the old file, where there was no file, and where a save cannot be; what becomes of a draft when
+//! another name is selected; and of a save where another program has changed the file, or another shelf saves it.
 #![tactic(auto)]
 
+mod others;
+
+use others::{change_between, come_between, save_beside, show_end};
 use std::alloc::Global;
 use std::fs::Permissions;
 use std::os::unix::fs::{PermissionsExt, symlink};
@@ -14,6 +17,9 @@ use xl_save::save;
 
 /// More bytes than are added to a draft at a time.
 const LENGTH: usize = 150_000;
+
+/// As many bytes as the name of a file may have on Linux.
+const NAME_LENGTH: usize = 255;
 
 fn many_bytes(alloc: Global) -> io::Result<Vec<u8>> {
     let mut bytes = Vec::new(alloc);
@@ -44,7 +50,7 @@ fn show_file(rt: &HostRuntime, name: &str) -> io::Result<()> {
 }
 
 fn show_mode(rt: &HostRuntime, name: &str) -> io::Result<()> {
-    let mode = fs::metadata(rt, name)?.permissions().mode() & 0o777;
+    let mode = fs::metadata(rt, name)?.permissions().mode() & 0o7777;
     let line = format!(in rt.alloc(); "  {name} mode {mode:o}")?;
     rt.println(line.as_str())
 }
@@ -101,6 +107,36 @@ fn save_in_vain(rt: &HostRuntime) -> io::Result<()> {
     show_file(rt, "folder/whole")
 }
 
+// What is selected and is no regular file, or has too long a name.
+fn select_in_vain(rt: &HostRuntime) -> io::Result<()> {
+    for name in ["folder/inner", "/dev/zero"] {
+        let mut shelf = FileShelf::new(rt);
+        let end = shelf.select(name);
+        rt.println(name)?;
+        show_end(rt, &shelf, end)?;
+    }
+    for length in [NAME_LENGTH - 6, NAME_LENGTH - 5] {
+        let mut name = String::from_str(rt.alloc(), "folder/")?;
+        for _ in 0..length {
+            name.push('x')?;
+        }
+        let mut shelf = FileShelf::new(rt);
+        let end = shelf.select(&name);
+        println!(rt; "a name of {length} bytes")?;
+        show_end(rt, &shelf, end)?;
+    }
+    Ok(())
+}
+
+// A file that runs with the rights of its owner and its group.
+fn save_with_rights(rt: &HostRuntime) -> io::Result<()> {
+    fs::write(rt, "folder/rights", "old")?;
+    fs::set_permissions(rt, "folder/rights", Permissions::from_mode(0o6750))?;
+    show_mode(rt, "folder/rights")?;
+    try_save(rt, "folder/rights", b"new")?;
+    show_mode(rt, "folder/rights")
+}
+
 // A draft that is open when another name is selected.
 fn select_another(rt: &HostRuntime) -> io::Result<()> {
     let mut shelf = FileShelf::new(rt);
@@ -135,6 +171,11 @@ fn try_all(rt: &HostRuntime) -> io::Result<()> {
     save_new_files(rt)?;
     save_in_vain(rt)?;
     select_another(rt)?;
+    select_in_vain(rt)?;
+    save_with_rights(rt)?;
+    change_between(rt)?;
+    come_between(rt)?;
+    save_beside(rt)?;
     remove_all(rt)
 }
 

@@ -23,10 +23,11 @@ fn said_of(shelf: &FileShelf) -> io::Error {
 }
 
 /// Saves a document as the file of a path, in place of what is there: by a draft beside it, which takes its name. A
-/// symbolic link is followed, and the file keeps its permission bits.
+/// symbolic link is followed, and the file keeps its permission bits but for set-user, set-group and sticky.
 ///
-/// Errors: `Memory`, after which no file has changed, and `NotSaved` with what the system said. Then a read of the file
-/// gives the old one or the new one, and a crash leaves one of them, as far as a rename is whole and fsync lasts.
+/// Errors: `Memory`, after which no file has changed, and `NotSaved` with what the system said, or that another process
+/// saves the file or changed it within the call, or that it is no regular file. Then a read of the file gives the old
+/// one or the new one, and a crash leaves one of them, as far as a rename is whole and fsync lasts.
 pub fn save_file(rt: &HostRuntime, path: &str, document: &Document) -> Result<(), Failure>
     ensures { IfErr result IsOfSaving }
 {

@@ -1,8 +1,9 @@
 // The draft of a file: how it is made, takes the file's name, or is removed.
 use crate::places::draft_of;
-use std::fs::{File, OpenOptions, Permissions};
-use std::io::ErrorKind;
-use std::os::unix::fs::OpenOptionsExt;
+use crate::stamps::{Stamp, look};
+use std::fs::{File, OpenOptions, Permissions, TryLockError};
+use std::io::{ErrorKind, Write};
+use std::os::unix::fs::{OpenOptionsExt, PermissionsExt};
 use std::{fs, io};
 
 // The permission bits of a new file, of which the system takes those away that the process does not give.
@@ -11,60 +12,189 @@ const NEW_FILE: u32 = 0o666;
 // The bits of a draft until it has those of the file: nobody else may open it.
 const PRIVATE: u32 = 0o600;
 
-/// An empty draft with the permission bits of the file, where there is one.
+// The bits of a file that its draft takes. The others would lend the rights of another owner or group.
+const TAKEN_BITS: u32 = 0o777;
+
+/// The draft of a file. Who has one holds the system's lock on it.
 ///
-/// An older draft is removed, and never cut: it may be another name of a file that is to stay.
-pub fn new_draft(rt: &HostRuntime, place: &str) -> io::Result<File> {
-    let name = draft_of(rt.alloc(), place)?;
-    remove_older(rt, &name)?;
-    match permissions_of(rt, place)? {
-        Some(permissions) => {
-            let draft = open_new(rt, &name, PRIVATE)?;
-            if let Err(error) = draft.set_permissions(permissions) {
-                discard_draft(rt, place);
-                return Err(error);
+/// A draft's name is removed, or given to the file, only by who holds the lock on what stands there. So it is done to
+/// no draft of another process.
+#[derive(Drop)]
+pub struct Draft {
+    file: File,
+    name: String,
+}
+
+impl Draft {
+    /// An empty draft with the permission bits of the file, where there is one.
+    ///
+    /// An older draft is removed, and never cut: it may be another name of a file that is to stay. One that is locked
+    /// is that of a save under way, and an error.
+    pub fn new(rt: &HostRuntime, place: &str) -> io::Result<Draft> {
+        let name = draft_of(rt.alloc(), place)?;
+        remove_older(rt, &name)?;
+        let permissions = permissions_of(rt, place)?;
+        let mode = if permissions.is_some() {
+            PRIVATE
+        } else {
+            NEW_FILE
+        };
+        let file = open_new(rt, &name, mode)?;
+        let draft = Draft { file, name };
+        if let Err(error) = draft.prepare(rt, permissions) {
+            // What another process has locked is left to it.
+            if error.kind() != ErrorKind::WouldBlock {
+                draft.discard(rt);
             }
-            Ok(draft)
+            return Err(error);
         }
-        None => open_new(rt, &name, NEW_FILE),
+        Ok(draft)
+    }
+
+    // What a draft needs before its first byte: the lock, its name, which it may have lost before, and its bits.
+    fn prepare(&self, rt: &HostRuntime, permissions: Option<Permissions>) -> io::Result<()> {
+        self.lock()?;
+        self.check_name(rt)?;
+        match permissions {
+            Some(permissions) => self.file.set_permissions(permissions),
+            None => Ok(()),
+        }
+    }
+
+    // Takes the lock. An error where another process holds it, or there are no locks.
+    fn lock(&self) -> io::Result<()> {
+        match self.file.try_lock() {
+            Ok(()) => Ok(()),
+            Err(TryLockError::WouldBlock) => Err(is_being_saved()),
+            Err(TryLockError::Error(error)) => Err(error),
+        }
+    }
+
+    /// Adds bytes at its end.
+    pub fn add(&mut self, bytes: &[u8]) -> io::Result<()> {
+        self.file.write_all(bytes)
+    }
+
+    /// Brings it to the disk.
+    pub fn sync(&self) -> io::Result<()> {
+        self.file.sync_all()
+    }
+
+    /// What it is now, under whatever name. `None` where the system does not say.
+    pub fn stamp(&self) -> Option<Stamp> {
+        match self.file.metadata() {
+            Ok(found) => Stamp::of(&found).ok(),
+            Err(_) => None,
+        }
+    }
+
+    // Whether it stands under its name.
+    fn has_name(&self, rt: &HostRuntime) -> bool {
+        let (Some(own), Ok(Some(found))) = (self.stamp(), look(rt, &self.name)) else {
+            return false;
+        };
+        own.is_of_same_file(&found)
+    }
+
+    /// An error where something else stands under its name, or nothing.
+    pub fn check_name(&self, rt: &HostRuntime) -> io::Result<()> {
+        if self.has_name(rt) {
+            return Ok(());
+        }
+        let message = "the draft was removed by another program";
+        Err(io::Error::new(ErrorKind::NotFound, message))
+    }
+
+    /// Gives it the file's name.
+    pub fn rename(&self, rt: &HostRuntime, place: &str) -> io::Result<()> {
+        fs::rename(rt, &self.name, place)
+    }
+
+    /// Its file, which is no draft any longer.
+    pub fn into_file(self) -> File {
+        // Who cannot be rid of the lock keeps nobody from a save by it.
+        let _ = self.file.unlock();
+        self.file
+    }
+
+    /// Removes it, where that can be done. Where it cannot, the next save removes it.
+    pub fn discard(&self, rt: &HostRuntime) {
+        if self.has_name(rt) {
+            let _ = fs::remove_file(rt, &self.name);
+        }
     }
 }
 
-// Opens a file for writing that must not be there.
+// What keeps a save from its draft: that of another process.
+fn is_being_saved() -> io::Error {
+    let message = "another process is saving the file";
+    io::Error::new(ErrorKind::WouldBlock, message)
+}
+
+// Opens a file for writing, and for later loads, that must not be there.
 fn open_new(rt: &HostRuntime, name: &str, mode: u32) -> io::Result<File> {
-    OpenOptions::new()
+    let opened = OpenOptions::new()
+        .read(true)
         .write(true)
         .create_new(true)
         .mode(mode)
-        .open(rt, name)
-}
-
-// Removes an older draft, if there is one.
-fn remove_older(rt: &HostRuntime, name: &str) -> io::Result<()> {
-    match fs::remove_file(rt, name) {
-        Err(error) if error.kind() != ErrorKind::NotFound => Err(error),
-        _ => Ok(()),
+        .open(rt, name);
+    match opened {
+        Err(error) if error.kind() == ErrorKind::AlreadyExists => Err(is_being_saved()),
+        opened => opened,
     }
 }
 
-// The permission bits of a file. `None` where there is no file.
+// Removes what stands under a draft's name, if there is anything, but for a draft that is locked.
+fn remove_older(rt: &HostRuntime, name: &str) -> io::Result<()> {
+    match fs::symlink_metadata(rt, name) {
+        Ok(found) if found.is_file() => remove_unlocked(rt, name),
+        // No draft, which may not be opened either.
+        Ok(_) => fs::remove_file(rt, name),
+        Err(error) => unless_absent(Err(error)),
+    }
+}
+
+// Removes a draft that no process has locked. Where it has another name by then, that stays.
+fn remove_unlocked(rt: &HostRuntime, name: &str) -> io::Result<()> {
+    let name = String::from_str(rt.alloc(), name)?;
+    let file = match open_older(rt, &name) {
+        Ok(file) => file,
+        Err(error) => return unless_absent(Err(error)),
+    };
+    let older = Draft { file, name };
+    older.lock()?;
+    if older.has_name(rt) {
+        unless_absent(fs::remove_file(rt, &older.name))
+    } else {
+        Ok(())
+    }
+}
+
+// Opens an older draft for its lock alone: for writing, which some locks ask, or else for reading.
+fn open_older(rt: &HostRuntime, name: &str) -> io::Result<File> {
+    match OpenOptions::new().write(true).open(rt, name) {
+        Err(error) if error.kind() == ErrorKind::PermissionDenied => File::open(rt, name),
+        opened => opened,
+    }
+}
+
+// That nothing was there is no error.
+fn unless_absent(done: io::Result<()>) -> io::Result<()> {
+    match done {
+        Err(error) if error.kind() == ErrorKind::NotFound => Ok(()),
+        done => done,
+    }
+}
+
+// The permission bits for the draft of a file. `None` where there is no file.
 fn permissions_of(rt: &HostRuntime, place: &str) -> io::Result<Option<Permissions>> {
     match fs::metadata(rt, place) {
-        Ok(old) => Ok(Some(old.permissions())),
+        Ok(old) => {
+            let bits = old.permissions().mode() & TAKEN_BITS;
+            Ok(Some(Permissions::from_mode(bits)))
+        }
         Err(error) if error.kind() == ErrorKind::NotFound => Ok(None),
         Err(error) => Err(error),
-    }
-}
-
-/// Gives the draft the file's name.
-pub fn rename_draft(rt: &HostRuntime, place: &str) -> io::Result<()> {
-    let name = draft_of(rt.alloc(), place)?;
-    fs::rename(rt, &name, place)
-}
-
-/// Removes the draft, where that can be done. Where it cannot, the next save removes it.
-pub fn discard_draft(rt: &HostRuntime, place: &str) {
-    if let Ok(name) = draft_of(rt.alloc(), place) {
-        let _ = fs::remove_file(rt, &name);
     }
 }

@@ -2,11 +2,11 @@ ghost use Rattle.std.specs.Prelude.{◌≡◌, ◌≤◌, None, Some, IsSome, is
 ghost use Rattle.std.specs.Prelude.{length, option_map, string_bytes};
 ghost use Rattle.xl_ports.specs.Faults.{HasCause, Rose};
 
-use crate::drafts::{discard_draft, new_draft, rename_draft};
-use crate::places::{folder_of, place_of};
+use crate::drafts::Draft;
+use crate::places::{check_room, folder_of, place_of};
+use crate::stamps::{Stamp, look, open_regular};
 use std::fs::File;
 use std::io;
-use std::io::Write;
 use std::os::unix::fs::FileExt;
 use xl_ports::{Failed, Shelf};
 
@@ -16,12 +16,15 @@ use xl_ports::{Failed, Shelf};
 /// many as 40 links, and the links stay. They are followed by `select` alone. The draft stands beside the file, under
 /// its path with `.draft` behind it.
 ///
-/// - `select` reads links, and answers `Failed` where a link cannot be followed. It removes the draft that is open.
-/// - `load` opens the file once and reads at the offset that is asked for.
-/// - `draft_new` removes an older draft, makes a new one that must not be there, and gives it the permission bits of
-///   the file, where there is one.
+/// - `select` reads links, and answers `Failed` where a link cannot be followed, what stands there is no regular file,
+///   or its name leaves no room for that of the draft. It removes the draft that is open.
+/// - `load` opens the file once and reads at the offset that is asked for. After a save it reads what was saved.
+/// - `draft_new` removes an older draft, makes a new one that must not be there, locks it, and gives it the permission
+///   bits of the file, where there is one. It fails while another shelf or process has a draft of the file.
 /// - `draft_add` writes, and `draft_sync` syncs the draft.
-/// - `swap_in` renames the draft over the file.
+/// - `swap_in` renames the draft over the file, unless another program has changed the file: what stands there is not
+///   what this shelf put there last, or opened to read, or else found when it selected the name. Nobody is kept from
+///   the file between that look and the rename but other shelves.
 /// - `settle` syncs the file's folder.
 ///
 /// A call on the draft that fails removes the draft, where that can be done, so that none is left.
@@ -31,9 +34,11 @@ pub struct FileShelf {
     name: Option<String>,
     // Where the file of the name is.
     place: String,
-    // That file, from the first load on.
+    // That file, from the first load or save on. While it is open no other file gets its number.
     file: Option<File>,
-    draft: Option<File>,
+    // What the shelf put there last, or opened to read, or found when it selected the name. None where there was none.
+    seen: Option<Stamp>,
+    draft: Option<Draft>,
     loads: u64,
     reading_faults: u64,
     saving_faults: u64,
@@ -56,6 +61,7 @@ impl FileShelf {
             name: None,
             place: String::new(rt.alloc()),
             file: None,
+            seen: None,
             draft: None,
             loads: 0,
             reading_faults: 0,
@@ -108,8 +114,8 @@ impl FileShelf {
         ensures cause { HasCause self.old.saving_faults self.new.saving_faults result }
         ensures ok { is_ok result ≡ is_ok done }
     {
-        if done.is_err() {
-            discard_draft(&self.rt, &self.place);
+        if let (Err(_), Some(draft)) = (&done, &self.draft) {
+            draft.discard(&self.rt);
         }
         self.conclude(done)
     }
@@ -126,13 +132,14 @@ impl Shelf for FileShelf {
     } };
 
     fn select(&mut self, name: &str) -> Result<(), Failed> {
-        match find_place(&self.rt, name) {
-            Ok((place, name)) => {
-                if self.draft.take().is_some() {
-                    discard_draft(&self.rt, &self.place);
+        match find(&self.rt, name) {
+            Ok(found) => {
+                if let Some(draft) = self.draft.take() {
+                    draft.discard(&self.rt);
                 }
-                self.name = Some(name);
-                self.place = place;
+                self.name = Some(found.name);
+                self.place = found.place;
+                self.seen = found.seen;
                 self.file = None;
                 Ok(())
             }
@@ -142,15 +149,23 @@ impl Shelf for FileShelf {
 
     fn load(&mut self, at: u64, buf: &mut [u8]) -> Result<usize, Failed> {
         self.loads = self.loads.saturating_add(1);
-        match load_at(&self.rt, &self.place, &mut self.file, at, buf) {
+        match load_at(
+            &self.rt,
+            &self.place,
+            &mut self.file,
+            &mut self.seen,
+            at,
+            buf,
+        ) {
             Ok(given) => Ok(given),
             Err(error) => Err(self.fail_reading(error)),
         }
     }
 
     fn draft_new(&mut self) -> Result<(), Failed> {
+        // What is locked by this shelf is an older one to the next.
         self.draft = None;
-        let done = match new_draft(&self.rt, &self.place) {
+        let done = match Draft::new(&self.rt, &self.place) {
             Ok(draft) => {
                 self.draft = Some(draft);
                 Ok(())
@@ -162,22 +177,24 @@ impl Shelf for FileShelf {
 
     fn draft_add(&mut self, bytes: &[u8]) -> Result<(), Failed> {
         let mut draft = self.draft.take().unwrap();
-        let done = draft.write_all(bytes);
+        let done = draft.add(bytes);
         self.draft = Some(draft);
         self.conclude_draft(done)
     }
 
     fn draft_sync(&mut self) -> Result<(), Failed> {
-        let done = self.draft.as_ref().unwrap().sync_all();
+        let done = self.draft.as_ref().unwrap().sync();
         self.conclude_draft(done)
     }
 
     fn swap_in(&mut self) -> Result<(), Failed> {
-        self.draft = None;
-        // What was open is the old file.
-        self.file = None;
-        let done = rename_draft(&self.rt, &self.place);
-        self.conclude_draft(done)
+        let draft = self.draft.take().unwrap();
+        let done = swap(&self.rt, &draft, &self.place, &mut self.seen);
+        match done {
+            Ok(()) => self.file = Some(draft.into_file()),
+            Err(_) => draft.discard(&self.rt),
+        }
+        self.conclude(done)
     }
 
     fn settle(&mut self) -> Result<(), Failed> {
@@ -186,13 +203,22 @@ impl Shelf for FileShelf {
     }
 }
 
-// Where the file of a name is, and the name.
-fn find_place(rt: &HostRuntime, name: &str) -> io::Result<(String, String)>
-    ensures { IfOk result (λ found. string_bytes found.1 ≡ name.now) }
+// What `select` finds under a name.
+#[derive(Drop)]
+struct Found {
+    place: String,
+    name: String,
+    seen: Option<Stamp>,
+}
+
+fn find(rt: &HostRuntime, name: &str) -> io::Result<Found>
+    ensures { IfOk result (λ found. string_bytes found.name ≡ name.now) }
 {
     let place = place_of(rt, name)?;
+    check_room(rt, &place)?;
+    let seen = look(rt, &place)?;
     let name = String::from_str(rt.alloc(), name)?;
-    Ok((place, name))
+    Ok(Found { place, name, seen })
 }
 
 // Reads at an offset of the file, which is opened first where it is not open.
@@ -200,6 +226,7 @@ fn load_at(
     rt: &HostRuntime,
     place: &str,
     file: &mut Option<File>,
+    seen: &mut Option<Stamp>,
     at: u64,
     buf: &mut [u8],
 ) -> io::Result<usize>
@@ -207,11 +234,28 @@ fn load_at(
 {
     let open = match file.take() {
         Some(open) => open,
-        None => File::open(rt, place)?,
+        None => {
+            let (open, stamp) = open_regular(rt, place)?;
+            *seen = Some(stamp);
+            open
+        }
     };
     let given = open.read_at(buf, at);
     *file = Some(open);
     given
+}
+
+// Gives the draft the file's name, unless another program has changed the file, and sees what it is then.
+fn swap(rt: &HostRuntime, draft: &Draft, place: &str, seen: &mut Option<Stamp>) -> io::Result<()> {
+    draft.check_name(rt)?;
+    // The last call before the rename, since nobody else is kept from the file between the two.
+    if look(rt, place)? != *seen {
+        let message = "the file was changed by another program";
+        return Err(io::Error::other(message));
+    }
+    draft.rename(rt, place)?;
+    *seen = draft.stamp();
+    Ok(())
 }
 
 // Brings the names in the file's folder to the disk.

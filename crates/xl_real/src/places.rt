@@ -43,6 +43,18 @@ pub fn draft_of(alloc: Global, place: &str) -> Result<String, AllocError> {
     Ok(draft)
 }
 
+/// An error where the draft's name is longer than the system takes, though the file's may not be.
+pub fn check_room(rt: &HostRuntime, place: &str) -> io::Result<()> {
+    let draft = draft_of(rt.alloc(), place)?;
+    match fs::symlink_metadata(rt, &draft) {
+        Err(error) if error.kind() == ErrorKind::InvalidFilename => Err(io::Error::new(
+            ErrorKind::InvalidFilename,
+            "its name leaves no room for \".draft\" behind it",
+        )),
+        _ => Ok(()),
+    }
+}
+
 /// The path of the folder of a file.
 pub fn folder_of(place: &str) -> &str {
     match Path::new(place).parent() {

@@ -1,6 +1,8 @@
 ghost use Rattle.std.specs.Prelude.{◌≡◌, None};
+ghost use Rattle.xl_ports.specs.Faults.{Rose};
 
-use std::io::{Print, Stdout};
+use std::io;
+use std::io::{ErrorKind, Print, Stdout};
 use xl_ports::{Failed, Sink};
 
 /// The standard output. What it takes is not told.
@@ -8,6 +10,8 @@ use xl_ports::{Failed, Sink};
 pub struct StdSink {
     out: Stdout,
     faults: u64,
+    // Why the last write failed that did.
+    error: Option<io::Error>,
 }
 
 impl StdSink {
@@ -18,7 +22,23 @@ impl StdSink {
         StdSink {
             out: rt.stdout(),
             faults: 0,
+            error: None,
         }
+    }
+
+    /// What the system said of the last write that failed, or that it took no byte, for people to be told. No clause
+    /// speaks of it.
+    pub fn error(&self) -> Option<&io::Error> {
+        self.error.as_ref()
+    }
+
+    // Counts a fault.
+    fn fail(&mut self, error: io::Error) -> Failed
+        ensures { Rose self.old.faults self.new.faults }
+    {
+        self.faults = self.faults.saturating_add(1);
+        self.error = Some(error);
+        Failed
     }
 }
 
@@ -28,11 +48,13 @@ impl Sink for StdSink {
     ghost faults = { λ s. s.faults };
 
     fn write(&mut self, bytes: &[u8]) -> Result<usize, Failed> {
-        let taken = self.out.write_some(bytes).unwrap_or(0);
-        if taken == 0 && !bytes.is_empty() {
-            self.faults = self.faults.saturating_add(1);
-            return Err(Failed);
+        match self.out.write_some(bytes) {
+            Ok(0) if !bytes.is_empty() => {
+                let none = io::Error::new(ErrorKind::WriteZero, "the system took no byte");
+                Err(self.fail(none))
+            }
+            Ok(taken) => Ok(taken),
+            Err(error) => Err(self.fail(error)),
         }
-        Ok(taken)
     }
 }
