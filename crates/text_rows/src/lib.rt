@@ -4,6 +4,8 @@
 #[cfg(test)]
 mod commands;
 #[cfg(test)]
+mod idle_calls;
+#[cfg(test)]
 mod lines;
 #[cfg(test)]
 mod made;

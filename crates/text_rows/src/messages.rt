@@ -250,6 +250,102 @@ const NO_COMMANDS: [(&'static [&'static str], &'static str); 14] = [
     ),
 ];
 
+/// Why a file is refused, where, the bytes that stand there, and what is said.
+const FOUND: [(Kind, u64, &'static [u8], &'static str); 15] = [
+    (
+        Kind::NotXcf,
+        0,
+        b"\x1f\x8b\x08\0\0\0\0\0",
+        "photo.xcf: this is a gzip-packed file; unpack it first",
+    ),
+    (
+        Kind::NotXcf,
+        0,
+        b"BZh91AY&",
+        "photo.xcf: this is a bzip2-packed file; unpack it first",
+    ),
+    (
+        Kind::NotXcf,
+        0,
+        b"\xfd7zXZ\0\0\x04",
+        "photo.xcf: this is an xz-packed file; unpack it first",
+    ),
+    (
+        Kind::NotXcf,
+        0,
+        b"\x89PNG\r\n\x1a\n",
+        "photo.xcf: this is no XCF file, at byte 0",
+    ),
+    (
+        Kind::Version,
+        9,
+        b"v011\0\0\0\x04",
+        "photo.xcf: version 11 of the format is not supported, only 0 to 3, which GIMP writes for 8 bits a channel and legacy layer modes, at byte 9",
+    ),
+    (
+        Kind::Version,
+        9,
+        b"v1.1\0\0\0\x04",
+        "photo.xcf: this version of the format is not supported, only 0 to 3, which GIMP writes for 8 bits a channel and legacy layer modes, at byte 9",
+    ),
+    (
+        Kind::BadSize,
+        14,
+        b"\0\0\0\0\0\0\0\x01",
+        "photo.xcf: a side is 0, at byte 14",
+    ),
+    (
+        Kind::BadSize,
+        18,
+        b"\0\0\x40\x01\0\0\0\0",
+        "photo.xcf: a side is more than 16384 pixels, at byte 18",
+    ),
+    (
+        Kind::BadString,
+        93,
+        b"\0\0\x10\x02abcd",
+        "photo.xcf: a string is too long, at byte 93",
+    ),
+    (
+        Kind::BadString,
+        93,
+        b"\0\0\0\x04abcd",
+        "photo.xcf: a string has no zero at its end, at byte 93",
+    ),
+    (
+        Kind::LayerType,
+        89,
+        b"\0\0\0\x06\0\0\0\0",
+        "photo.xcf: the type of a layer is unknown, at byte 89",
+    ),
+    (
+        Kind::LayerType,
+        89,
+        b"\0\0\0\x05\0\0\0\0",
+        "photo.xcf: the type of a layer is of another base than the image, at byte 89",
+    ),
+    // a path of nine words, and one of eight
+    (
+        Kind::BadPath,
+        304,
+        b"\0\0\0\x1e\0\0\0\x24",
+        "photo.xcf: an item path is too long, at byte 304",
+    ),
+    (
+        Kind::BadPath,
+        304,
+        b"\0\0\0\x1e\0\0\0\x20",
+        "photo.xcf: an item path leads to no group, at byte 304",
+    ),
+    // the file could not be read once more
+    (
+        Kind::BadPath,
+        304,
+        b"",
+        "photo.xcf: an item path leads to no group or is too long, at byte 304",
+    ),
+];
+
 /// Each kind of refusal of a file.
 const KINDS: [Kind; 24] = [
     Kind::NotXcf,
@@ -278,6 +374,18 @@ const KINDS: [Kind; 24] = [
     Kind::OffsetRange,
 ];
 
+fn says_of_file<'a>(
+    alloc: Global,
+    words: &'a [&'a str],
+    status: u8,
+    cause: Stopped,
+    found: &[u8],
+    sentence: &str,
+) -> Result<bool, AllocError> {
+    let said = message(alloc, words, status, Some(cause), found)?;
+    Ok(said.as_str() == sentence)
+}
+
 fn says<'a>(
     alloc: Global,
     words: &'a [&'a str],
@@ -285,8 +393,7 @@ fn says<'a>(
     cause: Stopped,
     sentence: &str,
 ) -> Result<bool, AllocError> {
-    let said = message(alloc, words, status, Some(cause))?;
-    Ok(said.as_str() == sentence)
+    says_of_file(alloc, words, status, cause, &[], sentence)
 }
 
 // Why a script is refused that was read.
@@ -350,7 +457,7 @@ fn begins<'a>(
     cause: Option<Stopped>,
     front: &str,
 ) -> Result<(bool, usize), AllocError> {
-    let said = message(alloc, words, status, cause)?;
+    let said = message(alloc, words, status, cause, &[])?;
     Ok((
         said.as_str().starts_with(front),
         said.as_str().lines().count(),
@@ -385,6 +492,34 @@ fn tells_of_head(alloc: Global) -> Result<bool, AllocError> {
 fn each_stop_has_its_sentence(rt: HostRuntime) -> Result<(), Fail> {
     assert_eq!(rt; first_bad_stop(rt.alloc())?, None);
     assert!(rt; tells_of_head(rt.alloc())?);
+    Ok(())
+}
+
+// Whether this is said of a file that is refused over these bytes.
+fn is_told(
+    alloc: Global,
+    row: (Kind, u64, &'static [u8], &'static str),
+) -> Result<bool, AllocError> {
+    let refused = ReadRefused {
+        kind: row.0,
+        at: row.1,
+        value: 0,
+    };
+    says_of_file(alloc, &EDIT, 4, Stopped::Refused(refused), row.2, row.3)
+}
+
+fn first_bad_found(alloc: Global) -> Result<Option<usize>, AllocError> {
+    for (i, row) in FOUND.iter().enumerate() {
+        if !is_told(alloc, *row)? {
+            return Ok(Some(i));
+        }
+    }
+    Ok(None)
+}
+
+#[test]
+fn what_a_file_holds_is_told(rt: HostRuntime) -> Result<(), Fail> {
+    assert_eq!(rt; first_bad_found(rt.alloc())?, None);
     Ok(())
 }
 

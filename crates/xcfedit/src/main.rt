@@ -2,8 +2,8 @@
 //! line of JSON. `xcfedit edit FILE` makes the calls and saves of a script from the standard input on such a file, and
 //! writes the replies; `xcfedit view FILE` makes the calls of one and shows windows, and `xcfedit audit FILE` judges
 //! what an edit is said to have printed. `xcfedit make FILE` saves what a seed makes, `xcfedit pack FILE` the smallest
-//! file, and `xcfedit flatten FILE` one layer in the place of all. Where a command stops, a sentence on the standard
-//! error says why.
+//! file, and `xcfedit flatten FILE` one layer in the place of all. Where a command stops, or a call of a script does
+//! nothing, a sentence on the standard error says why.
 #![tactic(auto)]
 
 use std::alloc::AllocError;
@@ -12,7 +12,7 @@ use std::sync::Wait;
 use std::thread::Threads;
 use std::{env, io};
 use xl_filters::{Fade, Invert, PointFilter, Posterize, Threshold};
-use xl_messages::message;
+use xl_messages::{FOUND_LEN, WatchedSink, load_found, message};
 use xl_program::{Ended, run};
 use xl_real::{FileShelf, OpenGate, StdSink, StdSource};
 
@@ -24,6 +24,9 @@ const MEMORY: u8 = 8;
 
 /// The status where the file could not be read, or a save failed.
 const SHELF_FAULT: u8 = 6;
+
+/// The status where the output could not be written.
+const SINK_FAULT: u8 = 7;
 
 const SESSIONS: usize = 8;
 
@@ -39,6 +42,7 @@ fn run_with_filters<R: Threads + Wait + Sync>(
     rt: &HostRuntime,
     threads: &R,
     words: &[&str],
+    sink: &mut WatchedSink<StdSink>,
 ) -> Result<Ended<FileShelf>, AllocError> {
     let alloc = rt.alloc();
     let mut chest: Vec<Vec<Box<dyn PointFilter + Send>>> = Vec::with_capacity(alloc, SESSIONS)?;
@@ -51,26 +55,48 @@ fn run_with_filters<R: Threads + Wait + Sync>(
         chest.push(boxes)?;
     }
     let mut source = StdSource::new(rt);
-    let mut sink = StdSink::new(rt);
     let shelf = FileShelf::new(rt);
     Ok(run(
         threads,
         alloc,
         words,
         &mut source,
-        &mut sink,
+        sink,
         shelf,
         chest,
         &OpenGate,
     ))
 }
 
-// Says why a command stopped, and what the system said of the file. Where it cannot be written there is nothing else to
-// say.
-fn tell(rt: &HostRuntime, text: String, ended: &Ended<FileShelf>) {
-    let _ = match ended.shelf.error() {
-        Some(error) if ended.status == SHELF_FAULT => eprintln!(rt; "{text}: {error}"),
-        _ => rt.eprintln(text),
+// Says which calls did nothing, a line each. Where the standard error cannot be written there is nothing else to say it
+// with.
+fn tell_calls(rt: &HostRuntime, sink: &WatchedSink<StdSink>) {
+    if let Ok(text) = sink.sentences(rt.alloc()) {
+        let _ = rt.eprint(text);
+    }
+}
+
+// What the system said of the file or of the output, where the command stopped there.
+fn system_error<'a>(ended: &'a Ended<FileShelf>, out: &'a StdSink) -> Option<&'a io::Error> {
+    match ended.status {
+        SHELF_FAULT => ended.shelf.error(),
+        SINK_FAULT => out.error(),
+        _ => None,
+    }
+}
+
+// Says why a command stopped.
+fn tell_stop(rt: &HostRuntime, words: &[&str], ended: &mut Ended<FileShelf>, out: &StdSink) {
+    let alloc = rt.alloc();
+    let cause = ended.cause;
+    let mut found = [0; FOUND_LEN];
+    let count = load_found(alloc, &mut ended.shelf, words, cause, &mut found);
+    let Ok(text) = message(alloc, words, ended.status, cause, &found[..count]) else {
+        return;
+    };
+    let _ = match system_error(ended, out) {
+        Some(error) => eprintln!(rt; "{text}: {error}"),
+        None => rt.eprintln(text),
     };
 }
 
@@ -86,11 +112,11 @@ fn start<R: Threads + Wait + Sync>(rt: &HostRuntime, threads: &R) -> Result<u8, 
     for word in &given {
         words.push(word.as_str())?;
     }
-    let ended = run_with_filters(rt, threads, &words)?;
-    if ended.status != DONE
-        && let Ok(text) = message(alloc, &words, ended.status, ended.cause)
-    {
-        tell(rt, text, &ended);
+    let mut sink = WatchedSink::new(alloc, &words, StdSink::new(rt));
+    let mut ended = run_with_filters(rt, threads, &words, &mut sink)?;
+    tell_calls(rt, &sink);
+    if ended.status != DONE {
+        tell_stop(rt, &words, &mut ended, sink.below());
     }
     Ok(ended.status)
 }

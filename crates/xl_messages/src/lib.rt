@@ -3,9 +3,16 @@
 #![tactic(auto)]
 
 mod faults;
+mod found;
+mod idle_calls;
 mod lines;
 mod names;
+mod packed;
+mod replies;
 mod stops;
+mod watched_sink;
 mod words;
 
+pub use found::{FOUND_LEN, load_found};
 pub use stops::{VERSION, message};
+pub use watched_sink::WatchedSink;

@@ -1,9 +1,10 @@
 use crate::faults::fault_text;
 use crate::lines::cause_text;
 use crate::names::shown;
+use crate::packed::packed_name;
 use crate::words::words_fault;
 use spec_audit::MAX_SOURCE_BYTES;
-use spec_fields::ReadRefused;
+use spec_fields::{Kind, ReadRefused};
 use spec_script::MAX_SCRIPT_BYTES;
 use std::alloc::{AllocError, Global};
 use std::slice::EscapeAscii;
@@ -18,12 +19,13 @@ const USAGE: &str =
 pub const VERSION: &str = "0.1.0";
 
 /// A sentence on how the words came to this status, other than 0: which file, what is wrong and where. `cause` is that
-/// of `Ended` of `xl_program`. It has no newline at its end.
+/// of `Ended` of `xl_program`, and `found` what `load_found` read of the file. It has no newline at its end.
 pub fn message<'a>(
     alloc: Global,
     words: &'a [&'a str],
     status: u8,
     cause: Option<Stopped>,
+    found: &[u8],
 ) -> Result<String, AllocError> {
     let command = command_of(alloc, words)?;
     if status == MEMORY {
@@ -32,7 +34,7 @@ pub fn message<'a>(
     let (Some(command), Some(stopped)) = (command, cause) else {
         return usage_text(alloc, words);
     };
-    stop_text(alloc, command, stopped)
+    stop_text(alloc, command, stopped, found)
 }
 
 // That memory ran out, and with which file.
@@ -52,8 +54,8 @@ fn usage_text(alloc: Global, words: &[&str]) -> Result<String, AllocError> {
     format!(in alloc; "xcfedit {VERSION}: {fault}; {USAGE}")
 }
 
-// The name of a command's file.
-fn file_of(command: Command<'_>) -> &str {
+/// The name of a command's file.
+pub fn file_of(command: Command<'_>) -> &str {
     match command {
         Command::Edit(name, _) | Command::Make(name, _) => name,
         Command::Render(name) | Command::Info(name) | Command::Audit(name) => name,
@@ -61,14 +63,19 @@ fn file_of(command: Command<'_>) -> &str {
     }
 }
 
-fn stop_text(alloc: Global, command: Command<'_>, stopped: Stopped) -> Result<String, AllocError> {
+fn stop_text(
+    alloc: Global,
+    command: Command<'_>,
+    stopped: Stopped,
+    found: &[u8],
+) -> Result<String, AllocError> {
     let name = shown(file_of(command));
     match stopped {
         Stopped::SourceFault => String::from_str(alloc, "the script cannot be read"),
         Stopped::BadHead => head_text(alloc),
         Stopped::BadLine(bad) => line_text(alloc, bad),
         Stopped::ShelfFault => shelf_text(alloc, command),
-        Stopped::Refused(refused) => refusal_text(alloc, name, refused),
+        Stopped::Refused(refused) => refusal_text(alloc, name, refused, found),
         Stopped::NotFlattened(why) => format!(in alloc;
             "{name}: the image cannot be made flat: {why}"
         ),
@@ -125,12 +132,19 @@ fn rejection_text(
     }
 }
 
+// A packed file is told as such. Else it is told what is wrong with the file, and where.
 fn refusal_text(
     alloc: Global,
     name: EscapeAscii<'_>,
     refused: ReadRefused,
+    found: &[u8],
 ) -> Result<String, AllocError> {
-    let fault = fault_text(alloc, refused)?;
+    if refused.kind == Kind::NotXcf
+        && let Some(packed) = packed_name(found)
+    {
+        return format!(in alloc; "{name}: this is {packed}; unpack it first");
+    }
+    let fault = fault_text(alloc, refused, found)?;
     let at = refused.at;
     format!(in alloc; "{name}: {fault}, at byte {at}")
 }
