@@ -1,11 +1,12 @@
 #!/usr/bin/env python3
-"""Compares `xcfedit render` with what files must give.
+"""Compares `xcfedit render` and `xcfedit info --all` with what files must give.
 
     compare.py BIN CORPUS [--mutants N] [--seed S]
 
 BIN is the program, or `-` for the reference reader alone. CORPUS is a folder with files of XCF, in it or in its
 folder `files`. Where it has an EXPECTED.tsv, that says what each file must give; where it has none, the reference
-reader does. With --mutants, N damaged copies of the smaller files are tried as well, against the reference reader.
+reader does, as it always does what `info --all` must print. With --mutants, N damaged copies of the smaller files are
+tried as well, against the reference reader.
 
 EXPECTED.tsv has a head line, and then for each file, between tabs: its name, the exit status, the SHA-256 and the
 length of what `render` prints, and the file's structure as `xcf_reference.py --tree` prints it, or the refusal, or `-`
@@ -22,7 +23,7 @@ import subprocess
 import sys
 import tempfile
 
-from xcf_reference import output
+from xcf_reference import output, tree_line, whole_line
 
 SMALL = 60_000
 
@@ -31,13 +32,13 @@ def digest(data):
     return hashlib.sha256(data).hexdigest()
 
 
-def by_reference(data):
-    status, pieces = output(data)
+def by_reference(data, line=None):
+    status, pieces = output(data, line)
     return status, b"".join(pieces)
 
 
-def by_program(program, path):
-    done = subprocess.run([program, "render", path], stdout=subprocess.PIPE, check=False)
+def by_program(program, path, words=("render",)):
+    done = subprocess.run([program, *words, path], stdout=subprocess.PIPE, check=False)
     return done.returncode, done.stdout
 
 
@@ -81,6 +82,10 @@ class Tally:
             print("DIFFERS %s, %s\n  wanted %s\n  got    %s" % (name, what, wanted, got))
 
 
+def compare_lines(tally, name, path, data, program):
+    tally.compare(name, "line", by_reference(data, whole_line), by_program(program, path, ("info", "--all")))
+
+
 def compare_row(tally, name, path, row, program):
     data = read_file(path)
     wanted = "status %s, %s of %s bytes" % tuple(row[1:4])
@@ -89,16 +94,18 @@ def compare_row(tally, name, path, row, program):
         return "status %d, %s of %d bytes" % (status, digest(printed), len(printed))
     tally.compare(name, "reference", wanted, told(*by_reference(data)))
     if row[4] != "-":
-        tree = b"".join(output(data, tree=True)[1]).decode("ascii").strip()
+        tree = b"".join(output(data, tree_line)[1]).decode("ascii").strip()
         tally.compare(name, "structure", row[4], tree)
     if program != "-":
         tally.compare(name, "program", wanted, told(*by_program(program, path)))
+        compare_lines(tally, name, path, data, program)
 
 
 def compare_with_reference(tally, name, path, program):
     if program != "-":
-        wanted = by_reference(read_file(path))
-        tally.compare(name, "program", shown(*wanted), shown(*by_program(program, path)))
+        data = read_file(path)
+        tally.compare(name, "program", shown(*by_reference(data)), shown(*by_program(program, path)))
+        compare_lines(tally, name, path, data, program)
 
 
 def damaged(data, draw):

@@ -127,6 +127,13 @@ abbrev pub edit_shape : List Argument → Option Asked
 edit_shape arguments =
     option_and_then edit_held (held_by (record { valued = codes "--workers" ∷ []; flags = [] }) arguments)
 
+abbrev pub info_held : Held → Option Asked
+info_held held = option_map (λ file. info file (is_some (value_in (codes "--all") held.values))) (file_of held)
+
+abbrev pub info_shape : List Argument → Option Asked
+info_shape arguments =
+    option_and_then info_held (held_by (record { valued = []; flags = codes "--all" ∷ [] }) arguments)
+
 abbrev pub make_held : Held → Option Asked
 make_held held = with_number make (file_of held) (number_held held (codes "--seed") None 0 (2 ^ 32 - 1))
 
@@ -164,7 +171,7 @@ asked_by_shape [] = None
 asked_by_shape (verb ∷ arguments) =
     if bytes_eq verb (codes "edit") then edit_shape arguments else
     if bytes_eq verb (codes "render") then plain_shape render arguments else
-    if bytes_eq verb (codes "info") then plain_shape info arguments else
+    if bytes_eq verb (codes "info") then info_shape arguments else
     if bytes_eq verb (codes "make") then make_shape arguments else
     if bytes_eq verb (codes "pack") then pack_shape arguments else
     if bytes_eq verb (codes "flatten") then plain_shape flatten arguments else

@@ -30,6 +30,9 @@ plain_app name = with_rule (new_app name) file_rule
 abbrev pub edit_app : App
 edit_app = with_rule (plain_app (codes "edit")) (number_rule (codes "workers") 0 8 false)
 
+abbrev pub info_app : App
+info_app = with_rule (plain_app (codes "info")) (flag_rule (codes "all"))
+
 abbrev pub make_app : App
 make_app = with_rule (plain_app (codes "make")) (number_rule (codes "seed") 0 (2 ^ 32 - 1) true)
 
@@ -66,6 +69,9 @@ asked_where app arguments ask =
 abbrev pub edit_of : List Row → Argument → Asked
 edit_of rows name = edit name (number_of rows (codes "workers") 2)
 
+abbrev pub info_of : List Row → Argument → Asked
+info_of rows name = info name (is_given rows (codes "all"))
+
 abbrev pub make_of : List Row → Argument → Asked
 make_of rows name = make name (number_of rows (codes "seed") 0)
 
@@ -84,7 +90,7 @@ asked_in [] = None
 asked_in (verb ∷ arguments) =
     if bytes_eq verb (codes "edit") then asked_where edit_app (verb ∷ arguments) edit_of else
     if bytes_eq verb (codes "render") then asked_where (plain_app verb) (verb ∷ arguments) (plain_of render) else
-    if bytes_eq verb (codes "info") then asked_where (plain_app verb) (verb ∷ arguments) (plain_of info) else
+    if bytes_eq verb (codes "info") then asked_where info_app (verb ∷ arguments) info_of else
     if bytes_eq verb (codes "make") then asked_where make_app (verb ∷ arguments) make_of else
     if bytes_eq verb (codes "pack") then asked_where pack_app (verb ∷ arguments) pack_of else
     if bytes_eq verb (codes "flatten") then asked_where (plain_app verb) (verb ∷ arguments) (plain_of flatten) else

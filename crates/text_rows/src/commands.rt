@@ -9,14 +9,15 @@ fn command<'a>(alloc: Global, arguments: &'a [&'a str]) -> Result<Option<Command
 }
 
 /// Arguments, and the command that they are.
-const ARGUMENTS: [(&'static [&'static str], Option<Command<'static>>); 8] = [
+const ARGUMENTS: [(&'static [&'static str], Option<Command<'static>>); 9] = [
     (&["edit", "f"], Some(Command::Edit("f", 2))),
     (
         &["edit", "f", "--workers", "8"],
         Some(Command::Edit("f", 8)),
     ),
     (&["render", "f"], Some(Command::Render("f"))),
-    (&["info", "--", "f"], Some(Command::Info("f"))),
+    (&["info", "--", "f"], Some(Command::Info("f", false))),
+    (&["info", "--all", "f"], Some(Command::Info("f", true))),
     (&["make", "f", "--seed=7"], Some(Command::Make("f", 7))),
     (&["audit", "f"], Some(Command::Audit("f"))),
     // too many workers

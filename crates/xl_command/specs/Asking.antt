@@ -18,7 +18,7 @@ plain_name (Some name) = if starts_with_minus name then None else Some name
 abbrev pub asked_of : Command → Asked
 asked_of (code.Edit name workers) = edit name.now workers
 asked_of (code.Render name) = render name.now
-asked_of (code.Info name) = info name.now
+asked_of (code.Info name with_all) = info name.now with_all
 asked_of (code.Make name seed) = make name.now seed
 asked_of (code.Pack name with_plans) = pack name.now with_plans
 asked_of (code.Flatten name) = flatten name.now
@@ -36,7 +36,7 @@ pub record IsWindowSize (cols rows : ℕ) : Type 0 where
 abbrev pub IsInRange : Asked → Type 0
 IsInRange (edit name workers) = workers ≤ 8
 IsInRange (render name) = Unit {0}
-IsInRange (info name) = Unit {0}
+IsInRange (info name with_all) = Unit {0}
 IsInRange (make name seed) = Unit {0}
 IsInRange (pack name with_plans) = Unit {0}
 IsInRange (flatten name) = Unit {0}

@@ -7,8 +7,8 @@ pub enum Command<'a> {
     Edit(&'a str, u32),
     /// Writes the picture of a file.
     Render(&'a str),
-    /// Tells of a file in a line.
-    Info(&'a str),
+    /// Tells of a file in a line, with all that is listed of it where that is asked for.
+    Info(&'a str, bool),
     /// Makes a file from a seed.
     Make(&'a str, u32),
     /// Saves a file as small as it can be, and tells how it is spelled where that is asked for.

@@ -2,7 +2,7 @@
 ghost use Rattle.std.specs.Prelude.{◌≡◌, ◌^◌, ◌-◌, true, false, IfOk, codes};
 ghost use Rattle.clap.specs.Words.{app_of, rule_of};
 ghost use Rattle.spec_command.specs.Grammar.{file_rule, flag_rule, number_rule, plain_app};
-ghost use Rattle.spec_command.specs.Grammar.{edit_app, make_app, pack_app, view_app};
+ghost use Rattle.spec_command.specs.Grammar.{edit_app, info_app, make_app, pack_app, view_app};
 
 use clap::{Arg, ArgAction, Command, value_parser};
 use std::alloc::{AllocError, Global};
@@ -36,14 +36,12 @@ fn seed<'a>(alloc: Global) -> Arg<'a>
         .value_parser(value_parser!(u32))
 }
 
-// Whether the plans of the planes are told.
-fn plan<'a>(alloc: Global) -> Arg<'a>
-    ensures rule { rule_of result ≡ flag_rule (codes "plan") }
+// An option that has no value.
+fn flag<'a>(alloc: Global, name: &'a str) -> Arg<'a>
+    ensures rule { rule_of result ≡ flag_rule name.entry.now }
     ensures local { result.global ≡ false }
 {
-    Arg::new(alloc, "plan")
-        .long("plan")
-        .action(ArgAction::SetTrue)
+    Arg::new(alloc, name).long(name).action(ArgAction::SetTrue)
 }
 
 // A side of a window, 1 to 16 tiles, which has to be there.
@@ -71,6 +69,13 @@ pub fn edit_command<'a>(alloc: Global) -> Result<Command<'a>, AllocError>
     plain_command(alloc, "edit")?.arg(workers(alloc))
 }
 
+/// `info`: a file, and whether all is told of it.
+pub fn info_command<'a>(alloc: Global) -> Result<Command<'a>, AllocError>
+    ensures { IfOk result (λ c. app_of c ≡ info_app) }
+{
+    plain_command(alloc, "info")?.arg(flag(alloc, "all"))
+}
+
 /// `make`: a file and a seed.
 pub fn make_command<'a>(alloc: Global) -> Result<Command<'a>, AllocError>
     ensures { IfOk result (λ c. app_of c ≡ make_app) }
@@ -82,7 +87,7 @@ pub fn make_command<'a>(alloc: Global) -> Result<Command<'a>, AllocError>
 pub fn pack_command<'a>(alloc: Global) -> Result<Command<'a>, AllocError>
     ensures { IfOk result (λ c. app_of c ≡ pack_app) }
 {
-    plain_command(alloc, "pack")?.arg(plan(alloc))
+    plain_command(alloc, "pack")?.arg(flag(alloc, "plan"))
 }
 
 /// `view`: a file, and the sides of a window.

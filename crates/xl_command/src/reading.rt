@@ -2,8 +2,8 @@
 ghost use Rattle.std.specs.Prelude.{◌≡◌, nat_abs, ◌^◌, ◌-◌, ℕ, List, true, false, pos, Some, IfOk, IfSome, MatchOption};
 ghost use Rattle.std.specs.Prelude.{option_map, codes};
 ghost use Rattle.clap.specs.Words.{app_of, found_of, rows_of, matches_of, first_of, is_simple_and_free, IsParsedFrom, IsSignedIn};
-ghost use Rattle.spec_command.specs.Grammar.{edit_app, edit_of, is_faultless, make_app, make_of, number_of, plain_app};
-ghost use Rattle.spec_command.specs.Grammar.{pack_app, pack_of, view_app, view_of, is_given};
+ghost use Rattle.spec_command.specs.Grammar.{edit_app, edit_of, info_app, info_of, is_faultless, make_app, make_of, number_of};
+ghost use Rattle.spec_command.specs.Grammar.{pack_app, pack_of, plain_app, view_app, view_of, is_given};
 ghost use Rattle.spec_command.specs.Grammar.{plain_of, asked_in, asked_where};
 ghost use Rattle.spec_command.specs.Arguments.{Argument, Asked};
 ghost use Rattle.spec_command.specs.Arguments as definition;
@@ -11,7 +11,9 @@ ghost use Rattle.std.specs.Str.Parse.{signed_digits_value};
 ghost use Rattle.xl_command.specs.Asking.{asked_of, plain_name, arguments_of, IsInRange};
 
 use crate::command::Command;
-use crate::grammar::{edit_command, make_command, pack_command, plain_command, view_command};
+use crate::grammar::{
+    edit_command, info_command, make_command, pack_command, plain_command, view_command,
+};
 use clap::ArgMatches;
 use clap::error::ErrorKind;
 use std::alloc::{AllocError, Global};
@@ -127,20 +129,19 @@ fn render<'a>(
     }
 }
 
-fn info<'a>(
-    alloc: Global,
-    verb: &'a str,
-    arguments: &'a [&'a str],
-) -> Result<Option<Command<'a>>, AllocError>
-    ensures asked { IfOk result (λ command. option_map asked_of command ≡ asked_where
-        (plain_app verb.entry.now) (arguments_of arguments.entry.now) (plain_of definition.info)) }
+fn info<'a>(alloc: Global, arguments: &'a [&'a str]) -> Result<Option<Command<'a>>, AllocError>
+    ensures asked { IfOk result (λ command. option_map asked_of command
+        ≡ asked_where info_app (arguments_of arguments.entry.now) info_of) }
     ensures range { IfOk result
         (λ command. IfSome command (λ command. IsInRange (asked_of command))) }
 {
-    match plain_file(alloc, verb, arguments)? {
-        Some(name) => Ok(Some(Command::Info(name))),
-        None => Ok(None),
-    }
+    let Some(matches) = matches_in(info_command(alloc)?, arguments)? else {
+        return Ok(None);
+    };
+    let Some(name) = file_in(&matches) else {
+        return Ok(None);
+    };
+    Ok(Some(Command::Info(name, flag_in(&matches, "all"))))
 }
 
 fn edit<'a>(alloc: Global, arguments: &'a [&'a str]) -> Result<Option<Command<'a>>, AllocError>
@@ -254,7 +255,7 @@ pub fn command_of<'a>(
     match *verb {
         "edit" => edit(alloc, arguments),
         "render" => render(alloc, *verb, arguments),
-        "info" => info(alloc, *verb, arguments),
+        "info" => info(alloc, arguments),
         "make" => make(alloc, arguments),
         "pack" => pack(alloc, arguments),
         "flatten" => flatten(alloc, *verb, arguments),

@@ -13,7 +13,7 @@ use xl_outcome::{MEMORY, Rejection, Stopped};
 use xl_script::BadLine;
 
 const USAGE: &str =
-    "the commands are\n  xcfedit render FILE              writes the picture of FILE as a PAM\n  xcfedit info FILE                writes the layers of FILE as a line of JSON\n  xcfedit edit FILE [--workers N]  runs a script from standard input on FILE, N from 0 to 8\n  xcfedit make FILE --seed N       saves the document of the seed N, runs the seed's script on FILE and sums the run up in a line\n  xcfedit pack FILE [--plan]       saves FILE as small as it can be with run-length coded tiles\n  xcfedit flatten FILE             puts one layer in the place of all nodes of FILE\n  xcfedit view FILE --cols W --rows H  runs a script of session 0 on FILE, a tile with its neighbours, W and H from 1 to 16\n  xcfedit audit FILE               judges a script and what an edit of FILE by it is said to have printed, from standard input";
+    "the commands are\n  xcfedit render FILE              writes the picture of FILE as a PAM\n  xcfedit info FILE [--all]        writes the layers of FILE as a line of JSON, with --all also its locks, colours and texts\n  xcfedit edit FILE [--workers N]  runs a script from standard input on FILE, N from 0 to 8\n  xcfedit make FILE --seed N       saves the document of the seed N, runs the seed's script on FILE and sums the run up in a line\n  xcfedit pack FILE [--plan]       saves FILE as small as it can be with run-length coded tiles\n  xcfedit flatten FILE             puts one layer in the place of all nodes of FILE\n  xcfedit view FILE --cols W --rows H  runs a script of session 0 on FILE, a tile with its neighbours, W and H from 1 to 16\n  xcfedit audit FILE               judges a script and what an edit of FILE by it is said to have printed, from standard input";
 
 /// The version of the program, which stands in the manual page and in the changelog too.
 pub const VERSION: &str = "0.1.0";
@@ -58,8 +58,8 @@ fn usage_text(alloc: Global, words: &[&str]) -> Result<String, AllocError> {
 pub fn file_of(command: Command<'_>) -> &str {
     match command {
         Command::Edit(name, _) | Command::Make(name, _) => name,
-        Command::Render(name) | Command::Info(name) | Command::Audit(name) => name,
-        Command::Pack(name, _) | Command::Flatten(name) | Command::View(name, _, _) => name,
+        Command::Render(name) | Command::Flatten(name) | Command::Audit(name) => name,
+        Command::Info(name, _) | Command::Pack(name, _) | Command::View(name, _, _) => name,
     }
 }
 
@@ -108,7 +108,7 @@ fn shelf_text(alloc: Global, command: Command<'_>) -> Result<String, AllocError>
         Command::Make(_, _) => "saved",
         Command::Edit(_, _)
         | Command::Render(_)
-        | Command::Info(_)
+        | Command::Info(_, _)
         | Command::View(_, _, _)
         | Command::Audit(_) => "read",
         Command::Pack(_, _) | Command::Flatten(_) => "read or saved",

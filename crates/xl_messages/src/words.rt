@@ -22,6 +22,12 @@ const SEED: CommandOption = CommandOption {
     is_needed: true,
 };
 
+const ALL: CommandOption = CommandOption {
+    name: "--all",
+    numbers: None,
+    is_needed: false,
+};
+
 const PLAN: CommandOption = CommandOption {
     name: "--plan",
     numbers: None,
@@ -44,10 +50,11 @@ const ROWS: CommandOption = CommandOption {
 fn options_of(name: &str) -> Option<&'static [CommandOption]> {
     match name {
         "edit" => Some(&[WORKERS]),
+        "info" => Some(&[ALL]),
         "make" => Some(&[SEED]),
         "pack" => Some(&[PLAN]),
         "view" => Some(&[COLUMNS, ROWS]),
-        "render" | "info" | "flatten" | "audit" => Some(&[]),
+        "render" | "flatten" | "audit" => Some(&[]),
         _ => None,
     }
 }

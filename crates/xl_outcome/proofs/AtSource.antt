@@ -27,7 +27,7 @@ module _ (given : Given) (content : List ℕ → Option Content) where
   -- only a command that reads the source stops at it
   reads_head : (command : Asked) → StopsFor given content command (Err BadHead) → ReadsSource (Some command)
   reads_head (render name) stops = absurd stops
-  reads_head (info name) stops = absurd stops
+  reads_head (info name with_all) stops = absurd stops
   reads_head (make name seed) stops = absurd stops
   reads_head (pack name with_plans) stops = absurd stops
   reads_head (flatten name) stops = absurd stops
@@ -38,7 +38,7 @@ module _ (given : Given) (content : List ℕ → Option Content) where
   reads_line : (command : Asked) (bad : refused_line.BadLine) → StopsFor given content command (Err (BadLine bad))
       → ReadsSource (Some command)
   reads_line (render name) bad stops = absurd stops
-  reads_line (info name) bad stops = absurd stops
+  reads_line (info name with_all) bad stops = absurd stops
   reads_line (make name seed) bad stops = absurd stops
   reads_line (pack name with_plans) bad stops = absurd stops
   reads_line (flatten name) bad stops = absurd stops

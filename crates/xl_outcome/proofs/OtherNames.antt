@@ -65,7 +65,7 @@ others_made opening now d es made =
 others_output : (given : Given) (old new : ShelfState) (command : Asked) (ending : Ending) (out : List ℕ)
     → IsOutput given old new command ending out → Others (name_of command) old new
 others_output given old new (render name) ending out is = others_untouched name old new is.1
-others_output given old new (info name) ending out is = others_untouched name old new is.1
+others_output given old new (info name with_all) ending out is = others_untouched name old new is.1
 others_output given old new (make name seed) ending out is = others_made (opened old new name) new _ _ is.history
 others_output given old new (edit name workers) ending out is = others_right (opened old new name) new _ _ is.history.shelf
 others_output given old new (pack name with_plans) ending out is =
@@ -77,7 +77,7 @@ others_output given old new (audit name) ending out is = others_untouched name o
 
 others_failed : (old new : ShelfState) (command : Asked) → FailsAtShelf old new command → Others (name_of command) old new
 others_failed old new (render name) same = others_untouched name old new same
-others_failed old new (info name) same = others_untouched name old new same
+others_failed old new (info name with_all) same = others_untouched name old new same
 others_failed old new (make name seed) (inl same) = others_untouched name old new same
 others_failed old new (make name seed) (inr saved) = others_put Fault _ name old.disk new.disk saved.contents
 others_failed old new (edit name workers) same = others_untouched name old new same
@@ -92,7 +92,7 @@ others_failed old new (audit name) same = others_untouched name old new same
 
 others_saved : (old new : ShelfState) (command : Asked) → MayHaveSaved old new command → Others (name_of command) old new
 others_saved old new (render name) same = others_untouched name old new same
-others_saved old new (info name) same = others_untouched name old new same
+others_saved old new (info name with_all) same = others_untouched name old new same
 others_saved old new (make name seed) (inl same) = others_untouched name old new same
 others_saved old new (make name seed) (inr made) = others_made (opened old new name) new _ _ made.1
 others_saved old new (edit name workers) (inl same) = others_untouched name old new same

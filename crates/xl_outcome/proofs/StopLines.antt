@@ -90,7 +90,7 @@ module _ (given : Given) (content : List ℕ → Option Content) where
   late_in_grammar : (command : Asked) (stopped : Stopped) → IsLate stopped → StopsFor given content command (Err stopped)
       → InGrammar given (Some command)
   late_in_grammar (render name) stopped late stops = tt
-  late_in_grammar (info name) stopped late stops = tt
+  late_in_grammar (info name with_all) stopped late stops = tt
   late_in_grammar (make name seed) stopped late stops = tt
   late_in_grammar (pack name with_plans) stopped late stops = tt
   late_in_grammar (flatten name) stopped late stops = tt
@@ -137,7 +137,7 @@ module _ (given : Given) (content : List ℕ → Option Content) where
   bad_line_of : (command : Asked) (bad : refused_line.BadLine) → StopsFor given content command (Err (BadLine bad))
       → IsBadLineOf given (Some command) bad.line
   bad_line_of (render name) bad stops = absurd stops
-  bad_line_of (info name) bad stops = absurd stops
+  bad_line_of (info name with_all) bad stops = absurd stops
   bad_line_of (make name seed) bad stops = absurd stops
   bad_line_of (pack name with_plans) bad stops = absurd stops
   bad_line_of (flatten name) bad stops = absurd stops
@@ -148,7 +148,7 @@ module _ (given : Given) (content : List ℕ → Option Content) where
   -- and what a refused head does
   bad_head_of : (command : Asked) → StopsFor given content command (Err BadHead) → IsBadHeadOf given (Some command)
   bad_head_of (render name) stops = absurd stops
-  bad_head_of (info name) stops = absurd stops
+  bad_head_of (info name with_all) stops = absurd stops
   bad_head_of (make name seed) stops = absurd stops
   bad_head_of (pack name with_plans) stops = absurd stops
   bad_head_of (flatten name) stops = absurd stops
@@ -160,7 +160,7 @@ module _ (given : Given) (content : List ℕ → Option Content) where
   fault_of : (command : Asked) (why : ReadRefused) → StopsFor given content command (Err (Refused why))
       → IfSome (content (name_of command)) (λ c. HasFault c why)
   fault_of (render name) why stops = stops
-  fault_of (info name) why stops = stops
+  fault_of (info name with_all) why stops = stops
   fault_of (make name seed) why stops = absurd stops
   fault_of (edit name workers) why stops = stops.1
   fault_of (pack name with_plans) why stops = stops
@@ -171,7 +171,7 @@ module _ (given : Given) (content : List ℕ → Option Content) where
   -- a command whose file is refused reads one
   reads_file : (command : Asked) (why : ReadRefused) → StopsFor given content command (Err (Refused why)) → ReadsFile (Some command)
   reads_file (render name) why stops = tt
-  reads_file (info name) why stops = tt
+  reads_file (info name with_all) why stops = tt
   reads_file (make name seed) why stops = absurd stops
   reads_file (edit name workers) why stops = tt
   reads_file (pack name with_plans) why stops = tt
@@ -183,7 +183,7 @@ module _ (given : Given) (content : List ℕ → Option Content) where
   flat_of : (command : Asked) (why : FlatRefused) → StopsFor given content command (Err (NotFlattened why))
       → IsFlatten (Some command) × IfSome (content (name_of command)) (λ c. CannotBeFlat c why)
   flat_of (render name) why stops = absurd stops
-  flat_of (info name) why stops = absurd stops
+  flat_of (info name with_all) why stops = absurd stops
   flat_of (make name seed) why stops = absurd stops
   flat_of (edit name workers) why stops = absurd stops
   flat_of (pack name with_plans) why stops = absurd stops
@@ -194,7 +194,7 @@ module _ (given : Given) (content : List ℕ → Option Content) where
   -- only an edit, a view and an audit read the source
   pub reads_source : (command : Asked) → StopsFor given content command (Err SourceFault) → ReadsSource (Some command)
   reads_source (render name) stops = absurd stops
-  reads_source (info name) stops = absurd stops
+  reads_source (info name with_all) stops = absurd stops
   reads_source (make name seed) stops = absurd stops
   reads_source (pack name with_plans) stops = absurd stops
   reads_source (flatten name) stops = absurd stops

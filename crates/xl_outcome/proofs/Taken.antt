@@ -16,7 +16,7 @@ pub nothing_taken : {S : Type 0} (left : S → Option (List ℕ)) (faults reads 
 nothing_taken left faults reads s None = (refl, refl, refl)
 nothing_taken left faults reads s (Some (edit name workers)) = (([], led_by_nothing (left s), omega arith), omega arith)
 nothing_taken left faults reads s (Some (render name)) = (refl, refl, refl)
-nothing_taken left faults reads s (Some (info name)) = (refl, refl, refl)
+nothing_taken left faults reads s (Some (info name with_all)) = (refl, refl, refl)
 nothing_taken left faults reads s (Some (make name seed)) = (refl, refl, refl)
 nothing_taken left faults reads s (Some (pack name with_plans)) = (refl, refl, refl)
 nothing_taken left faults reads s (Some (flatten name)) = (refl, refl, refl)
@@ -30,7 +30,7 @@ untouched s = record { contents = refl; quiet = still s.disk; saving = refl }
 pub nothing_saved : (s : ShelfState) (given : Option Asked) → MaySave s s given
 nothing_saved s None = untouched s
 nothing_saved s (Some (render name)) = untouched s
-nothing_saved s (Some (info name)) = untouched s
+nothing_saved s (Some (info name with_all)) = untouched s
 nothing_saved s (Some (make name seed)) = inl (untouched s)
 nothing_saved s (Some (edit name workers)) = inl (untouched s)
 nothing_saved s (Some (pack name with_plans)) = untouched s

@@ -6,7 +6,7 @@ abbrev pub ReadsSource : Option Asked → Type 0
 ReadsSource None = ⊥
 ReadsSource (Some (edit name workers)) = Unit {0}
 ReadsSource (Some (render name)) = ⊥
-ReadsSource (Some (info name)) = ⊥
+ReadsSource (Some (info name with_all)) = ⊥
 ReadsSource (Some (make name seed)) = ⊥
 ReadsSource (Some (pack name with_plans)) = ⊥
 ReadsSource (Some (flatten name)) = ⊥
@@ -18,7 +18,7 @@ abbrev pub ReadsFile : Option Asked → Type 0
 ReadsFile None = ⊥
 ReadsFile (Some (edit name workers)) = Unit {0}
 ReadsFile (Some (render name)) = Unit {0}
-ReadsFile (Some (info name)) = Unit {0}
+ReadsFile (Some (info name with_all)) = Unit {0}
 ReadsFile (Some (make name seed)) = ⊥
 ReadsFile (Some (pack name with_plans)) = Unit {0}
 ReadsFile (Some (flatten name)) = Unit {0}
@@ -29,7 +29,7 @@ abbrev pub IsFlatten : Option Asked → Type 0
 IsFlatten None = ⊥
 IsFlatten (Some (edit name workers)) = ⊥
 IsFlatten (Some (render name)) = ⊥
-IsFlatten (Some (info name)) = ⊥
+IsFlatten (Some (info name with_all)) = ⊥
 IsFlatten (Some (make name seed)) = ⊥
 IsFlatten (Some (pack name with_plans)) = ⊥
 IsFlatten (Some (flatten name)) = Unit {0}

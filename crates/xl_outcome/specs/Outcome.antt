@@ -8,7 +8,7 @@ use Rattle.spec_command.specs.Arguments.{Asked, edit, render, info, make, pack, 
 use Rattle.spec_command.specs.Ends.{Stop, source_fault, bad_head, bad_line, shelf_fault, refused, flat_refused, stop_line, stop_status}
 use Rattle.spec_document.specs.Document.{Document}
 use Rattle.spec_document.specs.Limits.{IsDocument}
-use Rattle.spec_report.specs.Json as json
+use Rattle.spec_listing.specs.Listing as listing
 use Rattle.spec_report.specs.Pam.{pam}
 use Rattle.spec_filters.specs.declared.FilterState.{FilterState}
 use Rattle.spec_generated.specs.Generated.{document, script as made_script}
@@ -73,7 +73,7 @@ abbrev pub IsBadLineOf : Given → Option Asked → (number : ℕ) → Type 0
 IsBadLineOf given None number = ⊥
 IsBadLineOf given (Some (edit name workers)) number = IsBadLine given number
 IsBadLineOf given (Some (render name)) number = ⊥
-IsBadLineOf given (Some (info name)) number = ⊥
+IsBadLineOf given (Some (info name with_all)) number = ⊥
 IsBadLineOf given (Some (make name seed)) number = ⊥
 IsBadLineOf given (Some (pack name with_plans)) number = ⊥
 IsBadLineOf given (Some (flatten name)) number = ⊥
@@ -85,7 +85,7 @@ abbrev pub IsBadHeadOf : Given → Option Asked → Type 0
 IsBadHeadOf given None = ⊥
 IsBadHeadOf given (Some (edit name workers)) = ⊥
 IsBadHeadOf given (Some (render name)) = ⊥
-IsBadHeadOf given (Some (info name)) = ⊥
+IsBadHeadOf given (Some (info name with_all)) = ⊥
 IsBadHeadOf given (Some (make name seed)) = ⊥
 IsBadHeadOf given (Some (pack name with_plans)) = ⊥
 IsBadHeadOf given (Some (flatten name)) = ⊥
@@ -151,7 +151,8 @@ pub record IsReplies (given : Given) (name : List ℕ) (old new : ShelfState) (w
 -- what the command writes when it comes to such an end, and the shelf then
 abbrev pub IsOutput : Given → (old new : ShelfState) → Asked → Ending → (out : List ℕ) → Type 0
 IsOutput given old new (render name) ending out = IsReport pam (read_at old.disk name) out × IsUntouched old new × HaveFailed ending 0
-IsOutput given old new (info name) ending out = IsReport json.info (read_at old.disk name) out × IsUntouched old new × HaveFailed ending 0
+IsOutput given old new (info name with_all) ending out =
+    IsReport (listing.line with_all) (read_at old.disk name) out × IsUntouched old new × HaveFailed ending 0
 IsOutput given old new (make name seed) ending out =
     IsSummary (opened old new name) new (document seed) (made_script seed) (HaveFailed ending) out
 IsOutput given old new (edit name workers) ending out = IsReplies given name old new workers (HaveFailed ending) out
@@ -167,7 +168,7 @@ IsOutput given old new (audit name) ending out =
 -- version of that history.
 abbrev pub MayHaveSaved : (old new : ShelfState) → Asked → Type 0
 MayHaveSaved old new (render name) = IsUntouched old new
-MayHaveSaved old new (info name) = IsUntouched old new
+MayHaveSaved old new (info name with_all) = IsUntouched old new
 MayHaveSaved old new (make name seed) =
     IsUntouched old new ⊎ ((entries : List Entry) × IsMadeHistory (opened old new name) new (document seed) entries)
 MayHaveSaved old new (edit name workers) =
@@ -186,7 +187,7 @@ MaySave old new (Some command) = MayHaveSaved old new command
 -- is made
 abbrev pub FailsAtShelf : (old new : ShelfState) → Asked → Type 0
 FailsAtShelf old new (render name) = IsUntouched old new
-FailsAtShelf old new (info name) = IsUntouched old new
+FailsAtShelf old new (info name with_all) = IsUntouched old new
 FailsAtShelf old new (make name seed) = IsUntouched old new ⊎ FailsAtFirst (opened old new name) new (document seed)
 FailsAtShelf old new (edit name workers) = IsUntouched old new
 FailsAtShelf old new (pack name with_plans) = IsUntouched old new ⊎ MayBePacked (read_at old.disk name) (opened old new name) new
@@ -271,7 +272,7 @@ ShelfCause before after result = IfShelf (fault_of result) (Rose before after) (
 -- made
 abbrev pub FaultsRose : (before after : ShelfState) → Asked → Type 0
 FaultsRose before after (render name) = Rose before.reading after.reading
-FaultsRose before after (info name) = Rose before.reading after.reading
+FaultsRose before after (info name with_all) = Rose before.reading after.reading
 FaultsRose before after (make name seed) = Rose before.reading after.reading ⊎ Rose before.saving after.saving
 FaultsRose before after (edit name workers) = Rose before.reading after.reading
 FaultsRose before after (pack name with_plans) = Rose before.reading after.reading ⊎ Rose before.saving after.saving
@@ -289,7 +290,7 @@ abbrev pub InGrammar : Given → Option Asked → Type 0
 InGrammar given None = Unit {0}
 InGrammar given (Some (edit name workers)) = IsScript given
 InGrammar given (Some (render name)) = Unit {0}
-InGrammar given (Some (info name)) = Unit {0}
+InGrammar given (Some (info name with_all)) = Unit {0}
 InGrammar given (Some (make name seed)) = Unit {0}
 InGrammar given (Some (pack name with_plans)) = Unit {0}
 InGrammar given (Some (flatten name)) = Unit {0}
@@ -323,7 +324,7 @@ module _ {S : Type 0} (left : S → Option (List ℕ)) (faults reads : S → ℕ
   Takes old new None = Leaves old new
   Takes old new (Some (edit name workers)) = TakesFront old new
   Takes old new (Some (render name)) = Leaves old new
-  Takes old new (Some (info name)) = Leaves old new
+  Takes old new (Some (info name with_all)) = Leaves old new
   Takes old new (Some (make name seed)) = Leaves old new
   Takes old new (Some (pack name with_plans)) = Leaves old new
   Takes old new (Some (flatten name)) = Leaves old new

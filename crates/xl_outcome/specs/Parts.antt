@@ -177,7 +177,7 @@ StopsMaking (Err Memory) = Unit {0}
 -- why a command stops
 abbrev pub StopsFor : Given → (content : List ℕ → Option Content) → Asked → Result (Unit {0}) Stopped → Type 0
 StopsFor given content (render name) result = StopsReport (content name) result
-StopsFor given content (info name) result = StopsReport (content name) result
+StopsFor given content (info name with_all) result = StopsReport (content name) result
 StopsFor given content (edit name workers) result = StopsEdit given (content name) result
 StopsFor given content (make name seed) result = StopsMaking result
 StopsFor given content (pack name with_plans) result = StopsReport (content name) result

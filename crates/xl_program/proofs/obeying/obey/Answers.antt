@@ -37,7 +37,7 @@ returns-in-Render-clause-shelf_cause g c =
 pub returns-in-Info-clause-shelf_cause : goal.returns-in-Info-clause-shelf_cause
 returns-in-Info-clause-shelf_cause g c =
     let see = g.D.Shelf.shelf_state in
-    rw c.in-Info.is (cause_of (see c.args.shelf) (see c.describe-result.new.shelf) (info c.in-Info.name.now)
+    rw c.in-Info.is (cause_of (see c.args.shelf) (see c.describe-result.new.shelf) (info c.in-Info.name.now c.in-Info.with_all)
     c.describe-result.result (λ rose. rose) c.describe-result.ensures.cause)
 
 pub returns-in-Edit-clause-shelf_cause : goal.returns-in-Edit-clause-shelf_cause

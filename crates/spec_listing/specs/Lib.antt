@@ -1,0 +1,2 @@
+pub mod Parasites
+pub mod Listing

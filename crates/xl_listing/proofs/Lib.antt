@@ -1,0 +1,5 @@
+pub mod NoFloats
+pub mod NamesRead
+pub mod NodesMade
+pub mod Texts
+pub mod Values
