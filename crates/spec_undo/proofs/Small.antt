@@ -1,10 +1,11 @@
--- The tiles that only one of two documents has are fewer than 2 ^ 32: a plane has at most 65536, a document few planes.
+-- The tiles that differ between two documents are fewer than 2 ^ 32: a plane has at most 65536, a document few planes.
 use Rattle.std.proofs.Common.{ℕ, ◌+◌, ◌*◌, ◌^◌, ◌<◌, ◌≤◌, Bool, true, false, cond, List, [], ◌∷◌, length, sym}
 use Rattle.std.proofs.Common.{subst, arith}
-use Rattle.std.specs.Prelude.{Option, Some, None}
+use Rattle.std.specs.Prelude.{Option, Some, None, filter}
 use Rattle.std.specs.List.{AllByRecursion}
 use Rattle.std.proofs.Math.Nat.{mul-le-mul}
-use Rattle.spec_document.specs.Grid.{tiles_along}
+use Rattle.std.proofs.lemmas.List.Sums.{count_by-le-length, length-filter}
+use Rattle.spec_document.specs.Grid.{all_tiles, tiles_along}
 use Rattle.spec_document.specs.Forest.{none, leaf, group, Found, nothing, a_leaf, a_group, size, find}
 use Rattle.spec_document.specs.declared.Base.{Base}
 use Rattle.spec_document.specs.declared.Owner.{Owner}
@@ -13,9 +14,10 @@ use Rattle.spec_document.specs.Plane.{Plane}
 use Rattle.spec_document.specs.Document.{Channel, Layer, Group, Nodes, Document}
 use Rattle.spec_document.specs.Limits.{AreNodes, IsChannel, IsChannelIfAny, IsDocument, IsLayer, IsSide}
 use Rattle.spec_document.proofs.FoundLayers.{IsFound, found_layer}
-use Rattle.spec_undo.specs.Planes.{are_alike, tile_count}
-use Rattle.spec_undo.specs.Changed.{tiles_alone, alone_in, channels_count, count_if_alone, count_if_any}
-use Rattle.spec_undo.specs.Changed.{counted_channels, counted_if_any, counted_layer, layer_count, over_layers}
+use Rattle.spec_hierarchy.proofs.TilesOfPlane.{length-all_tiles}
+use Rattle.spec_undo.specs.Planes.{are_alike, changed_tiles, differ_at, tile_count}
+use Rattle.spec_undo.specs.Changed.{changed_in, changed_channels, changed_if_any, changed_layer, channels_count}
+use Rattle.spec_undo.specs.Changed.{count_if_alone, count_if_any, layer_count, over_layers}
 
 -- ---- planes
 
@@ -26,13 +28,17 @@ few_tiles p width height =
     let all : tile_count p ≤ 256 * 256 = mul-le-mul down across in
     omega (arith, all)
 
-unless_alike : (alike : Bool) (m n : ℕ) → m ≤ 65536 → n ≤ 65536 → cond alike 0 (m + n) ≤ 131072
-unless_alike true m n a b = omega arith
-unless_alike false m n a b = omega (arith, a, b)
+either_way : (alike : Bool) (k m n : ℕ) → k ≤ m → m ≤ 65536 → n ≤ 65536 → cond alike k (m + n) ≤ 131072
+either_way true k m n few a b = omega (arith, few, a)
+either_way false k m n few a b = omega (arith, a, b)
 
-few_alone : (p q : Plane) → tile_count p ≤ 65536 → tile_count q ≤ 65536 → tiles_alone p q ≤ 131072
-unfolding tiles_alone
-few_alone p q a b = unless_alike (are_alike p q) (tile_count p) (tile_count q) a b
+few_changed : (p q : Plane) → tile_count p ≤ 65536 → tile_count q ≤ 65536 → changed_tiles p q ≤ 131072
+unfolding changed_tiles
+few_changed p q a b =
+    let all = all_tiles p.width p.height in
+    let some : length (filter (differ_at p q) all) ≤ tile_count p =
+    omega (arith, length-filter (differ_at p q) all, count_by-le-length (differ_at p q) all, length-all_tiles p.width p.height) in
+    either_way (are_alike p q) (length (filter (differ_at p q) all)) (tile_count p) (tile_count q) some a b
 
 -- ---- channels, masks and selections
 
@@ -47,10 +53,10 @@ few_if_any o w h None width height is = omega arith
 few_if_any o w h (Some c) width height is = few_of_channel o w h c width height is
 
 few_between : (c d : Option Channel) → count_if_any c ≤ 65536 → count_if_any d ≤ 65536
-    → counted_if_any tiles_alone c d ≤ 131072
+    → changed_if_any c d ≤ 131072
 few_between None d a b = omega (arith, b)
 few_between (Some c) None a b = omega (arith, a)
-few_between (Some c) (Some d) a b = few_alone c.plane d.plane a b
+few_between (Some c) (Some d) a b = few_changed c.plane d.plane a b
 
 few_of_channels : (w h : ℕ) (cs : List Channel) → IsSide w → IsSide h → AllByRecursion (IsChannel owner.Channel w h) cs
     → channels_count cs ≤ 65536 * length cs
@@ -60,13 +66,13 @@ few_of_channels w h (c ∷ cs) width height each =
 
 few_between_channels : (w h u v : ℕ) (cs ds : List Channel) → IsSide w → IsSide h → IsSide u → IsSide v
     → AllByRecursion (IsChannel owner.Channel w h) cs → AllByRecursion (IsChannel owner.Channel u v) ds
-    → counted_channels tiles_alone cs ds ≤ 65536 * (length cs + length ds)
+    → changed_channels cs ds ≤ 65536 * (length cs + length ds)
 few_between_channels w h u v [] ds width height other_width other_height each others =
     omega (arith, few_of_channels u v ds other_width other_height others)
 few_between_channels w h u v (c ∷ cs) [] width height other_width other_height each others =
     omega (arith, few_of_channels w h (c ∷ cs) width height each)
 few_between_channels w h u v (c ∷ cs) (d ∷ ds) width height other_width other_height each others =
-    let one = few_alone c.plane d.plane (few_of_channel owner.Channel w h c width height each.0)
+    let one = few_changed c.plane d.plane (few_of_channel owner.Channel w h c width height each.0)
     (few_of_channel owner.Channel u v d other_width other_height others.0) in
     omega (arith, one, few_between_channels w h u v cs ds width height other_width other_height each.1 others.1)
 
@@ -82,11 +88,11 @@ few_of_layer : (base : Base) (l : Layer) → IsLayer base l → layer_count l �
 few_of_layer base l is = omega (arith, few_of_plane base l is, few_of_mask base l is)
 
 few_between_layers : (base other : Base) (l : Layer) (found : Found Layer Group) → IsLayer base l → IsFound other found
-    → counted_layer tiles_alone l found ≤ 262144
+    → changed_layer l found ≤ 262144
 few_between_layers base other l nothing is there = omega (arith, few_of_layer base l is)
 few_between_layers base other l (a_group g children) is there = omega (arith, few_of_layer base l is)
 few_between_layers base other l (a_leaf m) is there =
-    let plane = few_alone l.plane m.plane (few_of_plane base l is) (few_of_plane other m there) in
+    let plane = few_changed l.plane m.plane (few_of_plane base l is) (few_of_plane other m there) in
     let mask = few_between l.mask m.mask (few_of_mask base l is) (few_of_mask other m there) in
     omega (arith, plane, mask)
 
@@ -111,9 +117,9 @@ few_over count base other (group id g children under) others each is there =
 -- ---- documents
 
 -- a count of them fits 32 bits
-pub alone_fits : (before after : Document) → IsDocument before → IsDocument after → alone_in before after < 2 ^ 32
-alone_fits before after is other =
-    let gone = few_over (counted_layer tiles_alone) before.base after.base before.nodes after.nodes
+pub changed_fits : (before after : Document) → IsDocument before → IsDocument after → changed_in before after < 2 ^ 32
+changed_fits before after is other =
+    let gone = few_over changed_layer before.base after.base before.nodes after.nodes
     (few_between_layers before.base after.base) is.nodes other.nodes in
     let come = few_over count_if_alone after.base before.base after.nodes before.nodes
     (few_if_alone after.base before.base) other.nodes is.nodes in

@@ -1,17 +1,8 @@
--- How many tiles differ between two documents, and how many only one of them has.
-use Rattle.std.specs.Prelude.{ℕ, ◌+◌, if◌then◌else◌, List, [], ◌∷◌, Option, Some, None}
+-- How many tiles differ between two documents.
+use Rattle.std.specs.Prelude.{ℕ, ◌+◌, List, [], ◌∷◌, Option, Some, None}
 use Rattle.spec_document.specs.Forest.{none, leaf, group, Found, nothing, a_leaf, a_group, find}
 use Rattle.spec_document.specs.Document.{Channel, Layer, Group, Nodes, Document}
-use Rattle.spec_document.specs.Plane.{Plane}
-use Rattle.spec_undo.specs.Planes.{tile_count, are_alike, changed_tiles}
-
--- ---- planes
-
--- of planes that are not alike the tiles of both, and of others none
-unfoldable pub tiles_alone : Plane → Plane → ℕ
-tiles_alone p q = if are_alike p q then 0 else tile_count p + tile_count q
-
--- what is counted between two planes is an argument of all that follows
+use Rattle.spec_undo.specs.Planes.{tile_count, changed_tiles}
 
 -- ---- channels, masks and selections
 
@@ -21,10 +12,10 @@ count_if_any None = 0
 count_if_any (Some c) = tile_count c.plane
 
 -- of two masks or selections, each of which may be there; all tiles of one that stands alone
-abbrev pub counted_if_any : (between : Plane → Plane → ℕ) → Option Channel → Option Channel → ℕ
-counted_if_any between None other = count_if_any other
-counted_if_any between (Some c) None = tile_count c.plane
-counted_if_any between (Some c) (Some d) = between c.plane d.plane
+abbrev pub changed_if_any : Option Channel → Option Channel → ℕ
+changed_if_any None other = count_if_any other
+changed_if_any (Some c) None = tile_count c.plane
+changed_if_any (Some c) (Some d) = changed_tiles c.plane d.plane
 
 -- the tiles of some channels
 abbrev pub channels_count : List Channel → ℕ
@@ -32,10 +23,10 @@ channels_count [] = 0
 channels_count (c ∷ cs) = tile_count c.plane + channels_count cs
 
 -- the channels at the same places; all tiles of those past the end of the other list
-abbrev pub counted_channels : (between : Plane → Plane → ℕ) → List Channel → List Channel → ℕ
-counted_channels between [] ds = channels_count ds
-counted_channels between (c ∷ cs) [] = channels_count (c ∷ cs)
-counted_channels between (c ∷ cs) (d ∷ ds) = between c.plane d.plane + counted_channels between cs ds
+abbrev pub changed_channels : List Channel → List Channel → ℕ
+changed_channels [] ds = channels_count ds
+changed_channels (c ∷ cs) [] = channels_count (c ∷ cs)
+changed_channels (c ∷ cs) (d ∷ ds) = changed_tiles c.plane d.plane + changed_channels cs ds
 
 -- ---- layers
 
@@ -43,11 +34,11 @@ counted_channels between (c ∷ cs) (d ∷ ds) = between c.plane d.plane + count
 abbrev pub layer_count : Layer → ℕ
 layer_count l = tile_count l.plane + count_if_any l.mask
 
--- between a layer and what another document has at its id
-abbrev pub counted_layer : (between : Plane → Plane → ℕ) → Layer → Found Layer Group → ℕ
-counted_layer between l nothing = layer_count l
-counted_layer between l (a_leaf m) = between l.plane m.plane + counted_if_any between l.mask m.mask
-counted_layer between l (a_group g children) = layer_count l
+-- of a layer and what another document has at its id
+abbrev pub changed_layer : Layer → Found Layer Group → ℕ
+changed_layer l nothing = layer_count l
+changed_layer l (a_leaf m) = changed_tiles l.plane m.plane + changed_if_any l.mask m.mask
+changed_layer l (a_group g children) = layer_count l
 
 -- of a layer that another document has not at its id
 abbrev pub count_if_alone : Layer → Found Layer Group → ℕ
@@ -62,23 +53,13 @@ over_layers count other (leaf id l under) = count l (find id other) + over_layer
 over_layers count other (group id g children under) = over_layers count other children + over_layers count other under
 
 -- the layers of both, by their ids
-abbrev pub counted_nodes : (between : Plane → Plane → ℕ) → Nodes → Nodes → ℕ
-counted_nodes between before after =
-    over_layers (counted_layer between) after before + over_layers count_if_alone before after
+abbrev pub changed_nodes : Nodes → Nodes → ℕ
+changed_nodes before after = over_layers changed_layer after before + over_layers count_if_alone before after
 
 -- ---- documents
 
--- all tiles of layers, masks, channels and selections that only one of the documents has, and what is counted between
--- those of both
-abbrev pub counted_in : (between : Plane → Plane → ℕ) → (before after : Document) → ℕ
-counted_in between before after =
-    (counted_nodes between before.nodes after.nodes + counted_channels between before.channels after.channels)
-    + counted_if_any between before.selection after.selection
-
 -- the tiles of layers, masks, channels and selections that differ, and all tiles of those that only one of the documents has
 abbrev pub changed_in : (before after : Document) → ℕ
-changed_in = counted_in changed_tiles
-
--- all tiles of layers, masks, channels and selections that only one document has, or whose planes are not alike
-abbrev pub alone_in : (before after : Document) → ℕ
-alone_in = counted_in tiles_alone
+changed_in before after =
+    (changed_nodes before.nodes after.nodes + changed_channels before.channels after.channels)
+    + changed_if_any before.selection after.selection

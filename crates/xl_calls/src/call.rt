@@ -6,14 +6,14 @@ use xl_tree::NodeId;
 /// Edits that are made together or not at all: 1 to 1024 of them.
 ///
 /// With a guard they are made only where the latest version has that number.
-#[derive(Debug, Drop)]
+#[derive(Drop)]
 pub struct Group {
     pub guard: Option<u32>,
     pub edits: Edits,
 }
 
 /// What a session asks. The node of a tile is a stack: 0 for the image, or a group.
-#[derive(Debug, Drop)]
+#[derive(Drop)]
 pub enum Call {
     /// Makes a group of edits.
     Edit(Group),

@@ -6,7 +6,7 @@ use std::alloc::{AllocError, Global};
 use std::marker::Model;
 
 /// A list of edits.
-#[derive(Debug, Drop)]
+#[derive(Drop)]
 pub struct Edits {
     items: Vec<Edit>,
 }

@@ -1,7 +1,7 @@
 //! The commands, with what they name.
 
 /// What the arguments ask for, with the name of a file.
-#[derive(Clone, Copy, Debug, PartialEq, Eq)]
+#[derive(Clone, Copy, PartialEq, Eq)]
 pub enum Command<'a> {
     /// Edits a file with so many workers.
     Edit(&'a str, u32),

@@ -7,7 +7,7 @@ use xl_ports::{Actor, Gate, Place};
 
 /// Who is held where: the pass number `nth`, from 0, of an actor at a place looks again until pass number `until_nth`
 /// of another actor, or at another place, has begun.
-#[derive(Clone, Copy, Debug)]
+#[derive(Clone, Copy)]
 pub struct Hold {
     pub actor: Actor,
     pub place: Place,

@@ -5,7 +5,7 @@ use std::alloc::{AllocError, Global};
 use std::marker::Model;
 
 /// A list of tables.
-#[derive(Debug, Drop)]
+#[derive(Drop)]
 pub struct Tables {
     items: Vec<Table>,
 }

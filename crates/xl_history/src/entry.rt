@@ -3,7 +3,7 @@ use xl_desk::{Call, Reply};
 use xl_filters::Tables;
 
 /// What an entry of a history is.
-#[derive(Debug, Drop)]
+#[derive(Drop)]
 pub enum EntryKind {
     /// A call, with the tables that its filters answered.
     Asked { call: Call, tables: Tables },
@@ -16,7 +16,7 @@ pub enum EntryKind {
 /// What one hold of the document did: which call of which session it was, and its reply.
 ///
 /// The index counts the session's calls from 0; the end of a save has the index of its start.
-#[derive(Debug, Drop)]
+#[derive(Drop)]
 pub struct Entry {
     pub session: u8,
     pub index: u32,

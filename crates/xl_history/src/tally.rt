@@ -5,7 +5,7 @@ use spec_cache::Finished;
 
 /// How many of the pictures that were handed in were installed, and how many came too late. A count that has reached
 /// its greatest value stays there.
-#[derive(Clone, Copy, Debug, PartialEq, Eq)]
+#[derive(Clone, Copy, PartialEq, Eq)]
 pub struct Tally {
     pub installed: u32,
     pub late: u32,

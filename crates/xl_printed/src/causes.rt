@@ -9,7 +9,7 @@ use xl_calls::EditRefused;
 use xl_words::{no_words, number, one_word};
 
 /// The refusals by their numbers.
-#[derive(Clone, Copy, Debug)]
+#[derive(Clone, Copy)]
 pub enum Code {
     NoNode,
     IsGroup,

@@ -14,7 +14,7 @@ use xl_calls::Reply;
 use xl_words::{first_word, is_word, next_word, number, three_words, two_words};
 
 /// The words that a reply begins with.
-#[derive(Clone, Copy, Debug)]
+#[derive(Clone, Copy)]
 pub enum Phrase {
     Changed,
     Refused,

@@ -4,7 +4,7 @@ use std::alloc::{AllocError, Global};
 use std::marker::Model;
 
 /// Offsets in a file.
-#[derive(Debug, Drop)]
+#[derive(Drop)]
 pub struct Offsets {
     items: Vec<usize>,
 }

@@ -4,7 +4,7 @@ use std::alloc::{AllocError, Global};
 use std::marker::Model;
 
 /// An item path: the places from the top, one for each depth.
-#[derive(Debug, Drop)]
+#[derive(Drop)]
 pub struct Path {
     items: Vec<u32>,
 }

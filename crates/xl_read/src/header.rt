@@ -13,7 +13,7 @@ use xl_fields::{Kind, ReadRefused, refuse, u32_at};
 const VERSION_END: usize = 14;
 
 /// The sides of the canvas, and what its pixels mean.
-#[derive(Debug, Drop)]
+#[derive(Drop)]
 pub struct Header {
     pub width: u32,
     pub height: u32,

@@ -1,7 +1,7 @@
 use xl_ports::{Actor, Gate, Place};
 
 /// A gate that holds nobody.
-#[derive(Clone, Copy, Debug, Drop)]
+#[derive(Clone, Copy, Drop)]
 pub struct OpenGate;
 
 impl Gate for OpenGate {

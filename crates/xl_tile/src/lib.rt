@@ -9,7 +9,6 @@ mod packed;
 mod planes;
 mod rows;
 mod run_length;
-mod shares;
 mod stored;
 mod tile;
 
@@ -17,5 +16,4 @@ pub use block::{Block, Spot};
 pub use codes::know_bytes;
 pub use overlay::Overlay;
 pub use rows::piece;
-pub use shares::are_shares;
 pub use tile::{MAX_TILE, SCRATCH, TileRef};

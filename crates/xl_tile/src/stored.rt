@@ -14,7 +14,6 @@ use crate::block::{Block, Spot, copy_block};
 use crate::codes::{codes_at, know_bytes};
 use crate::packed::{check_tile, plain_bytes, unpack, unpack_planes};
 use crate::planes::join_block;
-use crate::shares::are_shares;
 use crate::tile::MAX_TILE;
 use std::alloc::{AllocError, Global};
 use std::marker::Model;
@@ -227,17 +226,8 @@ impl Stored {
         }
     }
 
-    /// Whether it is a share of another tile, by the handles alone.
-    pub fn is_share_of(&self, other: &Stored) -> bool {
-        self.at == other.at
-            && self.pixels == other.pixels
-            && self.bpp == other.bpp
-            && self.compression == other.compression
-            && are_shares(&self.shared, &other.shared)
-    }
-
     /// Whether the bytes stand plain.
-    pub fn is_plain(&self) -> bool {
+    pub fn stands_plain(&self) -> bool {
         self.compression == 0
     }
 

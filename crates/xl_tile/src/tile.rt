@@ -11,7 +11,6 @@ ghost use Rattle.xl_tile.specs.Overlay.{overlaid, Fits};
 use crate::block::{Block, Spot, copy_block};
 use crate::codes::know_bytes;
 use crate::overlay::{Overlay, Patch};
-use crate::shares::are_shares;
 use crate::stored::Stored;
 use std::alloc::{AllocError, Global};
 use std::marker::Model;
@@ -135,7 +134,7 @@ impl TileRef {
         ensures { IfOk result (λ found. IfSome found (λ t. t
             ≡ overlaid overlay (arc_value buffer.now).items self.now)) }
     {
-        if self.stored.is_plain() {
+        if self.stored.stands_plain() {
             return Ok(None);
         }
         let None = &self.patch else {
@@ -226,16 +225,6 @@ impl TileRef {
             None => self.stored.copy_block(out, to, from, block, scratch),
             Some(_) => copy_block(out, to, self.bytes(scratch), from, block),
         }
-    }
-
-    /// Whether it is a share of another tile, by the handles alone.
-    pub fn is_share_of(&self, other: &TileRef) -> bool {
-        let are_alike = match (&self.patch, &other.patch) {
-            (None, None) => true,
-            (Some(own), Some(others)) => are_shares(own, others),
-            _ => false,
-        };
-        are_alike && self.stored.is_share_of(&other.stored)
     }
 
     /// The same tile: one count, or two where a block lies over it.

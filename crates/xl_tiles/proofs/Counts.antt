@@ -38,9 +38,9 @@ length_one p x = by (p x) refl
     by false e = ap (λ b. length (cond b (x ∷ []) [])) e
 
 -- one item more
-pub one_counted : (p : TileAt → Bool) (g : ℕ → TileAt) (n count one : ℕ) → count ≤ length (filter p (map g (count_from 0 n)))
-    → one ≤ cond (p (g n)) 1 0
-    → count + one ≤ length (filter p (map g (count_from 0 (n + 1))))
+pub one_counted : (p : TileAt → Bool) (g : ℕ → TileAt) (n count one : ℕ) → count ≡ length (filter p (map g (count_from 0 n)))
+    → one ≡ cond (p (g n)) 1 0
+    → count + one ≡ length (filter p (map g (count_from 0 (n + 1))))
 one_counted p g n count one so_far next =
     let items : map g (count_from 0 (n + 1)) ≡ map g (count_from 0 n) ++ g n ∷ [] = ap (map g) (counted n)
     ∙ map-append' g (count_from 0 n) n in
@@ -52,8 +52,8 @@ one_counted p g n count one so_far next =
 
 -- one list of items more
 pub list_counted : (p : TileAt → Bool) (g : ℕ → List TileAt) (n count more : ℕ)
-    → count ≤ length (filter p (flat_map g (count_from 0 n))) → more ≤ length (filter p (g n))
-    → count + more ≤ length (filter p (flat_map g (count_from 0 (n + 1))))
+    → count ≡ length (filter p (flat_map g (count_from 0 n))) → more ≡ length (filter p (g n))
+    → count + more ≡ length (filter p (flat_map g (count_from 0 (n + 1))))
 list_counted p g n count more so_far next =
     let items : flat_map g (count_from 0 (n + 1)) ≡ flat_map g (count_from 0 n) ++ g n =
     ap (flat_map g) (counted n) ∙ (flat_map-append g (count_from 0 n) (n ∷ [])
@@ -74,11 +74,11 @@ alike_count p q w h b =
 
 -- the same of two tables
 pub count_is : (w h b u v d : ℕ) (tiles others : List (List ℕ)) (n : ℕ) → u ≡ w → v ≡ h → d ≡ b
-    → n ≤ length (filter (differ_at (plane_by w h b tiles) (plane_by w h b others)) (all_tiles w h))
-    → n ≤ changed_tiles (plane_by w h b tiles) (plane_by u v d others)
-count_is w h b u v d tiles others n eu ev ed within =
+    → n ≡ length (filter (differ_at (plane_by w h b tiles) (plane_by w h b others)) (all_tiles w h))
+    → n ≡ changed_tiles (plane_by w h b tiles) (plane_by u v d others)
+count_is w h b u v d tiles others n eu ev ed is =
     let p = plane_by w h b tiles in
     let same : plane_by w h b others ≡ plane_by u v d others = λ i. plane_by (sym eu i) (sym ev i) (sym ed i) others in
-    let here : n ≤ length (filter (differ_at p (plane_by u v d others)) (all_tiles w h)) =
-    subst (λ q. n ≤ length (filter (differ_at p q) (all_tiles w h))) same within in
-    subst (λ m. n ≤ m) (sym (alike_count p (plane_by u v d others) eu ev ed)) here
+    let here : n ≡ length (filter (differ_at p (plane_by u v d others)) (all_tiles w h)) =
+    subst (λ q. n ≡ length (filter (differ_at p q) (all_tiles w h))) same is in
+    here ∙ sym (alike_count p (plane_by u v d others) eu ev ed)

@@ -301,18 +301,16 @@ impl Plane {
         self.tiles.replace(alloc, place, tile)
     }
 
-    /// At most how many tiles have other bytes than those of a plane of the same size. Each scratch has `SCRATCH`
-    /// bytes.
+    /// How many tiles have other bytes than those of a plane of the same size. Each scratch has `SCRATCH` bytes.
     ///
-    /// A table, rows and tiles that both planes share are not looked at, so a plane is quickly compared with one that it
-    /// was made of, and at once with a share of itself.
+    /// Every tile of both is unpacked and compared, also where the planes share it.
     pub fn tiles_changed(&self, other: &Plane, scratch: &mut [u8], other_scratch: &mut [u8]) -> u32
         requires width { other.now.width ≡ self.now.width }
         requires height { other.now.height ≡ self.now.height }
         requires bpp { other.now.bpp ≡ self.now.bpp }
         requires scratch { length scratch.old ≡ SCRATCH }
         requires other_scratch { length other_scratch.old ≡ SCRATCH }
-        ensures { result ≤ changed_tiles self.now other.now }
+        ensures { result ≡ changed_tiles self.now other.now }
     {
         count_changed(
             self.sheet,

@@ -6,7 +6,7 @@ use crate::tile_row::TileRow;
 use std::alloc::{AllocError, AllocFailed, Global};
 use std::marker::Model;
 use std::sync::Arc;
-use xl_tile::{TileRef, are_shares};
+use xl_tile::TileRef;
 
 /// The rows of a table of tiles, which several tables may hold.
 #[derive(Drop)]
@@ -40,11 +40,6 @@ impl RowList {
         Ok(RowList {
             rows: Arc::try_clone(&self.rows)?,
         })
-    }
-
-    /// Whether it is a share of another list, by the handles alone.
-    pub fn is_share_of(&self, other: &RowList) -> bool {
-        are_shares(&self.rows, &other.rows)
     }
 
     /// The rows.

@@ -4,7 +4,7 @@ ghost use Rattle.spec_document.specs.Limits.{AreBytes};
 use std::alloc::{AllocError, AllocFailed, Global};
 use std::marker::Model;
 use std::sync::Arc;
-use xl_tile::{TileRef, are_shares};
+use xl_tile::TileRef;
 
 /// The tiles of a row, which several tables may hold.
 #[derive(Drop)]
@@ -39,11 +39,6 @@ impl TileRow {
         Ok(TileRow {
             tiles: Arc::try_clone(&self.tiles)?,
         })
-    }
-
-    /// Whether it is a share of another row, by the handles alone.
-    pub fn is_share_of(&self, other: &TileRow) -> bool {
-        are_shares(&self.tiles, &other.tiles)
     }
 
     /// The tile of a column.

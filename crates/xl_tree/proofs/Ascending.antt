@@ -10,7 +10,7 @@ use Rattle.std.specs.List.{insert}
 use Rattle.std.specs.List.Sorted.{IsSearchInRange, IsBinarySearchResult, IsNonDecreasingBy}
 use Rattle.std.specs.Ordering.{nat_cmp, ordering_index}
 use Rattle.std.specs.Prelude.{Option, Some, None}
-use Rattle.xl_tree.specs.declared.index.Place.{Place}
+use Rattle.xl_tree.specs.declared.index.IndexedId.{IndexedId}
 use Rattle.xl_tree.specs.Index.{HasPlace, IsAscending, IsGap, place_at}
 use Rattle.xl_tree.specs.Places.{first_some}
 
@@ -37,11 +37,11 @@ behind_first true x y z n rest = refl
 behind_first false x y z n rest = rest
 
 -- the places after the first
-rest_ascend : (p : Place) (ps : List Place) → IsAscending (p ∷ ps) → IsAscending ps
+rest_ascend : (p : IndexedId) (ps : List IndexedId) → IsAscending (p ∷ ps) → IsAscending ps
 rest_ascend p ps up i j d lower within = up (suc i) (suc j) d (omega arith) (omega arith)
 
 -- the id of a place has that place
-place_at_its_id : (id k : ℕ) (ps : List Place) (d : Place) → IsAscending ps → k < length ps → (get_or ps k d).id ≡ id
+place_at_its_id : (id k : ℕ) (ps : List IndexedId) (d : IndexedId) → IsAscending ps → k < length ps → (get_or ps k d).id ≡ id
     → place_at ps id ≡ Some (get_or ps k d).at
 place_at_its_id id k [] d up within same = absurd (omega arith)
 place_at_its_id id zero (p ∷ ps) d up within same = grind (arith, nat_tests)
@@ -51,7 +51,7 @@ place_at_its_id id (suc k) (p ∷ ps) d up within same =
     grind (arith, nat_tests, before, behind)
 
 -- an id that no place is for has none
-nowhere_none : (id : ℕ) (ps : List Place) → ((k : ℕ) (d : Place) → k < length ps → (get_or ps k d).id ≡ id → ⊥)
+nowhere_none : (id : ℕ) (ps : List IndexedId) → ((k : ℕ) (d : IndexedId) → k < length ps → (get_or ps k d).id ≡ id → ⊥)
     → place_at ps id ≡ None
 nowhere_none id [] nowhere = refl
 nowhere_none id (p ∷ ps) nowhere =
@@ -60,12 +60,12 @@ nowhere_none id (p ∷ ps) nowhere =
     grind (arith, nat_tests, behind, here)
 
 -- an id with a gap has no place
-pub gap_none : (id k : ℕ) (ps : List Place) → IsGap id ps k → place_at ps id ≡ None
+pub gap_none : (id k : ℕ) (ps : List IndexedId) → IsGap id ps k → place_at ps id ≡ None
 gap_none id k ps gap =
     nowhere_none id ps (λ j d within same. grind (arith, gap.lower j d, gap.higher j d))
 
 -- where the last id is lower, the gap is at the end
-pub gap_at_end : (id : ℕ) (ps : List Place) (last : Place) → IsAscending ps → last ≡ get_or ps (length ps - 1) last → last.id < id
+pub gap_at_end : (id : ℕ) (ps : List IndexedId) (last : IndexedId) → IsAscending ps → last ≡ get_or ps (length ps - 1) last → last.id < id
     → IsGap id ps (length ps)
 gap_at_end id ps last up last_is lower = record {
   within = omega arith;
@@ -74,14 +74,14 @@ gap_at_end id ps last up last_is lower = record {
 }
 
 -- the comparisons with an id rise along the places, as a binary search asks
-comparisons_rise : (id : ℕ) (ps : List Place) → IsAscending ps → IsNonDecreasingBy (λ p. ordering_index (nat_cmp p.id id)) ps
+comparisons_rise : (id : ℕ) (ps : List IndexedId) → IsAscending ps → IsNonDecreasingBy (λ p. ordering_index (nat_cmp p.id id)) ps
 comparisons_rise id ps up i j d order within =
     let rises : (get_or ps i d).id ≤ (get_or ps j d).id =
     grind (arith, up i j d, λ (same : i ≡ j). ap (λ k. (get_or ps k d).id) same) in
     grind (arith, nat_tests)
 
 -- a binary search by id ends at the id's place, or at the gap for it
-pub found_place : (id : ℕ) (ps : List Place) (r : Result ℕ ℕ) → IsAscending ps → IsSearchInRange r (length ps)
+pub found_place : (id : ℕ) (ps : List IndexedId) (r : Result ℕ ℕ) → IsAscending ps → IsSearchInRange r (length ps)
     → IsBinarySearchResult (λ p. nat_cmp p.id id) ps r → IfOk r (HasPlace id ps)
 found_place id ps (Ok k) up within equal = record {
   within = within;
@@ -89,7 +89,7 @@ found_place id ps (Ok k) up within equal = record {
 }
 found_place id ps (Err k) up within parted = tt
 
-pub found_gap : (id : ℕ) (ps : List Place) (r : Result ℕ ℕ) → IsAscending ps → IsSearchInRange r (length ps)
+pub found_gap : (id : ℕ) (ps : List IndexedId) (r : Result ℕ ℕ) → IsAscending ps → IsSearchInRange r (length ps)
     → IsBinarySearchResult (λ p. nat_cmp p.id id) ps r → IfErr r (IsGap id ps)
 found_gap id ps (Ok k) up within equal = tt
 found_gap id ps (Err k) up within parted =
@@ -101,7 +101,7 @@ found_gap id ps (Err k) up within parted =
     }
 
 -- one more place keeps the order: each is an old one below the gap, the new one, or an old one moved up by one
-pub ascending-insert : (k : ℕ) (ps : List Place) (p : Place) → IsAscending ps → IsGap p.id ps k → IsAscending (insert ps k p)
+pub ascending-insert : (k : ℕ) (ps : List IndexedId) (p : IndexedId) → IsAscending ps → IsGap p.id ps k → IsAscending (insert ps k p)
 ascending-insert k ps p up gap i j d order within =
     let long = length-insert ps k p gap.within in
     let below : (m : ℕ) → m < k → (get_or (insert ps k p) m d).id ≡ (get_or ps m d).id =
@@ -129,7 +129,7 @@ ascending-insert k ps p up gap i j d order within =
     )
 
 -- a place for an id that has none changes what is told of that id alone
-pub place_at-insert : (id k : ℕ) (ps : List Place) (p : Place) → place_at ps p.id ≡ None
+pub place_at-insert : (id k : ℕ) (ps : List IndexedId) (p : IndexedId) → place_at ps p.id ≡ None
     → place_at (insert ps k p) id ≡ first_some (place_at ps id) (cond (eqb id p.id) (Some p.at) None)
 place_at-insert id zero ps p absent =
     second_tested (eqb id p.id) (place_at ps id) p.at (λ same. ap (λ i. place_at ps i) (eqb-true id p.id same) ∙ absent)
@@ -139,7 +139,7 @@ place_at-insert id (suc k) (q ∷ qs) p absent =
     (place_at-insert id k qs p (behind_none (eqb p.id q.id) (place_at qs p.id) q.at absent))
 
 -- for an id that has a place nothing is added
-pub place_stays : (id old : ℕ) (ps : List Place) (p : Place) → place_at ps p.id ≡ Some old
+pub place_stays : (id old : ℕ) (ps : List IndexedId) (p : IndexedId) → place_at ps p.id ≡ Some old
     → place_at ps id ≡ first_some (place_at ps id) (cond (eqb id p.id) (Some p.at) None)
 place_stays id old ps p there =
     first_stays (eqb id p.id) (place_at ps id) p.at old (λ same. ap (λ i. place_at ps i) (eqb-true id p.id same) ∙ there)

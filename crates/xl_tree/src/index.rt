@@ -10,7 +10,7 @@ use std::marker::Model;
 
 /// Where the first entry with an id stands.
 #[derive(Clone, Copy)]
-pub struct Place {
+pub struct IndexedId {
     id: u32,
     at: u32,
 }
@@ -19,14 +19,14 @@ pub struct Place {
 /// that only as much is touched as there are entries.
 #[derive(Drop)]
 pub struct Index {
-    places: Vec<Place>,
+    places: Vec<IndexedId>,
 }
 
 impl Model for Index {
     ghost use Rattle.std.specs.Prelude.{List};
-    ghost use Rattle.xl_tree.specs.declared.index.Place.{Place};
+    ghost use Rattle.xl_tree.specs.declared.index.IndexedId.{IndexedId};
 
-    ghost Value = { List Place };
+    ghost Value = { List IndexedId };
 
     ghost use Rattle.xl_tree.specs.Index.{HasRoom, IsAscending};
 
@@ -70,7 +70,7 @@ impl Index {
     {
         self.places.clear();
         for (at, entry) in entries.iter().enumerate() {
-            let place = Place {
+            let place = IndexedId {
                 id: entry.id,
                 at: at as u32,
             };
@@ -80,7 +80,7 @@ impl Index {
 }
 
 /// Adds a place in the order of the ids, unless its id has one.
-fn add(places: &mut Vec<Place>, place: Place)
+fn add(places: &mut Vec<IndexedId>, place: IndexedId)
     requires ascending { IsAscending places.old.items }
     requires room { vec_len places.old < vec_capacity places.old }
     ensures ascending { IsAscending places.new.items }
@@ -96,7 +96,7 @@ fn add(places: &mut Vec<Place>, place: Place)
 }
 
 /// Which place an id has among these, or the gap for it.
-fn search(places: &[Place], id: u32) -> Result<usize, usize>
+fn search(places: &[IndexedId], id: u32) -> Result<usize, usize>
     requires { IsAscending places.now }
     ensures found { IfOk result (HasPlace id places.now) }
     ensures gap { IfErr result (IsGap id places.now) }

@@ -1,5 +1,5 @@
 -- What a document has at an id is what its tree has there.
-use Rattle.std.proofs.Common.{◌≡◌, ℕ, ◌+◌, ◌≤◌, Bool, true, false, cond, refl, sym, subst, arith}
+use Rattle.std.proofs.Common.{◌≡◌, ℕ, ◌+◌, Bool, true, false, cond, refl, sym, subst, arith}
 use Rattle.std.specs.Prelude.{◌==◌, Option}
 use Rattle.spec_document.specs.Forest.{Forest, none, leaf, group, Found, nothing, a_leaf, a_group, or_else, find}
 use Rattle.spec_document.specs.Document.{Layer, Group}
@@ -55,19 +55,10 @@ pub top_is : (f under : Forest Node Node) (id : ℕ) (n : Node) → MarksAgree f
 top_is f under id n h is = layer_is n n.body (subst MarksAgree (sym is) h).0
 
 -- the layer on top and all below it
-pub leaf_bound : (count : Layer → Found Layer Group
+pub leaf_counted : (count : Layer → Found Layer Group
     → ℕ) (other nodes under : Forest Node Node) (id : ℕ) (n : Node) (one rest sum : ℕ) → leaf id n under ≡ nodes
-    → one ≤ count (layer_of n) (find id (nodes_of other)) → rest ≤ over_layers count (nodes_of other) (nodes_of under)
-    → sum ≤ one + rest
-    → sum ≤ over_layers count (nodes_of other) (nodes_of nodes)
-leaf_bound count other nodes under id n one rest sum is a b s =
-    subst (λ f. sum ≤ over_layers count (nodes_of other) (nodes_of f)) is (omega (arith, a, b, s))
-
--- it is at least what is held of the sum, where each part is so
-pub leaf_least : (count : Layer → Found Layer Group
-    → ℕ) (other nodes under : Forest Node Node) (id : ℕ) (n : Node) (one rest sum : ℕ) → leaf id n under ≡ nodes
-    → held (count (layer_of n) (find id (nodes_of other))) ≤ one
-    → held (over_layers count (nodes_of other) (nodes_of under)) ≤ rest → held (one + rest) ≤ sum
-    → held (over_layers count (nodes_of other) (nodes_of nodes)) ≤ sum
-leaf_least count other nodes under id n one rest sum is a b s =
-    subst (λ f. held (over_layers count (nodes_of other) (nodes_of f)) ≤ sum) is (omega (arith, a, b, s))
+    → one ≡ held (count (layer_of n) (find id (nodes_of other)))
+    → rest ≡ held (over_layers count (nodes_of other) (nodes_of under)) → sum ≡ held (one + rest)
+    → sum ≡ held (over_layers count (nodes_of other) (nodes_of nodes))
+leaf_counted count other nodes under id n one rest sum is a b s =
+    subst (λ f. sum ≡ held (over_layers count (nodes_of other) (nodes_of f))) is (omega (arith, a, b, s))

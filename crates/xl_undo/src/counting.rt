@@ -1,10 +1,9 @@
 //! How many tiles differ between two documents.
-ghost use Rattle.std.specs.Prelude.{◌≡◌, ◌+◌, ◌≤◌, length};
+ghost use Rattle.std.specs.Prelude.{◌≡◌, ◌+◌, length};
 ghost use Rattle.std.specs.Option.{option_copied};
 ghost use Rattle.spec_document.specs.Document as sheet;
 ghost use Rattle.spec_undo.specs.Planes.{are_alike, changed_tiles as changed_planes, tile_count};
 ghost use Rattle.spec_undo.specs.Changed as doc;
-ghost use Rattle.spec_undo.specs.Changed.{tiles_alone};
 ghost use Rattle.spec_document.specs.Forest.{Found};
 ghost use Rattle.xl_doc.specs.Nodes.{MarksAgree, nodes_of};
 ghost use Rattle.xl_undo.specs.Held.{held};
@@ -13,11 +12,9 @@ ghost use Rattle.xl_undo.specs.Seen.{IsLayerOf, IsSeen};
 use xl_doc::{Body, Channel, Document, Layer, Node, Plane, SCRATCH, Tree, know_limits};
 use xl_tree::{Split, Stack};
 
-/// At most the tiles that differ between two documents, with all tiles of planes that only one of them has, and
-/// at least these.
+/// The tiles that differ between two documents, with all tiles of planes that only one of them has.
 pub fn changed_tiles(before: &Document, after: &Document) -> u32
-    ensures few { result ≤ doc.changed_in before.now after.now }
-    ensures alone { doc.alone_in before.now after.now ≤ result }
+    ensures { result ≡ doc.changed_in before.now after.now }
 {
     know_limits(before);
     know_limits(after);
@@ -25,8 +22,7 @@ pub fn changed_tiles(before: &Document, after: &Document) -> u32
 }
 
 fn sum_of_parts(before: &Document, after: &Document) -> u32
-    ensures few { result ≤ doc.changed_in before.now after.now }
-    ensures alone { held (doc.alone_in before.now after.now) ≤ result }
+    ensures { result ≡ held (doc.changed_in before.now after.now) }
 {
     let mut scratch = [0; SCRATCH];
     let mut other_scratch = [0; SCRATCH];
@@ -54,8 +50,7 @@ fn sum_of_parts(before: &Document, after: &Document) -> u32
 
 // The sum, or the greatest number where it is above that.
 fn sum(one: u32, other: u32) -> u32
-    ensures few { result ≤ one + other }
-    ensures least { held (one + other) ≤ result }
+    ensures { result ≡ held (one + other) }
 {
     one.saturating_add(other)
 }
@@ -70,13 +65,12 @@ fn are_alike(before: &Plane, after: &Plane) -> bool
         && (before.height() == after.height() && before.bpp() == after.bpp())
 }
 
-// At most how many tiles of two planes differ: all tiles of both, where their sides or bytes per pixel do.
-#[tactic(auto, unfolding(spec_undo::specs::Planes::changed_tiles, spec_undo::specs::Changed::tiles_alone))]
+// How many tiles of two planes differ: all tiles of both, where their sides or bytes per pixel do.
+#[tactic(auto, unfolding(spec_undo::specs::Planes::changed_tiles))]
 fn changed_plane(before: &Plane, after: &Plane, scratch: &mut [u8], other_scratch: &mut [u8]) -> u32
     requires scratch { length scratch.old ≡ SCRATCH }
     requires other_scratch { length other_scratch.old ≡ SCRATCH }
-    ensures few { result ≤ changed_planes before.now after.now }
-    ensures alone { held (tiles_alone before.now after.now) ≤ result }
+    ensures { result ≡ held (changed_planes before.now after.now) }
 {
     if are_alike(before, after) {
         before.tiles_changed(after, scratch, other_scratch)
@@ -97,7 +91,7 @@ fn count_if_any(channel: &Option<Channel>) -> u32
     }
 }
 
-// At most how many tiles of two channels differ, with all tiles of one that is there alone.
+// How many tiles of two channels differ, with all tiles of one that is there alone.
 fn changed_if_any(
     before: &Option<Channel>,
     after: &Option<Channel>,
@@ -106,8 +100,7 @@ fn changed_if_any(
 ) -> u32
     requires scratch { length scratch.old ≡ SCRATCH }
     requires other_scratch { length other_scratch.old ≡ SCRATCH }
-    ensures few { result ≤ doc.counted_if_any changed_planes before.now after.now }
-    ensures alone { held (doc.counted_if_any tiles_alone before.now after.now) ≤ result }
+    ensures { result ≡ held (doc.changed_if_any before.now after.now) }
 {
     let Some(before) = before else {
         return count_if_any(after);
@@ -120,8 +113,7 @@ fn changed_if_any(
 
 // The tiles of all these channels.
 fn channels_count(channels: &[Channel]) -> u32
-    ensures few { result ≤ doc.channels_count channels.now }
-    ensures alone { held (doc.channels_count channels.now) ≤ result }
+    ensures { result ≡ held (doc.channels_count channels.now) }
 {
     match channels.split_first() {
         None => 0,
@@ -129,7 +121,7 @@ fn channels_count(channels: &[Channel]) -> u32
     }
 }
 
-// At most how many tiles differ of channels with the same index, with all tiles of those that are there alone.
+// How many tiles differ of channels with the same index, with all tiles of those that are there alone.
 fn changed_channels(
     before: &[Channel],
     after: &[Channel],
@@ -138,8 +130,7 @@ fn changed_channels(
 ) -> u32
     requires scratch { length scratch.old ≡ SCRATCH }
     requires other_scratch { length other_scratch.old ≡ SCRATCH }
-    ensures few { result ≤ doc.counted_channels changed_planes before.now after.now }
-    ensures alone { held (doc.counted_channels tiles_alone before.now after.now) ≤ result }
+    ensures { result ≡ held (doc.changed_channels before.now after.now) }
 {
     let Some((one, before)) = before.split_first() else {
         return channels_count(after);
@@ -157,20 +148,17 @@ fn changed_channels(
 
 // The tiles of a layer and its mask.
 fn layer_count(layer: &Layer) -> u32
-    ensures few { result ≤ tile_count layer.now.plane + doc.count_if_any layer.now.mask }
-    ensures alone { held (tile_count layer.now.plane + doc.count_if_any layer.now.mask) ≤ result }
+    ensures { result ≡ held (tile_count layer.now.plane + doc.count_if_any layer.now.mask) }
 {
     sum(layer.plane.tile_count(), count_if_any(&layer.mask))
 }
 
-// At most how many tiles of two layers and their masks differ.
+// How many tiles of two layers and their masks differ.
 fn changed_layer(before: &Layer, after: &Layer, scratch: &mut [u8], other_scratch: &mut [u8]) -> u32
     requires scratch { length scratch.old ≡ SCRATCH }
     requires other_scratch { length other_scratch.old ≡ SCRATCH }
-    ensures few { result ≤ changed_planes before.now.plane after.now.plane + doc.counted_if_any
-        changed_planes before.now.mask after.now.mask }
-    ensures alone { held (tiles_alone before.now.plane after.now.plane + doc.counted_if_any
-        tiles_alone before.now.mask after.now.mask) ≤ result }
+    ensures { result ≡ held (changed_planes before.now.plane after.now.plane
+        + doc.changed_if_any before.now.mask after.now.mask) }
 {
     let plane = changed_plane(&before.plane, &after.plane, scratch, other_scratch);
     sum(
@@ -179,7 +167,7 @@ fn changed_layer(before: &Layer, after: &Layer, scratch: &mut [u8], other_scratc
     )
 }
 
-// At most how many tiles differ of the layer of a node and of what another document has at its id. A group has no
+// How many tiles differ of the layer of a node and of what another document has at its id. A group has no
 // tiles.
 fn changed_body(
     before: &Body,
@@ -189,11 +177,8 @@ fn changed_body(
 ) -> u32
     requires scratch { length scratch.old ≡ SCRATCH }
     requires other_scratch { length other_scratch.old ≡ SCRATCH }
-    ensures few { (l : sheet.Layer) (found : Found sheet.Layer sheet.Group) → IsLayerOf l before.now
-        → IsSeen found (option_copied after.entry) → result ≤ doc.counted_layer changed_planes l found }
-    ensures alone { (l : sheet.Layer) (found : Found sheet.Layer sheet.Group) → IsLayerOf l before.now
-        → IsSeen found (option_copied after.entry)
-        → held (doc.counted_layer tiles_alone l found) ≤ result }
+    ensures { (l : sheet.Layer) (found : Found sheet.Layer sheet.Group) → IsLayerOf l before.now
+        → IsSeen found (option_copied after.entry) → result ≡ held (doc.changed_layer l found) }
 {
     let Body::Leaf(before) = before else {
         return 0;
@@ -209,10 +194,8 @@ fn changed_body(
 
 // The tiles of the layer of a node, where another document has no layer at its id.
 fn body_alone(body: &Body, other: Option<&Node>) -> u32
-    ensures few { (l : sheet.Layer) (found : Found sheet.Layer sheet.Group) → IsLayerOf l body.now
-        → IsSeen found (option_copied other.entry) → result ≤ doc.count_if_alone l found }
-    ensures alone { (l : sheet.Layer) (found : Found sheet.Layer sheet.Group) → IsLayerOf l body.now
-        → IsSeen found (option_copied other.entry) → held (doc.count_if_alone l found) ≤ result }
+    ensures { (l : sheet.Layer) (found : Found sheet.Layer sheet.Group) → IsLayerOf l body.now
+        → IsSeen found (option_copied other.entry) → result ≡ held (doc.count_if_alone l found) }
 {
     let Body::Leaf(layer) = body else {
         return 0;
@@ -226,7 +209,7 @@ fn body_alone(body: &Body, other: Option<&Node>) -> u32
     }
 }
 
-// At most how many tiles differ of the layers of these nodes, at any depth, and of what another tree has at their ids.
+// How many tiles differ of the layers of these nodes, at any depth, and of what another tree has at their ids.
 fn changed_layers(
     nodes: Stack<'_, Node>,
     other: &Tree<Node>,
@@ -237,10 +220,8 @@ fn changed_layers(
     requires other_scratch { length other_scratch.old ≡ SCRATCH }
     requires agree { MarksAgree other.now }
     requires leaves { MarksAgree nodes }
-    ensures few { result ≤ doc.over_layers (doc.counted_layer changed_planes) (nodes_of other.now)
-        (nodes_of nodes.entry) }
-    ensures alone { held (doc.over_layers (doc.counted_layer tiles_alone) (nodes_of other.now)
-        (nodes_of nodes.entry)) ≤ result }
+    ensures { result ≡ held (doc.over_layers doc.changed_layer (nodes_of other.now)
+        (nodes_of nodes.entry)) }
 {
     match nodes.split() {
         Split::Empty => 0,
@@ -263,10 +244,8 @@ fn changed_layers(
 fn layers_alone(nodes: Stack<'_, Node>, other: &Tree<Node>) -> u32
     requires agree { MarksAgree other.now }
     requires leaves { MarksAgree nodes }
-    ensures few { result ≤ doc.over_layers doc.count_if_alone (nodes_of other.now)
-        (nodes_of nodes.entry) }
-    ensures alone { held (doc.over_layers doc.count_if_alone (nodes_of other.now)
-        (nodes_of nodes.entry)) ≤ result }
+    ensures { result ≡ held (doc.over_layers doc.count_if_alone (nodes_of other.now)
+        (nodes_of nodes.entry)) }
 {
     match nodes.split() {
         Split::Empty => 0,

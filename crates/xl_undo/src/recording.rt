@@ -1,6 +1,6 @@
 //! Undo records that tell how many tiles they keep.
-ghost use Rattle.std.specs.Prelude.{◌≡◌, ◌≤◌};
-ghost use Rattle.spec_undo.specs.Changed.{alone_in, changed_in};
+ghost use Rattle.std.specs.Prelude.{◌≡◌};
+ghost use Rattle.spec_undo.specs.Changed.{changed_in};
 ghost use Rattle.xl_undo.specs.Leads.{LeadsBack, turned};
 
 use crate::counting::changed_tiles;
@@ -10,8 +10,8 @@ use xl_doc::Document;
 
 /// What leads from one document to another, and back once it has been followed, with the number of tiles that differ.
 ///
-/// To count them the tiles that the two documents do not share are unpacked and compared. Where nobody asks, a [`Lead`]
-/// does without.
+/// To count them every tile of a plane that both documents have is unpacked and compared, also where they share it. Where
+/// nobody asks, a [`Lead`] does without.
 #[derive(Drop)]
 pub struct Record {
     lead: Lead,
@@ -34,8 +34,7 @@ impl Record {
     /// What leads from `after` back to `before`. It takes no memory.
     pub fn new(before: Document, after: &Document) -> Record
         ensures leads { LeadsBack before after.now result }
-        ensures few { result.tiles ≤ changed_in before after.now }
-        ensures alone { alone_in before after.now ≤ result.tiles }
+        ensures tiles { result.tiles ≡ changed_in before after.now }
     {
         let tiles = changed_tiles(&before, after);
         Record {
@@ -54,8 +53,8 @@ impl Record {
         self.lead.revert(doc);
     }
 
-    /// How many tiles were found to differ when the record was made: at most the tiles of layers, masks, channels
-    /// and selections that differ, with all tiles of those that only one of the documents has, and at least these.
+    /// How many tiles differed when the record was made: the tiles of layers, masks, channels and selections with other
+    /// bytes, and all tiles of those that only one of the documents has, or whose sides or bytes per pixel differ.
     pub fn tiles_kept(&self) -> u32
         ensures { result ≡ self.now.tiles }
     {

@@ -21,7 +21,7 @@ pub struct Audit {
 }
 
 /// Why a source is no audit.
-#[derive(Clone, Copy, Debug, PartialEq, Eq)]
+#[derive(Clone, Copy)]
 pub enum Unread {
     /// The source failed.
     SourceFault,

@@ -63,7 +63,7 @@ pub enum Cause {
 }
 
 /// Why a line is not taken: memory ran out, or it is refused.
-#[derive(Debug, Drop)]
+#[derive(Drop)]
 pub enum CauseOrMemory {
     /// Memory ran out.
     Memory,

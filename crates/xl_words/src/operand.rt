@@ -12,7 +12,7 @@ use std::alloc::Global;
 use xl_props::Bytes;
 
 /// A word behind a keyword, and its place in the line, from 1.
-#[derive(Clone, Copy, Debug)]
+#[derive(Clone, Copy)]
 pub struct Operand<'a> {
     pub place: u8,
     pub text: &'a [u8],

@@ -12,7 +12,7 @@ use crate::words::{
 };
 
 /// The words behind a keyword.
-#[derive(Clone, Copy, Debug)]
+#[derive(Clone, Copy)]
 pub struct Operands<'a> {
     pub keyword: &'a [u8],
     /// The rest of the line, where there is one.

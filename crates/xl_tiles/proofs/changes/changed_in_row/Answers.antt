@@ -20,9 +20,9 @@ loop-col-preserved c =
     (rw c.tiles_along-columns.ensures at c.at-in-loop-col.ensures) ∙ tile_is c.args.sheet.width c.args.sheet.height c.args.sheet.bpp c.args.others.now c.requires.others
     c.loop-col.col c.args.row there c.requires.row in
     let next : c.difference-count.result
-    ≤ cond (not (bytes_eq (tile_bytes p (tile c.loop-col.col c.args.row)) (tile_bytes q (tile c.loop-col.col c.args.row)))) 1
+    ≡ cond (not (bytes_eq (tile_bytes p (tile c.loop-col.col c.args.row)) (tile_bytes q (tile c.loop-col.col c.args.row)))) 1
     0 =
-    subst (λ same. c.difference-count.result ≤ cond (not same) 1 0)
+    subst (λ same. c.difference-count.result ≡ cond (not same) 1 0)
     (λ i. bytes_eq (own i) (other i)) c.difference-count.ensures.value in
     record {
       scratch = c.difference-count.auto.scratch ∙ c.loop-col.invariant.scratch;

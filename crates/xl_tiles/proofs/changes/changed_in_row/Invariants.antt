@@ -11,7 +11,7 @@ invariant-loop-col l = record {
   scratch : length l.scratch ≡ 32768;
   other_scratch : length l.other_scratch ≡ 32768;
   few : l.count ≤ l.col;
-  counted : l.count ≤ length (filter
+  counted : l.count ≡ length (filter
       (differ_at (plane_by l.fn.sheet.width l.fn.sheet.height l.fn.sheet.bpp l.tiles)
       (plane_by l.fn.sheet.width l.fn.sheet.height l.fn.sheet.bpp l.others))
       (map (λ col. tile col l.row) (count_from 0 l.col)));

@@ -1,10 +1,9 @@
 -- The layer on top and all below it.
 use Rattle.std.specs.Option.{option_copied}
 use Rattle.spec_document.specs.Forest.{find}
-use Rattle.spec_undo.specs.Planes.{changed_tiles}
-use Rattle.spec_undo.specs.Changed.{counted_layer, tiles_alone}
+use Rattle.spec_undo.specs.Changed.{changed_layer}
 use Rattle.xl_doc.specs.Nodes.{layer_of, nodes_of}
-use Rattle.xl_undo.proofs.Found.{seen, top_is, leaf_bound, leaf_least}
+use Rattle.xl_undo.proofs.Found.{seen, top_is, leaf_counted}
 use Rattle.xl_undo.proofs.counting.+changed_layers.Goals as goal
 
 pub returns-in-Leaf : goal.returns-in-Leaf
@@ -14,15 +13,6 @@ returns-in-Leaf t c =
     let node = c.in-Leaf.node.now in
     let top = top_is c.args.nodes c.in-Leaf.under id node c.requires.leaves c.in-Leaf.ensures.parts in
     let there = seen id other (option_copied c.find.result) c.requires.agree c.find.ensures in
-    record {
-      few =
-          leaf_bound (counted_layer changed_tiles) other c.args.nodes c.in-Leaf.under id node c.changed_body.result
-          c.changed_layers.result c.sum.result c.in-Leaf.ensures.parts
-          (c.changed_body.ensures.few (layer_of node) (find id (nodes_of other)) top there) c.changed_layers.ensures.few
-          c.sum.ensures.few;
-      alone =
-          leaf_least (counted_layer tiles_alone) other c.args.nodes c.in-Leaf.under id node c.changed_body.result
-          c.changed_layers.result c.sum.result c.in-Leaf.ensures.parts
-          (c.changed_body.ensures.alone (layer_of node) (find id (nodes_of other)) top there) c.changed_layers.ensures.alone
-          c.sum.ensures.least;
-    }
+    leaf_counted changed_layer other c.args.nodes c.in-Leaf.under id node c.changed_body.result c.changed_layers.result c.sum.result
+    c.in-Leaf.ensures.parts (c.changed_body.ensures (layer_of node) (find id (nodes_of other)) top there) c.changed_layers.ensures
+    c.sum.ensures
