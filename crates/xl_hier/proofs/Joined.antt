@@ -5,35 +5,35 @@ use Rattle.std.proofs.lemmas.List.{drop_all, take_all}
 use Rattle.std.specs.Prelude.{Ok, Err}
 use Rattle.spec_document.specs.Grid.{tiles_along}
 use Rattle.xl_fields.specs.declared.refusal.ReadRefusedOrMemory.{ReadRefusedOrMemory}
-use Rattle.xl_hier.specs.declared.beside.Band.{Band}
+use Rattle.xl_hier.specs.declared.beside.BandRoom.{BandRoom}
 use Rattle.xl_hier.specs.declared.frame.Frame.{Frame}
 use Rattle.xl_hier.specs.Bands.{BandRead}
 use Rattle.xl_hier.specs.SoFar.{SoFar, HasRead}
 use Rattle.xl_hier.proofs.BandsRead.{none_read, band_next, band_fault}
 
 -- each of the bands from a row on is read by itself
-abbrev pub AreRead : (file : List ℕ) (first : ℕ) → Frame → (row : ℕ) → List Band → Type 0
-AreRead file first f row bands = (k : ℕ) (d : Band) → k < length bands
+abbrev pub AreRead : (file : List ℕ) (first : ℕ) → Frame → (row : ℕ) → List BandRoom → Type 0
+AreRead file first f row bands = (k : ℕ) (d : BandRoom) → k < length bands
     → BandRead file first f (row + k) [] (get_or bands k d).tiles.items (get_or bands k d).outcome
 
 -- the bands above a row are put together, and those from it on are read
-pub record Joining (file : List ℕ) (first : ℕ) (f : Frame) (bands : List Band) (tiles : List (List ℕ)) : Type 0 where
+pub record Joining (file : List ℕ) (first : ℕ) (f : Frame) (bands : List BandRoom) (tiles : List (List ℕ)) : Type 0 where
   pub row : ℕ
   pub left : row + length bands ≡ tiles_along f.height
   pub so_far : SoFar file first f row tiles
   pub read : AreRead file first f row bands
 
 -- the items of a vector that was written to as a slice
-pub written_items : (n : ℕ) (items now all : List Band) → items ≡ take n (now ++ drop (length now) all) → length now ≡ length all
+pub written_items : (n : ℕ) (items now all : List BandRoom) → items ≡ take n (now ++ drop (length now) all) → length now ≡ length all
     → n ≡ length all → items ≡ now
 written_items n items now all is same count =
     let none : drop (length now) all ≡ [] = drop_all (length now) all (omega (arith, same)) in
     is ∙ (ap (λ xs. take n (now ++ xs)) none ∙ (ap (take n) (append-nil now) ∙ take_all n now (omega (arith, same, count))))
 
 -- none is put together yet
-pub none_joined : (file : List ℕ) (first : ℕ) (f : Frame) (bands : List Band) (tiles : List (List ℕ)) → tiles ≡ []
+pub none_joined : (file : List ℕ) (first : ℕ) (f : Frame) (bands : List BandRoom) (tiles : List (List ℕ)) → tiles ≡ []
     → length bands ≡ tiles_along f.height
-    → ((k : ℕ) (d : Band) → k < length bands
+    → ((k : ℕ) (d : BandRoom) → k < length bands
     → BandRead file first f k [] (get_or bands k d).tiles.items (get_or bands k d).outcome)
     → Joining file first f bands tiles
 none_joined file first f bands tiles none count read = record {
@@ -45,10 +45,10 @@ none_joined file first f bands tiles none count read = record {
       subst (λ n. BandRead file first f n [] (get_or bands k d).tiles.items (get_or bands k d).outcome) same (read k d h);
 }
 
-module _ {file : List ℕ} {first : ℕ} {f : Frame} {bands : List Band} {tiles : List (List ℕ)} (band : Band) (rest : List Band)
+module _ {file : List ℕ} {first : ℕ} {f : Frame} {bands : List BandRoom} {tiles : List (List ℕ)} (band : BandRoom) (rest : List BandRoom)
     (up : Joining file first f bands tiles) (turn : bands ≡ band ∷ rest) where
   now : Joining file first f (band ∷ rest) tiles
-  now = subst (λ (bs : List Band). Joining file first f bs tiles) turn up
+  now = subst (λ (bs : List BandRoom). Joining file first f bs tiles) turn up
 
   within : now.row < tiles_along f.height
   within = omega (arith, now.left)
@@ -79,7 +79,7 @@ module _ {file : List ℕ} {first : ℕ} {f : Frame} {bands : List Band} {tiles 
       band_fault now.so_far within e [] band.tiles.items (subst (BandRead file first f now.row [] band.tiles.items) bad first_read)
 
 -- all are put together
-pub all_joined : {file : List ℕ} {first : ℕ} {f : Frame} {bands : List Band} {tiles : List (List ℕ)}
+pub all_joined : {file : List ℕ} {first : ℕ} {f : Frame} {bands : List BandRoom} {tiles : List (List ℕ)}
     → Joining file first f bands tiles → length bands ≡ 0 → SoFar file first f (tiles_along f.height) tiles
 all_joined {file = file} {first = first} {f = f} {bands = bands} {tiles = tiles} joining none =
     let all : joining.row ≡ tiles_along f.height = omega (arith, joining.left, none) in

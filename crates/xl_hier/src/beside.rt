@@ -17,12 +17,12 @@ use xl_tiles::TileRef;
 
 // Room for a band, and how its reading ended.
 #[derive(Drop)]
-struct Band {
+struct BandRoom {
     tiles: Vec<TileRef>,
     outcome: Result<(), ReadRefusedOrMemory>,
 }
 
-impl Band {
+impl BandRoom {
     // Reads the band of a row.
     fn read(&mut self, file: &Arc<Vec<u8>>, first: usize, frame: Frame, row: u32)
         requires small { first < 2 ^ 33 }
@@ -36,14 +36,14 @@ impl Band {
 }
 
 // Room for each band.
-fn new_bands(alloc: Global, frame: Frame) -> Result<Vec<Band>, AllocError>
+fn new_bands(alloc: Global, frame: Frame) -> Result<Vec<BandRoom>, AllocError>
     ensures count { IfOk result (λ bands. length bands.items ≡ grid.tiles_along frame.height) }
     ensures empty { IfOk result (λ bands. All (λ band. band.tiles.items ≡ []) bands.items) }
 {
     let rows = frame.rows();
     let mut bands = Vec::with_capacity(alloc, rows)?;
     for _row in 0..rows {
-        bands.push(Band {
+        bands.push(BandRoom {
             tiles: Vec::with_capacity(alloc, frame.columns())?,
             outcome: Ok(()),
         })?;
@@ -57,7 +57,7 @@ fn fill_bands<R: Threads + Sync>(
     file: &Arc<Vec<u8>>,
     first: usize,
     frame: Frame,
-    bands: &mut [Band],
+    bands: &mut [BandRoom],
 )
     requires small { first < 2 ^ 33 }
     requires count { length bands.old ≡ grid.tiles_along frame.height }
@@ -70,7 +70,7 @@ fn fill_bands<R: Threads + Sync>(
     par_for_each_mut(
         rt,
         bands,
-        |row: usize, band: &mut Band|
+        |row: usize, band: &mut BandRoom|
             requires { (first < 2 ^ 33) × (row < grid.tiles_along frame.height)
                 × (band.old.tiles.items ≡ []) }
             ensures { BandRead (arc_value file.entry.now).items first frame row []
@@ -95,7 +95,7 @@ pub fn read_beside<R: Threads + Sync>(
     let mut bands = new_bands(alloc, frame)?;
     fill_bands(rt, file, first, frame, bands.as_mut_slice());
     for band in bands {
-        let Band {
+        let BandRoom {
             tiles: mut own,
             outcome,
         } = band;

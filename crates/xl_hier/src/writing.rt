@@ -52,7 +52,7 @@ fn heads(alloc: Global, plane: &Plane, at: u32, begins: &[u32]) -> Result<Vec<u8
 
 // Tiles one behind another, and where each begins.
 #[derive(Drop)]
-struct Tiles {
+struct TileBytes {
     bytes: FileBytes,
     begins: Vec<u32>,
 }
@@ -64,7 +64,7 @@ fn write_tiles<C: PlaneCoder>(
     plane: &Plane,
     compression: u8,
     first: usize,
-    tiles: &mut Tiles,
+    tiles: &mut TileBytes,
     scratch: &mut [u8],
     coder: &mut C,
 ) -> Result<(), AllocError>
@@ -106,7 +106,7 @@ fn tiles_of<C: PlaneCoder>(
     compression: u8,
     first: usize,
     coder: &mut C,
-) -> Result<Tiles, AllocError>
+) -> Result<TileBytes, AllocError>
     requires compression { compression ≤ 1 }
     requires short { first < FIRST_TILE_BELOW }
     ensures ok { IfOk result (λ tiles. TilesMade C.fits compression plane.now first tiles.bytes
@@ -114,7 +114,7 @@ fn tiles_of<C: PlaneCoder>(
     ensures followed { OnOk result (FollowsEach C.follows coder.old
         (byte_planes compression plane.now) coder.new) }
 {
-    let mut tiles = Tiles {
+    let mut tiles = TileBytes {
         bytes: FileBytes::new(alloc),
         begins: Vec::with_capacity(alloc, plane.tile_count() as usize)?,
     };

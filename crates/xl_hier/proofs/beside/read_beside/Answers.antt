@@ -2,7 +2,7 @@ use Rattle.std.proofs.Common.{◌≡◌, List, [], get_or, length, sym, ap, subs
 use Rattle.std.specs.Arc.{arc_value}
 use Rattle.std.proofs.lemmas.Result.{err_from_is_err_and}
 use Rattle.spec_document.specs.Grid.{tiles_along}
-use Rattle.xl_hier.specs.declared.beside.Band.{Band}
+use Rattle.xl_hier.specs.declared.beside.BandRoom.{BandRoom}
 use Rattle.xl_hier.specs.Bands.{BandRead}
 use Rattle.xl_hier.proofs.Joined.{written_items, none_joined, joined_more, joined_fault}
 use Rattle.xl_hier.proofs.beside.read_beside.Goals as goal
@@ -17,7 +17,7 @@ loop-band-init g c =
     let count : length c.fill_bands.new.bands ≡ tiles_along c.args.frame.height = same ∙ c.in_ok-bands.ensures.count in
     none_joined (arc_value c.args.file.now).items c.args.first c.args.frame c.into_iter-band-iterator.result.rest.items
     c.in_ok-tiles.tiles.items c.in_ok-tiles.ensures.items (ap length items ∙ count)
-    (λ k d h. subst (λ (bs : List Band). BandRead (arc_value c.args.file.now).items c.args.first c.args.frame k []
+    (λ k d h. subst (λ (bs : List BandRoom). BandRead (arc_value c.args.file.now).items c.args.first c.args.frame k []
     (get_or bs k d).tiles.items (get_or bs k d).outcome) (sym items)
     (c.fill_bands.ensures.read k d (omega (arith, h, ap length items, c.fill_bands.ensures.length))))
 
