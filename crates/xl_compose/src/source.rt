@@ -32,7 +32,7 @@ pub struct LaidLayer<'a> {
 
 // A part of a layer, unpacked: its bytes, those of its mask, and the column and the row of a band where it begins.
 #[derive(Clone, Copy)]
-struct Patch<'a> {
+struct UnpackedPart<'a> {
     part: Rect,
     bytes: &'a [u8],
     masks: &'a [u8],
@@ -59,7 +59,7 @@ fn mask_row(layer: &Layer, part: Rect, masks: &[u8], y: u32, row: &mut [Pixel])
 }
 
 // The pixels of a row of a patch.
-fn source_row(laid: LaidLayer<'_>, patch: Patch<'_>, y: u32, row: &mut [Pixel])
+fn source_row(laid: LaidLayer<'_>, patch: UnpackedPart<'_>, y: u32, row: &mut [Pixel])
     requires within { IsWithin laid.layer.now.plane.width laid.layer.now.plane.height patch.part }
     requires bytes { patch.bytes.now ≡ bytes_in laid.layer.now.plane patch.part }
     requires masks { AreMasks laid.layer.now.mask laid.layer.now.apply_mask patch.part
@@ -108,7 +108,7 @@ fn read_mask(layer: &Layer, part: Rect, masks: &mut [u8], tile: &mut [u8])
 // Lays a patch over a band, row by row.
 fn lay_rows<L: Ledger>(
     laid: LaidLayer<'_>,
-    patch: Patch<'_>,
+    patch: UnpackedPart<'_>,
     band: Band,
     picture: &mut [Pixel],
     source: &mut [Pixel],
@@ -214,7 +214,7 @@ fn lay_rect<L: Ledger>(
     let pixels = &mut rest[..size];
     layer.plane.read_rect(part, pixels, tile);
     read_mask(layer, part, masks, tile);
-    let patch = Patch {
+    let patch = UnpackedPart {
         part,
         bytes: pixels,
         masks,
