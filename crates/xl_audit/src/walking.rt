@@ -26,8 +26,8 @@ use xl_compose::Picture;
 use xl_doc::{NodeId, TileAt};
 use xl_filters::PointFilter;
 use xl_judging::{
-    Output, Printed, SessionCalls, call_at, end_fits, is_plain, is_printed, peek_fits,
-    shows_version,
+    Output, Printed, SessionCalls, call_at, end_fits, is_printed, is_printed_without_digest,
+    peek_fits, shows_version,
 };
 use xl_script::OrderWord;
 use xl_standing::{Call, Desk, Reply, has_stack, has_tile};
@@ -160,10 +160,10 @@ impl Walk {
         let (node, at) = tile;
         let document = self.standing.document();
         if !has_stack(document, node) {
-            return Ok(is_plain(Reply::NoStack { node: node.0 }, printed));
+            return Ok(is_printed_without_digest(Reply::NoStack { node: node.0 }, printed));
         }
         if !has_tile(document, at) {
-            return Ok(is_plain(Reply::OutsideTile, printed));
+            return Ok(is_printed_without_digest(Reply::OutsideTile, printed));
         }
         let kept = self.standing.kept_version(node, at);
         if !peek_fits(self.standing.version(), seen, kept, printed.reply) {

@@ -105,7 +105,7 @@ pub fn write(
 ) -> Result<(), EditRefusedOrMemory>
     ensures { Makes doc.old doc.new (edits.write id.0 rect bytes.now) result }
 {
-    if is_plain(doc, id) {
+    if takes_as_given(doc, id) {
         check_given(doc, id, rect, bytes)?;
         put(alloc, doc, id, LayerPart::Pixels, rect, bytes, Spread::Rows)?;
         return Ok(());
@@ -124,7 +124,7 @@ pub fn write(
 }
 
 // Whether new bytes of a layer's pixels go in as they are: without a selection, where no alpha has to stay.
-fn is_plain(doc: &Document, id: NodeId) -> bool
+fn takes_as_given(doc: &Document, id: NodeId) -> bool
     ensures whole { OnTrue result (is_none doc.now.selection ≡ true) }
     ensures free { OnTrue result (alpha_stays (node doc.now id.0) ≡ false) }
 {

@@ -12,8 +12,8 @@ pub put-requires : goal.put-requires
 put-requires c =
     paint_fits Pixels c.args.rect _ (writes c.args.doc.now c.args.rect c.args.bytes.now) _ c.in_ok-check_given.ensures.paints
 
-pub returns-then-is_plain : goal.returns-then-is_plain
-returns-then-is_plain c = λ table.
+pub returns-then-takes_as_given : goal.returns-then-takes_as_given
+returns-then-takes_as_given c = λ table.
     let d = c.args.doc.now in
     paint_made d _ (edits.write c.args.id.0 c.args.rect c.args.bytes.now) c.args.id.0 Pixels c.args.rect _
     (writes d c.args.rect c.args.bytes.now) refl
