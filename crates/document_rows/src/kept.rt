@@ -33,7 +33,9 @@ fn make_one(alloc: Global, image: &mut Image, edit: Edit) -> Result<(), AllocErr
 
 fn tiles_kept_by(alloc: Global, before: &Document, after: &Document) -> Result<u32, AllocError> {
     let record = record(alloc, before, after)?;
-    Ok(record.tiles_kept())
+    let count = record.tiles_kept();
+    drop(record);
+    Ok(count)
 }
 
 fn tiles_kept_from(
@@ -48,13 +50,17 @@ fn tiles_kept_from(
 
 fn tiles_kept_in(alloc: Global, image: &mut Image, edit: Edit) -> Result<u32, AllocError> {
     let before = image.document().share(alloc)?;
-    tiles_kept_from(alloc, image, &before, edit)
+    let kept = tiles_kept_from(alloc, image, &before, edit);
+    drop(before);
+    kept
 }
 
 // How many tiles the record keeps that leads back from an edit.
 fn tiles_kept_after(alloc: Global, edit: Edit) -> Result<u32, AllocError> {
     let mut image = opened(alloc)?;
-    tiles_kept_in(alloc, &mut image, edit)
+    let kept = tiles_kept_in(alloc, &mut image, edit);
+    drop(image);
+    kept
 }
 
 // The same of a grey of 9 in a rectangle of the layer, whose pixels are 0.
@@ -117,6 +123,7 @@ fn layers_led(
     way.revert(document);
     let old = document.tree.len();
     way.revert(document);
+    drop(way);
     Ok((edited, old, document.tree.len()))
 }
 
@@ -127,18 +134,24 @@ fn layers_from(
 ) -> Result<(u32, u32, u32), AllocError> {
     make_one(alloc, image, DELETE)?;
     let mut after = image.document().share(alloc)?;
-    layers_led(alloc, before, &mut after)
+    let led = layers_led(alloc, before, &mut after);
+    drop(after);
+    led
 }
 
 fn layers_in(alloc: Global, image: &mut Image) -> Result<(u32, u32, u32), AllocError> {
     let before = image.document().share(alloc)?;
-    layers_from(alloc, image, &before)
+    let led = layers_from(alloc, image, &before);
+    drop(before);
+    led
 }
 
 // The same of the document in which a layer is deleted.
 fn layers_along(alloc: Global) -> Result<(u32, u32, u32), AllocError> {
     let mut image = opened(alloc)?;
-    layers_in(alloc, &mut image)
+    let led = layers_in(alloc, &mut image);
+    drop(image);
+    led
 }
 
 #[test]

@@ -93,7 +93,11 @@ fn is_numbered(document: &Document) -> bool {
 
 fn has_numbers(answer: Result<Document, ReadRefusedOrMemory>) -> bool {
     match answer {
-        Ok(document) => is_numbered(&document),
+        Ok(document) => {
+            let found = is_numbered(&document);
+            drop(document);
+            found
+        }
         Err(_) => false,
     }
 }
