@@ -1,3 +1,4 @@
+mod Full
 mod Outs
 mod Sent
 mod ShownTwice

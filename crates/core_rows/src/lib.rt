@@ -46,4 +46,6 @@ mod studio;
 #[cfg(test)]
 mod twice;
 #[cfg(test)]
+mod verdicts;
+#[cfg(test)]
 mod worker;

@@ -1,6 +1,9 @@
-//! What filters make of bytes.
+//! Filters and their chest.
+ghost use Rattle.std.specs.Prelude.{◌≡◌, length, IfOk};
 
-use xl_filters::{Fade, Invert, PointFilter, Posterize, Threshold};
+use std::alloc::{AllocError, Global};
+use std::test::Fail;
+use xl_filters::{Chest, Fade, Invert, PointFilter, Posterize, Threshold};
 
 fn next_bytes<F: PointFilter>(filter: &mut F, byte: u8) -> [u8; 4] {
     let mut bytes = [0; 4];
@@ -55,4 +58,110 @@ fn other_kinds_stay_the_same(rt: HostRuntime) {
 #[test]
 fn fade_lessens_more_with_each_use(rt: HostRuntime) {
     assert_eq!(rt; next_bytes(&mut Fade::new(100), 200), [200, 122, 43, 0]);
+}
+
+// The first two of the usual filters.
+fn first_filters(alloc: Global) -> Result<Vec<Box<dyn PointFilter + Send>>, AllocError>
+    ensures { IfOk result (λ boxes. length boxes.items ≡ 2) }
+{
+    let mut boxes: Vec<Box<dyn PointFilter + Send>> = Vec::new(alloc);
+    boxes.push(Box::new(alloc, Invert::new(0))?)?;
+    boxes.push(Box::new(alloc, Threshold::new(128))?)?;
+    Ok(boxes)
+}
+
+fn usual_filters(alloc: Global) -> Result<Chest, AllocError> {
+    let mut boxes = first_filters(alloc)?;
+    boxes.push(Box::new(alloc, Posterize::new(4))?)?;
+    boxes.push(Box::new(alloc, Fade::new(100))?)?;
+    Ok(Chest::new(alloc, boxes)?)
+}
+
+fn slots(chest: &Chest) -> [bool; 5] {
+    [
+        chest.has(0),
+        chest.has(1),
+        chest.has(2),
+        chest.has(3),
+        chest.has(4),
+    ]
+}
+
+// The byte that the filter in a slot makes, if there is one.
+fn byte_by(chest: &mut Chest, slot: u32, byte: u8) -> Option<u8> {
+    if chest.has(slot) {
+        Some(chest.table(slot).as_slice()[byte as usize])
+    } else {
+        None
+    }
+}
+
+// Whether there was a filter to forget.
+fn forgets(chest: &mut Chest, slot: u32) -> bool {
+    let is_there = chest.has(slot);
+    if is_there {
+        chest.forget(slot);
+    }
+    is_there
+}
+
+/// A slot of the usual filters, a byte, and what is made of it, one after another.
+const USES: [(u32, u8, Option<u8>); 6] = [
+    (0, 55, Some(200)),
+    (1, 128, Some(255)),
+    (2, 200, Some(170)),
+    (3, 200, Some(200)),
+    (3, 200, Some(122)),
+    (4, 200, None),
+];
+
+/// The same with the second one forgotten behind the first use.
+const FIRST_USE: [(u32, u8, Option<u8>); 1] = [(3, 200, Some(200))];
+
+const LATER_USES: [(u32, u8, Option<u8>); 2] = [(1, 200, None), (3, 200, Some(122))];
+
+// Whether uses make what they are to make.
+fn are_made(chest: &mut Chest, uses: &[(u32, u8, Option<u8>)]) -> bool {
+    for (slot, byte, made) in uses {
+        if byte_by(chest, *slot, *byte) != *made {
+            return false;
+        }
+    }
+    true
+}
+
+// Whether each filter stands in its slot.
+fn are_kept(chest: &mut Chest) -> bool {
+    slots(chest) == [true, true, true, true, false] && are_made(chest, &USES)
+}
+
+// Whether a slot is empty once its filter is forgotten, and the others are as they were.
+fn stays_empty(chest: &mut Chest) -> bool {
+    let is_used = are_made(chest, &FIRST_USE);
+    let is_forgotten = forgets(chest, 1);
+    let is_forgotten_again = forgets(chest, 1);
+    [is_used, is_forgotten, is_forgotten_again] == [true, true, false]
+        && slots(chest) == [true, false, true, true, false]
+        && are_made(chest, &LATER_USES)
+}
+
+fn usual_are_kept(alloc: Global) -> Result<bool, AllocError> {
+    let mut chest = usual_filters(alloc)?;
+    let are_kept = are_kept(&mut chest);
+    drop(chest);
+    Ok(are_kept)
+}
+
+fn usual_stays_empty(alloc: Global) -> Result<bool, AllocError> {
+    let mut chest = usual_filters(alloc)?;
+    let is_empty = stays_empty(&mut chest);
+    drop(chest);
+    Ok(is_empty)
+}
+
+#[test]
+fn chest_keeps_each_filter_in_its_slot(rt: HostRuntime) -> Result<(), Fail> {
+    assert!(rt; usual_are_kept(rt.alloc())?);
+    assert!(rt; usual_stays_empty(rt.alloc())?);
+    Ok(())
 }

@@ -7,12 +7,9 @@ use std::io;
 use std::sync::Wait;
 use std::thread::Threads;
 use xl_fakes::{MemoryShelf, MemorySink, MemorySource};
-use xl_filters::{Fade, Invert, PointFilter, Posterize, Threshold};
-use xl_ports::{Gate, Shelf, Sink, Source};
-use xl_program::{Ended, run};
+use xl_ports::{Sink, Source};
+use xl_program::run;
 use xl_real::{FileShelf, OpenGate, StdSink, StdSource};
-
-const SESSIONS: usize = 8;
 
 /// What a run came to.
 #[derive(Drop)]
@@ -63,7 +60,7 @@ impl<'a, R: Threads + Wait + Sync> Player<'a, R> {
     pub fn accepts(&self, row: &Row<'_>, printed: &[u8]) -> io::Result<bool> {
         let source = printed_run(self.rt.alloc(), row, printed)?;
         let devices = devices_of(self.rt, row, source)?;
-        let outcome = self.play_in_memory(&["audit", NAME], devices)?;
+        let outcome = self.play_in_memory(&["audit", NAME], devices);
         Ok(outcome.status == 0 && outcome.text() == b"accepted\n".as_slice())
     }
 
@@ -71,45 +68,33 @@ impl<'a, R: Threads + Wait + Sync> Player<'a, R> {
         let alloc = self.rt.alloc();
         let words = words_in(alloc, words)?;
         let devices = devices_of(self.rt, row, row.source(alloc)?)?;
-        self.play_in_memory(&words, devices)
+        Ok(self.play_in_memory(&words, devices))
     }
 
-    fn play_in_memory(&self, words: &[&str], devices: Devices) -> io::Result<Outcome> {
+    fn play_in_memory(&self, words: &[&str], devices: Devices) -> Outcome {
+        let alloc = self.rt.alloc();
         let Devices {
             shelf,
             mut source,
             mut sink,
             gate,
         } = devices;
-        let ended = self.run_with_filters(words, &mut source, &mut sink, shelf, &gate)?;
-        Ok(Outcome {
+        let ended = run(
+            self.threads,
+            alloc,
+            words,
+            &mut source,
+            &mut sink,
+            shelf,
+            Vec::new(alloc),
+            &gate,
+        );
+        Outcome {
             status: ended.status,
             missed: gate.missed(),
             sink,
             shelf: Some(ended.shelf),
-        })
-    }
-
-    // Each session has the four filters of the program, in its slots 0 to 3.
-    fn run_with_filters<S: Source, K: Sink, D: Shelf, G: Gate>(
-        &self,
-        words: &[&str],
-        source: &mut S,
-        sink: &mut K,
-        shelf: D,
-        gate: &G,
-    ) -> io::Result<Ended<D>> {
-        let alloc = self.rt.alloc();
-        let mut chest: Vec<Vec<Box<dyn PointFilter + Send>>> = Vec::with_capacity(alloc, SESSIONS)?;
-        for _ in 0..SESSIONS {
-            let mut boxes: Vec<Box<dyn PointFilter + Send>> = Vec::with_capacity(alloc, 4)?;
-            boxes.push(Box::new(alloc, Invert::new(0))?)?;
-            boxes.push(Box::new(alloc, Threshold::new(128))?)?;
-            boxes.push(Box::new(alloc, Posterize::new(4))?)?;
-            boxes.push(Box::new(alloc, Fade::new(100))?)?;
-            chest.push(boxes)?;
         }
-        Ok(run(self.threads, alloc, words, source, sink, shelf, chest, gate))
     }
 
     // The files are those of the folder. What is written stays in memory.
@@ -118,7 +103,7 @@ impl<'a, R: Threads + Wait + Sync> Player<'a, R> {
         let words = words_in(alloc, words)?;
         let mut source = MemorySource::new(Vec::new(alloc), 1, Vec::new(alloc));
         let mut sink = plain_sink(alloc);
-        let status = self.status_on_files(&words, &mut source, &mut sink)?;
+        let status = self.status_on_files(&words, &mut source, &mut sink);
         Ok(outcome_of(status, sink))
     }
 
@@ -128,7 +113,7 @@ impl<'a, R: Threads + Wait + Sync> Player<'a, R> {
         let words = words_in(alloc, words)?;
         let mut source = StdSource::new(self.rt);
         let mut sink = StdSink::new(self.rt);
-        let status = self.status_on_files(&words, &mut source, &mut sink)?;
+        let status = self.status_on_files(&words, &mut source, &mut sink);
         Ok(outcome_of(status, plain_sink(alloc)))
     }
 
@@ -137,10 +122,20 @@ impl<'a, R: Threads + Wait + Sync> Player<'a, R> {
         words: &[&str],
         source: &mut S,
         sink: &mut K,
-    ) -> io::Result<u8> {
+    ) -> u8 {
+        let alloc = self.rt.alloc();
         let shelf = FileShelf::new(self.rt);
-        let ended = self.run_with_filters(words, source, sink, shelf, &OpenGate)?;
-        Ok(ended.status)
+        let ended = run(
+            self.threads,
+            alloc,
+            words,
+            source,
+            sink,
+            shelf,
+            Vec::new(alloc),
+            &OpenGate,
+        );
+        ended.status
     }
 }
 
