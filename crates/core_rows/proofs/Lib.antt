@@ -1,4 +1,3 @@
-mod Full
 mod Outs
 mod Sent
 mod ShownTwice

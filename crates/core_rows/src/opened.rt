@@ -40,7 +40,10 @@ pub(crate) fn core_over<D: Shelf>(
     }
     match Core::open(alloc, document, shelf) {
         Ok(core) => Ok(core),
-        Err(_) => Err(AllocError),
+        Err(failed) => {
+            drop(failed);
+            Err(AllocError)
+        }
     }
 }
 
@@ -57,7 +60,10 @@ pub(crate) fn studio_of(
     let core = core_over(alloc, document, shelf)?;
     match Studio::open(alloc, core) {
         Ok(opened) => Ok(opened),
-        Err(_) => Err(AllocError),
+        Err(failed) => {
+            drop(failed);
+            Err(AllocError)
+        }
     }
 }
 
@@ -70,6 +76,9 @@ pub(crate) fn plain_desk(alloc: Global) -> Result<Desk, AllocError>
     };
     match Desk::new(alloc, chest) {
         Ok(desk) => Ok(desk),
-        Err(_) => Err(AllocError),
+        Err(failed) => {
+            drop(failed);
+            Err(AllocError)
+        }
     }
 }
