@@ -33,9 +33,7 @@ fn make_one(alloc: Global, image: &mut Image, edit: Edit) -> Result<(), AllocErr
 
 fn tiles_kept_by(alloc: Global, before: &Document, after: &Document) -> Result<u32, AllocError> {
     let record = record(alloc, before, after)?;
-    let count = record.tiles_kept();
-    drop(record);
-    Ok(count)
+    Ok(record.tiles_kept())
 }
 
 fn tiles_kept_from(
@@ -50,17 +48,13 @@ fn tiles_kept_from(
 
 fn tiles_kept_in(alloc: Global, image: &mut Image, edit: Edit) -> Result<u32, AllocError> {
     let before = image.document().share(alloc)?;
-    let kept = tiles_kept_from(alloc, image, &before, edit);
-    drop(before);
-    kept
+    tiles_kept_from(alloc, image, &before, edit)
 }
 
 // How many tiles the record keeps that leads back from an edit.
 fn tiles_kept_after(alloc: Global, edit: Edit) -> Result<u32, AllocError> {
     let mut image = opened(alloc)?;
-    let kept = tiles_kept_in(alloc, &mut image, edit);
-    drop(image);
-    kept
+    tiles_kept_in(alloc, &mut image, edit)
 }
 
 // The same of a grey of 9 in a rectangle of the layer, whose pixels are 0.
@@ -123,7 +117,6 @@ fn layers_led(
     way.revert(document);
     let old = document.tree.len();
     way.revert(document);
-    drop(way);
     Ok((edited, old, document.tree.len()))
 }
 
@@ -134,24 +127,18 @@ fn layers_from(
 ) -> Result<(u32, u32, u32), AllocError> {
     make_one(alloc, image, DELETE)?;
     let mut after = image.document().share(alloc)?;
-    let led = layers_led(alloc, before, &mut after);
-    drop(after);
-    led
+    layers_led(alloc, before, &mut after)
 }
 
 fn layers_in(alloc: Global, image: &mut Image) -> Result<(u32, u32, u32), AllocError> {
     let before = image.document().share(alloc)?;
-    let led = layers_from(alloc, image, &before);
-    drop(before);
-    led
+    layers_from(alloc, image, &before)
 }
 
 // The same of the document in which a layer is deleted.
 fn layers_along(alloc: Global) -> Result<(u32, u32, u32), AllocError> {
     let mut image = opened(alloc)?;
-    let led = layers_in(alloc, &mut image);
-    drop(image);
-    led
+    layers_in(alloc, &mut image)
 }
 
 #[test]

@@ -46,9 +46,7 @@ fn no_damage(alloc: Global, doc: &Document) -> Result<Damage, AllocError>
 /// Whether a document begins with marked slots.
 fn begins_marked(alloc: Global, doc: &Document) -> Result<bool, AllocError> {
     let mut cache = first_cache(alloc, doc)?;
-    let is_marked = cache.take().is_some();
-    drop(cache);
-    Ok(is_marked)
+    Ok(cache.take().is_some())
 }
 
 fn change_to_itself(alloc: Global, doc: &Document) -> Result<Change, AllocError>
@@ -61,16 +59,13 @@ fn change_to_itself(alloc: Global, doc: &Document) -> Result<Change, AllocError>
 // Whether a document with a change to itself begins with marked slots.
 fn changes(alloc: Global) -> Result<bool, AllocError> {
     let doc = empty_canvas(alloc)?;
-    let is_marked = changes_to_itself(alloc, &doc);
-    drop(doc);
-    is_marked
+    changes_to_itself(alloc, &doc)
 }
 
 fn changes_to_itself(alloc: Global, doc: &Document) -> Result<bool, AllocError>
     requires { doc.now ≡ canvas_of none }
 {
-    let change = change_to_itself(alloc, doc)?;
-    drop(change);
+    let _change = change_to_itself(alloc, doc)?;
     begins_marked(alloc, doc)
 }
 

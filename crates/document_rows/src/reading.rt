@@ -93,11 +93,7 @@ fn is_numbered(document: &Document) -> bool {
 
 fn has_numbers(answer: Result<Document, ReadRefusedOrMemory>) -> bool {
     match answer {
-        Ok(document) => {
-            let found = is_numbered(&document);
-            drop(document);
-            found
-        }
+        Ok(document) => is_numbered(&document),
         Err(_) => false,
     }
 }

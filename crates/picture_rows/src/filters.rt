@@ -147,16 +147,12 @@ fn stays_empty(chest: &mut Chest) -> bool {
 
 fn usual_are_kept(alloc: Global) -> Result<bool, AllocError> {
     let mut chest = usual_filters(alloc)?;
-    let are_kept = are_kept(&mut chest);
-    drop(chest);
-    Ok(are_kept)
+    Ok(are_kept(&mut chest))
 }
 
 fn usual_stays_empty(alloc: Global) -> Result<bool, AllocError> {
     let mut chest = usual_filters(alloc)?;
-    let is_empty = stays_empty(&mut chest);
-    drop(chest);
-    Ok(is_empty)
+    Ok(stays_empty(&mut chest))
 }
 
 #[test]

@@ -77,77 +77,41 @@ fn is_there(shelf: &MemoryShelf, name: &str) -> bool {
     shelf.file(name).is_some()
 }
 
-// Whether the file of a name is loaded so.
-fn is_loaded(
-    alloc: Global,
-    shelf: &mut MemoryShelf,
-    name: &str,
-    limit: usize,
-    bytes: &[u8],
-) -> Result<bool, FailedOrMemory>
-    requires { 0 < limit }
-{
-    let loaded = load(alloc, shelf, name, limit)?;
-    Ok(loaded.as_slice() == bytes)
-}
-
-fn are_loaded(alloc: Global, shelf: &mut MemoryShelf) -> Result<[bool; 2], FailedOrMemory> {
-    Ok([
-        is_loaded(alloc, shelf, "a", 9, b"hello")?,
-        is_loaded(alloc, shelf, "a", 2, b"he")?,
-    ])
-}
-
-// Whether a file is loaded, whole and cut, and one that is not there fails.
-fn loads(alloc: Global, shelf: &mut MemoryShelf) -> bool {
-    are_loaded(alloc, shelf) == Ok([true; 2])
-        && is_loaded(alloc, shelf, "b", 9, b"") == Err(FailedOrMemory::Failed)
-}
-
-fn shelf_loads(alloc: Global) -> Result<bool, AllocError> {
-    let mut shelf = shelf_with(alloc, Vec::new(alloc), None)?;
-    let loads = loads(alloc, &mut shelf);
-    drop(shelf);
-    Ok(loads)
-}
-
 #[test]
 fn a_file_is_loaded(rt: HostRuntime) -> Result<(), Fail> {
-    assert!(rt; shelf_loads(rt.alloc())?);
+    let alloc = rt.alloc();
+    let mut shelf = shelf_with(alloc, Vec::new(alloc), None)?;
+    assert_eq!(rt;
+        load(alloc, &mut shelf, "a", 9)?.as_slice(),
+        b"hello".as_slice()
+    );
+    assert_eq!(rt;
+        load(alloc, &mut shelf, "a", 2)?.as_slice(),
+        b"he".as_slice()
+    );
+    assert_eq!(rt;
+        load(alloc, &mut shelf, "b", 9).err(),
+        Some(FailedOrMemory::Failed)
+    );
     Ok(())
-}
-
-// Whether it tells what it keeps where the second call fails and all from the fourth on do. A name that was selected is
-// known to have no file.
-fn tells(shelf: &mut MemoryShelf) -> bool {
-    let selected = [
-        selects(shelf, "b"),
-        selects(shelf, "a"),
-        selects(shelf, "a"),
-        selects(shelf, "b"),
-    ];
-    let left = [
-        length_left(shelf, "a"),
-        length_left(shelf, "b"),
-        length_left(shelf, "c"),
-    ];
-    selected == [true, false, true, false]
-        && [is_there(shelf, "a"), is_there(shelf, "b")] == [true, false]
-        && left == [1, 1, 0]
-        && shelf.calls() == 4
-        && shelf.starved() == 0
-}
-
-fn shelf_tells(alloc: Global) -> Result<bool, AllocError> {
-    let mut shelf = shelf_with(alloc, vec![in alloc; 1]?, Some(3))?;
-    let tells = tells(&mut shelf);
-    drop(shelf);
-    Ok(tells)
 }
 
 #[test]
 fn a_shelf_tells_what_it_keeps(rt: HostRuntime) -> Result<(), Fail> {
-    assert!(rt; shelf_tells(rt.alloc())?);
+    let alloc = rt.alloc();
+    let mut shelf = shelf_with(alloc, vec![in alloc; 1]?, Some(3))?;
+    assert!(rt; selects(&mut shelf, "b"));
+    assert!(rt; !selects(&mut shelf, "a"));
+    assert!(rt; selects(&mut shelf, "a"));
+    assert!(rt; !selects(&mut shelf, "b"));
+    assert!(rt; is_there(&shelf, "a"));
+    assert_eq!(rt; length_left(&shelf, "a"), 1);
+    assert!(rt; !is_there(&shelf, "b"));
+    // It was selected, so it is known that there is no file.
+    assert_eq!(rt; length_left(&shelf, "b"), 1);
+    assert_eq!(rt; length_left(&shelf, "c"), 0);
+    assert_eq!(rt; shelf.calls(), 4);
+    assert_eq!(rt; shelf.starved(), 0);
     Ok(())
 }
 
@@ -167,33 +131,23 @@ fn waits_for_the_worker(alloc: Global, limit: u32) -> Result<HoldGate, AllocErro
     HoldGate::new(alloc, holds, limit)
 }
 
-// Whether its hold is missed where the worker has taken a job before.
-fn is_missed(alloc: Global) -> Result<bool, AllocError> {
-    let gate = waits_for_the_worker(alloc, 3)?;
+#[test]
+fn a_hold_looks_until_the_other_has_begun(rt: HostRuntime) -> Result<(), Fail> {
+    let gate = waits_for_the_worker(rt.alloc(), 3)?;
     gate.pass(FIRST, Place::BeforeCall);
     gate.pass(FIRST, Place::AfterCall);
     gate.pass(Actor::Worker(0), Place::JobTaken);
     gate.pass(FIRST, Place::BeforeCall);
-    Ok(gate.missed())
-}
-
-#[test]
-fn a_hold_looks_until_the_other_has_begun(rt: HostRuntime) -> Result<(), Fail> {
-    assert!(rt; !is_missed(rt.alloc())?);
+    assert!(rt; !gate.missed());
     Ok(())
-}
-
-// Whether it is missed behind the first call and behind the second one, without a worker.
-fn are_missed(alloc: Global) -> Result<[bool; 2], AllocError> {
-    let gate = waits_for_the_worker(alloc, 3)?;
-    gate.pass(FIRST, Place::BeforeCall);
-    let first = gate.missed();
-    gate.pass(FIRST, Place::BeforeCall);
-    Ok([first, gate.missed()])
 }
 
 #[test]
 fn a_hold_that_looks_in_vain_is_missed(rt: HostRuntime) -> Result<(), Fail> {
-    assert!(rt; are_missed(rt.alloc())? == [false, true]);
+    let gate = waits_for_the_worker(rt.alloc(), 3)?;
+    gate.pass(FIRST, Place::BeforeCall);
+    assert!(rt; !gate.missed());
+    gate.pass(FIRST, Place::BeforeCall);
+    assert!(rt; gate.missed());
     Ok(())
 }
