@@ -56,7 +56,9 @@ fn last_tile<L: Ledger>(
 // Writes the picture of the last tile of the document. So nothing but the document is to be let go here.
 fn write_last(alloc: Global, out: &mut Picture) -> Result<(), AllocError> {
     let doc = blank(alloc)?;
-    last_tile::<Brand>(alloc, &doc, out, Blank::new(1))
+    let done = last_tile::<Brand>(alloc, &doc, out, Blank::new(1));
+    drop(doc);
+    done
 }
 
 // Whether there are so many bytes, and all are 0.
@@ -97,7 +99,9 @@ fn fill_last(alloc: Global, doc: &Document, out: &mut [u8; 24]) -> Result<(), Al
 
 fn write_last_pixels(alloc: Global, out: &mut [u8; 24]) -> Result<(), AllocError> {
     let doc = blank(alloc)?;
-    fill_last(alloc, &doc, out)
+    let done = fill_last(alloc, &doc, out);
+    drop(doc);
+    done
 }
 
 // Whether the last pixels are clear, written over sevens.

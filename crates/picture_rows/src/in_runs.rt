@@ -306,7 +306,9 @@ fn shown_along(alloc: Global, plane: &mut Plane) -> Result<[bool; 3], AllocError
 
 fn are_shown(alloc: Global) -> Result<[bool; 3], AllocError> {
     let mut plane = plane_in_runs(alloc)?;
-    shown_along(alloc, &mut plane)
+    let shown = shown_along(alloc, &mut plane);
+    drop(plane);
+    shown
 }
 
 #[test]
@@ -368,7 +370,10 @@ fn has_all_codes(plane: &Plane) -> bool
 fn shares_stay(alloc: Global) -> Result<[bool; 4], AllocError> {
     let mut plane = plane_in_runs(alloc)?;
     let first = plane.share(alloc)?;
-    shown_by_shares(alloc, &mut plane, &first)
+    let shown = shown_by_shares(alloc, &mut plane, &first);
+    drop(first);
+    drop(plane);
+    shown
 }
 
 #[test]
@@ -396,7 +401,9 @@ fn coded_along(
 fn codes_are_lost(alloc: Global) -> Result<bool, AllocError> {
     let mut plane = plane_in_runs(alloc)?;
     let has_all = has_all_codes(&plane);
-    let (rows, codes) = coded_along(alloc, &mut plane)?;
+    let coded = coded_along(alloc, &mut plane);
+    drop(plane);
+    let (rows, codes) = coded?;
     Ok(
         has_all
             && rows
@@ -429,7 +436,9 @@ fn plain_along(alloc: Global, plane: &mut Plane) -> Result<[[bool; 4]; 3], Alloc
 
 fn tiles_are_unpacked(alloc: Global) -> Result<[[bool; 4]; 3], AllocError> {
     let mut plane = plane_in_runs(alloc)?;
-    plain_along(alloc, &mut plane)
+    let plain = plain_along(alloc, &mut plane);
+    drop(plane);
+    plain
 }
 
 #[test]

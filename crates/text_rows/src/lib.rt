@@ -8,12 +8,6 @@ mod idle_calls;
 #[cfg(test)]
 mod lines;
 #[cfg(test)]
-mod made;
-#[cfg(test)]
 mod messages;
 #[cfg(test)]
 mod scripts;
-#[cfg(test)]
-mod shapes;
-#[cfg(test)]
-mod verdicts;

@@ -1,4 +1,0 @@
-use Rattle.beside_rows.proofs.calls.ask_for.Given as goal
-
-abbrev pub ghosts-ask_with : goal.ghosts-ask_with
-ghosts-ask_with g a = record { name = a.blank.name; parts = a.blank.parts }

@@ -1,4 +1,0 @@
-use Rattle.beside_rows.proofs.refreshed.refresh.Given as goal
-
-abbrev pub ghosts-refresh_with : goal.ghosts-refresh_with
-ghosts-refresh_with g a = record { name = a.blank.name; parts = a.blank.parts }

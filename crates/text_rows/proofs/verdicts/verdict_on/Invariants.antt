@@ -1,4 +1,0 @@
-use Rattle.text_rows.proofs.verdicts.verdict_on.Given as goal
-
-abbrev pub ghosts-audited : goal.ghosts-audited
-ghosts-audited a = record { name = a.blank.name; parts = a.blank.parts }
