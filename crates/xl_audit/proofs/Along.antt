@@ -23,12 +23,11 @@ use Rattle.spec_audit.proofs.Links.{IsCallLine}
 use Rattle.spec_audit.proofs.Long.{walked_few}
 use Rattle.spec_audit.proofs.Merged.{all_get, merge_named, call_line, names_save_at}
 use Rattle.spec_audit.proofs.Walking.{Walked, OutFits, walked_begin, walked_more, walked_index, walked_out}
-use Rattle.spec_standing.proofs.GoesOn.{few-versions, few_made, kept-stands}
-use Rattle.spec_standing.proofs.Ids.{has_ids}
+use Rattle.spec_standing.proofs.GoesOn.{few_made}
 use Rattle.xl_audit.specs.Auditing.{filters_in, IsFull, FitsChest}
 use Rattle.xl_judging.specs.Calls.{calls_in, line_in, IsNoCall}
 use Rattle.xl_judging.specs.Versions.{version_named, WantsIfAny, WantsOfWord, AreWanted}
-use Rattle.xl_audit.specs.Walking.{MayGoOn, HasCome, IsNextWord, IsJudged, MayStand, filters_at}
+use Rattle.xl_audit.specs.Walking.{HasCome, IsNextWord, IsJudged, MayStand, filters_at}
 use Rattle.xl_audit.specs.declared.walk.Walk.{Walk}
 use Rattle.xl_judging.proofs.Calling.{line_is}
 use Rattle.xl_audit.proofs.Fitting.{full_agrees, full_at, word_fits}
@@ -96,18 +95,6 @@ pub record IsAlong (s : Start) (o : Output) (first : List (List (Option FilterSt
   pub slots : (session : ℕ) → session < 8 → SameSlots (unwrap_or (slice_get first session) []) (get_or chests session [])
   pub eight : length chests ≡ 8
   pub wanted : AreWanted (calls_in s.scripts) o.replies walk.versions.wanted.items o.order
-
-pub along_goes : (base : Document) (earlier : List Entry) (walk : Walk) → HasCome base earlier walk → MayGoOn walk.standing
-along_goes base earlier walk has =
-    let few = few-versions base earlier walk.standing walk.made has.stands in
-    let groups = has.stands.groups in
-    let most = has.stands.few in
-    record {
-      kept = kept-stands base earlier walk.standing walk.made has.stands;
-      versions = omega (arith, few);
-      groups = omega (arith, groups, most);
-      ids = has_ids base earlier walk.standing walk.made has.stands;
-    }
 
 pub along_counts : (base : Document) (earlier : List Entry) (walk : Walk) (session : ℕ) → HasCome base earlier walk → session < 8
     → slice_index walk.made session < 2 ^ 31

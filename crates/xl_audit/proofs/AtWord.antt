@@ -19,9 +19,9 @@ use Rattle.xl_judging.specs.Calls.{calls_in, line_in}
 use Rattle.xl_judging.specs.Versions.{version_named, WantsIfAny, AreWanted}
 use Rattle.xl_audit.specs.Auditing.{ArePrintable, FitsChest, IsFull, padded, start_of}
 use Rattle.xl_audit.specs.Begun.{IsBegun}
-use Rattle.xl_audit.specs.Walking.{MayGoOn, HasCome, IsNextWord, IsJudged, filters_at}
+use Rattle.xl_audit.specs.Walking.{HasCome, IsNextWord, IsJudged, filters_at}
 use Rattle.xl_audit.specs.declared.walk.Walk.{Walk}
-use Rattle.xl_audit.proofs.Along.{IsAlong, along_begin, along_more, along_goes, along_counts, next_word}
+use Rattle.xl_audit.proofs.Along.{IsAlong, along_begin, along_more, along_counts, next_word}
 use Rattle.xl_audit.proofs.Along.{along_eight, along_wants, along_finds}
 use Rattle.xl_audit.proofs.Desks.{chest_of, chests_of, chest_at, chest_written, length_padded, padded_at}
 

@@ -1,5 +1,5 @@
 -- A walk along the order of an output, and what is known at a place of it.
-use Rattle.std.specs.Prelude.{◌≡◌, ℕ, ◌+◌, ◌<◌, ◌≤◌, ◌^◌, Bool, true, false, List, [], ◌∷◌, ◌++◌, length}
+use Rattle.std.specs.Prelude.{◌≡◌, ℕ, ◌+◌, ◌<◌, ◌≤◌, Bool, true, false, List, [], ◌∷◌, ◌++◌, length}
 use Rattle.std.specs.Prelude.{slice_index, slice_set, Option, Some, None, IfSome, MatchBool, option_map, unwrap_or, slice_get}
 use Rattle.std.specs.List.{AllByRecursion}
 use Rattle.spec_document.specs.declared.TileAt.{TileAt}
@@ -7,7 +7,7 @@ use Rattle.spec_document.specs.Document.{Document}
 use Rattle.spec_document.specs.Limits.{AreBytes}
 use Rattle.spec_filters.specs.declared.FilterState.{FilterState}
 use Rattle.spec_cache.specs.Cache.{kept}
-use Rattle.spec_history.specs.declared.TheConstants.{MAX_EDITS, MAX_ENTRIES}
+use Rattle.spec_history.specs.declared.TheConstants.{MAX_ENTRIES}
 use Rattle.spec_history.specs.Machine.{Call, Reply, Saving}
 use Rattle.spec_history.specs.History.{Entry, replay, next_index, mine, is_changed}
 use Rattle.spec_script.specs.Script as lines
@@ -20,21 +20,13 @@ use Rattle.spec_world.specs.World.{entries_owed}
 use Rattle.spec_world.specs.Exact.{SlotsAreExact}
 use Rattle.spec_audit.specs.Output.{Printed, Output}
 use Rattle.spec_audit.specs.Walk.{Start, call_at, printed_at, entry_at, seen_by, Passes}
-use Rattle.spec_standing.specs.Group.{HasIds}
-use Rattle.spec_standing.specs.Now.{Now, at_now, response, world_of, Gives, ShowsNow, IsKeptNow, Stands}
+use Rattle.spec_standing.specs.Now.{response, world_of, Gives, ShowsNow, Stands}
 use Rattle.xl_judging.specs.Calls.{IsNoCall}
 use Rattle.xl_judging.specs.Judging.{digest_with, Decides, PeekIsRight}
 use Rattle.xl_judging.specs.Versions.{shares_after, HasVersions}
 use Rattle.xl_audit.specs.declared.walk.Walk.{Walk}
 
 -- ---- what stands at a place
-
--- a call can be answered: its ids and numbers are within their types
-pub record MayGoOn (now : Now) : Type 0 where
-  pub kept : IsKeptNow now
-  pub versions : now.version < 2 ^ 31
-  pub groups : now.next_group < 2 ^ 31
-  pub ids : HasIds (at_now now) MAX_EDITS
 
 -- The walk has come through these entries: they stand, just what has to be kept is kept, and it has counted the calls of each
 -- session, what each has seen, the version of the save that is out, and the versions that are wanted.

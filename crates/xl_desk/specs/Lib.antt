@@ -1,5 +1,6 @@
 pub mod Needs
 pub mod Places
+pub mod Served
 pub mod TileJobs
 pub use Rattle.xl_calls.specs.Applicable
 pub use Rattle.xl_calls.specs.Calls

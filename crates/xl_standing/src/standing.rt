@@ -1,5 +1,5 @@
 //! What stands now: the last document, what an undo or a redo gives, and the pictures that are kept.
-ghost use Rattle.std.specs.Prelude.{◌≡◌, ◌+◌, ◌<◌, ◌≤◌, ◌^◌, true, false, [], length, option_map, IfOk, IfSome, IsOk, OnOk};
+ghost use Rattle.std.specs.Prelude.{◌≡◌, ◌+◌, ◌<◌, ◌≤◌, ◌^◌, true, false, [], length, option_map, IfOk, IfSome, IsOk};
 ghost use Rattle.std.specs.Prelude.{OnErr, Some, None};
 ghost use Rattle.std.specs.List.{AllByRecursion};
 ghost use Rattle.spec_cache.specs.Cache.{no_slots, is_clean, kept, next_place, after_take, finish, install};
@@ -14,11 +14,10 @@ ghost use Rattle.spec_tables.specs.Tables.{edits_made};
 ghost use Rattle.spec_world.specs.World.{add_stacks, stack_ids};
 ghost use Rattle.xl_compose.specs.Job.{StandsFor};
 ghost use Rattle.xl_desk.specs.TileJobs.{is_marked, GivesJob};
-ghost use Rattle.xl_desk.specs.Needs.{TakesNoStep, IsUndoOrRedo, call_cost, tile_cost};
+ghost use Rattle.xl_desk.specs.Needs.{tile_cost};
 ghost use Rattle.xl_desk.specs.Places.{place_of_job, place_done};
-ghost use Rattle.spec_standing.specs.Group.{HasIds};
-ghost use Rattle.spec_standing.specs.Now.{first_now, at_now, with_cache, accepts, accepted, edited, undone, taken_back, redone};
-ghost use Rattle.spec_standing.specs.Now.{next_version, shown, peeked, top_of, response, Gives, ShowsTile, ShowsKept, ShowsNow};
+ghost use Rattle.spec_standing.specs.Now.{first_now, with_cache, accepts, accepted, edited, undone, redone};
+ghost use Rattle.spec_standing.specs.Now.{next_version, shown, peeked, top_of, Gives, ShowsTile, ShowsKept};
 ghost use Rattle.spec_standing.specs.Now.{KeepsDesk, IsKeptNow, IsTileOf};
 ghost use Rattle.spec_standing.specs.Steps.{IsChange};
 ghost use Rattle.xl_doc.specs.Numbered.{AreNumbered};
@@ -26,6 +25,8 @@ ghost use Rattle.xl_edit.specs.Applied.{at};
 ghost use Rattle.xl_calls.specs.Calls.{call_of};
 ghost use Rattle.xl_calls.specs.Edits.{edits_of};
 ghost use Rattle.xl_calls.specs.Replies.{reply_of};
+ghost use Rattle.xl_desk.specs.Served.{IsServed};
+ghost use Rattle.xl_standing.specs.Answering.{MayGoOn, AnswersNow};
 ghost use Rattle.xl_filters.specs.Chests.{states_in};
 
 use crate::group::{GroupRefusedOrMemory, MadeGroup, make_group};
@@ -138,33 +139,12 @@ impl Standing {
         steps: &mut Steps<L>,
     ) -> Result<Answered, AllocError>
         requires call { IsCall (call_of call.now) }
-        requires kept { IsKeptNow self.old }
         requires there { AreThere (states_in state desk.old.chest)
             (limited.edits_of (call_of call.now)) }
-        requires versions { self.old.version < 2 ^ 31 }
-        requires groups { self.old.next_group < 2 ^ 31 }
-        requires ids { HasIds (at_now self.old) MAX_EDITS }
-        ensures response { IfOk result
-            (λ a. Gives (response self.old (call_of call.now) seen a.tables) (reply_of a.reply)
-            self.new) }
-        ensures asked { IfOk result (λ a.
-            AreAsked (states_in state desk.old.chest) (states_in state desk.new.chest)
-            (edits_made (call_of call.now) (reply_of a.reply)) a.tables) }
-        ensures bytes { IfOk result (λ a. AllByRecursion AreBytes a.tables) }
-        ensures shown { IfOk result (λ a. ShowsNow self.new (call_of call.now) (reply_of a.reply)
-            desk.new.out) }
-        ensures desk { IfOk result (λ a. KeepsDesk (reply_of a.reply) desk.old.out desk.new.out) }
-        ensures steps { TakesNoStep self.old.cache (call_of call.now) → steps.new ≡ steps.old }
-        ensures cost { steps.new ≤ steps.old + call_cost self.old.cache self.old.document
-            (call_of call.now) }
-        ensures no_tile { IfOk result (λ a. machine.version_shown (reply_of a.reply) ≡ None
-            → steps.new ≡ steps.old) }
-        ensures steps_as_before { OnErr result (steps.new ≡ steps.old) }
-        ensures as_before { OnErr result (self.new ≡ self.old) }
-        ensures chest { OnErr result (IsPartAfter (accepts self.old (call_of call.now))
-            (states_in state desk.old.chest) (states_in state desk.new.chest) (call_of call.now)) }
-        ensures out_as_before { OnErr result (desk.new.out ≡ desk.old.out) }
-        ensures succeeds { IsUndoOrRedo (call_of call.now) → IsOk result }
+        requires ready { MayGoOn self.old }
+        ensures { AnswersNow (call_of call.now) seen result self.old self.new
+            (states_in state desk.old.chest) (states_in state desk.new.chest) desk.old.out
+            desk.new.out steps.old steps.new }
     {
         match call {
             Call::Edit(group) => {
@@ -200,10 +180,7 @@ impl Standing {
         requires few { length edits.now ≤ MAX_EDITS }
         requires each { AllByRecursion IsEdit (edits_of edits.now) }
         requires there { AreThere (states_in state chest.old) (edits_of edits.now) }
-        requires kept { IsKeptNow self.old }
-        requires versions { self.old.version < 2 ^ 31 }
-        requires groups { self.old.next_group < 2 ^ 31 }
-        requires ids { HasIds (at_now self.old) MAX_EDITS }
+        requires ready { MayGoOn self.old }
         ensures response { IfOk result
             (λ a. Gives (edited self.old guard (edits_of edits.now) a.tables) (reply_of a.reply)
             self.new) }
@@ -329,15 +306,11 @@ impl Standing {
             self.new) }
         ensures shown { IfOk result (λ reply. ShowsTile self.new.document node.0 at (reply_of reply)
             out.new) }
-        ensures desk { IfOk result (λ reply. KeepsDesk (reply_of reply) out.old out.new) }
+        ensures served { IsServed reply_of result out.old out.new steps.old steps.new }
         ensures steps { is_clean self.old.cache node.0 at ≡ true → steps.new ≡ steps.old }
         ensures cost { steps.new ≤ steps.old + tile_cost self.old.cache self.old.document node.0
             at }
-        ensures no_tile { IfOk result (λ reply. machine.version_shown (reply_of reply) ≡ None
-            → steps.new ≡ steps.old) }
-        ensures steps_as_before { OnErr result (steps.new ≡ steps.old) }
         ensures as_before { OnErr result (self.new ≡ self.old) }
-        ensures out_as_before { OnErr result (out.new ≡ out.old) }
     {
         if !has_stack(&self.document, node) {
             return Ok(Reply::NoStack { node: node.0 });

@@ -4,6 +4,7 @@ use Rattle.std.proofs.Common.{Some, None, refl, sym, ap, ◌∙◌, subst, arith
 use Rattle.std.specs.Prelude.{nat_le, nat_lt, ◌==◌, MatchBool, Result, Ok, Err, IfOk, OnErr, IsSome}
 use Rattle.std.proofs.lemmas.Bool.{ltb-false}
 use Rattle.std.proofs.lemmas.Bool.Decides.{nat_tests}
+use Rattle.std.proofs.lemmas.Result.{IfOk-weaker, on_err_weaker}
 use Rattle.spec_document.specs.Document.{Document}
 use Rattle.spec_cache.specs.Slots.{Shown}
 use Rattle.spec_cache.specs.Cache.{Cache, kept}
@@ -27,6 +28,7 @@ use Rattle.spec_saves.proofs.Staying.{saves_started-snoc}
 use Rattle.xl_history.specs.History.{is_full}
 use Rattle.xl_history.specs.Needs.{TakesNoStep}
 use Rattle.xl_history.specs.Editing.{Editing, world, out_of, IsSubmitted, KeepsShelf, IsAsBefore}
+use Rattle.xl_history.specs.Answering.{AnswersCall}
 use Rattle.xl_studio.specs.declared.moment.Moment.{Moment}
 use Rattle.xl_studio.specs.declared.moment.Moment.TheVariants.{Made}
 use Rattle.xl_studio.specs.Moments.{IsAsked, moments, entries_in}
@@ -175,63 +177,15 @@ module _ {K : Type 0} where
     rebased : out_of new.history ≡ (replay old.history.base new.history.entries).out
     rebased = ap (λ (b : Document). (replay b new.history.entries).out) base
 
-  pub kept_after : (old new : Editing K) → IsKept old → IsRight new.history.base (world new)
-      → length new.history.entries ≤ MAX_ENTRIES → new.history.base ≡ old.history.base → KeepsShelf old new
-      → AddsCalls (moments_of old) (moments_of new) → IsKept new
-  kept_after old new kept right few base keeps adds = record {
-    right = right;
-    few = few;
-    each_start = ap length keeps.handed ∙ (kept.each_start ∙ sym (starts_after old new adds));
-    shelf_in = λ is. out_after old new base adds ∙ kept.shelf_in (subst (λ (k : Option K). IsSome k) keeps.shelf is);
-  }
-
   pub same_after : (old new : Editing K) → IsAsBefore old new → moments_of new ≡ moments_of old
   same_after old new same =
       same_moments old new old.history.entries (ap (λ h. h.base) same.history)
       (record { opening = same.opening; handed = same.handed; shelf = same.shelf }) (ap (λ h. h.entries) same.history)
 
-  pub failed_after : {R E : Type 0} (r : Result R E) (old was new : Editing K) → old ≡ was → OnErr r (IsAsBefore old new)
-      → OnErr r (moments_of new ≡ moments_of was)
-  failed_after (Ok reply) old was new same as_before = tt
-  failed_after (Err e) old was new same as_before = same_after old new as_before ∙ ap moments_of same
-
-  -- a call leaves one call more at most, whatever its filters have answered
-  pub calls_after : {E : Type 0} (R : Type 0) (reply_of : R
-      → Reply) (r : Result R E) (old was new : Editing K) (session : ℕ) (call : Call) (seen : ℕ) (chest : List (Option FilterState))
-      → old ≡ was → KeepsShelf old new
-      → ((filters : List FilterState) → Agrees chest filters
-      → IfOk r (λ reply. IsSubmitted old session call seen (expected_tables filters (asked call []) (reply_of reply))
-      (reply_of reply) new))
-      → OnErr r (IsAsBefore old new) → AddsCalls (moments_of was) (moments_of new)
-  calls_after R reply_of (Ok reply) old was new session call seen chest same keeps answered as_before =
-      let some = some_list chest in
-      let tables = expected_tables some.0 (asked call []) (reply_of reply) in
-      subst (λ (c : Editing K). AddsCalls (moments_of c) (moments_of new)) same
-      (adds_calls old.history.base (moments_of old) (moments_of new) session call tables (reply_of reply)
-      (adds old new session call seen tables (reply_of reply) (answered some.0 some.1) keeps))
-  calls_after R reply_of (Err e) old was new session call seen chest same keeps answered as_before =
-      record { is = inl (same_after old new as_before ∙ ap moments_of same) }
-
-  pub adds_after : {E : Type 0} (R : Type 0) (reply_of : R
-      → Reply) (r : Result R E) (old was new : Editing K) (session : ℕ) (call : Call) (seen : ℕ) (chest : List (Option FilterState))
-      → old ≡ was → KeepsShelf old new
-      → ((filters : List FilterState) → Agrees chest filters
-      → IfOk r (λ reply. IsSubmitted old session call seen (expected_tables filters (asked call []) (reply_of reply))
-      (reply_of reply) new))
-      → (filters : List FilterState) → Agrees chest filters
-      → IfOk r (λ reply. Adds was.history.base (moments_of was) session call
-      (expected_tables filters (asked call []) (reply_of reply)) (reply_of reply) (moments_of new))
-  adds_after R reply_of (Ok reply) old was new session call seen chest same keeps answered filters agrees =
-      let tables = expected_tables filters (asked call []) (reply_of reply) in
-      subst (λ (c : Editing K). Adds c.history.base (moments_of c) session call tables (reply_of reply) (moments_of new)) same
-      (adds old new session call seen (expected_tables filters (asked call []) (reply_of reply)) (reply_of reply)
-      (answered filters agrees) keeps)
-  adds_after R reply_of (Err e) old was new session call seen chest same keeps answered filters agrees = tt
-
-  pub fresh : (old new : Editing K) (session : ℕ) (call : Call) (seen : ℕ) (tables : List (List ℕ)) (reply : Reply)
+  is_fresh : (old new : Editing K) (session : ℕ) (call : Call) (seen : ℕ) (tables : List (List ℕ)) (reply : Reply)
       → IsSubmitted old session call seen tables reply new
       → seen ≤ latest (replay old.history.base old.history.entries) → IsFreshReply seen reply
-  fresh old new session call seen tables reply is le =
+  is_fresh old new session call seen tables reply is le =
       let given = reply_to old.history.base (world old) call seen tables in
       subst (IsFreshReply seen) (sym is.1)
       (cond_both (λ (o : Outcome). IsFreshReply seen o.reply) (free_entries (world old) == 0)
@@ -239,32 +193,66 @@ module _ {K : Type 0} where
       (record { reply = given; world = with_call old.history.base (world old) session call tables given }) tt
       (to_fresh old.history.base (world old) call seen tables le))
 
-  pub fresh_after : {E : Type 0} (R : Type 0) (reply_of : R
-      → Reply) (r : Result R E) (old was new : Editing K) (session : ℕ) (call : Call) (seen : ℕ) (chest : List (Option FilterState))
-      → old ≡ was
-      → ((filters : List FilterState) → Agrees chest filters
-      → IfOk r (λ reply. IsSubmitted old session call seen (expected_tables filters (asked call []) (reply_of reply))
-      (reply_of reply) new))
-      → IsLegal old.history.base old.history.entries → seen ≤ latest_of was.history.entries
-      → IfOk r (λ reply. IsFreshReply seen (reply_of reply))
-  fresh_after R reply_of (Ok reply) old was new session call seen chest same answered legal le =
-      let some = some_list chest in
-      fresh old new session call seen (expected_tables some.0 (asked call []) (reply_of reply)) (reply_of reply)
-      (answered some.0 some.1)
-      (let l = latest_of-legal old.history.base old.history.entries legal in
-      let m : latest_of old.history.entries ≡ latest_of was.history.entries =
-      ap (λ (c : Editing K). latest_of c.history.entries) same in omega arith)
-  fresh_after R reply_of (Err e) old was new session call seen chest same answered legal le = tt
+-- whatever a result is
+either_way : {R E P : Type 0} (r : Result R E) → IfOk r (λ _. P) → OnErr r P → P
+either_way (Ok x) ok err = ok
+either_way (Err e) ok err = err
 
-  -- whatever a call comes to, its base stays
-  pub base_after : {E : Type 0} (R : Type 0) (reply_of : R
-      → Reply) (r : Result R E) (old was new : Editing K) (session : ℕ) (call : Call) (seen : ℕ) (chest : List (Option FilterState))
-      → old ≡ was
-      → ((filters : List FilterState) → Agrees chest filters
-      → IfOk r (λ reply. IsSubmitted old session call seen (expected_tables filters (asked call []) (reply_of reply))
-      (reply_of reply) new))
-      → OnErr r (IsAsBefore old new) → new.history.base ≡ was.history.base
-  base_after R reply_of (Ok reply) old was new session call seen chest same answered as_before =
-      let some = some_list chest in (answered some.0 some.1).0 ∙ ap (λ (c : Editing K). c.history.base) same
-  base_after R reply_of (Err e) old was new session call seen chest same answered as_before =
-      ap (λ h. h.base) as_before.history ∙ ap (λ (c : Editing K). c.history.base) same
+-- ---- what a core answered
+
+module _ {K R E : Type 0} {reply_of : R → Reply} {session : ℕ} {call : Call} {seen : ℕ} {r : Result R E} {old new : Editing K}
+    {before after : List (Option FilterState)} {bytes_before bytes_after : List ℕ} {steps_before steps_after : ℕ}
+    (told : AnswersCall reply_of session call seen r old new before after bytes_before bytes_after steps_before steps_after) where
+  -- what is said of a core is said of it by another name
+  pub told_same : (was : Editing K) → old ≡ was
+      → AnswersCall reply_of session call seen r was new before after bytes_before bytes_after steps_before steps_after
+  told_same was same =
+      subst (λ (c : Editing K). AnswersCall reply_of session call seen r c new before after bytes_before bytes_after
+      steps_before steps_after) same told
+
+  pub adds_after : (filters : List FilterState) → Agrees before filters
+      → IfOk r (λ reply. Adds old.history.base (moments_of old) session call
+      (expected_tables filters (asked call []) (reply_of reply)) (reply_of reply) (moments_of new))
+  adds_after filters agrees =
+      IfOk-weaker r _ _ (λ (reply : R) is.
+      adds old new session call seen (expected_tables filters (asked call []) (reply_of reply)) (reply_of reply) is told.shelf)
+      (told.answered filters agrees)
+
+  pub failed_after : OnErr r (moments_of new ≡ moments_of old)
+  failed_after = on_err_weaker r (same_after old new) told.as_before
+
+  -- a call leaves one call more at most, whatever its filters have answered
+  pub calls_after : AddsCalls (moments_of old) (moments_of new)
+  calls_after =
+      let some = some_list before in
+      either_way r (IfOk-weaker r _ _ (λ (reply : R) more.
+      adds_calls old.history.base (moments_of old) (moments_of new) session call
+      (expected_tables some.0 (asked call []) (reply_of reply)) (reply_of reply) more) (adds_after some.0 some.1))
+      (on_err_weaker r (λ (same : moments_of new ≡ moments_of old). record { is = inl same }) failed_after)
+
+  -- and its base stays
+  pub base_after : new.history.base ≡ old.history.base
+  base_after =
+      let some = some_list before in
+      let tables : R → List (List ℕ) = λ reply. expected_tables some.0 (asked call []) (reply_of reply) in
+      either_way r (IfOk-weaker r _ _ (λ (reply : R) (is : IsSubmitted old session call seen (tables reply) (reply_of reply) new). is.0)
+      (told.answered some.0 some.1))
+      (on_err_weaker r (λ (same : IsAsBefore old new). ap (λ h. h.base) same.history) told.as_before)
+
+  pub fresh_after : IsLegal old.history.base old.history.entries → seen ≤ latest_of old.history.entries
+      → IfOk r (λ reply. IsFreshReply seen (reply_of reply))
+  fresh_after legal le =
+      let some = some_list before in
+      let last = latest_of-legal old.history.base old.history.entries legal in
+      IfOk-weaker r _ _ (λ (reply : R) is.
+      is_fresh old new session call seen (expected_tables some.0 (asked call []) (reply_of reply)) (reply_of reply) is
+      (omega (arith, last, le))) (told.answered some.0 some.1)
+
+  pub kept_after : IsKept old → IsRight new.history.base (world new) → IsKept new
+  kept_after kept right = record {
+    right = right;
+    few = told.few;
+    each_start = ap length told.shelf.handed ∙ (kept.each_start ∙ sym (starts_after old new calls_after));
+    shelf_in = λ is. out_after old new base_after calls_after
+        ∙ kept.shelf_in (subst (λ (k : Option K). IsSome k) told.shelf.shelf is);
+  }

@@ -2,17 +2,19 @@
 use Rattle.std.proofs.Common.{◌≡◌, ℕ, ◌+◌, ◌-◌, ◌≤◌, Bool, true, false, List, [], ◌∷◌, ◌++◌, length, take, Option, None, refl}
 use Rattle.std.proofs.Common.{sym, ap, ◌∙◌, subst, arith, length-append}
 use Rattle.std.specs.Prelude.{MatchBool, Result, Ok, Err, IfOk, OnErr}
+use Rattle.std.proofs.lemmas.Result.{IfOk-weaker}
 use Rattle.std.proofs.Math.Seq.{take-append_seam}
 use Rattle.spec_document.specs.Document.{Document}
 use Rattle.spec_history.specs.Machine.{Call, Reply, history_full}
 use Rattle.spec_history.specs.History.{Entry, asked}
 use Rattle.spec_filters.specs.declared.FilterState.{FilterState}
-use Rattle.spec_tables.specs.Agrees.{Agrees, IsPartAfter}
+use Rattle.spec_tables.specs.Agrees.{IsPartAfter}
 use Rattle.spec_tables.specs.Tables.{expected_tables}
 use Rattle.spec_tables.proofs.Chests.{some_list}
 use Rattle.xl_history.specs.History.{History, document, is_full, is_accepted, NeedsNoStep}
-use Rattle.xl_history.specs.Needs.{call_cost, most_cost}
+use Rattle.xl_history.specs.Needs.{most_cost}
 use Rattle.xl_history.proofs.Costs.{steps_most}
+use Rattle.xl_history.specs.Answering.{AnswersCall}
 use Rattle.xl_history.specs.Editing.{Editing}
 use Rattle.xl_studio.specs.declared.moment.Moment.{Moment}
 use Rattle.xl_studio.specs.declared.moment.Moment.TheVariants.{Made}
@@ -20,6 +22,7 @@ use Rattle.xl_studio.specs.Moments.{entries_in}
 use Rattle.xl_studio.specs.State.{moments_of}
 use Rattle.xl_studio.specs.Calling.{called_entry, Adds, before_last}
 use Rattle.xl_studio.specs.Seats.{history_of}
+use Rattle.xl_studio.proofs.Called.{adds_after, failed_after}
 use Rattle.xl_studio.proofs.Seated.{back}
 
 module _ {K : Type 0} where
@@ -51,22 +54,6 @@ module _ {K : Type 0} where
       (Made (called_entry (entries_in (moments_of held)) session call tables reply) None) same is adds.is said
       (λ e. full (sym whole ∙ e))
 
-  -- what is said of the history that was entered, and of any where that was full
-  said_after : {E : Type 0} (R : Type 0) (reply_of : R
-      → Reply) (r : Result R E) (Said : History → Type 0) (base : Document) (session : ℕ) (call : Call)
-      (chest : List (Option FilterState)) (held : Editing K) (left front : List (Moment K))
-      → base ≡ held.history.base → front ≡ left
-      → ((filters : List FilterState) → Agrees chest filters
-      → IfOk r (λ reply. Adds held.history.base (moments_of held) session call
-      (expected_tables filters (asked call []) (reply_of reply)) (reply_of reply) left))
-      → Said held.history → (is_full held.history ≡ true → (h : History) → Said h)
-      → IfOk r (λ _. Said (history_of base (before_last front)))
-  said_after R reply_of (Ok reply) Said base session call chest held left front same is answered said full =
-      let some = some_list chest in
-      said_entered Said base session call (expected_tables some.0 (asked call []) (reply_of reply))
-      (reply_of reply) held left front same is (answered some.0 some.1) said full
-  said_after R reply_of (Err e) Said base session call chest held left front same is answered said full = tt
-
   -- out of memory no entry was made, so the front is the history that was entered
   said_failed : {R E : Type 0} (r : Result R E) (Said : History → Type 0) (base : Document) (held : Editing K)
       (left front : List (Moment K)) → base ≡ held.history.base → front ≡ left
@@ -77,43 +64,33 @@ module _ {K : Type 0} where
       let es : entries_in front ≡ held.history.entries = ap entries_in (is ∙ as_before) ∙ back held in
       subst Said (λ i. record { base = sym same i; entries = sym es i }) said
 
-  -- ---- a call that needs no step takes none
+-- the seat's front is the history as the call left it
+module _ {K R E : Type 0} {reply_of : R → Reply} {session : ℕ} {call : Call} {seen : ℕ} {r : Result R E} {held left : Editing K}
+    {before after : List (Option FilterState)} {bytes_before bytes_after : List ℕ} {steps_before steps_after : ℕ}
+    (told : AnswersCall reply_of session call seen r held left before after bytes_before bytes_after steps_before steps_after)
+    (base : Document) (front : List (Moment K)) (same : base ≡ held.history.base) (is : front ≡ moments_of left) where
+  -- what is said of the history that was entered, and of any where that was full
+  said_after : (Said : History → Type 0) → Said held.history → (is_full held.history ≡ true → (h : History) → Said h)
+      → IfOk r (λ _. Said (history_of base (before_last front)))
+  said_after Said said full =
+      let some = some_list before in
+      IfOk-weaker r _ _ (λ (reply : R) adds.
+      said_entered Said base session call (expected_tables some.0 (asked call []) (reply_of reply)) (reply_of reply) held
+      (moments_of left) front same is adds said full) (adds_after told some.0 some.1)
 
-  pub stepless_after : {E : Type 0} (R : Type 0) (reply_of : R
-      → Reply) (r : Result R E) (S : Type 0) (base : Document) (session : ℕ) (call : Call) (chest : List (Option FilterState))
-      (held : Editing K) (left front : List (Moment K))
-      → base ≡ held.history.base → front ≡ left
-      → ((filters : List FilterState) → Agrees chest filters
-      → IfOk r (λ reply. Adds held.history.base (moments_of held) session call
-      (expected_tables filters (asked call []) (reply_of reply)) (reply_of reply) left))
-      → (NeedsNoStep held.history call → S) → (is_full held.history ≡ true → S)
-      → IfOk r (λ _. NeedsNoStep (history_of base (before_last front)) call → S)
-  stepless_after R reply_of r S base session call chest held left front same is answered none full =
-      said_after R reply_of r (λ h. NeedsNoStep h call → S) base session call chest held left front same is answered none
-      (λ e h needs. full e)
+  -- a call that needs no step takes none
+  pub stepless_after : IfOk r (λ _. NeedsNoStep (history_of base (before_last front)) call → steps_after ≡ steps_before)
+  stepless_after = said_after (λ h. NeedsNoStep h call → steps_after ≡ steps_before) told.no_step (λ e h needs. told.full e)
 
-  -- ---- only the filters of a group that is accepted are asked
+  -- only the filters of a group that is accepted are asked
+  pub part_failed : OnErr r (IsPartAfter (is_accepted (history_of base front) call) before after call)
+  part_failed =
+      said_failed r (λ h. IsPartAfter (is_accepted h call) before after call) base held (moments_of left) front same is
+      (failed_after told) told.part
 
-  pub part_failed : {R E : Type 0} (r : Result R E) (old new : List (Option FilterState)) (base : Document) (call : Call)
-      (held : Editing K) (left front : List (Moment K)) → base ≡ held.history.base → front ≡ left
-      → OnErr r (left ≡ moments_of held) → OnErr r (IsPartAfter (is_accepted held.history call) old new call)
-      → OnErr r (IsPartAfter (is_accepted (history_of base front) call) old new call)
-  part_failed r old new base call held left front same is as_before part =
-      said_failed r (λ h. IsPartAfter (is_accepted h call) old new call) base held left front same is as_before part
-
-  -- ---- a tile is composed once
-
-  pub cost_after : {E : Type 0} (R : Type 0) (reply_of : R
-      → Reply) (r : Result R E) (before steps : ℕ) (base : Document) (session : ℕ) (call : Call) (chest : List (Option FilterState))
-      (held : Editing K) (left front : List (Moment K))
-      → base ≡ held.history.base → front ≡ left
-      → ((filters : List FilterState) → Agrees chest filters
-      → IfOk r (λ reply. Adds held.history.base (moments_of held) session call
-      (expected_tables filters (asked call []) (reply_of reply)) (reply_of reply) left))
-      → steps ≤ before + call_cost held.cache (document held.history) call → (is_full held.history ≡ true → steps ≡ before)
-      → IfOk r (λ _. steps ≤ before + most_cost (document (history_of base (before_last front))) call)
-  cost_after R reply_of r before steps base session call chest held left front same is answered cost full =
-      said_after R reply_of r (λ h. steps ≤ before + most_cost (document h) call) base session call chest held left front same is
-      answered
-      (steps_most held.cache (document held.history) call before steps cost)
-      (λ e h. let stays = full e in omega (arith, stays))
+  -- a tile is composed once
+  pub cost_after : IfOk r (λ _. steps_after ≤ steps_before + most_cost (document (history_of base (before_last front))) call)
+  cost_after =
+      said_after (λ h. steps_after ≤ steps_before + most_cost (document h) call)
+      (steps_most held.cache (document held.history) call steps_before steps_after told.cost)
+      (λ e h. let stays = told.full e in omega (arith, stays))

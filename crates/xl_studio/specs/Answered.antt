@@ -1,5 +1,5 @@
 -- What a call of a session came to, and what its seat knows afterwards.
-use Rattle.std.specs.Prelude.{◌≡◌, ℕ, ◌+◌, ◌≤◌, true, List, [], Option, None, Result, IfOk, OnErr}
+use Rattle.std.specs.Prelude.{◌≡◌, ℕ, ◌+◌, ◌≤◌, List, [], Option, Result, IfOk, OnErr}
 use mathlib.Core.List.{IsPrefix}
 use Rattle.spec_document.specs.Document.{Document}
 use Rattle.spec_filters.specs.declared.FilterState.{FilterState}
@@ -10,9 +10,10 @@ use Rattle.spec_history.specs.Kept.{IsFreshReply}
 use Rattle.spec_history.specs.Limited.{edits_of}
 use Rattle.spec_tables.specs.Agrees.{Agrees, IsAfter, IsPartAfter}
 use Rattle.spec_tables.specs.Tables.{expected_tables}
-use Rattle.xl_history.specs.History.{document, is_full, is_accepted, Shows, NeedsNoStep}
-use Rattle.xl_history.specs.Needs.{call_cost, most_cost}
-use Rattle.xl_history.specs.Now.{KeepsDesk}
+use Rattle.xl_history.specs.Answering.{AnswersCall}
+use Rattle.xl_history.specs.History.{document, is_accepted, Shows, NeedsNoStep}
+use Rattle.xl_history.specs.Needs.{most_cost}
+use Rattle.xl_history.specs.Served.{IsServed}
 use Rattle.xl_calls.specs.declared.reply.Reply.{Reply}
 use Rattle.xl_calls.specs.Replies.{reply_of}
 use Rattle.xl_turn.specs.declared.view.Chronicle.{Ghosts}
@@ -20,8 +21,8 @@ use Rattle.xl_studio.specs.declared.moment.Moment.{Moment}
 use Rattle.xl_studio.specs.declared.seat.Seat.{Seat}
 use Rattle.xl_studio.specs.declared.seat.Studio.{Studio}
 use Rattle.xl_studio.specs.Moments.{entries_in}
-use Rattle.xl_studio.specs.State.{State, IsKept, moments_of}
-use Rattle.xl_studio.specs.Calling.{Adds, AddsCalls, Known, IsCalled, HasHeard, IsNoTile, before_last}
+use Rattle.xl_studio.specs.State.{State, IsKept}
+use Rattle.xl_studio.specs.Calling.{Known, IsCalled, HasHeard, IsNoTile, before_last}
 use Rattle.xl_studio.specs.Seats.{base_of, history_of, front_of, weight_of, known_by, IsSeatOf}
 use Rattle.xl_studio.specs.Jobs.{job_out, tally_of}
 
@@ -64,33 +65,15 @@ pub record IsAnswered {K : Type 0} {C : Ghosts (State K) (Moment K)} {E : Type 0
       → steps_after ≡ steps_before)
   pub cost : IfOk result (λ _. steps_after
       ≤ steps_before + most_cost (document (history_of (base_of studio) (before_last (front_of new)))) call)
-  pub no_tile : IfOk result (λ reply. machine.version_shown (reply_of reply) ≡ None → steps_after ≡ steps_before)
-  pub steps_as_before : OnErr result (steps_after ≡ steps_before)
-  pub desk : IfOk result (λ reply. KeepsDesk (reply_of reply) bytes_before bytes_after)
-  pub out_as_before : OnErr result (bytes_after ≡ bytes_before)
+  pub served : IsServed reply_of result bytes_before bytes_after steps_before steps_after
 
--- What a call makes of what lies under the lock, for a seat that has seen the versions up to `seen`. The history may be full; it is as
--- before then, and after out of memory.
+-- What lies under the lock answers a call, for a seat that has seen the versions up to `seen`, as its core does. The reply names no older
+-- version.
 pub record IsAnsweredUnderLock {K : Type 0} {E : Type 0} (session : ℕ) (call : Call) (seen : ℕ) (result : Result Reply E)
     (old new : State K) (before after : List (Option FilterState)) (bytes_before bytes_after : List ℕ)
     (steps_before steps_after : ℕ) : Type 0 where
-  pub answered : (filters : List FilterState) → Agrees before filters
-      → IfOk result (λ reply. Adds old.core.history.base (moments_of old.core) session call
-      (expected_tables filters (asked call []) (reply_of reply)) (reply_of reply) (moments_of new.core))
-  pub calls : AddsCalls (moments_of old.core) (moments_of new.core)
-  pub failed : OnErr result (moments_of new.core ≡ moments_of old.core)
-  pub closing : new.closing ≡ old.closing
-  pub base : new.core.history.base ≡ old.core.history.base
-  pub kept : IsKept new.core
+  pub core : AnswersCall reply_of session call seen result old.core new.core before after bytes_before bytes_after
+      steps_before steps_after
   pub fresh : IfOk result (λ reply. IsFreshReply seen (reply_of reply))
-  pub shown : IfOk result (λ reply. Shows new.core.history call (reply_of reply) bytes_after)
-  pub chest : IfOk result (λ reply. IsAfter before after call (reply_of reply))
-  pub part : OnErr result (IsPartAfter (is_accepted old.core.history call) before after call)
-  pub steps : IsNoTile call → steps_after ≡ steps_before
-  pub no_step : NeedsNoStep old.core.history call → steps_after ≡ steps_before
-  pub full : is_full old.core.history ≡ true → steps_after ≡ steps_before
-  pub cost : steps_after ≤ steps_before + call_cost old.core.cache (document old.core.history) call
-  pub no_tile : IfOk result (λ reply. machine.version_shown (reply_of reply) ≡ None → steps_after ≡ steps_before)
-  pub steps_as_before : OnErr result (steps_after ≡ steps_before)
-  pub desk : IfOk result (λ reply. KeepsDesk (reply_of reply) bytes_before bytes_after)
-  pub out_as_before : OnErr result (bytes_after ≡ bytes_before)
+  pub kept : IsKept new.core
+  pub closing : new.closing ≡ old.closing

@@ -105,6 +105,7 @@ impl<D: Shelf> JobDesk for Studio<D> {
         taken
     }
 
+    // Of the cache it says the answer alone, as `refresh` does: the list that a seat knows has no pictures.
     fn finish<W: Wait>(&self, rt: &W, seat: &mut Seat<D>, done: Done) -> Finished
         requires seat { IsWorker self.now seat.old }
         requires done { IsOutcomeOf (job_out seat.old) done }

@@ -43,7 +43,8 @@ impl<D: Shelf> Studio<D> {
         job
     }
 
-    // The second hold: the picture is kept, unless its tile was marked at a later version or its stack is gone.
+    // The second hold: the picture is kept, unless its tile was marked at a later version or its stack is gone. The
+    // answer is what the seat can know of that: the lock's list has no pictures.
     fn hand_in<W: Wait>(&self, rt: &W, seat: &mut Seat<D>, done: Done) -> Finished
         requires seat { IsSeatOf self.now seat.old }
         requires done { IsPictureOf (history_of (base_of self.now) (front_of seat.old)) done }
@@ -66,7 +67,8 @@ impl<D: Shelf> Studio<D> {
     /// The first hold of the turn makes a job of the last version, and the second hands its picture in: it is kept,
     /// unless the tile was marked at a later version or its stack is gone. Where the slot is clean, or the stack or the
     /// tile is not there, there is no job and no second hold. It makes no entry, and takes no job of the desk: the slot
-    /// does not count as taken, and the seat's tally does not count the picture.
+    /// does not count as taken, and the seat's tally does not count the picture. What the cache has then is no clause of
+    /// this one, since a seat knows the list of moments alone: `Shared::finish` says it under the lock.
     ///
     /// Where memory runs out nothing is composed, which is no failure: the call that asks for the tile decides.
     pub fn refresh<W: Wait, L: Ledger>(

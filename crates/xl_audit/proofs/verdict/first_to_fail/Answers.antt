@@ -1,6 +1,6 @@
 use Rattle.std.proofs.Common.{◌≡◌, false, length, rules, arith, ◌∙◌, ap}
 use Rattle.spec_audit.specs.Output.{Output}
-use Rattle.xl_audit.proofs.Along.{along_goes}
+use Rattle.xl_standing.proofs.Ready.{may_go_on}
 use Rattle.xl_audit.proofs.AtWord.{along_first, word_counts, word_has_desk, word_finds, word_fails, word_passes, words_pass}
 use Rattle.xl_audit.proofs.verdict.first_to_fail.Goals as goal
 
@@ -26,7 +26,8 @@ word-requires-clause-few g c =
 
 pub word-requires-clause-ready : goal.word-requires-clause-ready
 word-requires-clause-ready g c =
-    let along = c.loop-word.invariant _ c.requires.1 in along_goes _ along.earlier c.loop-word.walk along.has
+    let along = c.loop-word.invariant _ c.requires.1 in
+    may_go_on _ along.earlier c.loop-word.walk.standing c.loop-word.walk.made along.has.stands
 
 pub word-requires-clause-fit : goal.word-requires-clause-fit
 word-requires-clause-fit g c =

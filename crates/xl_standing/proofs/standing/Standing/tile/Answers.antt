@@ -23,9 +23,6 @@ returns-clause-response g c =
     (response-tile what c.show.new.cache c.args.node.0 c.args.at (ap not (sym c.has_stack.ensures ∙ c.if-not-has_stack.false))
     (ap not (sym c.has_tile.ensures ∙ c.if-not-has_tile.false)) c.in_ok-show.ensures.cache)
 
-pub returns-clause-no_tile : goal.returns-clause-no_tile
-returns-clause-no_tile g c = λ none. let wrong : Some c.self.inside.version ≡ None = none in cc
-
 pub returns-clause-cost : goal.returns-clause-cost
 returns-clause-cost g c =
     subst (λ (n : Now). c.show.new.steps ≤ c.args.steps.now + tile_cost n.cache n.document c.args.node.0 c.args.at) c.self.view_is

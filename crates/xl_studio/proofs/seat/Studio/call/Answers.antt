@@ -12,6 +12,7 @@ use Rattle.xl_studio.specs.State.{moments_of}
 use Rattle.xl_studio.specs.Seats.{base_of, front_of, made_of}
 use Rattle.xl_studio.proofs.Seated.{seen_entered, start_within, call_may_leave, base_entered, begins_after}
 use Rattle.xl_studio.proofs.Seated.{front_after, called_after, heard_after, shown_after}
+use Rattle.xl_studio.proofs.Called.{takes_none, adds_after, failed_after, calls_after, base_after}
 use Rattle.xl_studio.proofs.Entered.{stepless_after, part_failed, cost_after}
 use Rattle.xl_studio.proofs.Answered.{replied_after}
 use Rattle.xl_studio.proofs.seat.Studio.call.Given as given
@@ -29,7 +30,7 @@ leave-requires-clause-may g c =
     let one : start_of c.enter-held.new.seat ≡ 1 = c.enter-held.ensures.seat.0.1
     ∙ (sym c.requires.seat.of.1 ∙ c.requires.seat.front.start_is) in
     call_may_leave _ _ _ (moments_of c.enter-held.result.value.core) _ c.enter-held.ensures.entered
-    (start_within _ c.enter-held.result.value.core one) c.submit-reply.ensures.calls
+    (start_within _ c.enter-held.result.value.core one) (calls_after c.submit-reply.ensures.core)
 
 -- the studio's base is that of the history
 base_is : (g : given.Over) (c : After-leave g) → base_of c.args.self.now ≡ c.enter-held.result.value.core.history.base
@@ -37,13 +38,13 @@ base_is g c = base_entered (opened_with c.args.self.now.lock).core c.enter-held.
     (front_of c.args.seat.now) c.requires.seat.front.begins c.enter-held.ensures.front
 
 base_then : (g : given.Over) (c : After-leave g) → base_of c.args.self.now ≡ c.submit-reply.new.self.core.history.base
-base_then g c = base_is g c ∙ sym c.submit-reply.ensures.base
+base_then g c = base_is g c ∙ sym (base_after c.submit-reply.ensures.core)
 
 begins : (g : given.Over) (c : After-leave g) → IsPrefix (front_of c.args.seat.now) (turns.front_of c.leave.new.seat)
 begins g c =
     subst (IsPrefix (front_of c.args.seat.now)) (sym c.leave.ensures.front)
     (begins_after (front_of c.args.seat.now) (moments_of c.enter-held.result.value.core)
-    (moments_of c.submit-reply.new.self.core) c.enter-held.ensures.front c.submit-reply.ensures.calls)
+    (moments_of c.submit-reply.new.self.core) c.enter-held.ensures.front (calls_after c.submit-reply.ensures.core))
 
 -- the places that the seat has made
 made_then : (g : given.Over) (c : After-leave g) → turns.made_of c.leave.new.seat
@@ -85,23 +86,17 @@ returns g c =
           called_after _ reply_of (λ reply. expected_tables filters (asked call []) (reply_of reply))
           c.submit-reply.result base session call _ _ (start_of c.enter-held.new.seat) held (entered_by c.enter-held.new.seat)
           (moments_of left) one c.enter-held.ensures.entered (base_is g at) c.enter-held.ensures.front c.leave.ensures.front
-          (made_then g at) (told.answered filters agrees))
+          (made_then g at) (adds_after told.core filters agrees))
           (subst (λ (seen : ℕ). IfOk c.submit-reply.result (λ reply. IsFreshReply seen (reply_of reply)))
           c.requires.seat.front.seen_is told.fresh)
-          (shown_after _ reply_of c.submit-reply.result base _ left call _ (base_then g at) c.leave.ensures.front told.shown)
-          told.chest;
+          (shown_after _ reply_of c.submit-reply.result base _ left call _ (base_then g at) c.leave.ensures.front told.core.shown)
+          told.core.chest;
       failed = heard_after c.submit-reply.result _ _ (start_of c.enter-held.new.seat) (entered_by c.enter-held.new.seat)
           (moments_of held) (moments_of left) c.enter-held.ensures.entered c.enter-held.ensures.front c.leave.ensures.front
-          (made_then g at) told.failed;
-      part = part_failed c.submit-reply.result _ _ base call held (moments_of left) _ (base_is g at) c.leave.ensures.front
-          told.failed told.part;
-      steps = told.steps;
-      no_step = stepless_after _ reply_of c.submit-reply.result _ base session call _ held (moments_of left) _ (base_is g at)
-          c.leave.ensures.front told.answered told.no_step told.full;
-      cost = cost_after _ reply_of c.submit-reply.result _ _ base session call _ held (moments_of left) _ (base_is g at)
-          c.leave.ensures.front told.answered told.cost told.full;
-      no_tile = told.no_tile;
-      steps_as_before = told.steps_as_before;
-      desk = told.desk;
-      out_as_before = told.out_as_before;
+          (made_then g at) (failed_after told.core);
+      part = part_failed told.core base _ (base_is g at) c.leave.ensures.front;
+      steps = λ none. told.core.steps (takes_none held.cache call none);
+      no_step = stepless_after told.core base _ (base_is g at) c.leave.ensures.front;
+      cost = cost_after told.core base _ (base_is g at) c.leave.ensures.front;
+      served = told.core.served;
     }
