@@ -1,0 +1,5 @@
+mod Filterless
+mod Following
+mod Outcomes
+mod Written
+pub mod Sent
