@@ -66,7 +66,13 @@ fn hide<W: Wait + Print>(
     session: &mut Session<FileShelf>,
     version: u32,
 ) -> io::Result<()> {
-    let edits = group_of(alloc, Edit::SetVisible { id: LAYER, on: false })?;
+    let edits = group_of(
+        alloc,
+        Edit::SetVisible {
+            id: LAYER,
+            on: false,
+        },
+    )?;
     tell(rt, name, session.edit_at(rt, alloc, version, edits))
 }
 

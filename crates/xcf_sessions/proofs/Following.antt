@@ -49,9 +49,11 @@ module _ {K : Type 0} where
   by_room base session call reply true entered front A B legal is = (is.0, ap entries_in is.1)
   by_room base session call reply false entered front A B legal is =
       let e : Entry = called_entry (entries_in entered) session call [] reply in
-      let grown : entries_in front ≡ entries_in entered ++ e ∷ [] = ap entries_in is.0 ∙ entries-append entered (Made e None ∷ []) in
-      (run_last base (initial base) [] (entries_in entered) session e.index call reply
-      (subst (λ (es : List Entry). RunFrom base (initial base) [] es) grown legal.run), grown)
+      let grown : entries_in front ≡ entries_in entered ++ e ∷ [] = ap entries_in is.0 ∙ entries-append entered (Made e None ∷ []) in (
+        run_last base (initial base) [] (entries_in entered) session e.index call reply
+            (subst (λ (es : List Entry). RunFrom base (initial base) [] es) grown legal.run),
+        grown,
+      )
 
   answered_in : (session : ℕ) (base : Document) (shelf : K) (call : Call) (reply : machine.Reply)
       (after : List (Option FilterState)) (bytes : List ℕ) (old new : Known K) → IsFilterless call → IsLegal base (entries_in new.front)

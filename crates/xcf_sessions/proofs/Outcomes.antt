@@ -66,23 +66,23 @@ peeked : (base : Document) (s : State) (stack : ℕ) (plain reply : Reply) (show
 peeked base s stack plain reply None of_tile is = subst IsOfTile (sym is) of_tile
 peeked base s stack plain reply (Some version) of_tile is = may_peek base s stack reply is
 
-tile_given : (base : Document) (s : State) (call : Call) (reply : Reply) → IsTileCall call → Answers base s call [] reply
+tile_given : (base : Document) (s : State) (call : Call) (at : TileAt) (reply : Reply) → IsTileCall call at → Answers base s call [] reply
     → IsOfTile reply
-tile_given base s (machine.tile stack at) reply of_tile is =
+tile_given base s (machine.tile stack at) place reply of_tile is =
     subst IsOfTile (sym is) (plain_tile (machine.document_at base s (machine.latest s)) stack (machine.latest s) at)
-tile_given base s (machine.peek stack at) reply of_tile is =
+tile_given base s (machine.peek stack at) place reply of_tile is =
     let plain = tile_reply (machine.document_at base s (machine.latest s)) stack at (machine.tile_of (machine.latest s)) in
     peeked base s stack plain reply (version_shown plain)
     (plain_tile (machine.document_at base s (machine.latest s)) stack (machine.latest s) at) is
-tile_given base s (machine.edit guard es) reply of_tile is = absurd of_tile
-tile_given base s (machine.undo named) reply of_tile is = absurd of_tile
-tile_given base s machine.redo reply of_tile is = absurd of_tile
-tile_given base s machine.top reply of_tile is = absurd of_tile
+tile_given base s (machine.edit guard es) place reply of_tile is = absurd of_tile
+tile_given base s (machine.undo named) place reply of_tile is = absurd of_tile
+tile_given base s machine.redo place reply of_tile is = absurd of_tile
+tile_given base s machine.top place reply of_tile is = absurd of_tile
 
-pub of_tile : {K : Type 0} (old new : Seen K) (call : Call) (reply : Reply) → IsTileCall call → IsAnswered call reply old new
+pub of_tile : {K : Type 0} (old new : Seen K) (call : Call) (at : TileAt) (reply : Reply) → IsTileCall call at → IsAnswered call reply old new
     → IsOfTile reply
-of_tile old new call reply is answered =
-    by_room _ IsOfTile reply _ _ _ tt (tile_given old.base _ call reply is) answered.is
+of_tile old new call at reply is answered =
+    by_room _ IsOfTile reply _ _ _ tt (tile_given old.base _ call at reply is) answered.is
 
 -- ---- a save
 

@@ -3,6 +3,7 @@ use Rattle.std.specs.Prelude.{◌≡◌, ℕ, List, [], ◌∷◌, ◌++◌, Opt
 use mathlib.Core.List.{IsPrefix}
 use Rattle.spec_document.specs.Document.{Document}
 use Rattle.spec_document.specs.declared.TileAt.{TileAt}
+use Rattle.spec_document.specs.Grid.{tile_rect}
 use Rattle.spec_document.specs.Picture.{project}
 use Rattle.spec_history.specs.Machine as machine
 use Rattle.spec_history.specs.Machine.{Call, Reply}
@@ -23,14 +24,14 @@ IsFilterless (machine.tile stack at) = Unit {0}
 IsFilterless (machine.peek stack at) = Unit {0}
 IsFilterless machine.top = Unit {0}
 
--- it asks for a picture
-abbrev pub IsTileCall : Call → Type 0
-IsTileCall (machine.tile stack at) = Unit {0}
-IsTileCall (machine.peek stack at) = Unit {0}
-IsTileCall (machine.edit guard edits) = ⊥
-IsTileCall (machine.undo named) = ⊥
-IsTileCall machine.redo = ⊥
-IsTileCall machine.top = ⊥
+-- it asks for the picture of this tile
+abbrev pub IsTileCall : Call → TileAt → Type 0
+IsTileCall (machine.tile stack place) at = place ≡ at
+IsTileCall (machine.peek stack place) at = place ≡ at
+IsTileCall (machine.edit guard edits) at = ⊥
+IsTileCall (machine.undo named) at = ⊥
+IsTileCall machine.redo at = ⊥
+IsTileCall machine.top at = ⊥
 
 -- The call was answered after some history that begins with what the session had seen: what the others asked in between comes first.
 -- It is answered as the machine may answer it there, and is the next entry, with its reply; a full history stays as it is. A tile is
@@ -50,10 +51,14 @@ pub record IsTold {K : Type 0} (call : Call) (reply : Option Reply) (old new : S
   pub answered : IfSome reply (λ reply. IsAnswered call reply old new)
   pub heard : reply ≡ None → HasHeard old new
 
--- a picture is that of its tile at its version
+-- the picture is that of the tile at the version that is named, and has its sides
+pub record IsShown {K : Type 0} (seen : Seen K) (stack : ℕ) (at : TileAt) (shown : Shown) : Type 0 where
+  pub picture : shown.picture ≡ project (document_of seen.base seen.entries shown.version) stack at
+  pub width : shown.width ≡ (tile_rect seen.base.width seen.base.height at).w
+  pub height : shown.height ≡ (tile_rect seen.base.width seen.base.height at).h
+
 abbrev pub ShowsVersion : {K : Type 0} → Seen K → (stack : ℕ) → TileAt → Result Shown NotShown → Type 0
-ShowsVersion seen stack at result = IfOk result (λ shown.
-    shown.picture ≡ project (document_of seen.base seen.entries shown.version) stack at)
+ShowsVersion seen stack at result = IfOk result (IsShown seen stack at)
 
 -- the same of the call that asks for it
 abbrev pub ShowsIn : {K : Type 0} → Seen K → Call → Result Shown NotShown → Type 0

@@ -15,7 +15,7 @@ ghost use Rattle.xl_filters.specs.Chests.{states_in};
 
 use crate::replies::outcome_of_tile;
 use crate::session::Session;
-use crate::shown::Shown;
+use crate::shown::{Shown, side_of};
 use std::alloc::{AllocError, Global};
 use std::marker::Brand;
 use std::sync::Wait;
@@ -100,14 +100,22 @@ impl<D: Shelf> Session<D> {
         }
     }
 
-    // Asks for a picture.
-    fn look<W: Wait>(&mut self, rt: &W, alloc: Global, call: Call) -> Result<Shown, NotShown>
-        requires { IsTileCall (call_of call) }
+    // Asks for the picture of a tile.
+    fn look<W: Wait>(
+        &mut self,
+        rt: &W,
+        alloc: Global,
+        call: Call,
+        at: TileAt,
+    ) -> Result<Shown, NotShown>
+        requires { IsTileCall (call_of call) at }
         ensures told { IsTold (call_of call) (reply_shown result) self.old self.new }
         ensures shown { ShowsIn self.new (call_of call) result }
     {
+        let width = side_of(self.width, at.col);
+        let height = side_of(self.height, at.row);
         match self.ask(rt, alloc, call) {
-            Ok((reply, picture)) => outcome_of_tile(reply, picture),
+            Ok((reply, picture)) => outcome_of_tile(reply, width, height, picture),
             Err(AllocError) => Err(NotShown::Memory),
         }
     }
@@ -213,7 +221,7 @@ impl<D: Shelf> Session<D> {
         ensures told { IsTold (machine.tile stack.0 at) (reply_shown result) self.old self.new }
         ensures shown { ShowsVersion self.new stack.0 at result }
     {
-        self.look(rt, alloc, Call::Tile(stack, at))
+        self.look(rt, alloc, Call::Tile(stack, at), at)
     }
 
     /// The picture of a tile as it is kept, at a version that is no older than what the session has seen. Nothing is composed.
@@ -229,6 +237,6 @@ impl<D: Shelf> Session<D> {
         ensures told { IsTold (machine.peek stack.0 at) (reply_shown result) self.old self.new }
         ensures shown { ShowsVersion self.new stack.0 at result }
     {
-        self.look(rt, alloc, Call::Peek(stack, at))
+        self.look(rt, alloc, Call::Peek(stack, at), at)
     }
 }

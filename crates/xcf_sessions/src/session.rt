@@ -11,10 +11,13 @@ pub struct Session<D: Shelf> {
     pub(crate) studio: Arc<Studio<D>, Global>,
     pub(crate) seat: Seat<D>,
     pub(crate) number: u8,
+    // The sides of the canvas.
+    pub(crate) width: u32,
+    pub(crate) height: u32,
 }
 
 impl<D: Shelf> Model for Session<D> {
-    ghost use Rattle.std.specs.Prelude.{◌<◌};
+    ghost use Rattle.std.specs.Prelude.{◌≡◌, ◌<◌};
     ghost use Rattle.std.specs.Arc.{arc_value};
     ghost use Rattle.std.specs.Coded.{codes};
     ghost use Rattle.spec_document.specs.Code.{coded_document};
@@ -33,5 +36,6 @@ impl<D: Shelf> Model for Session<D> {
       shelf = opening_shelf (arc_value s.studio);
     } };
 
-    ghost invariant = { λ s. IsSeatOf (arc_value s.studio) s.seat × (s.number < 8) };
+    ghost invariant = { λ s. IsSeatOf (arc_value s.studio) s.seat × (s.number < 8)
+        × (s.width ≡ (base_of (arc_value s.studio)).width) × (s.height ≡ (base_of (arc_value s.studio)).height) };
 }

@@ -25,10 +25,13 @@ pub struct SharedEditor<D: Shelf> {
     seat: Seat<D>,
     // How many sessions were opened.
     opened: u8,
+    // The sides of the canvas.
+    width: u32,
+    height: u32,
 }
 
 impl<D: Shelf> Model for SharedEditor<D> {
-    ghost use Rattle.std.specs.Prelude.{◌+◌, ◌≤◌, ◌^◌};
+    ghost use Rattle.std.specs.Prelude.{◌≡◌, ◌+◌, ◌≤◌, ◌^◌};
     ghost use Rattle.std.specs.Arc.{arc_value};
     ghost use Rattle.std.specs.Coded.{codes};
     ghost use Rattle.spec_document.specs.Code.{coded_document};
@@ -47,7 +50,8 @@ impl<D: Shelf> Model for SharedEditor<D> {
       shelf = opening_shelf (arc_value s.studio);
     } };
 
-    ghost invariant = { λ s. IsSeatOf (arc_value s.studio) s.seat × (2 ^ 32 ≤ weight_of s.seat + s.opened) × (s.opened ≤ 8) };
+    ghost invariant = { λ s. IsSeatOf (arc_value s.studio) s.seat × (2 ^ 32 ≤ weight_of s.seat + s.opened) × (s.opened ≤ 8)
+        × (s.width ≡ (base_of (arc_value s.studio)).width) × (s.height ≡ (base_of (arc_value s.studio)).height) };
 }
 
 impl<D: Shelf> SharedEditor<D> {
@@ -58,6 +62,8 @@ impl<D: Shelf> SharedEditor<D> {
         ensures first { IfOk result (λ editor. editor ≡ first_seen document shelf) }
         ensures memory { IfErr result (λ flaw. flaw ≡ Memory) }
     {
+        let width = document.width;
+        let height = document.height;
         let Ok(core) = Core::open(alloc, document, shelf) else {
             return Err(NotOpened::Memory);
         };
@@ -71,6 +77,8 @@ impl<D: Shelf> SharedEditor<D> {
             studio,
             seat,
             opened: 0,
+            width,
+            height,
         })
     }
 
@@ -116,6 +124,8 @@ impl<D: Shelf> SharedEditor<D> {
             studio,
             seat,
             number,
+            width: self.width,
+            height: self.height,
         })
     }
 }
