@@ -9,7 +9,7 @@ use std::thread::{Threads, join};
 use std::{fs, io};
 use xcf::{Changed, Edit, Edits, IMAGE, NodeId, NotEdited, TileAt};
 use xcf_disk::FileShelf;
-use xcf_sessions::{Session, SharedEditor};
+use xcf_sessions::{Session, SharedEditor, Shelf};
 
 /// The image's one layer, and the one tile of the canvas.
 const LAYER: NodeId = NodeId(1);
@@ -24,10 +24,10 @@ fn group_of(alloc: Global, edit: Edit) -> Result<Edits, AllocError> {
 }
 
 // Gives the layer an opacity.
-fn fade<W: Wait>(
+fn fade<W: Wait, D: Shelf>(
     rt: &W,
     alloc: Global,
-    session: &mut Session<FileShelf>,
+    session: &mut Session<D>,
     value: u8,
 ) -> Result<Changed, NotEdited> {
     let edits = group_of(alloc, Edit::SetOpacity { id: LAYER, value })?;
@@ -35,11 +35,11 @@ fn fade<W: Wait>(
 }
 
 // Both sessions fade the layer, each in a thread of its own. Which comes first is not said.
-fn fade_beside<R: Threads + Wait + Sync>(
+fn fade_beside<R: Threads + Wait + Sync, D: Shelf>(
     rt: &R,
     alloc: Global,
-    first: &mut Session<FileShelf>,
-    second: &mut Session<FileShelf>,
+    first: &mut Session<D>,
+    second: &mut Session<D>,
 ) -> Result<(), NotEdited> {
     let (one, other) = join(
         rt,

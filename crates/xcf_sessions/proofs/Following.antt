@@ -10,7 +10,7 @@ use Rattle.spec_history.specs.Machine as machine
 use Rattle.spec_history.specs.Machine.{Call, State, initial}
 use Rattle.xl_calls.specs.declared.reply.Reply.{Reply}
 use Rattle.xl_calls.specs.Replies.{reply_of}
-use Rattle.xl_core.specs.History.{is_full, Shows}
+use Rattle.xl_core.specs.History.{is_full}
 use Rattle.xl_turn.specs.declared.view.Chronicle.{Ghosts}
 use Rattle.xl_studio.specs.declared.moment.Moment.{Moment}
 use Rattle.xl_studio.specs.declared.moment.Moment.TheVariants.{Made}
@@ -20,11 +20,12 @@ use Rattle.xl_studio.specs.Answered as studios
 use Rattle.xl_studio.specs.Calling.{Known, IsCalled, called_entry}
 use Rattle.xl_studio.specs.Calling as calling
 use Rattle.xl_studio.specs.Moments.{entries_in}
-use Rattle.xl_studio.specs.Seats.{base_of, front_of, known_by, opening_shelf, IsSeatOf}
+use Rattle.xl_studio.specs.Seats.{base_of, front_of, known_by, opening_shelf}
 use Rattle.xl_studio.specs.State.{State as Kept}
+use Rattle.xl_turn.proofs.Fronts.{prefix_self}
 use Rattle.xl_studio.proofs.Grown.{entries-append, entries-prefix}
 use Rattle.xcf_sessions.specs.Answered.{IsAnswered, IsFilterless}
-use Rattle.xcf_sessions.specs.Seen.{Seen, HasHeard, history_of}
+use Rattle.xcf_sessions.specs.Seen.{Seen, HasHeard}
 use Rattle.xcf_sessions.proofs.Filterless.{no_tables}
 
 -- the last entry of a run is one that the machine may make there
@@ -84,33 +85,28 @@ module _ {K : Type 0} {C : Ghosts (Kept K) (Moment K)} where
   abbrev pub seen_by : (session : ℕ) → Studio K → Seat K C → Seen K
   seen_by session studio seat = seen_in session (base_of studio) (opening_shelf studio) (front_of seat)
 
-  -- the studio behind the shared owner is the one that was called
-  pub sits : (called kept : Studio K) (old new : Seat K C) → called ≡ kept → studios.SeatGoesOn called old new → IsSeatOf kept new
-  sits called kept old new same on = subst (λ (s : Studio K). IsSeatOf s new) same on.seat
-
   pub answered : {E : Type 0} (session : ℕ) (called kept : Studio K) (call : Call) (result : Result Reply E) (old new : Seat K C)
-      (before after : List (Option FilterState)) (bytes bytes' : List ℕ) (steps steps' : ℕ) → called ≡ kept → before ≡ []
-      → IsFilterless call → studios.IsAnswered called session call result old new before after bytes bytes' steps steps'
-      → IfOk result (λ reply. IsAnswered call (reply_of reply) (seen_by session kept old) (seen_by session kept new))
-  answered session called kept call (Ok reply) old new before after bytes bytes' steps steps' same none plain is =
+      (before after : List (Option FilterState)) (bytes bytes' : List ℕ) (steps steps' : ℕ) (was : Seen K) → called ≡ kept
+      → seen_by session kept old ≡ was → before ≡ [] → IsFilterless call
+      → studios.IsAnswered called session call result old new before after bytes bytes' steps steps'
+      → IfOk result (λ reply. IsAnswered call (reply_of reply) was (seen_by session kept new))
+  answered session called kept call (Ok reply) old new before after bytes bytes' steps steps' was same view none plain is =
       let replied = subst (λ (boxes : List (Option FilterState)). studios.IsReplied (base_of called) session call boxes after bytes'
       (known_by old) (known_by new) (reply_of reply)) none is.replied in
-      subst (λ (s : Studio K). IsAnswered call (reply_of reply) (seen_by session s old) (seen_by session s new)) same
+      subst (λ (seen : Seen K). IsAnswered call (reply_of reply) seen (seen_by session kept new)) view
+      (subst (λ (s : Studio K). IsAnswered call (reply_of reply) (seen_by session s old) (seen_by session s new)) same
       (answered_in session (base_of called) (opening_shelf called) call (reply_of reply) after bytes' (known_by old) (known_by new)
-      plain is.goes_on.seat.front.legal replied)
-  answered session called kept call (Err e) old new before after bytes bytes' steps steps' same none plain is = tt
+      plain is.goes_on.seat.front.legal replied))
+  answered session called kept call (Err e) old new before after bytes bytes' steps steps' was same view none plain is = tt
 
-  pub shown : {E : Type 0} (session : ℕ) (called kept : Studio K) (call : Call) (result : Result Reply E) (old new : Seat K C)
-      (before after : List (Option FilterState)) (bytes bytes' : List ℕ) (steps steps' : ℕ) → called ≡ kept
-      → studios.IsAnswered called session call result old new before after bytes bytes' steps steps'
-      → IfOk result (λ reply. Shows (history_of (seen_by session kept new)) call (reply_of reply) bytes')
-  shown session called kept call (Ok reply) old new before after bytes bytes' steps steps' same is =
-      subst (λ (s : Studio K). Shows (history_of (seen_by session s new)) call (reply_of reply) bytes') same is.replied.shown
-  shown session called kept call (Err e) old new before after bytes bytes' steps steps' same is = tt
+  pub heard : {E : Type 0} (R : Type 0) (session : ℕ) (kept : Studio K) (result : Result R E) (old new : Seat K C) (was : Seen K)
+      → seen_by session kept old ≡ was → OnErr result (calling.HasHeard (known_by old) (known_by new))
+      → OnErr result (HasHeard was (seen_by session kept new))
+  heard R session kept (Ok reply) old new was view is = tt
+  heard R session kept (Err e) old new was view is =
+      subst (λ (seen : Seen K). HasHeard seen (seen_by session kept new)) view
+      (heard_in session (base_of kept) (opening_shelf kept) (known_by old) (known_by new) is)
 
-  pub heard : {E : Type 0} (session : ℕ) (called kept : Studio K) (result : Result Reply E) (old new : Seat K C)
-      → called ≡ kept → OnErr result (calling.HasHeard (known_by old) (known_by new))
-      → OnErr result (HasHeard (seen_by session kept old) (seen_by session kept new))
-  heard session called kept (Ok reply) old new same is = tt
-  heard session called kept (Err e) old new same is =
-      heard_in session (base_of kept) (opening_shelf kept) (known_by old) (known_by new) is
+-- a session that did nothing has heard nothing
+pub same_heard : {K : Type 0} (seen : Seen K) → HasHeard seen seen
+same_heard seen = record { same = record { session = refl; base = refl; shelf = refl }; begins = prefix_self seen.entries }

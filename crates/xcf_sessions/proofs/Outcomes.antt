@@ -1,6 +1,6 @@
 -- Which replies a call of a session may get.
 use Rattle.std.proofs.Common.{◌≡◌, ℕ, Bool, true, false, cond, [], refl, sym, subst}
-use Rattle.std.specs.Prelude.{not, Option, Some, None, MatchBool, MatchOption, inl, inr}
+use Rattle.std.specs.Prelude.{not, Option, Some, None, MatchBool, MatchOption}
 use Rattle.spec_document.specs.Document.{Document}
 use Rattle.spec_document.specs.declared.TileAt.{TileAt}
 use Rattle.spec_document.specs.Grid.{is_on_grid}

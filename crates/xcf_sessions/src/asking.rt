@@ -62,6 +62,7 @@ impl<D: Shelf> Session<D> {
     }
 
     // Makes a call that names no filter: the reply, and the picture of a tile that was asked for.
+    #[tactic(auto, using(crate::proofs::Following::same_heard))]
     fn ask<W: Wait>(
         &mut self,
         rt: &W,
@@ -87,6 +88,7 @@ impl<D: Shelf> Session<D> {
     }
 
     // Asks for a new version.
+    #[tactic(auto, using(crate::proofs::Following::same_heard, crate::proofs::Outcomes::own))]
     fn tell<W: Wait>(&mut self, rt: &W, alloc: Global, call: Call) -> Result<Changed, NotEdited>
         requires filterless { IsFilterless (call_of call) }
         requires own { IsOwnCall (call_of call) }
@@ -101,6 +103,7 @@ impl<D: Shelf> Session<D> {
     }
 
     // Asks for the picture of a tile.
+    #[tactic(auto, using(crate::proofs::Outcomes::of_tile, crate::proofs::Pictured::without))]
     fn look<W: Wait>(
         &mut self,
         rt: &W,
@@ -121,6 +124,7 @@ impl<D: Shelf> Session<D> {
     }
 
     // Makes a group of edits, which a guard may tie to a version.
+    #[tactic(auto, using(crate::proofs::Following::same_heard))]
     fn edit_by<W: Wait>(
         &mut self,
         rt: &W,

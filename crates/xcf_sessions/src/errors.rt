@@ -1,8 +1,6 @@
 ghost use Rattle.std.specs.Prelude.{◌≡◌};
-ghost use Rattle.xcf_sessions.specs.declared.errors.NotSaved.TheVariants as saves;
 ghost use Rattle.xcf_sessions.specs.declared.errors.NotShared.TheVariants as shares;
 
-use std::alloc::AllocError;
 use thiserror::Error;
 use xcf::NotOpened;
 
@@ -48,12 +46,4 @@ pub enum NotSaved {
     Fault { version: u32 },
     #[error("the history has no room")]
     HistoryFull,
-}
-
-impl From<AllocError> for NotSaved {
-    ghost from_gives = { λ _ e. e ≡ saves.Memory };
-
-    fn from(_: AllocError) -> Self {
-        NotSaved::Memory
-    }
 }

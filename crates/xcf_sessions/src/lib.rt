@@ -16,3 +16,4 @@ pub use errors::{NoSession, NotSaved, NotShared};
 pub use session::Session;
 pub use shared::SharedEditor;
 pub use shown::Shown;
+pub use xl_ports::Shelf;

@@ -18,9 +18,12 @@ impl<D: Shelf> Session<D> {
     pub fn save<W: Wait>(&mut self, rt: &W, alloc: Global) -> Result<u32, NotSaved>
         ensures { IsSaveTold D.shelf_state (reply_saved result) self.old self.new }
     {
-        let reply = self
+        match self
             .studio
-            .save(rt, alloc, &mut self.seat, self.number, &mut Keeping)?;
-        outcome_of_save(reply)
+            .save(rt, alloc, &mut self.seat, self.number, &mut Keeping)
+        {
+            Ok(reply) => outcome_of_save(reply),
+            Err(_) => Err(NotSaved::Memory),
+        }
     }
 }

@@ -2,12 +2,16 @@ use std::alloc::Global;
 use std::marker::Model;
 use std::sync::Arc;
 use xl_ports::Shelf;
-use xl_studio::{Seat, Studio};
+use xl_studio::{Moment, Seat, Shared, Studio};
+use xl_turn::Chronicle;
 
 /// One session of a shared image. It is sent to a thread, or kept where the others are; its calls are made in turns with theirs, and
 /// may wait for a turn.
 #[derive(Drop)]
-pub struct Session<D: Shelf> {
+pub struct Session<D: Shelf>
+where
+    Shared<D>: Chronicle<Entry = Moment<D>>,
+{
     pub(crate) studio: Arc<Studio<D>, Global>,
     pub(crate) seat: Seat<D>,
     pub(crate) number: u8,
@@ -16,7 +20,10 @@ pub struct Session<D: Shelf> {
     pub(crate) height: u32,
 }
 
-impl<D: Shelf> Model for Session<D> {
+impl<D: Shelf> Model for Session<D>
+where
+    Shared<D>: Chronicle<Entry = Moment<D>>,
+{
     ghost use Rattle.std.specs.Prelude.{◌≡◌, ◌<◌};
     ghost use Rattle.std.specs.Arc.{arc_value};
     ghost use Rattle.std.specs.Coded.{codes};

@@ -13,14 +13,18 @@ use std::sync::Arc;
 use xcf::{Document, NotOpened, open};
 use xl_core::Core;
 use xl_ports::Shelf;
-use xl_studio::{Seat, Studio};
+use xl_studio::{Moment, Seat, Shared, Studio};
+use xl_turn::Chronicle;
 
 /// How many sessions an image has at most.
 pub const MAX_SESSIONS: u8 = 8;
 
 /// An image with its history and the shelf on which it is saved, for up to eight sessions.
 #[derive(Drop)]
-pub struct SharedEditor<D: Shelf> {
+pub struct SharedEditor<D: Shelf>
+where
+    Shared<D>: Chronicle<Entry = Moment<D>>,
+{
     studio: Arc<Studio<D>, Global>,
     seat: Seat<D>,
     // How many sessions were opened.
@@ -30,7 +34,10 @@ pub struct SharedEditor<D: Shelf> {
     height: u32,
 }
 
-impl<D: Shelf> Model for SharedEditor<D> {
+impl<D: Shelf> Model for SharedEditor<D>
+where
+    Shared<D>: Chronicle<Entry = Moment<D>>,
+{
     ghost use Rattle.std.specs.Prelude.{◌≡◌, ◌+◌, ◌≤◌, ◌^◌};
     ghost use Rattle.std.specs.Arc.{arc_value};
     ghost use Rattle.std.specs.Coded.{codes};
