@@ -7,14 +7,12 @@ use std::alloc::{AllocError, Global};
 use std::process::ExitCode;
 use std::{fs, io};
 use xcf::{
-    Body, Bytes, Changed, Document, Edit, Editor, Edits, FilterKind, Image, Name, Node, NodeId,
-    NotEdited, Rect, TileAt, nodes, plane_bytes, tile,
+    Body, Bytes, Changed, Document, Edit, Editor, Edits, FilterKind, IMAGE, Image, Name, Node,
+    NodeId, NotEdited, Rect, TileAt, nodes, plane_bytes, tile,
 };
 use xcf_disk::{edit_file, open_file, save_file};
 
-/// The image, and its one layer, which has one pixel.
-const IMAGE: NodeId = NodeId(0);
-
+/// The image's one layer, which has one pixel.
 const LAYER: NodeId = NodeId(1);
 
 const PIXEL: Rect = Rect {
@@ -116,7 +114,7 @@ fn show_node(rt: &HostRuntime, id: NodeId, node: &Node) -> io::Result<()> {
 
 // Shows the layers and groups from the top down, and the layers' own pixels.
 fn show_nodes(rt: &HostRuntime, document: &Document) -> io::Result<()> {
-    for (id, node) in nodes(rt.alloc(), document)? {
+    for (id, _, node) in nodes(rt.alloc(), document)? {
         show_node(rt, id, node)?;
     }
     Ok(())

@@ -10,12 +10,10 @@ use std::alloc::{AllocError, Global};
 use std::io::Write;
 use std::{env, io};
 use xcf::{
-    Body, Document, Edit, Edits, Image, Layer, Name, Node, NodeId, NotEdited, TileAt, nodes,
+    Body, Document, Edit, Edits, IMAGE, Image, Layer, Name, Node, NotEdited, TileAt, nodes,
     pam_head, tile,
 };
 use xcf_disk::{Failure, open_file, save_file};
-
-const IMAGE: NodeId = NodeId(0);
 
 const FIRST: TileAt = TileAt { col: 0, row: 0 };
 
@@ -31,7 +29,7 @@ fn list_layer(rt: &HostRuntime, node: &Node, layer: &Layer) -> io::Result<()> {
 }
 
 fn list_layers(rt: &HostRuntime, document: &Document) -> io::Result<()> {
-    for (_, node) in nodes(rt.alloc(), document)? {
+    for (_, _, node) in nodes(rt.alloc(), document)? {
         if let Body::Leaf(layer) = &node.body {
             list_layer(rt, node, layer)?;
         }
@@ -46,7 +44,7 @@ fn is_temporary(node: &Node) -> bool {
 // The edits that hide the temporary layers.
 fn hiding(alloc: Global, document: &Document) -> Result<Edits, AllocError> {
     let mut edits = Edits::new(alloc);
-    for (id, node) in nodes(alloc, document)? {
+    for (id, _, node) in nodes(alloc, document)? {
         if is_temporary(node) {
             edits.push(Edit::SetVisible { id, on: false })?;
         }

@@ -1,95 +1,153 @@
-//! Two sessions: both edit one document, each by a seat of its own. One comes too late; the other undoes, and saves.
+//! Two sessions edit one image, at first each in a thread of its own, and then in turns: one comes too late, and the other undoes
+//! and saves.
 #![tactic(auto)]
 
-ghost use Rattle.std.specs.Prelude.{◌≡◌};
-ghost use Rattle.xl_doc.specs.Numbered.{AreNumbered};
-ghost use Rattle.xl_studio.specs.Jobs.{job_out};
-ghost use Rattle.xl_studio.specs.Seats.{IsSeatOf, weight_of};
-
-mod asking;
-mod opened;
-
-use crate::asking::{ask, ask_for_edit, save};
-use crate::opened::open_studio;
-use std::alloc::Global;
-use std::process::ExitCode;
+use anyhow::Result;
+use std::alloc::{AllocError, Global};
 use std::sync::Wait;
+use std::thread::{Threads, join};
 use std::{fs, io};
-use xcf::{Document, Edit, NodeId, TileAt, open};
-use xl_calls::Call;
-use xl_fakes::MemoryShelf;
-use xl_studio::{Seat, Studio};
+use xcf::{Changed, Edit, Edits, IMAGE, NodeId, NotEdited, TileAt};
+use xcf_disk::FileShelf;
+use xcf_sessions::{Session, SharedEditor, Shelf};
 
-/// The image, and its one layer.
-const IMAGE: NodeId = NodeId(0);
-
+/// The image's one layer, and the one tile of the canvas.
 const LAYER: NodeId = NodeId(1);
 
-/// The one tile of the canvas.
 const TILE: TileAt = TileAt { col: 0, row: 0 };
 
-// Both sessions ask for an edit of version 0. The one that comes second is answered that the document has moved, and
-// looks at the tile. Then the first undoes its edit, and saves.
+// A group of one edit.
+fn group_of(alloc: Global, edit: Edit) -> Result<Edits, AllocError> {
+    let mut edits = Edits::new(alloc);
+    edits.push(edit)?;
+    Ok(edits)
+}
+
+// Gives the layer an opacity.
+fn fade<W: Wait, D: Shelf>(
+    rt: &W,
+    alloc: Global,
+    session: &mut Session<D>,
+    value: u8,
+) -> Result<Changed, NotEdited> {
+    let edits = group_of(alloc, Edit::SetOpacity { id: LAYER, value })?;
+    session.edit(rt, alloc, edits)
+}
+
+// Both sessions fade the layer, each in a thread of its own. Which comes first is not said.
+fn fade_beside<R: Threads + Wait + Sync, D: Shelf>(
+    rt: &R,
+    alloc: Global,
+    first: &mut Session<D>,
+    second: &mut Session<D>,
+) -> Result<(), NotEdited> {
+    let (one, other) = join(
+        rt,
+        || fade(rt, alloc, first, 128),
+        || fade(rt, alloc, second, 64),
+    );
+    one?;
+    other?;
+    Ok(())
+}
+
+fn tell(rt: &impl Print, name: &str, made: Result<Changed, NotEdited>) -> io::Result<()> {
+    match made {
+        Ok(changed) => println!(rt; "{name}: {changed:?}"),
+        Err(flaw) => println!(rt; "{name}: {flaw}"),
+    }
+}
+
+// Hides or shows the layer, if the version is the latest still.
+fn hide<W: Wait + Print>(
+    rt: &W,
+    alloc: Global,
+    name: &str,
+    session: &mut Session<FileShelf>,
+    version: u32,
+) -> io::Result<()> {
+    let edits = group_of(
+        alloc,
+        Edit::SetVisible {
+            id: LAYER,
+            on: false,
+        },
+    )?;
+    tell(rt, name, session.edit_at(rt, alloc, version, edits))
+}
+
+fn show<W: Wait + Print>(
+    rt: &W,
+    alloc: Global,
+    name: &str,
+    session: &mut Session<FileShelf>,
+) -> io::Result<()> {
+    match session.tile(rt, alloc, IMAGE, TILE) {
+        Ok(shown) => println!(rt; "{name}: version {} {:?}", shown.version(), shown.bytes()),
+        Err(flaw) => println!(rt; "{name}: {flaw}"),
+    }
+}
+
+fn save<W: Wait + Print>(
+    rt: &W,
+    alloc: Global,
+    name: &str,
+    session: &mut Session<FileShelf>,
+) -> io::Result<()> {
+    match session.save(rt, alloc) {
+        Ok(version) => println!(rt; "{name}: saved version {version}"),
+        Err(flaw) => println!(rt; "{name}: {flaw}"),
+    }
+}
+
+// Both ask for an edit of version 2. The second comes too late, and looks at the tile. Then the first undoes its edit, and saves.
 fn take_turns<W: Wait + Print>(
     rt: &W,
     alloc: Global,
-    studio: &Studio<MemoryShelf>,
-    first: &mut Seat<MemoryShelf>,
-    second: &mut Seat<MemoryShelf>,
-) -> io::Result<()>
-    requires first { IsSeatOf studio.now first.old }
-    requires second { IsSeatOf studio.now second.old }
-    ensures first { IsSeatOf studio.now first.new }
-    ensures first_weight { weight_of first.new ≡ weight_of first.old }
-    ensures first_job { job_out first.new ≡ job_out first.old }
-    ensures second { IsSeatOf studio.now second.new }
-    ensures second_weight { weight_of second.new ≡ weight_of second.old }
-    ensures second_job { job_out second.new ≡ job_out second.old }
-{
-    let half = Edit::SetOpacity {
-        id: LAYER,
-        value: 128,
-    };
-    ask_for_edit(rt, alloc, studio, first, 0, 0, half)?;
-    let hide = Edit::SetVisible {
-        id: LAYER,
-        on: false,
-    };
-    ask_for_edit(rt, alloc, studio, second, 1, 0, hide)?;
-    ask(rt, alloc, studio, second, 1, Call::Tile(IMAGE, TILE))?;
-    ask(rt, alloc, studio, first, 0, Call::Undo(None))?;
-    save(rt, alloc, studio, first, 0)
+    first: &mut Session<FileShelf>,
+    second: &mut Session<FileShelf>,
+) -> io::Result<()> {
+    hide(rt, alloc, "first", first, 2)?;
+    hide(rt, alloc, "second", second, 2)?;
+    show(rt, alloc, "second", second)?;
+    tell(rt, "first", first.undo(rt, alloc))?;
+    save(rt, alloc, "first", first)
 }
 
-// Opens a studio over a document for two sessions, and takes it apart again.
-fn play<W: Wait + Print>(rt: &W, alloc: Global, document: Document) -> io::Result<()>
-    requires { AreNumbered document.nodes }
-{
-    let Some((studio, mut first)) = open_studio(alloc, document) else {
-        return println!(rt; "no studio");
-    };
-    let mut second = studio.split(&mut first);
-    let done = take_turns(rt, alloc, &studio, &mut first, &mut second);
-    studio.join(&mut first, second);
-    let core = studio.close(first);
-    done?;
-    let version = core.version();
-    println!(rt; "version {version}")
-}
-
-fn try_sessions<R: Wait + Print>(rt: &R, alloc: Global, file: Vec<u8>) -> io::Result<()> {
-    match open(alloc, file) {
-        Ok(document) => play(rt, alloc, document),
-        Err(flaw) => println!(rt; "not opened: {flaw}"),
+fn play<R: Threads + Wait + Sync + Print>(
+    rt: &R,
+    alloc: Global,
+    first: &mut Session<FileShelf>,
+    second: &mut Session<FileShelf>,
+) -> io::Result<()> {
+    match fade_beside(rt, alloc, first, second) {
+        Ok(()) => take_turns(rt, alloc, first, second),
+        Err(flaw) => println!(rt; "not edited: {flaw}"),
     }
 }
 
-fn main(rt: HostRuntime) -> ExitCode {
-    let Ok(file) = fs::read(&rt, "one.xcf") else {
-        return ExitCode::FAILURE;
+fn with_sessions<R: Threads + Wait + Sync + Print>(
+    rt: &R,
+    alloc: Global,
+    editor: &mut SharedEditor<FileShelf>,
+) -> io::Result<()> {
+    let Ok(mut first) = editor.session() else {
+        return println!(rt; "no session");
     };
-    match try_sessions(&rt, rt.alloc(), file) {
-        Ok(()) => ExitCode::SUCCESS,
-        Err(_) => ExitCode::FAILURE,
-    }
+    let Ok(mut second) = editor.session() else {
+        return println!(rt; "no session");
+    };
+    play(rt, alloc, &mut first, &mut second)
+}
+
+fn open(rt: &HostRuntime) -> Result<SharedEditor<FileShelf>> {
+    let file = fs::read(rt, "one.xcf")?;
+    let shelf = FileShelf::new(rt);
+    Ok(SharedEditor::open(rt.alloc(), file, shelf, "two.xcf")?)
+}
+
+fn main(rt: HostRuntime) -> Result<()> {
+    let mut editor = open(&rt)?;
+    with_sessions(&rt, rt.alloc(), &mut editor)?;
+    Ok(())
 }

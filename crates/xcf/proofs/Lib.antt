@@ -1,9 +1,9 @@
 mod Colours
 mod Checking
 mod Plain
-mod Asking
+pub mod Asking
 mod Outcomes
-mod Own
+pub mod Own
 mod Tiles
 mod Heads
 mod Walked

@@ -1,5 +1,5 @@
 -- Calls that need no filter, and the replies that an editor gets.
-use Rattle.std.specs.Prelude.{ℕ, List, Option, Some, None, Result, Ok, Err}
+use Rattle.std.specs.Prelude.{List, Option, Some, None, Result, Ok, Err}
 use Rattle.spec_edit.specs.Edit.{Edit}
 use Rattle.spec_history.specs.Machine as machine
 use Rattle.spec_history.specs.Machine.{Call, Reply}
@@ -17,15 +17,10 @@ IsPlainCall (machine.tile stack at) = Unit {0}
 IsPlainCall (machine.peek stack at) = ⊥
 IsPlainCall machine.top = Unit {0}
 
--- it is tied to no number
-abbrev pub NamesNone : Option ℕ → Type 0
-NamesNone None = Unit {0}
-NamesNone (Some number) = ⊥
-
--- what an editor asks: a group of edits without a guard, an undo that names no group, or a redo
+-- it asks for a new version: a group of edits, an undo, or a redo
 abbrev pub IsOwnCall : Call → Type 0
-IsOwnCall (machine.edit guard edits) = NamesNone guard
-IsOwnCall (machine.undo named) = NamesNone named
+IsOwnCall (machine.edit guard edits) = Unit {0}
+IsOwnCall (machine.undo named) = Unit {0}
 IsOwnCall machine.redo = Unit {0}
 IsOwnCall (machine.tile stack at) = ⊥
 IsOwnCall (machine.peek stack at) = ⊥
@@ -38,8 +33,8 @@ IsOwn (machine.refused index cause) = Unit {0}
 IsOwn machine.nothing_to_undo = Unit {0}
 IsOwn machine.nothing_to_redo = Unit {0}
 IsOwn machine.history_full = Unit {0}
-IsOwn (machine.moved now) = ⊥
-IsOwn (machine.not_top top) = ⊥
+IsOwn (machine.moved now) = Unit {0}
+IsOwn (machine.not_top top) = Unit {0}
 IsOwn (machine.tile_of version) = ⊥
 IsOwn (machine.stale have seen) = ⊥
 IsOwn (machine.no_stack node) = ⊥
@@ -56,6 +51,8 @@ reply_in (Err (errors.Refused index cause)) = Some (machine.refused index cause)
 reply_in (Err errors.NothingToUndo) = Some machine.nothing_to_undo
 reply_in (Err errors.NothingToRedo) = Some machine.nothing_to_redo
 reply_in (Err errors.HistoryFull) = Some machine.history_full
+reply_in (Err (errors.Moved now)) = Some (machine.moved now)
+reply_in (Err (errors.NotTop top)) = Some (machine.not_top top)
 reply_in (Err (errors.NotGroup flaw)) = None
 reply_in (Err errors.NoIds) = None
 reply_in (Err errors.Memory) = None
@@ -69,3 +66,5 @@ Fails edits (errors.Refused index cause) = Unit {0}
 Fails edits errors.NothingToUndo = Unit {0}
 Fails edits errors.NothingToRedo = Unit {0}
 Fails edits errors.HistoryFull = Unit {0}
+Fails edits (errors.Moved now) = Unit {0}
+Fails edits (errors.NotTop top) = Unit {0}

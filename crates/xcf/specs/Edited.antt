@@ -6,7 +6,7 @@ use Rattle.spec_history.specs.declared.TheConstants.{MAX_EDITS}
 use Rattle.xcf.specs.Plain.{IsPlainGroup, IsChecked}
 use Rattle.xcf.specs.declared.errors.NotEdited.{NotEdited}
 use Rattle.xcf.specs.declared.errors.NotEdited.TheVariants.{Memory, NotGroup, NoIds, Refused}
-use Rattle.xcf.specs.declared.errors.NotEdited.TheVariants.{NothingToUndo, NothingToRedo, HistoryFull}
+use Rattle.xcf.specs.declared.errors.NotEdited.TheVariants.{NothingToUndo, NothingToRedo, HistoryFull, Moved, NotTop}
 
 -- more ids are left than a group may take
 abbrev pub HasIds : At → Type 0
@@ -24,6 +24,8 @@ Edits old new edits (Err Memory) = new ≡ old
 Edits old new edits (Err NothingToUndo) = ⊥
 Edits old new edits (Err NothingToRedo) = ⊥
 Edits old new edits (Err HistoryFull) = ⊥
+Edits old new edits (Err (Moved now)) = ⊥
+Edits old new edits (Err (NotTop top)) = ⊥
 
 -- the same of one edit that takes a table
 abbrev pub EditsBy : (table : List ℕ) → (old new : At) → Edit → Result (Unit {0}) NotEdited → Type 0
@@ -35,3 +37,5 @@ EditsBy table old new edit (Err Memory) = new ≡ old
 EditsBy table old new edit (Err NothingToUndo) = ⊥
 EditsBy table old new edit (Err NothingToRedo) = ⊥
 EditsBy table old new edit (Err HistoryFull) = ⊥
+EditsBy table old new edit (Err (Moved now)) = ⊥
+EditsBy table old new edit (Err (NotTop top)) = ⊥

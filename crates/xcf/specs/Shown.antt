@@ -6,7 +6,7 @@ use Rattle.spec_document.specs.Grid.{is_on_grid}
 use Rattle.spec_history.specs.Machine.{has_stack}
 use Rattle.xcf.specs.TilePicture.{TilePicture, tile_picture}
 use Rattle.xcf.specs.declared.errors.NotShown.{NotShown}
-use Rattle.xcf.specs.declared.errors.NotShown.TheVariants.{Memory, NoStack, OutsideTile}
+use Rattle.xcf.specs.declared.errors.NotShown.TheVariants.{Memory, NoStack, OutsideTile, Stale, HistoryFull}
 
 -- the picture of the tile, where both are there; or which is not: the stack, or the tile where the stack is there
 abbrev pub Shows : Document → (stack : ℕ) → TileAt → Result TilePicture NotShown → Type 0
@@ -15,3 +15,5 @@ Shows d stack at (Ok picture) =
 Shows d stack at (Err (NoStack node)) = (node ≡ stack) × (has_stack d stack ≡ false)
 Shows d stack at (Err OutsideTile) = (has_stack d stack ≡ true) × (is_on_grid d.width d.height at ≡ false)
 Shows d stack at (Err Memory) = Unit {0}
+Shows d stack at (Err (Stale have seen)) = ⊥
+Shows d stack at (Err HistoryFull) = ⊥

@@ -108,7 +108,10 @@ impl Editor {
         ensures memory { IfErr result (λ e. reply_in result ≡ None → e ≡ Memory) }
     {
         let reply = self.ask(alloc, call)?;
-        outcome(reply)
+        match outcome(reply) {
+            Some(made) => made,
+            None => unreachable!(),
+        }
     }
 
     /// Makes a group of 1 to 1024 edits in turn, all or none: with Ok a new version was made.

@@ -32,7 +32,8 @@ pub enum NotGroup {
 
 /// Why no group of edits was made, undone or made again. The document is as before then.
 ///
-/// Of an [`crate::Image`] there are the first four alone, of an [`crate::Editor`] all but `NoIds`.
+/// Of an [`crate::Image`] there are the first four alone, of an [`crate::Editor`] all but `NoIds` and the last two, which
+/// come where several sessions edit one image.
 #[derive(Clone, Copy, Debug, PartialEq, Eq, Error)]
 pub enum NotEdited {
     #[error("out of memory")]
@@ -52,6 +53,12 @@ pub enum NotEdited {
     /// A history has at most 2^20 entries.
     #[error("the history has no room")]
     HistoryFull,
+    /// The group was asked for at another version than the latest, which is named.
+    #[error("the image is at version {now} by now")]
+    Moved { now: u32 },
+    /// Another group than the one named would be undone.
+    #[error("an undo would undo group {top}")]
+    NotTop { top: u32 },
 }
 
 impl From<AllocError> for NotEdited {
@@ -70,7 +77,7 @@ impl From<NotGroup> for NotEdited {
     }
 }
 
-/// Why a tile was not shown.
+/// Why a tile was not shown. The last two come where several sessions look at one image.
 #[derive(Clone, Copy, Debug, PartialEq, Eq, Error)]
 pub enum NotShown {
     #[error("out of memory")]
@@ -80,4 +87,9 @@ pub enum NotShown {
     NoStack(u32),
     #[error("the canvas has no such tile")]
     OutsideTile,
+    /// No picture is kept that is as late as version `seen`: that of version `have`, if any.
+    #[error("no picture is kept that is as late as version {seen}")]
+    Stale { have: Option<u32>, seen: u32 },
+    #[error("the history has no room")]
+    HistoryFull,
 }

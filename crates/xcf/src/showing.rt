@@ -19,6 +19,9 @@ use xl_doc::{Document, NodeId, Pictures, Rect, TileAt};
 use xl_standing::{has_stack, has_tile};
 use xl_write::{Keeping, encode};
 
+/// The id that stands for the image where a stack or a parent is asked for.
+pub const IMAGE: NodeId = NodeId(0);
+
 // The picture of a tile that is there, with a counter of steps of its own.
 fn compose_tile<L: Ledger>(
     alloc: Global,
