@@ -1,3 +1,4 @@
 pub mod Earlier
+pub mod Fronts
 pub mod LastFile
 pub mod VersionsWithin

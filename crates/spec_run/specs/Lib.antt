@@ -1,4 +1,5 @@
 pub mod Failed
 pub mod First
+pub mod Fronts
 pub mod LastSaved
 pub mod Versions

@@ -5,6 +5,7 @@ mod Alone
 mod Answered
 mod Chests
 mod Keeping
+mod Lined
 mod Plain
 mod Grown
 mod Saved

@@ -1,13 +1,19 @@
 -- The lines of session 0, of which some were played and some are left.
 use Rattle.spec_history.specs.declared.TheConstants.{MAX_ENTRIES}
 use Rattle.std.proofs.Common.{◌≡◌, ℕ, ◌+◌, ◌*◌, ◌≤◌, List, [], ◌∷◌, ◌++◌, length, refl, ap, sym, ◌∙◌, subst, arith}
-use Rattle.std.proofs.Common.{append_assoc, append-nil, length-append, eq-eqb, cond, map}
-use Rattle.std.specs.Prelude.{IsSome, Bool, true, false, ◌==◌, ◌&&◌, not, Option, Some}
+use Rattle.std.proofs.Common.{◌⊎◌, inl, inr, append_assoc, append-nil, length-append, eq-eqb, cond, map}
+use Rattle.std.specs.Prelude.{IsErr, IsSome, Bool, true, false, ◌==◌, ◌&&◌, not, Option, Some, Result, Ok, String}
+use Rattle.std.specs.Prelude.{string_bytes}
+use Rattle.std.specs.declared.alloc.Global.{Global}
+use Rattle.std.proofs.lemmas.Result.{IfOk-from_err}
 use Rattle.spec_document.specs.Document.{Document}
 use Rattle.spec_history.specs.Machine.{Call, Reply}
 use Rattle.spec_history.specs.History.{Entry, asked, ends, is_end_kind, next_index}
 use Rattle.spec_history.proofs.Growing.{next_index-snoc}
 use Rattle.spec_filters.specs.declared.FilterState.{FilterState}
+use Rattle.spec_history.specs.Kept.{IsLegal}
+use Rattle.spec_run.specs.Fronts.{AreBegun}
+use Rattle.spec_run.proofs.Fronts.{none_begun}
 use Rattle.spec_script.specs.Script as script
 use Rattle.spec_script.specs.Fits.{AreFit, dropped_by}
 use Rattle.spec_tables.specs.Tables.{HaveTables, expected_tables, filters_after, tables_in}
@@ -20,10 +26,13 @@ use Rattle.xl_history.specs.History.{History, with_call}
 use Rattle.xl_script.specs.Lines.{line_of, lines_of}
 use Rattle.xl_script.specs.declared.script.Line.{Line}
 use Rattle.xl_run.specs.Filters.{FitsChest}
-use Rattle.xl_play.specs.Playing.{AreMade, ArePlayed, IsCalled, IsBetweenLines, IsMade}
+use Rattle.xl_play.specs.Playing.{AreLinesPlayed, AreMade, AreOf, ArePlayed, CanPlay, IsCalled, IsBetweenLines, IsMade, IsOpened}
+use Rattle.xl_play.specs.Playing.{with_save}
+use Rattle.xl_ports.specs.State.{ShelfState}
+use Rattle.xl_play.proofs.Lined.{no_ok}
 use Rattle.xl_run.specs.Opening.{KeepsExactly}
 use Rattle.spec_text.specs.Text.{calls_along}
-use Rattle.xl_play.proofs.Plain.{filters_now, filters_more, tables_more}
+use Rattle.xl_play.proofs.Plain.{both_own, filters_now, filters_more, tables_more}
 use Rattle.xl_play.proofs.Chests.{full_stocked}
 use Rattle.xl_run.proofs.Boxes.{full_agrees}
 use Rattle.xl_run.proofs.Chests.{IsStocked, line_fits, stocked_after, agrees_without, stocked_without}
@@ -55,6 +64,7 @@ pub record IsOneMore (session : ℕ) (now : List FilterState) (old new : History
   pub base_is : new.base ≡ old.base
   pub more : List Entry
   pub entries : new.entries ≡ old.entries ++ more
+  pub own : AreOf session more
   pub calls : calls_along more ≡ calls_of (line ∷ [])
   pub tables : (filters : List FilterState) (earlier : List Entry) → now ≡ filters_now filters earlier → HaveTables filters earlier
       → HaveTables filters (earlier ++ more)
@@ -88,6 +98,7 @@ made_one session now old new before after (script.call c) agrees made =
       base_is = ap (λ (h : History). h.base) grown;
       more = e ∷ [];
       entries = es;
+      own = (refl, tt);
       calls = refl;
       tables = λ filters earlier is have.
           tables_more filters earlier e have
@@ -110,6 +121,7 @@ made_one session now old new before after script.save agrees (made, same) =
       base_is = ap (λ (h : History). h.base) made.1;
       more = s ∷ e ∷ [];
       entries = es;
+      own = (refl, (refl, tt));
       calls = refl;
       tables = λ filters earlier is have.
           subst (HaveTables filters) (append_assoc earlier (s ∷ []) (e ∷ []))
@@ -133,6 +145,7 @@ made_one session now old new before after (script.forget slot) agrees (same, wit
       base_is = ap (λ (h : History). h.base) same;
       more = [];
       entries = es ∙ sym (append-nil old.entries);
+      own = tt;
       calls = refl;
       tables = λ filters earlier is have. subst (HaveTables filters) (sym (append-nil earlier)) have;
       agrees = λ filters earlier is.
@@ -152,6 +165,11 @@ pub called_next : (session : ℕ) (old new : History) (before after : List (Opti
 called_next session old new before after c called =
     let some = some_list before in
     (made_one session some.0 old new before after (script.call c) some.1 called).index
+
+-- and after a save
+pub saved_next : (old new : History) (reply : Reply) → new ≡ with_save old 0 reply
+    → next_index new.entries 0 ≡ next_index old.entries 0 + 1
+saved_next old new reply saved = (made_one 0 [] old new [] [] script.save tt ((reply, saved), refl)).index
 
 -- ---- along the lines
 
@@ -215,6 +233,32 @@ module _ {D : Type 0} where
     legal = after.legal;
   }
 
+  stopped : {E : Type 0} (filters : List FilterState) (start new : Editing D) (lines : List script.Line)
+      (result : Result (String Global) E) → IsErr result → IsBetweenLines start.history.base start.opening new
+      → AreOf 0 new.history.entries → AreBegun filters lines new.history.entries → AreLinesPlayed result start new filters lines
+  stopped filters start new lines result err between own begun = record {
+    between = between;
+    own = own;
+    begun = begun;
+    made = no_ok (AreMade filters lines new.history.entries) result err;
+    played = IfOk-from_err result (λ text. ArePlayed new.history.base new.history.entries (string_bytes text)) err;
+  }
+
+  -- before the first line
+  pub none_played : {E : Type 0} (filters : List FilterState) (core : Editing D) (lines : List script.Line) (see : D → ShelfState)
+      (result : Result (String Global) E) → IsErr result → IsOpened see core → AreLinesPlayed result core core filters lines
+  none_played filters core lines see result err opened =
+      let base = core.history.base in
+      stopped filters core core lines result err
+      (record {
+        base_is = refl;
+        opening_is = refl;
+        inside = opened.inside;
+        legal = subst (IsLegal base) (sym opened.fresh) (played_none base).legal;
+      })
+      (subst (AreOf 0) (sym opened.fresh) tt)
+      (subst (AreBegun filters lines) (sym opened.fresh) (none_begun filters lines))
+
   module _ {filters : List FilterState} {start : Editing D} {all left : List Line} {index : ℕ}
       {chest : List (Option FilterState)} {old : Editing D} {out : List ℕ} (line : Line) (rest : List Line)
       (way : IsUnderWay filters start all left index chest old out)
@@ -234,6 +278,20 @@ module _ {D : Type 0} where
         ∙ length-append (calls_of (line_of line ∷ [])) (calls_of (lines_of rest)) in
         omega arith
 
+    -- with the line the calls so far are those of one line more
+    calls_more : {after_chest : List (Option FilterState)} {new : History}
+        → IsOneMore 0 (filters_now filters old.history.entries) old.history new chest after_chest (line_of line)
+        → calls_along new.entries ++ calls_of (lines_of rest) ≡ calls_of (lines_of all)
+    calls_more one =
+        let es = old.history.entries in
+        ap (λ (ls : List script.Line). ls ++ calls_of (lines_of rest))
+        (ap (λ (l : List Entry). calls_along l) one.entries ∙ calls_behind es one.more
+        ∙ ap (λ (ls : List script.Line). calls_along es ++ ls) one.calls)
+        ∙ append_assoc (calls_along es) (calls_of (line_of line ∷ [])) (calls_of (lines_of rest))
+        ∙ ap (λ (ls : List script.Line). calls_along es ++ ls) (sym (calls_split (line_of line) (lines_of rest)))
+        ∙ ap (λ (ls : List Line). calls_along es ++ calls_of (lines_of ls)) (sym turn)
+        ∙ way.calls
+
     pub under_way_more : (after_chest : List (Option FilterState)) (new : Editing D) (next : ℕ) (more : List ℕ)
         → IsBetweenLines old.history.base old.opening new → IsMade old.history 0 (line_of line) chest after_chest new.history
         → next ≡ next_index new.history.entries 0 → KeepsExactly new → ArePlayed new.history.base new.history.entries more
@@ -250,14 +308,7 @@ module _ {D : Type 0} where
         record {
           index_is = next_is;
           between = still_between new way.between after;
-          calls =
-              ap (λ (ls : List script.Line). ls ++ calls_of (lines_of rest))
-              (ap (λ (l : List Entry). calls_along l) one.entries ∙ calls_behind es one.more
-              ∙ ap (λ (ls : List script.Line). calls_along es ++ ls) one.calls)
-              ∙ append_assoc (calls_along es) (calls_of (line_of line ∷ [])) (calls_of (lines_of rest))
-              ∙ ap (λ (ls : List script.Line). calls_along es ++ ls) (sym split)
-              ∙ ap (λ (ls : List Line). calls_along es ++ calls_of (lines_of ls)) (sym turn)
-              ∙ way.calls;
+          calls = calls_more one;
           tables = subst (HaveTables filters) (sym one.entries) (one.tables filters es refl way.tables);
           agrees = subst (λ (l : List Entry). Agrees after_chest (filters_now filters l)) (sym one.entries)
               (one.agrees filters es refl);
@@ -269,6 +320,39 @@ module _ {D : Type 0} where
           played = played;
         }
 
+    pub under_way_can : (see : D → ShelfState) → IsSome (see start.opening).selected
+        → 2 * length (calls_of (lines_of all)) ≤ MAX_ENTRIES
+        → CanPlay see (2 * length (calls_of (line_of line ∷ []))) old index out
+    under_way_can see selected room = record {
+      played = way.played;
+      inside = way.between.inside;
+      selected = subst (λ (o : D). IsSome (see o).selected) (sym way.between.opening_is) selected;
+      index_is = way.index_is;
+      few = under_way_free room;
+      kept = way.kept;
+    }
+
+    -- Where the run stops in the line, nothing of it was made or all.
+    pub lines_cut : (after_chest : List (Option FilterState)) (new : Editing D) {E : Type 0} (result : Result (String Global) E)
+        → IsErr result → IsBetweenLines old.history.base old.opening new
+        → (new.history ≡ old.history) ⊎ IsMade old.history 0 (line_of line) chest after_chest new.history
+        → AreLinesPlayed result start new filters (lines_of all)
+    lines_cut after_chest new result err after (inl same) =
+        let es : new.history.entries ≡ old.history.entries = ap (λ (h : History). h.entries) same in
+        stopped filters start new (lines_of all) result err (still_between new way.between after)
+        (subst (AreOf 0) (sym es) way.played.own)
+        (subst (AreBegun filters (lines_of all)) (sym es)
+        (record { calls = (calls_of (lines_of left), way.calls); tables = way.tables }))
+    lines_cut after_chest new result err after (inr made) =
+        let es = old.history.entries in
+        let one = made_one 0 (filters_now filters es) old.history new.history chest after_chest (line_of line) way.agrees made in
+        stopped filters start new (lines_of all) result err (still_between new way.between after)
+        (subst (AreOf 0) (sym one.entries) (both_own es one.more 0 way.played.own one.own))
+        (record {
+          calls = (calls_of (lines_of rest), calls_more one);
+          tables = subst (HaveTables filters) (sym one.entries) (one.tables filters es refl way.tables);
+        })
+
   pub under_way_all : {filters : List FilterState} {start : Editing D} {all left : List Line} {index : ℕ}
       {chest : List (Option FilterState)} {core : Editing D} {out : List ℕ}
       → IsUnderWay filters start all left index chest core out → length left ≡ 0
@@ -279,3 +363,18 @@ module _ {D : Type 0} where
         ∙ ap (λ (ls : List Line). calls_along core.history.entries ++ calls_of (lines_of ls)) (sym (no_more left none)) ∙ way.calls;
     tables = way.tables;
   }
+
+  -- at the end, with the text so far
+  pub lines_played : {filters : List FilterState} {start : Editing D} {all left : List Line} {index : ℕ}
+      {chest : List (Option FilterState)} {core : Editing D} {out : List ℕ} {E : Type 0}
+      → IsUnderWay filters start all left index chest core out → (text : String Global) → length left ≡ 0 → string_bytes text ≡ out
+      → AreLinesPlayed {E = E} (Ok text) start core filters (lines_of all)
+  lines_played {core = core} way text none is =
+      let all_made = under_way_all way none in
+      record {
+        between = way.between;
+        own = way.played.own;
+        begun = record { calls = ([], append-nil (calls_along core.history.entries) ∙ all_made.calls); tables = all_made.tables };
+        made = all_made;
+        played = subst (ArePlayed core.history.base core.history.entries) (sym is) way.played;
+      }

@@ -10,6 +10,8 @@ use Rattle.spec_document.specs.Rect.{count_from}
 use Rattle.spec_history.specs.History.{Entry, mine}
 use Rattle.spec_history.specs.Kept.{IsFresh}
 use Rattle.spec_saves.specs.Names.{save_faults}
+use Rattle.spec_run.specs.Fronts.{AreBegun, IsFrontOf}
+use Rattle.spec_run.proofs.Fronts.{front_first}
 use Rattle.spec_script.specs.Script.{Line}
 use Rattle.spec_tables.specs.Tables.{HaveTables}
 use Rattle.spec_text.specs.Printed.{order_text}
@@ -95,6 +97,17 @@ whole_text base opened lists chests es front out whole same first played made =
       tables = λ session below. tables_at chests es session played.own made.tables;
       text = whole ∙ ap (λ (o : List ℕ). o ++ order_text es) (played.text ∙ sym (text_of_own base es played.own));
     })
+
+-- The first calls of session 0 are a front of the script.
+pub front_alone : {B : Type 0} (state : B → FilterState) (lists : List (List Line)) (boxes : List (Vec B Global)) (items : List B)
+    (lines : List Line) (es : List Entry) → lines ≡ list_at lists 0 → items ≡ boxes_at boxes 0 → AreOf 0 es
+    → AreBegun (map state items) lines es → IsFrontOf lists (states_of state boxes) es
+front_alone state lists boxes items lines es own first_items of begun =
+    let filters : map state items ≡ list_at (states_of state boxes) 0 = ap (map state) first_items ∙ sym (states_at state boxes 0) in
+    front_first lists (states_of state boxes) es (λ session some. none_later es session of some)
+    (subst (AreBegun (list_at (states_of state boxes) 0) (list_at lists 0)) (sym (mine_own es 0 of))
+    (subst (λ (ls : List Line). AreBegun (list_at (states_of state boxes) 0) ls es) own
+    (subst (λ (fs : List FilterState). AreBegun fs lines es) filters begun)))
 
 -- What is told of session 0: its text is one of the script, and the one that follows from the document, the calls and the filters
 -- where no save failed.

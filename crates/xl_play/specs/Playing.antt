@@ -1,18 +1,25 @@
 -- A history of the calls and saves of session 0, which is alone, and the lines that are printed for it.
-use Rattle.std.specs.Prelude.{◌≡◌, ℕ, List, [], ◌∷◌, ◌++◌, flat_map, slice_set, Option, None, IsSome, option_map, unwrap_or}
+use Rattle.std.specs.Prelude.{◌≡◌, ◌⊎◌, ◌+◌, ◌*◌, ◌<◌, ◌≤◌, ◌^◌, ℕ, List, [], ◌∷◌, ◌++◌, length, flat_map, slice_set, Option, None, IsSome}
+use Rattle.std.specs.Prelude.{option_map, unwrap_or, Result, String, string_bytes, IfOk, OnOk}
+use Rattle.std.specs.declared.alloc.Global.{Global}
 use Rattle.std.specs.List.{AllByRecursion}
 use Rattle.spec_document.specs.Document.{Document}
 use Rattle.spec_history.specs.Machine.{Call, Reply, version_shown}
+use Rattle.spec_history.specs.declared.TheConstants.{MAX_ENTRIES}
 use Rattle.spec_history.specs.History.{Entry, asked, ends, replay, next_index}
 use Rattle.spec_history.specs.Kept.{IsFresh, IsLegal}
 use Rattle.spec_saves.specs.Names.{save_faults}
 use Rattle.spec_filters.specs.declared.FilterState.{FilterState}
+use Rattle.spec_run.specs.Fronts.{AreBegun}
+use Rattle.spec_script.specs.Fits.{AreFit}
 use Rattle.spec_script.specs.Script.{Line, call, save, forget}
 use Rattle.spec_tables.specs.Tables.{HaveTables, expected_tables}
 use Rattle.spec_tables.specs.Agrees.{Agrees, IsAfter}
 use Rattle.spec_text.specs.Text.{IsPrintable, AreAlone, calls_along, calls_of, digest_of, entry_line}
 use Rattle.xl_history.specs.Editing.{Editing, start_of}
 use Rattle.xl_history.specs.History.{History, with_call}
+use Rattle.xl_ports.specs.State.{ShelfState}
+use Rattle.xl_run.specs.Opening.{KeepsExactly}
 
 -- ---- whose entries they are
 
@@ -76,3 +83,45 @@ pub record IsBetweenLines {D : Type 0} (base : Document) (opening : D) (core : E
   pub opening_is : core.opening ≡ opening
   pub inside : IsSome core.shelf
   pub legal : IsLegal core.history.base core.history.entries
+
+-- ---- what the session needs, and what comes of it
+
+-- all that it needs for a line of at most so many entries: what it has played, the index of its next call, and the text so far
+pub record CanPlay {D : Type 0} (see : D → ShelfState) (most : ℕ) (core : Editing D) (index : ℕ) (out : List ℕ) : Type 0 where
+  pub played : ArePlayed core.history.base core.history.entries out
+  pub inside : IsSome core.shelf
+  pub selected : IsSome (see core.opening).selected
+  pub index_is : index ≡ next_index core.history.entries 0
+  pub few : length core.history.entries + most ≤ MAX_ENTRIES
+  pub kept : KeepsExactly core
+
+-- What comes of a line. It was made, or nothing was; where it came to its end it was, and its text stands behind the others.
+pub record IsLinePlayed {D E : Type 0} (result : Result (Unit {0}) E) (old new : Editing D) (line : Line)
+    (before after : List (Option FilterState)) (out : List ℕ) : Type 0 where
+  pub between : IsBetweenLines old.history.base old.opening new
+  pub begun : (new.history ≡ old.history) ⊎ IsMade old.history 0 line before after new.history
+  pub made : OnOk result (IsMade old.history 0 line before after new.history)
+  pub kept : OnOk result (KeepsExactly new)
+  pub played : OnOk result (ArePlayed new.history.base new.history.entries out)
+
+-- a core that was opened, and on which nothing was played
+pub record IsOpened {D : Type 0} (see : D → ShelfState) (core : Editing D) : Type 0 where
+  pub fresh : core.history.entries ≡ []
+  pub kept : KeepsExactly core
+  pub inside : IsSome core.shelf
+  pub selected : IsSome (see core.opening).selected
+
+-- lines that a session may play which has so many filters
+pub record AreForSession (filters : ℕ) (lines : List Line) : Type 0 where
+  pub short : filters < 2 ^ 32
+  pub fit : AreFit filters [] lines
+  pub few : 2 * length (calls_of lines) ≤ MAX_ENTRIES
+
+-- What comes of all lines. The first of them were made; where the run came to its end all were, and the text is that of the entries.
+pub record AreLinesPlayed {D E : Type 0} (result : Result (String Global) E) (old new : Editing D) (filters : List FilterState)
+    (lines : List Line) : Type 0 where
+  pub between : IsBetweenLines old.history.base old.opening new
+  pub own : AreOf 0 new.history.entries
+  pub begun : AreBegun filters lines new.history.entries
+  pub made : OnOk result (AreMade filters lines new.history.entries)
+  pub played : IfOk result (λ text. ArePlayed new.history.base new.history.entries (string_bytes text))

@@ -1,28 +1,22 @@
 //! The run of a script of session 0 alone, without threads.
+ghost use Rattle.spec_filters.specs.declared.FilterState.{FilterState};
 ghost use Rattle.spec_history.specs.Calls.{IsCall};
-ghost use Rattle.spec_history.specs.declared.TheConstants.{MAX_ENTRIES};
 ghost use Rattle.spec_history.specs.History.{next_index};
-ghost use Rattle.spec_history.specs.Machine.{Reply as Plain};
 ghost use Rattle.spec_history.specs.Limited.{edits_of};
+ghost use Rattle.spec_run.specs.Failed.{WhetherFailed};
 ghost use Rattle.spec_saves.specs.Names.{ends_by_fault, save_faults};
-ghost use Rattle.spec_script.specs.Fits.{AreFit, FitsFilters};
+ghost use Rattle.spec_script.specs.Script as script;
+ghost use Rattle.spec_script.specs.Script.{list_at};
 ghost use Rattle.spec_tables.specs.Agrees.{AreThere};
 ghost use Rattle.spec_text.specs.Text.{calls_of};
-ghost use Rattle.std.specs.List.{AllByRecursion};
-ghost use Rattle.std.specs.Prelude.{◌≡◌, ◌+◌, ◌*◌, ◌<◌, ◌≤◌, ◌^◌, [], ◌∷◌, length, map, IfOk, OnOk, IsSome, string_bytes};
+ghost use Rattle.std.specs.Prelude.{◌≡◌, ◌*◌, ◌<◌, List, [], ◌∷◌, length, map, IfOk, OnOk, Option, string_bytes};
 ghost use Rattle.xl_calls.specs.Calls.{call_of};
 ghost use Rattle.xl_calls.specs.Replies.{reply_of};
-ghost use Rattle.xl_filters.specs.Chests.{states_in};
-ghost use Rattle.spec_run.specs.Failed.{WhetherFailed};
-ghost use Rattle.xl_play.specs.Told.{IsToldOf};
-ghost use Rattle.spec_run.specs.First.{AreOfFirst};
-ghost use Rattle.xl_play.specs.Playing.{AreMade, ArePlayed, IsBetweenLines, IsCalled, IsMade};
-ghost use Rattle.xl_play.specs.Playing.{shown_of, with_save};
-ghost use Rattle.xl_run.specs.Opening.{KeepsExactly};
-ghost use Rattle.xl_script.specs.Lines.{line_of, lines_of, lists_of};
-ghost use Rattle.xl_filters.specs.Chests.{states_of};
-ghost use Rattle.spec_script.specs.Script.{list_at};
+ghost use Rattle.xl_filters.specs.Chests.{states_in, states_of};
+ghost use Rattle.xl_play.specs.Playing.{AreForSession, AreLinesPlayed, CanPlay, IsLinePlayed, IsOpened, shown_of};
+ghost use Rattle.xl_play.specs.Told.{IsScriptOfFirst, IsScriptPlayed};
 ghost use Rattle.xl_run.specs.Filters.{FitsChest};
+ghost use Rattle.xl_script.specs.Lines.{line_of, lines_of, lists_of};
 
 use crate::saving::save_latest;
 use crate::transcript::Transcript;
@@ -67,20 +61,13 @@ fn play_call<L: Ledger, D: Shelf, G: Gate>(
     steps: &mut Steps<L>,
     transcript: &mut Transcript,
 ) -> Result<(), AllocError>
-    requires played { ArePlayed core.old.history.base core.old.history.entries
+    requires can { CanPlay D.shelf_state 2 core.old transcript.old.index
         (string_bytes transcript.old.text) }
-    requires inside { IsSome core.old.shelf }
-    requires index { transcript.old.index ≡ next_index core.old.history.entries 0 }
-    requires few { length core.old.history.entries + 2 ≤ MAX_ENTRIES }
-    requires kept { KeepsExactly core.old }
     requires call { IsCall (call_of call) }
     requires there { AreThere (states_in state desk.old.chest) (edits_of (call_of call)) }
-    ensures between { IsBetweenLines core.old.history.base core.old.opening core.new }
-    ensures called { OnOk result (IsCalled core.old.history 0 (call_of call)
-        (states_in state desk.old.chest) (states_in state desk.new.chest) core.new.history) }
-    ensures kept { OnOk result (KeepsExactly core.new) }
-    ensures played { OnOk result (ArePlayed core.new.history.base core.new.history.entries
-        (string_bytes transcript.new.text)) }
+    ensures { IsLinePlayed result core.old core.new (script.call (call_of call))
+        (states_in state desk.old.chest) (states_in state desk.new.chest)
+        (string_bytes transcript.new.text) }
 {
     let seen = core.version();
     gate.pass(Actor::Session(ALONE), Place::BeforeCall);
@@ -104,19 +91,10 @@ fn play_save<D: Shelf, G: Gate>(
     gate: &G,
     transcript: &mut Transcript,
 ) -> Result<(), AllocError>
-    requires played { ArePlayed core.old.history.base core.old.history.entries
+    requires { CanPlay D.shelf_state 2 core.old transcript.old.index
         (string_bytes transcript.old.text) }
-    requires inside { IsSome core.old.shelf }
-    requires selected { IsSome (D.shelf_state core.old.opening).selected }
-    requires index { transcript.old.index ≡ next_index core.old.history.entries 0 }
-    requires few { length core.old.history.entries + 2 ≤ MAX_ENTRIES }
-    requires kept { KeepsExactly core.old }
-    ensures between { IsBetweenLines core.old.history.base core.old.opening core.new }
-    ensures saved { OnOk result ((reply : Plain)
-        × (core.new.history ≡ with_save core.old.history 0 reply)) }
-    ensures kept { OnOk result (KeepsExactly core.new) }
-    ensures played { OnOk result (ArePlayed core.new.history.base core.new.history.entries
-        (string_bytes transcript.new.text)) }
+    ensures { (chest : List (Option FilterState)) → IsLinePlayed result core.old core.new
+        script.save chest chest (string_bytes transcript.new.text) }
 {
     gate.pass(Actor::Session(ALONE), Place::BeforeCall);
     let reply = save_latest(alloc, core, ALONE)?;
@@ -141,22 +119,13 @@ fn play_line<L: Ledger, D: Shelf, G: Gate>(
     steps: &mut Steps<L>,
     transcript: &mut Transcript,
 ) -> Result<(), AllocError>
-    requires played { ArePlayed core.old.history.base core.old.history.entries
-        (string_bytes transcript.old.text) }
-    requires inside { IsSome core.old.shelf }
-    requires selected { IsSome (D.shelf_state core.old.opening).selected }
-    requires index { transcript.old.index ≡ next_index core.old.history.entries 0 }
-    requires few { length core.old.history.entries + 2 * length (calls_of (line_of line ∷ []))
-        ≤ MAX_ENTRIES }
-    requires kept { KeepsExactly core.old }
+    requires can { CanPlay D.shelf_state (2 * length (calls_of (line_of line ∷ []))) core.old
+        transcript.old.index (string_bytes transcript.old.text) }
     requires fit { FitsChest (states_in state desk.old.chest) (line_of line) }
-    ensures between { IsBetweenLines core.old.history.base core.old.opening core.new }
-    ensures made { OnOk result (IsMade core.old.history 0 (line_of line)
-        (states_in state desk.old.chest) (states_in state desk.new.chest) core.new.history) }
+    ensures comes { IsLinePlayed result core.old core.new (line_of line)
+        (states_in state desk.old.chest) (states_in state desk.new.chest)
+        (string_bytes transcript.new.text) }
     ensures next { OnOk result (transcript.new.index ≡ next_index core.new.history.entries 0) }
-    ensures kept { OnOk result (KeepsExactly core.new) }
-    ensures played { OnOk result (ArePlayed core.new.history.base core.new.history.entries
-        (string_bytes transcript.new.text)) }
 {
     match line {
         Line::Call(call) => {
@@ -190,18 +159,10 @@ fn play_lines<L: Ledger, D: Shelf, G: Gate>(
     requires name { blank.name ≡ L.name }
     requires parts { blank.parts ≡ L.parts }
     requires some { 0 < blank.parts }
-    requires fresh { core.old.history.entries ≡ [] }
-    requires kept { KeepsExactly core.old }
-    requires inside { IsSome core.old.shelf }
-    requires selected { IsSome (D.shelf_state core.old.opening).selected }
-    requires boxes { length boxes.items < 2 ^ 32 }
-    requires fit { AreFit (length boxes.items) [] (lines_of lines.items) }
-    requires few { 2 * length (calls_of (lines_of lines.items)) ≤ MAX_ENTRIES }
-    ensures between { IsBetweenLines core.old.history.base core.old.opening core.new }
-    ensures made { OnOk result (AreMade (map (λ b. state b) boxes.items) (lines_of lines.items)
-        core.new.history.entries) }
-    ensures played { IfOk result (λ text. ArePlayed core.new.history.base core.new.history.entries
-        (string_bytes text)) }
+    requires opened { IsOpened D.shelf_state core.old }
+    requires lines { AreForSession (length boxes.items) (lines_of lines.items) }
+    ensures { AreLinesPlayed result core.old core.new (map (λ b. state b) boxes.items)
+        (lines_of lines.items) }
 {
     let mut desk = desk_of(alloc, boxes)?;
     let mut steps = Steps::<L>::new(blank);
@@ -260,17 +221,10 @@ pub fn play<D: Shelf, G: Gate>(
     script: Script,
     mut chest: Vec<Vec<Box<dyn PointFilter + Send>>>,
 ) -> Result<Replies, AllocError>
-    requires first { AreOfFirst (lists_of script) }
-    requires fresh { core.old.history.entries ≡ [] }
-    requires kept { KeepsExactly core.old }
-    requires inside { IsSome core.old.shelf }
-    requires selected { IsSome (D.shelf_state core.old.opening).selected }
-    requires boxes { AllByRecursion (λ boxes. length boxes.items < 2 ^ 32) chest.items }
-    requires fits { FitsFilters (map length (states_of (λ b. state b) chest.items))
-        (lists_of script) }
-    ensures between { IsBetweenLines core.old.history.base core.old.opening core.new }
-    ensures told { IfOk result (IsToldOf core.old.history.base (lists_of script)
-        (states_of (λ b. state b) chest.items) 0 core.new.history.entries) }
+    requires opened { IsOpened D.shelf_state core.old }
+    requires script { IsScriptOfFirst (λ b. state b) (lists_of script) chest.items }
+    ensures { IsScriptPlayed result core.old core.new (lists_of script)
+        (states_of (λ b. state b) chest.items) }
 {
     let lines = first_lines(script);
     let boxes = first_boxes(alloc, &mut chest);

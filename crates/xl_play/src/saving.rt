@@ -1,7 +1,8 @@
 //! A save, from its start to its end.
 ghost use Rattle.spec_history.specs.declared.TheConstants.{MAX_ENTRIES};
-ghost use Rattle.std.specs.Prelude.{◌≡◌, ◌+◌, ◌<◌, ◌≤◌, length, IfOk, OnOk, IsSome};
+ghost use Rattle.std.specs.Prelude.{◌≡◌, ◌⊎◌, ◌+◌, ◌<◌, ◌≤◌, length, IfOk, OnOk, IsSome};
 ghost use Rattle.spec_history.specs.Kept.{IsLegal};
+ghost use Rattle.spec_history.specs.Machine.{Reply as Plain};
 ghost use Rattle.xl_calls.specs.Replies.{reply_of};
 ghost use Rattle.xl_play.specs.Playing.{IsBetweenLines, with_save};
 ghost use Rattle.xl_run.specs.Opening.{KeepsExactly};
@@ -16,7 +17,7 @@ use xl_snapshot::save_document;
 
 /// Makes a save of a session, from its start to its end.
 ///
-/// Where memory ran out for the file the save has ended too.
+/// Where memory ran out for the file the save has ended too, and before that nothing was made.
 pub fn save_latest<D: Shelf>(
     alloc: Global,
     core: &mut Core<D>,
@@ -31,6 +32,8 @@ pub fn save_latest<D: Shelf>(
     ensures between { IsBetweenLines core.old.history.base core.old.opening core.new }
     ensures saved { IfOk result (λ reply. core.new.history ≡ with_save core.old.history session
         (reply_of reply)) }
+    ensures begun { (core.new.history ≡ core.old.history) ⊎ ((reply : Plain)
+        × (core.new.history ≡ with_save core.old.history session reply)) }
     ensures text { IfOk result (λ reply. HasText reply) }
     ensures kept { OnOk result (KeepsExactly core.new) }
 {

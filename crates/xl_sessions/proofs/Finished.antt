@@ -9,6 +9,7 @@ use Rattle.spec_document.proofs.Elements.{all-each}
 use Rattle.spec_filters.specs.declared.FilterState.{FilterState}
 use Rattle.spec_history.specs.History.{Entry, replay, mine}
 use Rattle.spec_history.specs.Kept.{IsLegal}
+use Rattle.spec_run.specs.Fronts.{IsFrontOf}
 use Rattle.spec_script.specs.Script.{Line}
 use Rattle.spec_seats.specs.Digests.{digests_in}
 use Rattle.spec_seats.specs.Ended.{AreEnded}
@@ -23,7 +24,7 @@ use Rattle.xl_run.specs.Printing.{IsPrinted}
 use Rattle.xl_sessions.specs.declared.players.Player.{Player}
 use Rattle.xl_sessions.proofs.Counts.{at_most_length, not_full_each, places_count}
 use Rattle.xl_run.proofs.Lined.{legal_has_lines}
-use Rattle.xl_sessions.proofs.Outcomes.{HasOutcome, Own, none_is_out, saves_have_ended, digests_are, makes_a_text}
+use Rattle.xl_sessions.proofs.Outcomes.{HasOutcome, Own, none_is_out, saves_have_ended, digests_are, makes_a_front, makes_a_text}
 use Rattle.xl_sessions.proofs.PlayedParts.{all_own, all_outcomes, all_seats}
 use Rattle.xl_studio.specs.declared.moment.Moment.{Moment}
 use Rattle.xl_studio.specs.declared.seat.Seat.{Seat}
@@ -103,6 +104,13 @@ module _ {K : Type 0} {C : Ghosts (State K) (Moment K)} {X : Type 0} {H : X → 
       subst (λ (all : List Entry). FromFirst (HasOutcome places_of shown_of done_of all (base_of studio) chests lists) 0 players)
       (back c)
       (all_outcomes studio players joined (moments_of c) known whole chests lists (all_seats studio players of) have)
+
+  -- what was made is of the first calls of the script
+  pub makes_front : (chests : List (List FilterState)) (lists : List (List Line)) → HaveOutcomes studio chests lists players
+      → IsFrontOf lists chests es
+  makes_front chests lists have =
+      makes_a_front places_of shown_of done_of es players eight once own (base_of studio) chests lists
+      (whole_outcomes chests lists have)
 
   makes_text : (chests : List (List FilterState)) (lists : List (List Line)) → HaveOutcomes studio chests lists players
       → IsLegal (base_of studio) es → (all : Bool) → all ≡ list_all done_of players → all ≡ true

@@ -112,9 +112,6 @@ module _ {K : Type 0} where
 
   -- ---- a line
 
-  pub count_line : (n most : ℕ) (old new : Known K) → n ≡ most → MakesAtMost most old new → MakesAtMost n old new
-  count_line n most old new is made = omega (arith, is, made)
-
   -- where a line found the history full, the session stops there
   pub stopped_at : (old new : Known K) (all left rest : List Line) (line : Line) → left ≡ line ∷ rest
       → length old.made + most_made left ≤ most_made all → (most_made (line ∷ []) ≡ 2) × FindsFull old new

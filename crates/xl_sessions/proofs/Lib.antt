@@ -10,6 +10,9 @@ pub mod CallMore
 pub mod SaveMore
 -- one line more
 pub mod SoFar
+-- a line that ended, and one of which nothing was made, or all
+pub mod Stops
+pub mod Begun
 -- some lines were played, and some are left
 pub mod UnderWay
 pub mod Keeps

@@ -1,6 +1,6 @@
 -- What a call or a save of a session leaves of what the session has made.
 use Rattle.std.proofs.Common.{◌≡◌, ℕ, ◌+◌, Bool, true, false, List, [], ◌∷◌, ◌++◌, length, Option, Some, None, refl}
-use Rattle.std.proofs.Common.{sym, ap, ◌∙◌, subst, arith, length-append, append-nil, slice_set, inl, inr}
+use Rattle.std.proofs.Common.{sym, ap, ◌∙◌, subst, arith, length-append, inl, inr}
 use Rattle.std.specs.Prelude.{MatchBool, Result, Ok, Err, IfOk, OnErr}
 use mathlib.Core.List.{IsPrefix}
 use Rattle.spec_document.specs.Document.{Document}
@@ -18,10 +18,6 @@ use Rattle.xl_studio.specs.Answered.{IsReplied}
 use Rattle.xl_studio.specs.Calling.{called_entry, Known, IsCalled, HasHeard}
 use Rattle.xl_studio.specs.Saving.{IsSaved, IsWhole, end_behind}
 use Rattle.xl_studio.specs.Seats.{history_of}
-use Rattle.xl_script.specs.Lines.{line_of}
-use Rattle.xl_script.specs.declared.script.Line.{Line}
-use Rattle.xl_script.specs.declared.script.Line.TheVariants.{Save, Forget}
-use Rattle.xl_sessions.specs.Playing.{IsSaveMade, IsLineMade}
 use Rattle.xl_studio.proofs.Answered.{called_with}
 use Rattle.xl_studio.proofs.Grown.{entries-append, entries-prefix}
 
@@ -115,29 +111,3 @@ module _ {K : Type 0} where
       of_saved see opening base session (reply_of reply) old new saved of
   of_after_save R reply_of (Err e) see opening base session old new saved heard of =
       of_longer session old new heard.begins heard.made of
-
-  -- ---- a line that is no call
-
-  pub save_line : (see : K → ShelfState) (opening : K) (base : Document) (session : ℕ) (line : Line)
-      (before : List (Option FilterState)) (old new : Known K) (texts : List (List ℕ)) → line ≡ Save
-      → IsSaveMade see opening base session old new
-      → (told : List (List ℕ)) × (texts ≡ texts ++ told)
-      × IsLineMade see opening base session (line_of line) before before old new told
-  save_line see opening base session line before old new texts is made = (
-    [],
-    sym (append-nil texts),
-    subst (λ (l : Line). IsLineMade see opening base session (line_of l) before before old new [])
-        (sym is) (made, refl, refl),
-  )
-
-  pub forget_line : (see : K → ShelfState) (opening : K) (base : Document) (session : ℕ) (line : Line) (slot : ℕ)
-      (before after : List (Option FilterState)) (known : Known K) (texts : List (List ℕ)) → line ≡ Forget slot
-      → after ≡ slice_set before slot None
-      → (told : List (List ℕ)) × (texts ≡ texts ++ told)
-      × IsLineMade see opening base session (line_of line) before after known known told
-  forget_line see opening base session line slot before after known texts is without = (
-    [],
-    sym (append-nil texts),
-    subst (λ (l : Line). IsLineMade see opening base session (line_of l) before after known known [])
-        (sym is) (refl, without, refl),
-  )

@@ -1,5 +1,5 @@
 -- The outcomes of eight sessions whose seats were joined are a text.
-use Rattle.std.proofs.Common.{◌≡◌, ℕ, zero, suc, ◌+◌, ◌<◌, Bool, true, List, [], ◌∷◌, length, map, flat_map, refl, sym}
+use Rattle.std.proofs.Common.{◌≡◌, ℕ, zero, suc, ◌+◌, ◌<◌, ◌≤◌, Bool, true, List, [], ◌∷◌, length, map, flat_map, refl, sym}
 use Rattle.std.proofs.Common.{◌∙◌, ap, subst, arith}
 use Rattle.std.specs.Prelude.{slice_index_or, None}
 use Rattle.std.specs.List.{list_all}
@@ -11,13 +11,15 @@ use Rattle.spec_document.specs.Document.{Document}
 use Rattle.spec_filters.specs.declared.FilterState.{FilterState}
 use Rattle.spec_history.specs.History.{Entry, replay, mine}
 use Rattle.spec_history.specs.Kept.{IsLegal}
+use Rattle.spec_run.specs.Fronts.{AreBegun, IsFrontOf}
 use Rattle.spec_script.specs.Script.{Line}
 use Rattle.spec_text.specs.Text.{IsTextOf, printed}
 use Rattle.spec_seats.specs.Digests.{digests_in}
 use Rattle.spec_seats.specs.Ended.{AreEnded}
 use Rattle.spec_seats.specs.Made.{IsOf, HasMade}
 use Rattle.spec_seats.specs.Picked.{picked}
-use Rattle.spec_seats.proofs.More.{of_grows, made_grows}
+use Rattle.spec_seats.proofs.Entries.{picked-none}
+use Rattle.spec_seats.proofs.More.{of_grows, made_grows, picked_grown}
 use Rattle.spec_seats.proofs.Shown.{digests_grow}
 use Rattle.spec_seats.proofs.Whole.{mine_picked, no_save_out, seats_make_text}
 use Rattle.xl_turn.specs.Sums.{total, times, same, below}
@@ -35,6 +37,7 @@ pub outcome_grows : (base : Document) (session : ℕ) (filters : List FilterStat
     → IsOutcome base session filters lines new places shown done
 outcome_grows base session filters lines es new places shown done legal begins is = record {
   of = of_grows session places es new begins is.of;
+  begun = subst (AreBegun filters lines) (sym (picked_grown places es new begins is.of.within)) is.begun;
   made = λ all. made_grows session filters lines places es new begins (is.made all);
   told = λ all. is.told all ∙ sym (digests_grow base places es new legal begins is.of.within);
 }
@@ -67,6 +70,12 @@ module _ {P A : Type 0} (f : P → List A) (Q : ℕ → List A → Type 0) where
       let same : suc first + n ≡ first + suc n = omega arith in
       subst (λ (k : ℕ). Q k (slice_index_or (map f ps) n [])) same
       (at_session (suc first) n ps (omega (arith, lt)) all.1)
+
+-- past the last list there is none
+none_past : (lists : List (List ℕ)) (n : ℕ) → length lists ≤ n → slice_index_or lists n [] ≡ []
+none_past [] n le = refl
+none_past (ns ∷ lists) zero le = absurd (omega (arith, le))
+none_past (ns ∷ lists) (suc n) le = none_past lists n (omega (arith, le))
 
 -- ---- all sessions together
 
@@ -128,6 +137,22 @@ module _ {P : Type 0} (places_of : P → List ℕ) (shown_of : P → List (List 
     pub saves_have_ended : (session : ℕ) → session < 8 → AreEnded (mine es session)
     saves_have_ended session lt =
         subst AreEnded (sym (mine_picked es places eight_lists each_once each_is_of session)) (each_is_of session lt).ended
+
+    -- what was made is of the first calls of each
+    pub makes_a_front : (base : Document) (chests : List (List FilterState)) (lists : List (List Line))
+        → FromFirst (HasOutcome base chests lists) 0 ps → IsFrontOf lists chests es
+    makes_a_front base chests lists outs =
+        let Begun : ℕ → List ℕ → Type 0 = λ session own. AreBegun (list_at chests session) (list_at lists session) (picked own es) in
+        record {
+          begun = λ session lt.
+              subst (AreBegun (list_at chests session) (list_at lists session))
+              (sym (mine_picked es places eight_lists each_once each_is_of session))
+              (of_session Begun
+              (from_first_map (HasOutcome base chests lists) (λ s p. Begun s (places_of p)) 0 ps (λ s p out. out.begun) outs) session lt);
+          others = λ session le.
+              mine_picked es places eight_lists each_once each_is_of session
+              ∙ ap (λ own. picked own es) (none_past places session (omega (arith, le, eight_lists))) ∙ picked-none 0 es;
+        }
 
     module _ (base : Document) (chests : List (List FilterState)) (lists : List (List Line))
         (outs : FromFirst (HasOutcome base chests lists) 0 ps) (all : list_all done_of ps ≡ true) where

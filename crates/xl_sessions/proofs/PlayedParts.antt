@@ -129,6 +129,7 @@ module _ {K : Type 0} {C : Ghosts (State K) (Moment K)} {X : Type 0} {H : X → 
       (subst (λ (ls : List Line). IsOutcome (base_of studio) part.session filters ls es (made_of p.seat) (shown_of p) (is_none p.stopped))
       brought.lines_are (record {
         of = has.of;
+        begun = has.begun filters (subst (λ chest. Agrees chest filters) (sym brought.chest_is) (full_agrees filters));
         made = λ done. has.made done filters (subst (λ chest. Agrees chest filters) (sym brought.chest_is) (full_agrees filters));
         told = has.told;
       }))

@@ -53,7 +53,7 @@ fresh_end Fault version seen = tt
 fresh_end Memory version seen = tt
 
 module _ {K : Type 0} where
-  whole_more : (see : K → ShelfState) (opening : K) (base : Document) (session : ℕ) (reply : Reply) (old new : Known K)
+  pub whole_more : (see : K → ShelfState) (opening : K) (base : Document) (session : ℕ) (reply : Reply) (old new : Known K)
       → IsWhole see opening base session reply old new
       → IsSaveMore session reply old.made (entries_in old.front) new.made (entries_in new.front)
   whole_more see opening base session reply old new whole =

@@ -1,4 +1,6 @@
 pub mod Playing
+-- a line and all lines of a session
+pub mod Lines
 -- a session's seat
 pub mod Keeping
 -- a full history

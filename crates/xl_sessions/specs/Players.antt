@@ -7,6 +7,7 @@ use mathlib.Core.List.{IsPrefix}
 use Rattle.spec_filters.specs.declared.FilterState.{FilterState}
 use Rattle.spec_history.specs.declared.TheConstants.{MAX_ENTRIES}
 use Rattle.spec_history.specs.History.{latest_of}
+use Rattle.spec_run.specs.Fronts.{AreBegun}
 use Rattle.spec_script.specs.Script.{Line}
 use Rattle.spec_script.specs.Fits.{AreFit}
 use Rattle.spec_seats.specs.Digests.{digests_in}
@@ -17,6 +18,7 @@ use Rattle.xl_filters.specs.Chests.{states}
 use Rattle.xl_filters.specs.declared.chest.Slot.{Slot}
 use Rattle.xl_script.specs.Lines.{lines_of}
 use Rattle.xl_sessions.specs.Full.{most_made, IsStoppedAtFull}
+use Rattle.xl_sessions.specs.Lines.{own_of}
 use Rattle.xl_sessions.specs.Outcomes.{FromFirst, IsOutcome}
 use Rattle.spec_script.specs.Script.{list_at}
 use Rattle.xl_run.specs.Filters.{HasAll}
@@ -119,14 +121,16 @@ module _ {K : Type 0} {C : Ghosts (State K) (Moment K)} {X : Type 0} {H : X → 
     pub fit : AreFit (length (states state p.part.desk.chest)) [] (lines_of p.part.lines.items)
     pub blank : map string_bytes p.digests.items ≡ []
 
-  -- What the session has made is its own, no more than its lines make, and its saves have ended. Where it did not stop, that is what
-  -- its part says, and it has the digests of what it was shown. Where it found the history full, that is known.
+  -- What the session has made is its own, of the first of its part's calls, and its saves have ended. Where it did not stop, it is of
+  -- all, and it has the digests of what it was shown. Where it found the history full, that is known.
   pub record HasPlayed (state : Slot X H → FilterState) (studio : Studio K) (part : SessionPart X H) (weight : ℕ)
       (p : Player (Seat K C) X H) : Type 0 where
     pub seat : IsSeatOf studio p.seat
     pub weight_is : weight_of p.seat ≡ weight
     pub free : job_out p.seat ≡ None
     pub of : IsOf part.session (made_of p.seat) (entries_in (front_of p.seat))
+    pub begun : (filters : List FilterState) → Agrees (states state part.desk.chest) filters
+        → AreBegun filters (lines_of part.lines.items) (own_of (known_by p.seat))
     pub count : length (made_of p.seat) ≤ most_of part
     pub full : p.stopped ≡ Some HistoryFull → IsStoppedAtFull (lines_of part.lines.items) (known_by p.seat)
     pub made : is_none p.stopped ≡ true → (filters : List FilterState) → Agrees (states state part.desk.chest) filters

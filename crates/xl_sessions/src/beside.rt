@@ -3,6 +3,7 @@ ghost use Rattle.spec_document.specs.Document.{Document};
 ghost use Rattle.spec_filters.specs.declared.FilterState.{FilterState};
 ghost use Rattle.spec_history.specs.History.{latest_of, mine};
 ghost use Rattle.spec_history.specs.Kept.{IsLegal};
+ghost use Rattle.spec_run.specs.Fronts.{IsFrontOf};
 ghost use Rattle.spec_script.specs.Fits.{FitsFilters};
 ghost use Rattle.spec_script.specs.Script.{Line as Plain};
 ghost use Rattle.spec_seats.specs.Digests.{digests_in};
@@ -132,6 +133,9 @@ fn finish<D: Shelf>(
     ensures opening { result.core.opening ≡ opening_shelf studio }
     ensures inside { IsSome result.core.shelf }
     ensures legal { IsLegal result.core.history.base result.core.history.entries }
+    ensures front { (chests : List (List FilterState)) (lists : List (List Plain))
+        → HaveOutcomes studio chests lists players.items
+        → IsFrontOf lists chests result.core.history.entries }
     ensures text { (chests : List (List FilterState)) (lists : List (List Plain))
         → HaveOutcomes studio chests lists players.items
         → IfOk result.text (λ text. IsTextOf (string_bytes text) (base_of studio) lists chests
@@ -169,6 +173,9 @@ fn play_opened<R: Threads + Wait + Sync, D: Shelf, G: Gate>(
     ensures opening { result.core.opening ≡ opening_shelf studio }
     ensures inside { IsSome result.core.shelf }
     ensures legal { IsLegal result.core.history.base result.core.history.entries }
+    ensures front { (chests : List (List FilterState)) (lists : List (List Plain))
+        → AreBrought (in_slots state) chests lists 0 room.parts.items
+        → IsFrontOf lists chests result.core.history.entries }
     ensures text { (chests : List (List FilterState)) (lists : List (List Plain))
         → AreBrought (in_slots state) chests lists 0 room.parts.items
         → IfOk result.text (λ text. IsTextOf (string_bytes text) (base_of studio) lists chests
@@ -204,6 +211,9 @@ fn play_in<R: Threads + Wait + Sync, D: Shelf, G: Gate>(
     ensures opening { result.core.opening ≡ core.opening }
     ensures inside { IsSome result.core.shelf }
     ensures legal { IsLegal result.core.history.base result.core.history.entries }
+    ensures front { (chests : List (List FilterState)) (lists : List (List Plain))
+        → AreBrought (in_slots state) chests lists 0 room.parts.items
+        → IsFrontOf lists chests result.core.history.entries }
     ensures text { (chests : List (List FilterState)) (lists : List (List Plain))
         → AreBrought (in_slots state) chests lists 0 room.parts.items
         → IfOk result.text (λ text. IsTextOf (string_bytes text) core.history.base lists chests
@@ -225,7 +235,8 @@ fn play_in<R: Threads + Wait + Sync, D: Shelf, G: Gate>(
 /// `chest` holds the filters of each session, those of session 0 first. Where a thread cannot be made the sessions are
 /// played one after another. A session ends early where memory runs out for it, and then there is no text; a worker
 /// ends where memory runs out for it. No session finds the history full, since a script has at most half as many calls
-/// and saves as a history may have entries. All saves that were started have ended in any case, and the shelf is in.
+/// and saves as a history may have entries. In any case what each session has made is of the first of its calls, all
+/// saves that were started have ended, and the shelf is in.
 pub fn play_beside<R: Threads + Wait + Sync, D: Shelf, G: Gate>(
     rt: &R,
     alloc: Global,
@@ -247,6 +258,8 @@ pub fn play_beside<R: Threads + Wait + Sync, D: Shelf, G: Gate>(
     ensures opening { result.core.opening ≡ core.opening }
     ensures inside { IsSome result.core.shelf }
     ensures legal { IsLegal result.core.history.base result.core.history.entries }
+    ensures front { IsFrontOf (lists_of script) (states_of (λ b. state b) chest.items)
+        result.core.history.entries }
     ensures text { IfOk result.text (λ text. IsTextOf (string_bytes text) core.history.base
         (lists_of script) (states_of (λ b. state b) chest.items) result.core.history.entries) }
 {

@@ -1,23 +1,22 @@
 //! One line of a session: a call, a save, or a filter that it drops.
-ghost use Rattle.std.specs.Prelude.{◌≡◌, ℕ, ◌<◌, true, [], ◌∷◌, ◌++◌, map, IfOk, IfErr, OnOk, List, string_bytes};
+ghost use Rattle.std.specs.Prelude.{◌≡◌, ℕ, true, ◌++◌, map, IfErr, OnOk, List, Option, string_bytes};
+ghost use Rattle.spec_filters.specs.declared.FilterState.{FilterState};
 ghost use Rattle.spec_history.specs.Calls.{IsCall};
 ghost use Rattle.spec_history.specs.Limited.{edits_of};
 ghost use Rattle.spec_history.specs.Machine.{history_full};
+ghost use Rattle.spec_script.specs.Script as script;
 ghost use Rattle.spec_tables.specs.Agrees.{AreThere};
 ghost use Rattle.spec_text.specs.Text.{is_save_memory};
 ghost use Rattle.xl_calls.specs.Calls.{call_of};
 ghost use Rattle.xl_calls.specs.Replies.{reply_of};
 ghost use Rattle.xl_filters.specs.Chests.{states_in};
 ghost use Rattle.xl_script.specs.Lines.{line_of};
-ghost use Rattle.xl_studio.specs.Answered.{IsReplied, SeatGoesOn};
+ghost use Rattle.xl_studio.specs.Answered.{SeatGoesOn};
 ghost use Rattle.xl_studio.specs.Calling.{HasHeard, IsNoTile};
-ghost use Rattle.xl_studio.specs.Moments.{entries_in};
-ghost use Rattle.xl_studio.specs.Seats.{base_of, opening_shelf, front_of, made_of, known_by, IsSeatOf};
-ghost use Rattle.spec_seats.specs.Made.{IsOf};
-ghost use Rattle.xl_studio.specs.Saving.{IsSaved};
-ghost use Rattle.xl_sessions.specs.Full.{most_made, MakesAtMost, FindsFull};
-ghost use Rattle.xl_sessions.specs.Keeping.{KeepsSeat};
-ghost use Rattle.xl_sessions.specs.Playing.{IsCallMade, IsSaveMade, IsLineMade, said};
+ghost use Rattle.xl_studio.specs.Seats.{known_by, IsSeatOf};
+ghost use Rattle.xl_sessions.specs.Keeping.{CanGoOn};
+ghost use Rattle.xl_sessions.specs.Lines.{IsCallAnswered, IsLinePlayed, IsSaveAnswered};
+ghost use Rattle.xl_sessions.specs.Playing.{said};
 ghost use Rattle.xl_run.specs.Filters.{FitsChest};
 ghost use Rattle.xl_run.specs.Printing.{IsPrinted};
 ghost use Rattle.xl_run.specs.declared.unplayed.Unplayed.TheVariants.{HistoryFull, Memory};
@@ -95,20 +94,13 @@ impl<'a, W: Wait, D: Shelf, G: Gate> Setting<'a, W, D, G> {
         seat: &mut Seat<D>,
         steps: &mut Steps<L>,
     ) -> Result<Reply, AllocError>
-        requires seat { IsSeatOf self.now.studio.now seat.old }
-        requires session { self.now.session < 8 }
+        requires seat { CanGoOn self.now.studio.now self.now.session seat.old }
         requires call { IsCall (call_of call) }
         requires there { AreThere (states_in state desk.old.chest) (edits_of (call_of call)) }
-        requires of { IsOf self.now.session (made_of seat.old) (entries_in (front_of seat.old)) }
 
-        ensures keeps { KeepsSeat self.now.studio.now self.now.session seat.old seat.new }
-        ensures replied { IfOk result (λ reply. IsReplied (base_of self.now.studio.now)
-            self.now.session (call_of call) (states_in state desk.old.chest)
-            (states_in state desk.new.chest) desk.new.out (known_by seat.old) (known_by seat.new)
-            (reply_of reply)) }
-        ensures count { MakesAtMost 1 (known_by seat.old) (known_by seat.new) }
-        ensures full { IfOk result (λ reply. reply_of reply ≡ history_full
-            → FindsFull (known_by seat.old) (known_by seat.new)) }
+        ensures { IsCallAnswered self.now.studio.now self.now.session (call_of call) result
+            seat.old seat.new (states_in state desk.old.chest) (states_in state desk.new.chest)
+            desk.new.out }
     {
         self.gate
             .pass(Actor::Session(self.session), Place::BeforeCall);
@@ -130,21 +122,14 @@ impl<'a, W: Wait, D: Shelf, G: Gate> Setting<'a, W, D, G> {
         steps: &mut Steps<L>,
         digests: &mut Vec<String>,
     ) -> Result<(), Unplayed>
-        requires seat { IsSeatOf self.now.studio.now seat.old }
-        requires session { self.now.session < 8 }
+        requires seat { CanGoOn self.now.studio.now self.now.session seat.old }
         requires call { IsCall (call_of call) }
         requires there { AreThere (states_in state desk.old.chest) (edits_of (call_of call)) }
-        requires of { IsOf self.now.session (made_of seat.old) (entries_in (front_of seat.old)) }
 
-        ensures keeps { KeepsSeat self.now.studio.now self.now.session seat.old seat.new }
-        ensures made { OnOk result ((told : List (List ℕ))
-            × (map string_bytes digests.new.items ≡ map string_bytes digests.old.items ++ told)
-            × IsCallMade (base_of self.now.studio.now) self.now.session (call_of call)
-            (states_in state desk.old.chest) (states_in state desk.new.chest) (known_by seat.old)
-            (known_by seat.new) told) }
-        ensures count { MakesAtMost 2 (known_by seat.old) (known_by seat.new) }
-        ensures full { IfErr result (λ why. why ≡ HistoryFull → FindsFull (known_by seat.old)
-            (known_by seat.new)) }
+        ensures { IsLinePlayed D.shelf_state self.now.studio.now self.now.session
+            (script.call (call_of call)) result seat.old seat.new (states_in state desk.old.chest)
+            (states_in state desk.new.chest) (map string_bytes digests.old.items)
+            (map string_bytes digests.new.items) }
     {
         let asks = asks_tile(&call);
         let reply = self.make_call(call, desk, seat, steps)?;
@@ -155,17 +140,10 @@ impl<'a, W: Wait, D: Shelf, G: Gate> Setting<'a, W, D, G> {
 
     // Makes a save of a session, and passes the gate before it and after it.
     fn make_save(&self, seat: &mut Seat<D>) -> Result<Reply, AllocError>
-        requires seat { IsSeatOf self.now.studio.now seat.old }
-        requires session { self.now.session < 8 }
-        requires of { IsOf self.now.session (made_of seat.old) (entries_in (front_of seat.old)) }
+        requires { CanGoOn self.now.studio.now self.now.session seat.old }
 
-        ensures keeps { KeepsSeat self.now.studio.now self.now.session seat.old seat.new }
-        ensures saved { IfOk result (λ reply. IsSaved D.shelf_state
-            (opening_shelf self.now.studio.now) (base_of self.now.studio.now) self.now.session
-            (reply_of reply) (known_by seat.old) (known_by seat.new)) }
-        ensures count { MakesAtMost 2 (known_by seat.old) (known_by seat.new) }
-        ensures full { IfOk result (λ reply. reply_of reply ≡ history_full
-            → FindsFull (known_by seat.old) (known_by seat.new)) }
+        ensures { IsSaveAnswered D.shelf_state self.now.studio.now self.now.session result seat.old
+            seat.new }
     {
         self.gate
             .pass(Actor::Session(self.session), Place::BeforeCall);
@@ -180,17 +158,11 @@ impl<'a, W: Wait, D: Shelf, G: Gate> Setting<'a, W, D, G> {
 
     // Makes a save of a session, which ends the session where its reply has no text.
     fn play_save(&self, seat: &mut Seat<D>) -> Result<(), Unplayed>
-        requires seat { IsSeatOf self.now.studio.now seat.old }
-        requires session { self.now.session < 8 }
-        requires of { IsOf self.now.session (made_of seat.old) (entries_in (front_of seat.old)) }
+        requires { CanGoOn self.now.studio.now self.now.session seat.old }
 
-        ensures keeps { KeepsSeat self.now.studio.now self.now.session seat.old seat.new }
-        ensures made { OnOk result (IsSaveMade D.shelf_state (opening_shelf self.now.studio.now)
-            (base_of self.now.studio.now) self.now.session (known_by seat.old)
-            (known_by seat.new)) }
-        ensures count { MakesAtMost 2 (known_by seat.old) (known_by seat.new) }
-        ensures full { IfErr result (λ why. why ≡ HistoryFull → FindsFull (known_by seat.old)
-            (known_by seat.new)) }
+        ensures { (chest : List (Option FilterState)) (digests : List (List ℕ))
+            → IsLinePlayed D.shelf_state self.now.studio.now self.now.session script.save result
+            seat.old seat.new chest chest digests digests }
     {
         let reply = self.make_save(seat)?;
         check_printed(&reply)
@@ -205,22 +177,13 @@ impl<'a, W: Wait, D: Shelf, G: Gate> Setting<'a, W, D, G> {
         steps: &mut Steps<L>,
         digests: &mut Vec<String>,
     ) -> Result<(), Unplayed>
-        requires seat { IsSeatOf self.now.studio.now seat.old }
-        requires session { self.now.session < 8 }
+        requires seat { CanGoOn self.now.studio.now self.now.session seat.old }
         requires fit { FitsChest (states_in state desk.old.chest) (line_of line) }
-        requires of { IsOf self.now.session (made_of seat.old) (entries_in (front_of seat.old)) }
 
-        ensures keeps { KeepsSeat self.now.studio.now self.now.session seat.old seat.new }
-        ensures made { OnOk result ((told : List (List ℕ))
-            × (map string_bytes digests.new.items ≡ map string_bytes digests.old.items ++ told)
-            × IsLineMade D.shelf_state (opening_shelf self.now.studio.now)
-            (base_of self.now.studio.now) self.now.session (line_of line)
-            (states_in state desk.old.chest) (states_in state desk.new.chest) (known_by seat.old)
-            (known_by seat.new) told) }
-        ensures count { MakesAtMost (most_made (line_of line ∷ [])) (known_by seat.old)
-            (known_by seat.new) }
-        ensures full { IfErr result (λ why. why ≡ HistoryFull → (most_made (line_of line ∷ []) ≡ 2)
-            × FindsFull (known_by seat.old) (known_by seat.new)) }
+        ensures { IsLinePlayed D.shelf_state self.now.studio.now self.now.session (line_of line)
+            result seat.old seat.new (states_in state desk.old.chest)
+            (states_in state desk.new.chest) (map string_bytes digests.old.items)
+            (map string_bytes digests.new.items) }
     {
         match line {
             Line::Call(call) => self.play_call(call, desk, seat, steps, digests),

@@ -1,3 +1,4 @@
+use Rattle.std.proofs.Common.{inr}
 use Rattle.xl_play.proofs.Keeping.{save_kept}
 use Rattle.xl_play.proofs.Saved.{begun_out, begun_back, save_made, save_between, ended_text}
 use Rattle.xl_play.proofs.saving.save_latest.Goals as goal
@@ -16,6 +17,16 @@ end_save-reply-requires-clause-returns g c κs within =
     c.save_document-how.result (rw s.is at c.in_ok-document.ensures.begun) c.requires.legal
     (rw s.is at c.in_ok-document.ensures.right) c.save_document-how.ensures.saved
 
+pub returns-clause-begun : goal.returns-clause-begun
+returns-clause-begun g c =
+    let s = c.in-Snapshot in
+    inr (
+      _,
+      save_made c.args.core.now c.begin_save.new.self c.end_save-reply.new.self c.args.session s.version s.document s.shelf
+          c.save_document-how.new.shelf c.save_document-how.result _ (rw s.is at c.in_ok-document.ensures.begun)
+          c.end_save-reply.ensures.ended,
+    )
+
 pub returns-in-Done : goal.returns-in-Done
 returns-in-Done g c =
     let s = c.in-Snapshot in
@@ -27,6 +38,11 @@ returns-in-Done g c =
           c.save_document-how.new.shelf c.save_document-how.result _ begun ended c.end_save-reply.ensures.legal;
       saved = save_made c.args.core.now c.begin_save.new.self c.end_save-reply.new.self c.args.session s.version s.document s.shelf
           c.save_document-how.new.shelf c.save_document-how.result _ begun ended;
+      begun = inr (
+        _,
+        save_made c.args.core.now c.begin_save.new.self c.end_save-reply.new.self c.args.session s.version s.document s.shelf
+            c.save_document-how.new.shelf c.save_document-how.result _ begun ended,
+      );
       text = ended_text c.end_save-reply.result _ c.save_document-how.result c.in-Done.is ended.0;
       kept = save_kept c.args.core.now c.begin_save.new.self c.end_save-reply.new.self c.args.session s.version s.document s.shelf
           c.save_document-how.new.shelf c.save_document-how.result _ begun ended

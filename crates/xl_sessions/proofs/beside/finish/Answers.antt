@@ -3,7 +3,7 @@ use Rattle.std.proofs.Common.{ℕ, List, ◌++◌, flat_map, string_bytes, ap, �
 use Rattle.spec_history.specs.Kept.{IsLegal}
 use Rattle.xl_sessions.specs.Outcomes.{texts_of}
 use Rattle.xl_sessions.specs.Players.{places_of}
-use Rattle.xl_sessions.proofs.Finished.{none_full, out_is_none, all_printed, is_text}
+use Rattle.xl_sessions.proofs.Finished.{none_full, out_is_none, all_printed, is_text, makes_front}
 use Rattle.xl_sessions.proofs.PlayedParts.{all_seats, all_weights}
 use Rattle.xl_studio.specs.Seats.{front_of, made_of}
 use Rattle.xl_sessions.proofs.beside.finish.Goals as goal
@@ -56,6 +56,17 @@ returns-clause-inside g c =
     (out_is_none c.args.studio c.args.players.items core (front_of joined.new.own) (front_of last.new.own) (made_of last.new.own)
     c.requires.eight c.requires.players joined.ensures.known last.ensures.begins closed.front
     (last.ensures.made ∙ joined.ensures.made ∙ none_made) closed.made core.history.base)
+
+pub returns-clause-front : goal.returns-clause-front
+returns-clause-front g c =
+    let core = c.close-core.result in
+    let joined = c.join_players-stopped in
+    let last = c.join_workers in
+    let closed = c.close-core.ensures in
+    let none_made = ap (λ (ps : List ℕ). ps ++ flat_map places_of c.args.players.items) c.requires.none in
+    makes_front c.args.studio c.args.players.items core (front_of joined.new.own) (front_of last.new.own) (made_of last.new.own)
+    c.requires.eight c.requires.players joined.ensures.known last.ensures.begins closed.front
+    (last.ensures.made ∙ joined.ensures.made ∙ none_made) closed.made
 
 pub returns-clause-text : goal.returns-clause-text
 returns-clause-text g c =

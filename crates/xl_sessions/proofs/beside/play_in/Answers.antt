@@ -1,7 +1,9 @@
-use Rattle.std.proofs.Common.{List, ap, ◌∙◌, subst, string_bytes}
+use Rattle.std.proofs.Common.{List, ap, sym, ◌∙◌, subst, string_bytes}
 use Rattle.std.specs.Prelude.{IfOk}
 use Rattle.spec_document.specs.Document.{Document}
 use Rattle.spec_history.specs.History.{latest_of}
+use Rattle.spec_run.specs.Fronts.{IsFrontOf}
+use Rattle.spec_run.proofs.Fronts.{front_none}
 use Rattle.spec_text.specs.Text.{IsTextOf}
 use Rattle.xl_studio.specs.declared.moment.Moment.{Moment}
 use Rattle.xl_studio.specs.Moments.{entries_in}
@@ -19,3 +21,7 @@ returns-in-Ok-clause-text g c = λ chests lists brought.
     let es = played.core.history.entries in
     subst (λ (base : Document). IfOk played.text (λ text. IsTextOf (string_bytes text) base lists chests es))
     c.in-Ok.ensures.base (c.play_opened.ensures.text chests lists brought)
+
+pub returns-in-Err-clause-front : goal.returns-in-Err-clause-front
+returns-in-Err-clause-front g c = λ chests lists brought.
+    subst (IsFrontOf lists chests) (sym (ap (λ k. k.history.entries) c.in-Err.ensures.back ∙ c.requires.fresh)) (front_none lists chests)

@@ -30,3 +30,9 @@ returns-clause-text g c = λ chests lists brought.
     c.finish.ensures.text chests lists
     (outcomes _ c.args.studio chests lists c.args.room.parts.items c.play_seated.new.room.players.items brought
     c.play_seated.ensures.played)
+
+pub returns-clause-front : goal.returns-clause-front
+returns-clause-front g c = λ chests lists brought.
+    c.finish.ensures.front chests lists
+    (outcomes _ c.args.studio chests lists c.args.room.parts.items c.play_seated.new.room.players.items brought
+    c.play_seated.ensures.played)

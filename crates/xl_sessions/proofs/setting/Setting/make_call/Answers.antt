@@ -24,9 +24,10 @@ returns g c =
       keeps = record {
         goes_on = goes_on_then studio c.args.seat.now c.refresh_asked.new.seat c.call-reply.new.seat
             c.refresh_asked.ensures.goes_on answered.goes_on;
-        of = of_after_call _ reply_of c.call-reply.result (base_of studio) session call _ _ _ old new replied failed c.requires.of;
+        of = of_after_call _ reply_of c.call-reply.result (base_of studio) session call _ _ _ old new replied failed c.requires.seat.of;
       };
       replied = replied;
+      failed = failed;
       count = count_after_call _ reply_of c.call-reply.result (base_of studio) session call _ _ _ old new replied failed;
       full = full_after_call _ reply_of c.call-reply.result (base_of studio) session call _ _ _ old new replied legal;
     }

@@ -4,25 +4,23 @@ use Rattle.xl_sessions.proofs.Fulls.{count_after_save, full_after_save}
 use Rattle.xl_sessions.proofs.Made.{of_after_save}
 use Rattle.xl_sessions.proofs.setting.Setting.make_save.Goals as goal
 
-pub returns-clause-keeps : goal.returns-clause-keeps
-returns-clause-keeps g c = record {
-  goes_on = c.save-reply.ensures.goes_on;
-  of = of_after_save _ reply_of c.save-reply.result
-      g.D.Shelf.shelf_state (opening_shelf c.args.self.now.studio.now)
-      (base_of c.args.self.now.studio.now) c.args.self.now.session (known_by c.args.seat.now) (known_by c.save-reply.new.seat)
-      c.save-reply.ensures.saved c.save-reply.ensures.failed c.requires.of;
-}
-
-pub returns-clause-count : goal.returns-clause-count
-returns-clause-count g c =
-    count_after_save _ reply_of c.save-reply.result
-    g.D.Shelf.shelf_state (opening_shelf c.args.self.now.studio.now)
-    (base_of c.args.self.now.studio.now) c.args.self.now.session (known_by c.args.seat.now) (known_by c.save-reply.new.seat)
-    c.save-reply.ensures.saved c.save-reply.ensures.failed
-
-pub returns-clause-full : goal.returns-clause-full
-returns-clause-full g c =
-    full_after_save _ reply_of c.save-reply.result
-    g.D.Shelf.shelf_state (opening_shelf c.args.self.now.studio.now)
-    (base_of c.args.self.now.studio.now) c.args.self.now.session (known_by c.args.seat.now) (known_by c.save-reply.new.seat)
-    c.save-reply.ensures.saved
+pub returns : goal.returns
+returns g c =
+    let see = g.D.Shelf.shelf_state in
+    let studio = c.args.self.now.studio.now in
+    let session = c.args.self.now.session in
+    let old = known_by c.args.seat.now in
+    let new = known_by c.save-reply.new.seat in
+    let saved = c.save-reply.ensures in
+    record {
+      keeps = record {
+        goes_on = saved.goes_on;
+        of = of_after_save _ reply_of c.save-reply.result see (opening_shelf studio) (base_of studio) session old new saved.saved
+            saved.failed c.requires.of;
+      };
+      saved = saved.saved;
+      failed = saved.failed;
+      count = count_after_save _ reply_of c.save-reply.result see (opening_shelf studio) (base_of studio) session old new saved.saved
+          saved.failed;
+      full = full_after_save _ reply_of c.save-reply.result see (opening_shelf studio) (base_of studio) session old new saved.saved;
+    }
