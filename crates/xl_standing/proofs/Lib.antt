@@ -2,6 +2,8 @@ mod Trails
 mod Groups
 mod Sides
 mod Making
+mod Alone
+mod SameStacks
 pub use Rattle.xl_pool.proofs.Between
 pub use Rattle.xl_pool.proofs.Joined
 pub use Rattle.xl_desk.proofs.AskedSoFar
