@@ -6,6 +6,6 @@
 
 mod pairs;
 
-pub use pairs::damage_between;
+pub use pairs::{damage_before, damage_between};
 pub use xl_calls::Edit;
 pub use xl_doc::{Document, NodeId, Rect};

@@ -1,5 +1,5 @@
 //! What a group of edits does to the pictures that are kept.
-ghost use Rattle.std.specs.Prelude.{◌≡◌, ◌≤◌, IfOk};
+ghost use Rattle.std.specs.Prelude.{◌≡◌, ◌≤◌, [], IfOk};
 ghost use Rattle.spec_standing.specs.Change as change;
 
 use crate::damage::Damage;
@@ -7,7 +7,7 @@ use std::alloc::{AllocError, Global};
 use std::marker::Model;
 use std::mem;
 use xl_cache::Cache;
-use xl_doc::{Document, NodeId};
+use xl_doc::{Document, NodeId, know_limits};
 use xl_pool::{Pool, add_stacks, drop_stacks, stacks_that_came};
 
 /// What a group of edits does to the pictures that are kept. It can be gone along there and back, and keeps the slots
@@ -59,6 +59,23 @@ impl Change {
             came,
             went,
             pool,
+        })
+    }
+
+    /// The change from a document to one of the same canvas with the same stacks.
+    pub fn of_same_stacks(
+        alloc: Global,
+        document: &Document,
+        damage: Damage,
+    ) -> Result<Change, AllocError>
+        ensures { IfOk result (λ c. c ≡ record { width = document.now.width; height = document.now.height; damage = damage; came = []; went = [] }) }
+    {
+        know_limits(document);
+        Ok(Change {
+            damage,
+            came: Vec::new(alloc),
+            went: Vec::new(alloc),
+            pool: Pool::new(alloc, document.width, document.height, 0, 0)?,
         })
     }
 

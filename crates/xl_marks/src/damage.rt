@@ -1,11 +1,12 @@
 //! What edits damage.
-ghost use Rattle.std.specs.Prelude.{◌≡◌, ◌<◌, ◌≤◌, ◌++◌, [], None, OnOk, OnErr};
+ghost use Rattle.std.specs.Prelude.{◌≡◌, ℕ, ◌<◌, ◌≤◌, ◌++◌, [], None, IfOk, OnOk, OnErr};
 ghost use Rattle.std.specs.List.{AllByRecursion};
 ghost use Rattle.spec_damage.specs.Damage as damage;
 ghost use Rattle.spec_edit.specs.Refusal.{refusal};
 ghost use Rattle.spec_document.specs.Forest.{ids};
 ghost use Rattle.xl_calls.specs.Edits.{edit_of};
 ghost use Rattle.xl_damage.specs.Between.{IsMade};
+ghost use Rattle.xl_damage.specs.Painted.{IsPaint};
 ghost use Rattle.xl_regions.specs.Pairs.{pairs_of};
 ghost use Rattle.spec_standing.specs.Change.{marked_by};
 
@@ -13,7 +14,7 @@ use std::alloc::{AllocError, Global};
 use std::marker::Model;
 use xl_cache::Cache;
 use xl_calls::Edit;
-use xl_damage::damage_between;
+use xl_damage::{damage_before, damage_between};
 use xl_doc::{Document, NodeId, Rect};
 
 /// The rectangles in which edits may change pictures, each with its stack, in the order of the edits.
@@ -40,6 +41,17 @@ impl Damage {
         Damage {
             pairs: Vec::new(alloc),
         }
+    }
+
+    /// The damage of an edit that paints one layer alone, by the document before it.
+    pub fn of_paint(alloc: Global, before: &Document, edit: &Edit) -> Result<Damage, AllocError>
+        requires passes { refusal before.now (edit_of edit.now) ≡ None }
+        requires paints { (id : ℕ) × IsPaint id (edit_of edit.now) }
+        ensures { IfOk result (λ d. d ≡ damage.damage before.now (edit_of edit.now)) }
+    {
+        Ok(Damage {
+            pairs: damage_before(alloc, before, edit)?,
+        })
     }
 
     /// The rectangles, each with its stack.

@@ -96,7 +96,7 @@ ids_go_on now new e table left ids is bytes applied =
     record { is = goes.at; room = omega (arith, goes.next_is, counts, one) }
 
 -- a table that is taken where the edit is a filter is the first one, as far as the edit is concerned
-same_table : (now : At) (e : edits.Edit) (table : List ℕ) (tables : List (List ℕ))
+pub same_table : (now : At) (e : edits.Edit) (table : List ℕ) (tables : List (List ℕ))
     → (is_filter e ≡ true → table ≡ first_table tables) → apply now e table ≡ apply now e (first_table tables)
 same_table now e table tables is = elim (view e) [
   | inl f ↦ ap (apply now e) (is (ap is_filter f.is))
@@ -123,7 +123,7 @@ from_edit index now e left tables table r is came =
     (sym (same_table now e table tables is) ∙ came)
 
 -- what an edit that was accepted makes
-applied_is : (r : Option EditRefused) (made new : At) → unless_refused r made ≡ Ok new → (r ≡ None) × (made ≡ new)
+pub applied_is : (r : Option EditRefused) (made new : At) → unless_refused r made ≡ Ok new → (r ≡ None) × (made ≡ new)
 applied_is None made new e = let same : made ≡ new = cc in (refl, same)
 applied_is (Some refused) made new e = cc
 

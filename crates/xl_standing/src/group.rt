@@ -1,5 +1,5 @@
 //! Edits that are made together.
-ghost use Rattle.std.specs.Prelude.{◌≡◌, ℕ, ◌≤◌, ◌++◌, List, [], None, Ok, length, IfOk, IfErr, OnOk, IfSome};
+ghost use Rattle.std.specs.Prelude.{◌≡◌, ℕ, ◌≤◌, ◌++◌, List, [], None, Ok, length, IfOk, IfErr, OnOk, OnErr, IfSome};
 ghost use Rattle.std.specs.List.{AllByRecursion};
 ghost use Rattle.spec_damage.specs.Damage as pairs;
 ghost use Rattle.spec_document.specs.Limits.{AreBytes};
@@ -11,19 +11,24 @@ ghost use Rattle.spec_tables.specs.Acceptance.{filter_count, refused_in};
 ghost use Rattle.spec_tables.specs.Agrees.{AreThere, AreAsked};
 ghost use Rattle.spec_standing.specs.Group.{HasIds, damage_along};
 ghost use Rattle.xl_standing.specs.Group.{IsAppliedOne, AppliesGroup, IsRefusal, LeavesChest};
+ghost use Rattle.xl_standing.specs.Made.{IsMadeOf};
 ghost use Rattle.xl_standing.specs.declared.group.GroupRefusedOrMemory.TheVariants.{Memory};
 ghost use Rattle.xl_edit.specs.Applied.{at};
 ghost use Rattle.xl_calls.specs.Applicable.{HasNext};
 ghost use Rattle.xl_calls.specs.Edits.{edit_of, edits_of};
 ghost use Rattle.xl_filters.specs.Chests.{states_in};
 
+use crate::made::Made;
+use crate::painting::{NotPainted, only, paint, painted};
 use std::alloc::{AllocError, Global};
+use std::mem;
 use xl_calls::{Edit, EditRefused};
 use xl_desk::{ask_filters, blank_table, blank_tables, filter_count, know_table, table_for};
 use xl_doc::Document;
 use xl_edit::{EditRefusedOrMemory, apply};
 use xl_filters::{Chest, PointFilter, Table, Tables};
-use xl_marks::Damage;
+use xl_marks::{Change, Damage};
+use xl_undo::Lead;
 
 /// Why a group was not made: memory ran out, or an edit is refused, which is counted from 0.
 #[derive(Drop)]
@@ -50,9 +55,90 @@ pub struct MadeGroup {
     pub damage: Damage,
 }
 
-/// Makes a group of edits on a share of a document. The filters are asked when it is known that no edit is refused,
-/// which no table decides.
-pub(crate) fn make_group(
+/// Makes a group of edits of a document: one edit that paints a layer on the document itself, and others on a share,
+/// which takes its place. After a refusal and after out of memory the document and the next id are as before.
+pub(crate) fn make(
+    alloc: Global,
+    document: &mut Document,
+    next_id: &mut u32,
+    edits: &[Edit],
+    chest: &mut Chest,
+) -> Result<Made, GroupRefusedOrMemory>
+    requires few { length edits.now ≤ MAX_EDITS }
+    requires each { AllByRecursion IsEdit (edits_of edits.now) }
+    requires ids { HasIds (at document.old next_id.old) (length edits.now) }
+    requires there { AreThere (states_in state chest.old) (edits_of edits.now) }
+
+    ensures made { IfOk result (IsMadeOf (at document.old next_id.old)
+        (at document.new next_id.new) (edits_of edits.now)) }
+    ensures bytes { IfOk result (λ made. AllByRecursion AreBytes made.tables) }
+    ensures asked { IfOk result (λ made. AreAsked (states_in state chest.old)
+        (states_in state chest.new) (edits_of edits.now) made.tables) }
+
+    ensures refused { IfErr result (IsRefusal (at document.old next_id.old) (edits_of edits.now)
+        []) }
+    ensures chest { IfErr result (LeavesChest (states_in state chest.old)
+        (states_in state chest.new) (at document.old next_id.old) (edits_of edits.now)) }
+    ensures document { OnErr result (document.new ≡ document.old) }
+    ensures next { OnErr result (next_id.new ≡ next_id.old) }
+{
+    let Some(edit) = only(edits) else {
+        return make_on_share(alloc, document, next_id, edits, chest);
+    };
+    match painted(document, edit) {
+        Ok(id) => Ok(paint(alloc, document, *next_id, id, edit)?),
+        Err(NotPainted::Other) => make_on_share(alloc, document, next_id, edits, chest),
+        Err(NotPainted::Refused(cause)) => Err(GroupRefusedOrMemory::Refused { index: 0, cause }),
+    }
+}
+
+// Makes a group of edits on a share of a document, which takes the document's place where all of them are accepted.
+fn make_on_share(
+    alloc: Global,
+    document: &mut Document,
+    next_id: &mut u32,
+    edits: &[Edit],
+    chest: &mut Chest,
+) -> Result<Made, GroupRefusedOrMemory>
+    requires few { length edits.now ≤ MAX_EDITS }
+    requires each { AllByRecursion IsEdit (edits_of edits.now) }
+    requires ids { HasIds (at document.old next_id.old) (length edits.now) }
+    requires there { AreThere (states_in state chest.old) (edits_of edits.now) }
+
+    ensures made { IfOk result (IsMadeOf (at document.old next_id.old)
+        (at document.new next_id.new) (edits_of edits.now)) }
+    ensures bytes { IfOk result (λ made. AllByRecursion AreBytes made.tables) }
+    ensures asked { IfOk result (λ made. AreAsked (states_in state chest.old)
+        (states_in state chest.new) (edits_of edits.now) made.tables) }
+
+    ensures refused { IfErr result (IsRefusal (at document.old next_id.old) (edits_of edits.now)
+        []) }
+    ensures chest { IfErr result (LeavesChest (states_in state chest.old)
+        (states_in state chest.new) (at document.old next_id.old) (edits_of edits.now)) }
+    ensures document { OnErr result (document.new ≡ document.old) }
+    ensures next { OnErr result (next_id.new ≡ next_id.old) }
+{
+    let made = make_group(alloc, document, *next_id, edits, chest)?;
+    let MadeGroup {
+        document: after,
+        next_id: next,
+        tables,
+        damage,
+    } = made;
+    let change = Change::new(alloc, document, &after, damage)?;
+    *next_id = next;
+    let before = mem::replace(document, after);
+    let lead = Lead::new(before, document);
+    Ok(Made {
+        lead,
+        change,
+        tables,
+    })
+}
+
+// Makes a group of edits on a share of a document. The filters are asked when it is known that no edit is refused,
+// which no table decides.
+fn make_group(
     alloc: Global,
     document: &Document,
     next_id: u32,

@@ -7,7 +7,9 @@
 #![tactic(auto)]
 
 mod group;
+mod made;
 mod next_id;
+mod painting;
 mod standing;
 mod step;
 

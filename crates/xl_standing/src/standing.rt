@@ -1,11 +1,13 @@
 //! What stands now: the last document, what an undo or a redo gives, and the pictures that are kept.
-ghost use Rattle.std.specs.Prelude.{◌≡◌, ◌+◌, ◌<◌, ◌≤◌, ◌^◌, true, false, [], length, option_map, IfOk, IfSome, IsOk};
-ghost use Rattle.std.specs.Prelude.{OnErr, Some, None};
+ghost use Rattle.std.specs.Prelude.{◌≡◌, ◌+◌, ◌<◌, ◌≤◌, ◌^◌, true, false, [], length, option_map, IfOk, IfSome, IsOk, OnOk};
+ghost use Rattle.std.specs.Prelude.{IfErr, OnErr, Some, None};
 ghost use Rattle.std.specs.List.{AllByRecursion};
 ghost use Rattle.spec_cache.specs.Cache.{no_slots, is_clean, kept, next_place, after_take, finish, install};
 ghost use Rattle.spec_document.specs.Limits.{AreBytes, IsDocument};
+ghost use Rattle.spec_edit.specs.Apply.{apply_group};
 ghost use Rattle.spec_edit.specs.Edit.{IsEdit};
 ghost use Rattle.spec_history.specs.Calls.{IsCall};
+ghost use Rattle.spec_history.specs.History.{is_changed};
 ghost use Rattle.spec_history.specs.declared.TheConstants.{MAX_EDITS};
 ghost use Rattle.spec_history.specs.Limited as limited;
 ghost use Rattle.spec_history.specs.Machine as machine;
@@ -16,26 +18,26 @@ ghost use Rattle.xl_compose.specs.Job.{StandsFor};
 ghost use Rattle.xl_desk.specs.TileJobs.{is_marked, GivesJob};
 ghost use Rattle.xl_desk.specs.Needs.{tile_cost};
 ghost use Rattle.xl_desk.specs.Places.{place_of_job, place_done};
-ghost use Rattle.spec_standing.specs.Now.{first_now, with_cache, accepts, accepted, edited, undone, redone};
+ghost use Rattle.spec_standing.specs.Group.{HasIds, damage_along};
+ghost use Rattle.spec_standing.specs.Now.{first_now, at_now, with_cache, accepts, made_now, edited, undone, taken_back, redone};
 ghost use Rattle.spec_standing.specs.Now.{next_version, shown, peeked, top_of, Gives, ShowsTile, ShowsKept};
 ghost use Rattle.spec_standing.specs.Now.{KeepsDesk, IsKeptNow, IsTileOf};
-ghost use Rattle.spec_standing.specs.Steps.{IsChange};
 ghost use Rattle.xl_doc.specs.Numbered.{AreNumbered};
-ghost use Rattle.xl_edit.specs.Applied.{at};
 ghost use Rattle.xl_calls.specs.Calls.{call_of};
 ghost use Rattle.xl_calls.specs.Edits.{edits_of};
 ghost use Rattle.xl_calls.specs.Replies.{reply_of};
 ghost use Rattle.xl_desk.specs.Served.{IsServed};
 ghost use Rattle.xl_standing.specs.Answering.{MayGoOn, AnswersNow};
 ghost use Rattle.xl_filters.specs.Chests.{states_in};
+ghost use Rattle.xl_standing.specs.Group.{IsRefusal, LeavesChest};
 
-use crate::group::{GroupRefusedOrMemory, MadeGroup, make_group};
+use crate::group::{GroupRefusedOrMemory, make};
+use crate::made::Made;
 use crate::next_id::next_id_of;
 use crate::step::Step;
 use spec_cache::Finished;
 use std::alloc::{AllocError, Global};
 use std::marker::Model;
-use std::mem;
 use std::sync::ledger::Ledger;
 use xl_blend::Steps;
 use xl_calls::{Call, Edit, Reply};
@@ -45,8 +47,7 @@ use xl_desk::{
     without_filters,
 };
 use xl_doc::{Document, NodeId, TileAt, know_limits};
-use xl_filters::{Chest, PointFilter, Tables};
-use xl_marks::Change;
+use xl_filters::{Chest, PointFilter};
 use xl_undo::Trail;
 
 /// The last version's document and what its next changes need. The last of `undo` is undone next, and the last of
@@ -168,8 +169,7 @@ impl Standing {
         }
     }
 
-    // Makes a group of edits on a share of the document, which takes the document's place where all of them are
-    // accepted.
+    // Makes a group of edits of the document, where its guard has not moved.
     fn edit(
         &mut self,
         alloc: Global,
@@ -197,45 +197,62 @@ impl Standing {
         if !is_named(guard, self.version) {
             return Ok(without_filters(alloc, Reply::Moved { now: self.version }));
         }
-        let made = match make_group(alloc, &self.document, self.next_id, edits, chest) {
-            Ok(made) => made,
+        match self.take_group(alloc, edits, chest) {
+            Ok(answered) => Ok(answered),
             Err(GroupRefusedOrMemory::Refused { index, cause }) => {
-                return Ok(without_filters(alloc, Reply::Refused { index, cause }));
+                Ok(without_filters(alloc, Reply::Refused { index, cause }))
             }
-            Err(GroupRefusedOrMemory::Memory) => return Err(AllocError),
-        };
-        let MadeGroup {
-            document,
-            next_id,
-            tables,
-            damage,
-        } = made;
-        let change = Change::new(alloc, &self.document, &document, damage)?;
-        let reply = self.accept(document, next_id, change);
-        Ok(Answered { reply, tables })
+            Err(GroupRefusedOrMemory::Memory) => Err(AllocError),
+        }
     }
 
-    // The document that a group has left takes the document's place. It takes no memory.
-    fn accept(&mut self, document: Document, next_id: u32, change: Change) -> Reply
-        requires change { IsChange self.old.document document change }
+    // Makes a group of edits of the document, and what leads back over it comes on top of what can be undone. After a
+    // refusal and after out of memory all is as before.
+    fn take_group(
+        &mut self,
+        alloc: Global,
+        edits: &[Edit],
+        chest: &mut Chest,
+    ) -> Result<Answered, GroupRefusedOrMemory>
+        requires few { length edits.now ≤ MAX_EDITS }
+        requires each { AllByRecursion IsEdit (edits_of edits.now) }
+        requires there { AreThere (states_in state chest.old) (edits_of edits.now) }
         requires kept { IsKeptNow self.old }
         requires versions { self.old.version < 2 ^ 31 }
         requires groups { self.old.next_group < 2 ^ 31 }
-        ensures { Gives (accepted self.old (at document next_id) change.damage) (reply_of result)
-            self.new }
+        requires ids { HasIds (at_now self.old) MAX_EDITS }
+        ensures made { IfOk result (λ a. Gives (made_now self.old
+            (damage_along (at_now self.old) (edits_of edits.now) a.tables)
+            (apply_group (at_now self.old) (edits_of edits.now) a.tables)) (reply_of a.reply) self.new) }
+        ensures changed { IfOk result (λ a. is_changed (reply_of a.reply) ≡ true) }
+        ensures asked { IfOk result (λ a. AreAsked (states_in state chest.old)
+            (states_in state chest.new) (edits_of edits.now) a.tables) }
+        ensures bytes { IfOk result (λ a. AllByRecursion AreBytes a.tables) }
+        ensures refused { IfErr result (IsRefusal (at_now self.old) (edits_of edits.now) []) }
+        ensures chest { IfErr result (LeavesChest (states_in state chest.old)
+            (states_in state chest.new) (at_now self.old) (edits_of edits.now)) }
+        ensures as_before { OnErr result (self.new ≡ self.old) }
     {
-        let group = self.next_group;
         know_limits(&self.document);
-        know_limits(&document);
+        let made = match make(alloc, &mut self.document, &mut self.next_id, edits, chest) {
+            Ok(made) => made,
+            Err(refused) => return Err(refused),
+        };
+        let Made {
+            lead,
+            change,
+            tables,
+        } = made;
+        know_limits(&self.document);
         let mut change = change;
         change.go(&mut self.cache, self.version + 1);
-        let before = mem::replace(&mut self.document, document);
-        self.next_id = next_id;
+        let group = self.next_group;
         self.next_group += 1;
-        let back = Step::back(before, &self.document, change);
+        let back = Step::new(lead, change);
         let _oldest = self.undo.push(group, back);
         self.redo.clear();
-        self.next_version(group)
+        let reply = self.next_version(group);
+        Ok(Answered { reply, tables })
     }
 
     // The group that an undo would undo.

@@ -33,13 +33,11 @@ impl Model for Step {
 }
 
 impl Step {
-    /// The step back over a group of edits that was made: from the document after it to the one before it. It takes no
-    /// memory.
-    pub(crate) fn back(before: Document, after: &Document, change: Change) -> Step
-        requires change { IsChange after.now before change }
-        ensures { result ≡ record { from = after.now; to = before; damage = change.damage } }
+    /// The step along a lead, where the change is that from where it leads from. It takes no memory.
+    pub(crate) fn new(lead: Lead, change: Change) -> Step
+        requires change { IsChange lead.from lead.to change }
+        ensures { result ≡ record { from = lead.from; to = lead.to; damage = change.damage } }
     {
-        let lead = Lead::new(before, after);
         Step { lead, change }
     }
 
