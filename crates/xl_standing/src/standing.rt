@@ -18,7 +18,7 @@ ghost use Rattle.xl_compose.specs.Job.{StandsFor};
 ghost use Rattle.xl_desk.specs.TileJobs.{is_marked, GivesJob};
 ghost use Rattle.xl_desk.specs.Needs.{tile_cost};
 ghost use Rattle.xl_desk.specs.Places.{place_of_job, place_done};
-ghost use Rattle.spec_standing.specs.Group.{HasIds, damage_along};
+ghost use Rattle.spec_standing.specs.Group.{damage_along};
 ghost use Rattle.spec_standing.specs.Now.{first_now, at_now, with_cache, accepts, made_now, edited, undone, taken_back, redone};
 ghost use Rattle.spec_standing.specs.Now.{next_version, shown, peeked, top_of, Gives, ShowsTile, ShowsKept};
 ghost use Rattle.spec_standing.specs.Now.{KeepsDesk, IsKeptNow, IsTileOf};
@@ -217,10 +217,7 @@ impl Standing {
         requires few { length edits.now ≤ MAX_EDITS }
         requires each { AllByRecursion IsEdit (edits_of edits.now) }
         requires there { AreThere (states_in state chest.old) (edits_of edits.now) }
-        requires kept { IsKeptNow self.old }
-        requires versions { self.old.version < 2 ^ 31 }
-        requires groups { self.old.next_group < 2 ^ 31 }
-        requires ids { HasIds (at_now self.old) MAX_EDITS }
+        requires ready { MayGoOn self.old }
         ensures made { IfOk result (λ a. Gives (made_now self.old
             (damage_along (at_now self.old) (edits_of edits.now) a.tables)
             (apply_group (at_now self.old) (edits_of edits.now) a.tables)) (reply_of a.reply) self.new) }

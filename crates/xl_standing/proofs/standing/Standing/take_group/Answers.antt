@@ -41,7 +41,7 @@ go-requires-clause-leads g c =
         from = c.know_limits.ensures;
         to = c.know_limits-2.ensures;
         leads = marks ∙ ap (change_between old new) (sym (ap (λ (x : Change). x.damage) marks));
-        here = subst (λ (n : Now). IsCacheOf n.document n.cache) (sym c.self.view_is) c.requires.kept.of;
+        here = subst (λ (n : Now). IsCacheOf n.document n.cache) (sym c.self.view_is) c.requires.ready.kept.of;
       },
     )
 
