@@ -1,6 +1,6 @@
 -- What each line of a talk asks for, line by line, and what becomes of a group in which a line is bad.
 use Rattle.std.specs.Prelude.{ℕ, Bool, true, false, ◌&&◌, ◌||◌, nat_le, nat_lt, if◌then◌else◌, List, [], ◌∷◌, length, map, slice_set}
-use Rattle.std.specs.Prelude.{Option, Some, None, slice_get, slice_index_or, option_and_then, option_map, unwrap_or}
+use Rattle.std.specs.Prelude.{Option, Some, None, slice_get, slice_index_or, option_and_then}
 use Rattle.spec_document.specs.Rect.{count_from}
 use Rattle.spec_edit.specs.Effect.{changed_at}
 use Rattle.spec_script.specs.Words.{number_below, words_of}
@@ -32,17 +32,13 @@ pub record Heard : Type 0 where
 
 -- ---- a line of a script
 
-abbrev pub first_of : {A : Type 0} → List A → Option A
-first_of [] = None
-first_of (x ∷ xs) = Some x
-
 abbrev pub asks_of : (session : ℕ) → Option Line → Asks
 asks_of session None = nothing
 asks_of session (Some line) = plays session line
 
--- the lines of a session, of which there is one where a line has made it whole
-abbrev pub lines_at : Parsed → (session : ℕ) → List Line
-lines_at p session = unwrap_or (option_map (λ s. s.lines) (slice_get p.sessions session)) []
+-- the line of a session that is whole now, if any
+abbrev pub whole_line : Parsed → (session : ℕ) → Option Line
+whole_line p session = option_and_then (λ s. slice_get s.lines 0) (slice_get p.sessions session)
 
 -- nothing is kept of what was asked, and no calls are counted: a talk has no end of its own
 abbrev pub emptied : (session : ℕ) → Parsed → Parsed
@@ -101,7 +97,7 @@ dropped session h = record { asks = bad; hearing = record h { parsed = without_g
 abbrev pub taken : (number : ℕ) → List (List ℕ) → Hearing → (session : ℕ) → Option Parsed → Heard
 taken number words h session None = refused number words h
 taken number words h session (Some p) =
-    record { asks = asks_of session (first_of (lines_at p session)); hearing = record h { parsed = emptied session p } }
+    record { asks = asks_of session (whole_line p session); hearing = record h { parsed = emptied session p } }
 
 abbrev pub scripted : (number : ℕ) → List (List ℕ) → Hearing → Option Asked → Heard
 scripted number words h None = refused number words h

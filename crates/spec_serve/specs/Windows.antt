@@ -1,5 +1,6 @@
 -- The two lines that a talk has beside those of a script: pixels of a window, and a wait for the save that is out.
 use Rattle.std.specs.Prelude.{ℕ, ◌+◌, Bool, nat_le, if◌then◌else◌, List, [], ◌∷◌, Option, Some, None, option_map, codes}
+use Rattle.std.specs.Option.{option_or}
 use Rattle.spec_document.specs.declared.TileAt.{TileAt}
 use Rattle.spec_script.specs.Words.{◌>>=◌, if_holds, number_below, number, none, three, five}
 use Rattle.spec_script.specs.Commands.{is_word}
@@ -34,13 +35,9 @@ many_tiles words = five words >>= λ t. do
   rows ← window_side t.4
   window_from t.0 t.1 t.2 cols rows
 
-abbrev pub or_else : {A : Type 0} → Option A → Option A → Option A
-or_else None other = other
-or_else (Some x) other = Some x
-
 -- three words, or five
 abbrev pub window_of : List (List ℕ) → Option Window
-window_of words = or_else (one_tile words) (many_tiles words)
+window_of words = option_or (one_tile words) (many_tiles words)
 
 -- a request of a session
 pub data Request : Type 0 where

@@ -8,7 +8,7 @@ ghost use Rattle.xl_words.specs.Words.{words_left};
 use spec_document::TileAt;
 use spec_window::MAX_WINDOW;
 use xl_words::{
-    first_word, five_words, is_word, next_word, no_words, number, number_below, three_words,
+    Operands, first_word, is_word, next_word, no_words, number, number_below, three_words,
 };
 
 // How many sessions there are.
@@ -53,24 +53,26 @@ fn window_from(stack: &[u8], col: &[u8], row: &[u8], cols: u32, rows: u32) -> Op
 }
 
 // The window that three words or five name.
-fn window_of(words: Option<&[u8]>) -> Option<Window>
+fn window_of(keyword: &[u8], words: Option<&[u8]>) -> Option<Window>
     ensures { option_map window_is result ≡ grammar.window_of (words_left (option_copied words.entry)) }
 {
     if let Some((stack, col, row)) = three_words(words) {
         return window_from(stack, col, row, 1, 1);
     }
-    let (stack, col, row, cols, rows) = five_words(words)?;
-    let cols = window_side(cols)?;
-    let rows = window_side(rows)?;
-    window_from(stack, col, row, cols, rows)
+    let Ok((stack, col, row, cols, rows)) = (Operands { keyword, words }).five() else {
+        return None;
+    };
+    let cols = window_side(cols.text)?;
+    let rows = window_side(rows.text)?;
+    window_from(stack.text, col.text, row.text, cols, rows)
 }
 
 // The pixels of the window that the words name.
-fn look_of(session: u8, words: Option<&[u8]>) -> Option<Request>
+fn look_of(session: u8, keyword: &[u8], words: Option<&[u8]>) -> Option<Request>
     ensures { option_map request_is result ≡ option_map (grammar.looks session)
         (grammar.window_of (words_left (option_copied words.entry))) }
 {
-    Some(Request::Look(session, window_of(words)?))
+    Some(Request::Look(session, window_of(keyword, words)?))
 }
 
 // A wait, which has no words.
@@ -91,7 +93,7 @@ fn request_by(keyword: &[u8], words: Option<&[u8]>, session: u8) -> Option<Reque
         (words_left (option_copied words.entry)) session }
 {
     if is_word(keyword, b"pixels") {
-        return look_of(session, words);
+        return look_of(session, keyword, words);
     }
     if is_word(keyword, b"wait") {
         return wait_of(session, words);
