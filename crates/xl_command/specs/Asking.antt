@@ -1,8 +1,12 @@
 -- What a command of the code asks for.
-use Rattle.std.specs.Prelude.{◌≤◌, ℕ, List, Option, Some, None, map, if◌then◌else◌}
+use Rattle.std.specs.Prelude.{◌≤◌, ℕ, List, [], ◌∷◌, Option, Some, None, map, if◌then◌else◌, codes}
+use Rattle.std.specs.Str.{bytes_eq}
+use Rattle.clap.specs.Walk.{first_of}
+use Rattle.clap.specs.Simple.{matches_of}
 use denote.Ref.{Bor}
 use Rattle.std.specs.Str.Parse.{starts_with_minus}
 use Rattle.spec_command.specs.Arguments.{Argument, Asked, edit, render, info, make, pack, flatten, view, audit}
+use Rattle.spec_command.specs.Grammar.{plain_app, is_faultless}
 use Rattle.xl_command.specs.declared.command.Command.{Command}
 use Rattle.xl_command.specs.declared.command.Command.TheVariants as code
 
@@ -14,6 +18,20 @@ arguments_of arguments = map (λ argument. argument.now) arguments
 abbrev pub plain_name : Option Argument → Option Argument
 plain_name None = None
 plain_name (Some name) = if starts_with_minus name then None else Some name
+
+-- the file of arguments that are in order for `serve`, which has a file alone
+abbrev pub served_where : List Argument → Option Argument
+served_where arguments =
+    let app = plain_app (codes "serve") in
+    let found = plain_name (first_of (codes "file") (matches_of app arguments)) in
+    if is_faultless app arguments then found else None
+
+-- the file that is served, if the arguments ask for that
+abbrev pub served_in : List Argument → Option Argument
+served_in [] = None
+served_in (verb ∷ arguments) =
+    let found = served_where (verb ∷ arguments) in
+    if bytes_eq verb (codes "serve") then found else None
 
 abbrev pub asked_of : Command → Asked
 asked_of (code.Edit name workers) = edit name.now workers

@@ -1,4 +1,4 @@
-//! The arguments of the program, read by clap: eight commands, each with the name of a file.
+//! The arguments of the program, read by clap: eight commands and `serve`, each with the name of a file.
 //!
 //! Each command is a simple command of clap's own, picked by the first argument.
 #![tactic(auto)]
@@ -8,4 +8,4 @@ mod grammar;
 mod reading;
 
 pub use command::Command;
-pub use reading::command_of;
+pub use reading::{command_of, served_file};

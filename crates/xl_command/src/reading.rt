@@ -8,6 +8,7 @@ ghost use Rattle.spec_command.specs.Grammar.{plain_of, asked_in, asked_where};
 ghost use Rattle.spec_command.specs.Arguments.{Argument, Asked};
 ghost use Rattle.spec_command.specs.Arguments as definition;
 ghost use Rattle.std.specs.Str.Parse.{signed_digits_value};
+ghost use Rattle.xl_command.specs.Asking as asking;
 ghost use Rattle.xl_command.specs.Asking.{asked_of, plain_name, arguments_of, IsInRange};
 
 use crate::command::Command;
@@ -261,6 +262,31 @@ pub fn command_of<'a>(
         "flatten" => flatten(alloc, *verb, arguments),
         "view" => view(alloc, arguments),
         "audit" => audit(alloc, *verb, arguments),
+        _ => Ok(None),
+    }
+}
+
+// The file of arguments that are in order for `serve`.
+fn served_where<'a>(alloc: Global, arguments: &'a [&'a str]) -> Result<Option<&'a str>, AllocError>
+    ensures { IfOk result (λ name. option_map (λ name. name.now) name ≡ asking.served_where
+        (arguments_of arguments.entry.now)) }
+{
+    let Some(matches) = matches_in(plain_command(alloc, "serve")?, arguments)? else {
+        return Ok(None);
+    };
+    Ok(file_in(&matches))
+}
+
+/// The file that the arguments ask to be served, if they do. No arguments are both this and a command of `command_of`.
+pub fn served_file<'a>(
+    alloc: Global,
+    arguments: &'a [&'a str],
+) -> Result<Option<&'a str>, AllocError>
+    ensures { IfOk result (λ name. option_map (λ name. name.now) name ≡ asking.served_in
+        (arguments_of arguments.entry.now)) }
+{
+    match arguments.first() {
+        Some(verb) if *verb == "serve" => served_where(alloc, arguments),
         _ => Ok(None),
     }
 }

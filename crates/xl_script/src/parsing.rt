@@ -40,8 +40,8 @@ fn refusal(line: u32, cause: Cause) -> BadLineOrMemory
     BadLineOrMemory::Refused(BadLine { line, cause })
 }
 
-// Whether a line is empty or a comment.
-fn is_skipped(line: &[u8]) -> bool
+/// Whether a line is empty or a comment.
+pub fn is_skipped(line: &[u8]) -> bool
     ensures { result ≡ grammar.is_skipped line.now }
 {
     matches!(line, [] | [b'#', ..])
