@@ -10,7 +10,8 @@ use Rattle.spec_history.specs.History.{replay_from, replay, RunFrom, Run}
 use Rattle.spec_history.specs.History as history
 use Rattle.spec_history.proofs.Growing.{out-answer}
 use Rattle.spec_history.proofs.Versions.{IsSound, goes-answer}
-use Rattle.spec_saves.specs.Names.{Named, the_old, version, after_end, after_kind, after_one, names, versions_of, saved_versions}
+use Rattle.spec_saves.specs.Names.{Named, the_old, version, after_end, after_kind, after_one, names, version_left, versions_of}
+use Rattle.spec_saves.specs.Names.{saved_versions}
 
 abbrev pub IsThere : (last : ℕ) → Named → Type 0
 IsThere last the_old = Unit {0}
@@ -20,7 +21,7 @@ abbrev pub IsOutThere : (last : ℕ) → Option Saving → Type 0
 IsOutThere last None = Unit {0}
 IsOutThere last (Some out) = out.version ≤ last
 
--- some name is there, and the versions of the names, of the save that is out and of those that started are
+-- some name is there, and the versions of the names, of the save that is out and of those that have ended are
 pub record IsBounded (last : ℕ) (saving : Option Saving) (ns : List Named) (vs : List ℕ) : Type 0 where
   pub some : 0 < length ns
   pub names : AllByRecursion (IsThere last) ns
@@ -78,15 +79,14 @@ out_kind base s e starts sound there = omega arith
 out_kind base s e ends sound there = tt
 
 at_end : (last : ℕ) (ns : List Named) (vs : List ℕ) (out : Saving) (reply : Reply) → EndsWith out.version reply
-    → IsBounded last (Some out) ns vs → IsBounded last None (after_end ns reply) (vs ++ [])
+    → IsBounded last (Some out) ns vs → IsBounded last None (after_end ns reply) (vs ++ version_left reply)
 at_end last ns vs out (saved v) said bounded =
     let there = bounded.out in
     record {
       some = omega arith;
       names = (omega (arith, said, there), tt);
       out = tt;
-      versions =
-          no_more_versions last vs bounded.versions;
+      versions = one_more_version last vs v bounded.versions (omega (arith, said, there));
     }
 at_end last ns vs out (save_fault v) said bounded =
     let there = bounded.out in
@@ -94,7 +94,7 @@ at_end last ns vs out (save_fault v) said bounded =
       some = simp length-append (omega arith);
       names = one_more_name last ns (version v) bounded.names (omega (arith, said, there));
       out = tt;
-      versions = no_more_versions last vs bounded.versions;
+      versions = one_more_version last vs v bounded.versions (omega (arith, said, there));
     }
 at_end last ns vs out (save_memory v) said bounded =
     record { some = bounded.some; names = bounded.names; out = tt; versions = no_more_versions last vs bounded.versions }
@@ -102,7 +102,7 @@ at_end last ns vs out reply said bounded = absurd said
 
 may_end : (last : ℕ) (ns : List Named) (vs : List ℕ) (out : Option Saving) (session index : ℕ) (reply : Reply)
     → MayEnd out session index reply
-    → IsBounded last out ns vs → IsBounded last None (after_end ns reply) (vs ++ [])
+    → IsBounded last out ns vs → IsBounded last None (after_end ns reply) (vs ++ version_left reply)
 may_end last ns vs None session index reply may bounded = absurd may
 may_end last ns vs (Some out) session index reply may bounded = at_end last ns vs out reply may.2 bounded
 
@@ -121,12 +121,11 @@ at_kind base s earlier e (asked call tables) ns vs sound may bounded =
       versions = no_more_versions (latest t) vs (later_versions (latest s) (latest t) le vs bounded.versions);
     }
 at_kind base s earlier e starts ns vs sound may bounded =
-    let P : Reply → Type 0 = λ r. AllByRecursion (λ v. v ≤ latest s) (vs ++ versions_of starts r) in
     record {
       some = bounded.some;
       names = bounded.names;
       out = out_kind base s e starts sound bounded.out;
-      versions = subst P (sym may.2) (one_more_version (latest s) vs (latest s) bounded.versions (omega arith));
+      versions = no_more_versions (latest s) vs bounded.versions;
     }
 at_kind base s earlier e ends ns vs sound may bounded = may_end (latest s) ns vs s.out e.session e.index e.reply may bounded
 

@@ -1,7 +1,8 @@
 -- A save ends, and the shelf comes back.
 use Rattle.std.proofs.Common.{◌≡◌, ◌⊎◌, inl, inr, ⊎_elim, ℕ, ◌+◌, ◌<◌, ◌≤◌, List, [], ◌∷◌, ◌++◌, length, cond, refl}
 use Rattle.std.proofs.Common.{sym, ◌∙◌, ap, subst, arith}
-use Rattle.std.specs.Prelude.{Option, Some, None, IsSome}
+use Rattle.std.proofs.lemmas.List.Elements.{Contains-push}
+use Rattle.std.specs.Prelude.{Option, Some, None, IsSome, Contains}
 use Rattle.spec_document.specs.Document.{Document}
 use Rattle.spec_history.specs.Machine.{Saving, latest}
 use Rattle.spec_history.specs.History.{ends, Entry, replay, Run}
@@ -13,11 +14,12 @@ use Rattle.xl_ports.specs.Disk.{Disk, MightHaveLeft, Between, OthersStay}
 use Rattle.xl_ports.proofs.Moments.{others_then}
 use Rattle.xl_ports.specs.State.{ShelfState}
 use Rattle.spec_saves.specs.Names.{Named, the_old, version, names, files, version_out, out_version, ends_by_fault, save_faults}
+use Rattle.spec_saves.specs.Names.{saved_versions}
 use Rattle.spec_saves.specs.Contents.{IsVersion, IsSaved, IsIn}
 use Rattle.spec_saves.specs.Shelf.{file_name, IsSettled, DiskIsRight, RoseOften, ShelfIsRight}
-use Rattle.spec_saves.specs.Returns.{end_entry, Among, DiskReturns, CountEnds, Returns}
+use Rattle.spec_saves.specs.Returns.{end_entry, Among, DiskReturns, CountEnds, MayBeSaved, Returns}
 use Rattle.spec_saves.proofs.Bounds.{IsOutThere, one_more_name, bounded}
-use Rattle.spec_saves.proofs.Staying.{names-snoc, save_faults-snoc, with_some, stays_version, stays_in, stays_saved}
+use Rattle.spec_saves.proofs.Staying.{names-snoc, save_faults-snoc, saved_versions-append, with_some, stays_version, stays_in, stays_saved}
 
 -- two names are not one
 two_names : (ns : List Named) (v : ℕ) (name : List ℕ) (opened now : Disk) → 0 < length ns
@@ -50,12 +52,31 @@ module _ (name : List ℕ) (base : Document) (es : List Entry) (run : Run base e
   v_there : out_version base es ≤ latest (replay base es)
   v_there = out_there (latest (replay base es)) (replay base es).out (bounded base es run).out
 
+  -- the version that was out is one that an ended save may have left
+  ended_left : (how : SaveEnd) → saved_versions (end_entry base es session index how ∷ []) ≡ out_version base es ∷ []
+      → (c : Content) → IsVersion base es (out_version base es) c → IsSaved base (ended how) c
+  ended_left how last c is =
+      let e = end_entry base es session index how in
+      let v = out_version base es in
+      let all : saved_versions (ended how) ≡ saved_versions es ++ v ∷ [] = saved_versions-append es (e ∷ []) ∙ ap (λ vs. saved_versions es ++ vs) last in
+      record {
+        v = v;
+        left = subst (λ vs. Contains vs v) (sym all) (Contains-push (saved_versions es) v);
+        is = stays_version base es (e ∷ []) v v_there c is;
+      }
+
+  saved_by : (how : SaveEnd) (c : Content) → MayBeSaved how base es c → IsSaved base (ended how) c
+  saved_by Done c (inl is) = stays_saved base es (end_entry base es session index Done ∷ []) run c is
+  saved_by Done c (inr is) = ended_left Done refl c is
+  saved_by Fault c (inl is) = stays_saved base es (end_entry base es session index Fault ∷ []) run c is
+  saved_by Fault c (inr is) = ended_left Fault refl c is
+  saved_by Memory c is = stays_saved base es (end_entry base es session index Memory ∷ []) run c is
+
   left : (how : SaveEnd) → DiskReturns name base es how opened handed now → (since : ℕ) (c : Content) → since ≤ opened.moment
       → MightHaveLeft now name since c
       → MightHaveLeft opened name since c ⊎ IsSaved base (ended how) c
   left how back since c le might =
-      ⊎_elim (λ was. inl was) (λ is. inr (stays_saved base es (end_entry base es session index how) run c is))
-      (back.left since c le might)
+      ⊎_elim (λ was. inl was) (λ may. inr (saved_by how c may)) (back.left since c le might)
 
   done : opened.moment ≤ handed.moment → OthersStay name opened handed → DiskReturns name base es Done opened handed now
       → DiskIsRight name base (ended Done) opened now
@@ -67,7 +88,7 @@ module _ (name : List ℕ) (base : Document) (es : List Entry) (run : Run base e
         later = omega (arith, later, back_later);
         leaves = λ c may. subst (IsIn base (ended Done) opened name c) (sym is)
             (inl (subst (IsVersion base (ended Done) (out_version base es)) (sym (back.ends.1 c may))
-            (stays_version base es e (out_version base es) v_there (now.read name) back.ends.0)));
+            (stays_version base es (e ∷ []) (out_version base es) v_there (now.read name) back.ends.0)));
         left = left Done back;
         settled = subst (λ ns. IsSettled ns name opened now) (sym is) back.ends.1;
         elsewhere = others_then opened handed now name others back.elsewhere;

@@ -50,9 +50,13 @@ counted : save_faults (entry 0 starts (saved 0) ∷ entry 0 ends (save_fault 0) 
     ∷ []) ≡ 1
 counted = refl
 
-both_started : saved_versions (entry 0 starts (saved 0) ∷ entry 0 ends (save_fault 0) ∷ entry 1 starts (saved 3)
+both_left : saved_versions (entry 0 starts (saved 0) ∷ entry 0 ends (save_fault 0) ∷ entry 1 starts (saved 3)
     ∷ entry 1 ends (saved 3) ∷ []) ≡ 0 ∷ 3 ∷ []
-both_started = refl
+both_left = refl
+
+-- one that found no memory, or is out, left none
+none_left : saved_versions (entry 0 starts (saved 0) ∷ entry 0 ends (save_memory 0) ∷ entry 1 starts (saved 0) ∷ []) ≡ []
+none_left = refl
 
 version_out : (base : Document) → out_version base (entry 0 starts (saved 0) ∷ []) ≡ 0
 version_out base = refl

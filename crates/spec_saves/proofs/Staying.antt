@@ -34,8 +34,8 @@ pub saves_started-snoc : (es : List Entry) (e : Entry)
     → saves_started (es ++ e ∷ []) ≡ saves_started es + cond (is_start e.kind) 1 0
 saves_started-snoc es e = sum_by_push (λ x. cond (is_start x.kind) 1 0) es e
 
-saved_versions-snoc : (es : List Entry) (e : Entry) → saved_versions (es ++ e ∷ []) ≡ saved_versions es ++ saved_versions (e ∷ [])
-saved_versions-snoc es e = flat_map-append (λ x. versions_of x.kind x.reply) es (e ∷ [])
+pub saved_versions-append : (es more : List Entry) → saved_versions (es ++ more) ≡ saved_versions es ++ saved_versions more
+saved_versions-append es more = flat_map-append (λ x. versions_of x.kind x.reply) es more
 
 pub with_some : (ns : List Named) (out : Option Saving) → IsSome out → with_out ns out ≡ ns ++ version (version_out out) ∷ []
 with_some ns None some = absurd (cc some)
@@ -43,16 +43,16 @@ with_some ns (Some out) some = refl
 
 -- ---- contents
 
-pub stays_version : (base : Document) (es : List Entry) (e : Entry) (v : ℕ) → v ≤ latest (replay base es) → (c : Content)
-    → IsVersion base es v c → IsVersion base (es ++ e ∷ []) v c
-stays_version base es e v there absent is = absurd is
-stays_version base es e v there (file bytes) is =
-    subst (λ d. Written bytes d) (sym (document_of-append base es (e ∷ []) v there)) is
+pub stays_version : (base : Document) (es more : List Entry) (v : ℕ) → v ≤ latest (replay base es) → (c : Content)
+    → IsVersion base es v c → IsVersion base (es ++ more) v c
+stays_version base es more v there absent is = absurd is
+stays_version base es more v there (file bytes) is =
+    subst (λ d. Written bytes d) (sym (document_of-append base es more v there)) is
 
 stays_named : (base : Document) (es : List Entry) (e : Entry) (opened : Disk) (name : List ℕ) (c : Content) (n : Named)
     → IsThere (latest (replay base es)) n → IsNamed base es opened name c n → IsNamed base (es ++ e ∷ []) opened name c n
 stays_named base es e opened name c the_old there is = is
-stays_named base es e opened name c (version v) there is = stays_version base es e v there c is
+stays_named base es e opened name c (version v) there is = stays_version base es (e ∷ []) v there c is
 
 pub stays_in : (base : Document) (es : List Entry) (e : Entry) (opened : Disk) (name : List ℕ) (c : Content) (ns : List Named)
     → AllByRecursion (IsThere (latest (replay base es))) ns → IsIn base es opened name c ns
@@ -70,19 +70,19 @@ contains_more : (vs ws : List ℕ) (v : ℕ) → Contains vs v → Contains (vs 
 contains_more vs ws v at =
     let within = at.1 in (at.0, simp length-append (omega (arith, within)), get_or_append_left vs ws v at.0 at.1 ∙ at.2)
 
-pub stays_saved : (base : Document) (es : List Entry) (e : Entry) → Run base es → (c : Content) → IsSaved base es c
-    → IsSaved base (es ++ e ∷ []) c
-stays_saved base es e run c is =
+pub stays_saved : (base : Document) (es more : List Entry) → Run base es → (c : Content) → IsSaved base es c
+    → IsSaved base (es ++ more) c
+stays_saved base es more run c is =
     let v = is.v in
-    let at = is.started in
+    let at = is.left in
     let all = (bounded base es run).versions in
     let there : v ≤ latest (replay base es) =
     subst (λ n. n ≤ latest (replay base es)) at.2 (all_at (latest (replay base es)) (saved_versions es) at.0 v at.1 all) in
     record {
       v = v;
-      started = subst (λ vs. Contains vs v) (sym (saved_versions-snoc es e))
-          (contains_more (saved_versions es) (saved_versions (e ∷ [])) v at);
-      is = stays_version base es e v there c is.is;
+      left = subst (λ vs. Contains vs v) (sym (saved_versions-append es more))
+          (contains_more (saved_versions es) (saved_versions more) v at);
+      is = stays_version base es more v there c is.is;
     }
 
 -- ---- an entry that ends no save
@@ -104,7 +104,7 @@ stays_disk name base es e run same opened now right = record {
   later = right.later;
   leaves = λ c may. subst (IsIn base (es ++ e ∷ []) opened name c) (sym same)
       (stays_in base es e opened name c (names es) (bounded base es run).names (right.leaves c may));
-  left = λ since c le left. ⊎_elim (λ was. inl was) (λ is. inr (stays_saved base es e run c is)) (right.left since c le left);
+  left = λ since c le left. ⊎_elim (λ was. inl was) (λ is. inr (stays_saved base es (e ∷ []) run c is)) (right.left since c le left);
   settled = subst (λ ns. IsSettled ns name opened now) (sym same) right.settled;
   elsewhere = right.elsewhere;
 }

@@ -12,10 +12,10 @@ abbrev pub IsVersion : Document → List Entry → (v : ℕ) → Content → Typ
 IsVersion base es v absent = ⊥
 IsVersion base es v (file bytes) = Written bytes (document_of base es v)
 
--- a file of a version that a save started with
+-- a file of a version that an ended save may have left
 pub record IsSaved (base : Document) (es : List Entry) (c : Content) : Type 0 where
   pub v : ℕ
-  pub started : Contains (saved_versions es) v
+  pub left : Contains (saved_versions es) v
   pub is : IsVersion base es v c
 
 -- the old file is what a crash at the opening may have left

@@ -1,12 +1,10 @@
 -- What the file may hold after a history, by name: what it held at the opening, or versions that were saved.
 use Rattle.std.specs.Prelude.{ℕ, Bool, true, false, List, [], ◌∷◌, ◌++◌, fold, flat_map, count_by, Option, Some, None}
-use Rattle.std.specs.Prelude.{option_to_list}
 use Rattle.spec_document.specs.Document.{Document}
 use Rattle.spec_history.specs.Machine.{Reply, changed, refused, moved, nothing_to_undo, nothing_to_redo, not_top}
 use Rattle.spec_history.specs.Machine.{tile_of, stale, no_stack, outside_tile, top_is, saved, save_fault, save_memory}
 use Rattle.spec_history.specs.Machine.{history_full, is_save_fault, Saving}
 use Rattle.spec_history.specs.History.{Kind, asked, starts, ends, Entry, replay}
-use Rattle.spec_saves.specs.Acknowledged.{version_saved}
 
 -- what the file held at the opening, or this version of the document
 pub data Named : Type 0 where
@@ -58,16 +56,30 @@ files base es = with_out (names es) (replay base es).out
 
 -- ---- what is counted along a history
 
--- the version that a save starts with
-abbrev pub version_started : Reply → List ℕ
-version_started reply = option_to_list (version_saved reply)
+-- the version that a save may have left which ended so; one that found no memory left none
+abbrev pub version_left : Reply → List ℕ
+version_left (saved v) = v ∷ []
+version_left (save_fault v) = v ∷ []
+version_left (save_memory v) = []
+version_left (changed new group next) = []
+version_left (refused index cause) = []
+version_left (moved now) = []
+version_left nothing_to_undo = []
+version_left nothing_to_redo = []
+version_left (not_top top) = []
+version_left (tile_of shown) = []
+version_left (stale have seen) = []
+version_left (no_stack node) = []
+version_left outside_tile = []
+version_left (top_is group now) = []
+version_left history_full = []
 
 abbrev pub versions_of : Kind → Reply → List ℕ
 versions_of (asked call tables) reply = []
-versions_of starts reply = version_started reply
-versions_of ends reply = []
+versions_of starts reply = []
+versions_of ends reply = version_left reply
 
--- the versions that saves started with
+-- the versions that ended saves may have left
 abbrev pub saved_versions : List Entry → List ℕ
 saved_versions es = flat_map (λ e. versions_of e.kind e.reply) es
 

@@ -36,12 +36,18 @@ EndsOn Fault name base es opened now = (c : Content) → MayLeave now name c →
 EndsOn Memory name base es opened now =
     ((c : Content) → MayLeave now name c → IsIn base es opened name c (names es)) × IsSettled (names es) name opened now
 
+-- a file of a version that an ended save may have left, or that the save which is out may leave; one that found no memory leaves none
+abbrev pub MayBeSaved : SaveEnd → Document → List Entry → Content → Type 0
+MayBeSaved Done base es c = IsSaved base es c ⊎ IsVersion base es (out_version base es) c
+MayBeSaved Fault base es c = IsSaved base es c ⊎ IsVersion base es (out_version base es) c
+MayBeSaved Memory base es c = IsSaved base es c
+
 -- what the file may hold under this name, now and at each moment since the shelf was handed out; other names stay
 pub record DiskReturns (name : List ℕ) (base : Document) (es : List Entry) (how : SaveEnd) (opened handed now : Disk) : Type 0 where
   pub later : handed.moment ≤ now.moment
   pub within : (c : Content) → MightHaveLeft now name handed.moment c → IsIn base es opened name c (files base es)
   pub left : (since : ℕ) (c : Content) → since ≤ opened.moment → MightHaveLeft now name since c
-      → MightHaveLeft opened name since c ⊎ IsSaved base es c
+      → MightHaveLeft opened name since c ⊎ MayBeSaved how base es c
   pub ends : EndsOn how name base es opened now
   pub elsewhere : OthersStay name handed now
 

@@ -95,8 +95,17 @@ module _ {given : Given} {before mid : ShelfState} {name : List ℕ} {d : Docume
   played_comes held faults old new (Ok replies) (Err (NotFlattened why)) played writes = absurd writes
   played_comes held faults old new (Ok replies) (Err Memory) played writes = absurd writes
   played_comes held faults old new (Err e) result played writes =
-      subst (λ (r : Result (Unit {0}) Stopped). ComesTo held faults given before after (edit name workers) old new r) (sym writes.0)
-      ((ap held writes.1, ap faults writes.1), inr (d, played.entries, history_of (Err e) played))
+      subst (λ (r : Result (Unit {0}) Stopped). ComesTo held faults given before after (edit name workers) old new r) (sym writes.0) (
+        (ap held writes.1, ap faults writes.1),
+        inr (record {
+          document = d;
+          lists = lists;
+          entries = played.entries;
+          history = history_of (Err e) played;
+          read = known_then.read;
+          front = played.front;
+        }),
+      )
 
 -- ---- why an editing stops
 

@@ -1,5 +1,5 @@
 -- What a run of make comes to whose script was played.
-use Rattle.std.proofs.Common.{◌≡◌, true, false, ◌⊎◌, inl, inr, ℕ, List, [], ◌∷◌, filter_map, ap, refl, sym, ◌∙◌, subst}
+use Rattle.std.proofs.Common.{◌≡◌, true, false, inl, inr, ℕ, List, [], ◌∷◌, filter_map, ap, refl, sym, ◌∙◌, subst}
 use Rattle.std.specs.Prelude.{Option, Some, None, IfSome, IfOk, Vec, unwrap_or, Result, Ok, Err, OnOk, IsOk, String, string_bytes}
 use Rattle.std.specs.declared.alloc.AllocError.{AllocError}
 use Rattle.std.specs.declared.alloc.Global.{Global}
@@ -34,6 +34,7 @@ use Rattle.xl_play.specs.Editing.{Editing, IsRight}
 use Rattle.xl_play.specs.History.{document as last_document}
 use Rattle.xl_outcome.specs.Parts.{StopsMaking}
 use Rattle.xl_commands.specs.Played.{IsSummedUp, SumsUp, WritesReplies}
+use Rattle.spec_run.specs.Fronts.{IsFrontOf}
 use Rattle.spec_run.specs.Versions.{AreWithin}
 use Rattle.xl_snapshot.specs.Saving.{IsSavedOn}
 use Rattle.xl_snapshot.proofs.Putting.{done_not_memory}
@@ -43,6 +44,7 @@ use Rattle.xl_outcome.specs.declared.stopped.Stopped.TheVariants.{SourceFault, B
 use Rattle.xl_outcome.specs.declared.stopped.Stopped.TheVariants.{NotFlattened, SaveFault, Rejected, SinkFault, Memory}
 use Rattle.xl_commands.proofs.Edited.{none_failed, some_failed}
 use Rattle.spec_merged.proofs.MadeFiles.{last_is_saved}
+use Rattle.spec_run.proofs.Fronts.{front_none}
 use Rattle.spec_run.proofs.VersionsWithin.{first_within}
 
 -- ---- the run
@@ -103,6 +105,7 @@ nothing_summed k now d lists e same within =
     (record {
       entries = [];
       legal = IsLegal-empty d;
+      front = front_none lists [];
       versions = first_within d within;
       shelf = opened_right k d;
       sum = tt;
@@ -112,17 +115,18 @@ nothing_summed k now d lists e same within =
 pub summed_on : {D : Type 0} (see : D → ShelfState) (old new : Editing D) (back : D) (lists : List (List Line))
     (chests : List (List FilterState)) (text : Result (String Global) AllocError) (told : Result Replies AllocError)
     → new.history.base ≡ old.history.base → new.opening ≡ old.opening → IsLegal new.history.base new.history.entries
-    → AreWithin new.history.base new.history.entries → IsRight see new back
+    → AreWithin new.history.base new.history.entries → IsRight see new back → IsFrontOf lists chests new.history.entries
     → IsMade old.history.base lists → chests ≡ []
     → IfOk text (λ t. IsTextOf (string_bytes t) old.history.base lists chests new.history.entries) → OnOk told (IsOk text)
     → IfOk told (λ t. string_bytes t.text ≡ summary_of (last_document new.history))
     → IfOk told (λ t. WhetherFailed t.save_failed (save_faults new.history.entries))
     → IsSummedUp (see old.opening) (see back) old.history.base lists told
-summed_on {D} see old new back lists chests text told base opening legal versions right made none is played sum failed =
+summed_on {D} see old new back lists chests text told base opening legal versions right front made none is played sum failed =
     let es = new.history.entries in
     record {
       entries = es;
       legal = subst (λ (b : Document). IsLegal b es) base legal;
+      front = subst (λ (cs : List (List FilterState)). IsFrontOf lists cs es) none front;
       versions = subst (λ (b : Document). AreWithin b es) base versions;
       shelf =
           subst (λ (o : D). ShelfIsRight (see o) old.history.base es (see back)) opening
@@ -204,30 +208,30 @@ module _ (d : Document) (lists : List (List Line)) (sessions : IsMade d lists) (
         failed = fails (save_faults entries) summed_up.sum.failed;
       }
 
-  pub made_comes : {K : Type 0} (held : K → Option (List ℕ)) (faults : K → ℕ) (Untouched Failed : Type 0) (old new : K)
+  pub made_comes : {K : Type 0} (held : K → Option (List ℕ)) (faults : K → ℕ) (Untouched Failed Saved : Type 0) (old new : K)
       (told : Result Replies AllocError) (result : Result (Unit {0}) Stopped)
+      → ((entries : List Entry) → IsMadeHistory opening now d entries → IsFrontOf lists [] entries → Saved)
       → IsSummedUp first now d lists told → WritesReplies held faults old new told result
-      → Comes held faults (λ ending out. IsSummary opening now d lists (HaveFailed ending) out) Untouched Failed
-      (Untouched ⊎ ((entries : List Entry) × IsMadeHistory opening now d entries)) old new result
-  made_comes held faults U F old new (Ok told) (Ok x) summed_up writes =
+      → Comes held faults (λ ending out. IsSummary opening now d lists (HaveFailed ending) out) Untouched Failed Saved old new result
+  made_comes held faults U F S old new (Ok told) (Ok x) cut summed_up writes =
       (string_bytes told.text, summary_is told NoneFailed summed_up (none_failed told.save_failed writes.1), writes.0)
-  made_comes held faults U F old new (Ok told) (Err SaveFault) summed_up writes =
+  made_comes held faults U F S old new (Ok told) (Err SaveFault) cut summed_up writes =
       (string_bytes told.text, summary_is told SomeFailed summed_up (some_failed told.save_failed writes.1), writes.0)
-  made_comes held faults U F old new (Ok told) (Err (Rejected why)) summed_up writes = absurd writes
-  made_comes held faults U F old new (Ok told) (Err SinkFault) summed_up writes =
+  made_comes held faults U F S old new (Ok told) (Err (Rejected why)) cut summed_up writes = absurd writes
+  made_comes held faults U F S old new (Ok told) (Err SinkFault) cut summed_up writes =
       (string_bytes told.text, summary_is told AnyFailed summed_up (λ n h. tt), writes)
-  made_comes held faults U F old new (Ok told) (Err SourceFault) summed_up writes = absurd writes
-  made_comes held faults U F old new (Ok told) (Err BadHead) summed_up writes = absurd writes
-  made_comes held faults U F old new (Ok told) (Err (BadLine bad)) summed_up writes = absurd writes
-  made_comes held faults U F old new (Ok told) (Err ShelfFault) summed_up writes = absurd writes
-  made_comes held faults U F old new (Ok told) (Err (Refused refused)) summed_up writes = absurd writes
-  made_comes held faults U F old new (Ok told) (Err (NotFlattened why)) summed_up writes = absurd writes
-  made_comes held faults U F old new (Ok told) (Err Memory) summed_up writes = absurd writes
-  made_comes held faults U F old new (Err e) result summed_up writes =
+  made_comes held faults U F S old new (Ok told) (Err SourceFault) cut summed_up writes = absurd writes
+  made_comes held faults U F S old new (Ok told) (Err BadHead) cut summed_up writes = absurd writes
+  made_comes held faults U F S old new (Ok told) (Err (BadLine bad)) cut summed_up writes = absurd writes
+  made_comes held faults U F S old new (Ok told) (Err ShelfFault) cut summed_up writes = absurd writes
+  made_comes held faults U F S old new (Ok told) (Err (Refused refused)) cut summed_up writes = absurd writes
+  made_comes held faults U F S old new (Ok told) (Err (NotFlattened why)) cut summed_up writes = absurd writes
+  made_comes held faults U F S old new (Ok told) (Err Memory) cut summed_up writes = absurd writes
+  made_comes held faults U F S old new (Err e) result cut summed_up writes =
       subst (λ (r : Result (Unit {0}) Stopped).
-      Comes held faults (λ ending out. IsSummary opening now d lists (HaveFailed ending) out) U F
-      (U ⊎ ((entries : List Entry) × IsMadeHistory opening now d entries)) old new r) (sym writes.0)
-      ((ap held writes.1, ap faults writes.1), inr (summed_up.entries, made_history (Err e) summed_up))
+      Comes held faults (λ ending out. IsSummary opening now d lists (HaveFailed ending) out) U F S
+      old new r) (sym writes.0)
+      ((ap held writes.1, ap faults writes.1), cut summed_up.entries (made_history (Err e) summed_up) summed_up.front)
 
 -- ---- why it stops
 

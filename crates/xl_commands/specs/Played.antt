@@ -1,11 +1,12 @@
 -- What is told of a run of sessions, and how it is written.
-use Rattle.std.specs.Prelude.{◌≡◌, ℕ, true, false, List, Option, IfOk, Result, Ok, Err, string_bytes}
+use Rattle.std.specs.Prelude.{◌≡◌, ℕ, true, false, List, [], Option, IfOk, Result, Ok, Err, string_bytes}
 use Rattle.std.specs.declared.alloc.AllocError.{AllocError}
 use Rattle.spec_document.specs.Document.{Document}
 use Rattle.spec_generated.specs.Summary.{outcome, summary_of}
 use Rattle.spec_history.specs.History.{Entry}
 use Rattle.spec_history.specs.Kept.{IsLegal}
 use Rattle.spec_run.specs.Failed.{WhetherFailed}
+use Rattle.spec_run.specs.Fronts.{IsFrontOf}
 use Rattle.spec_run.specs.Versions.{AreWithin}
 use Rattle.spec_saves.specs.Names.{save_faults}
 use Rattle.spec_saves.specs.Shelf.{ShelfIsRight}
@@ -23,11 +24,13 @@ pub record SumsUp (document : Document) (lists : List (List script.Line)) (entri
   pub text : string_bytes told.text ≡ summary_of (outcome document lists)
   pub failed : WhetherFailed told.save_failed (save_faults entries)
 
--- a legal history, its versions within the limits, the shelf after its saves, and the line that sums it up unless memory ran out
+-- A legal history of the first calls of these sessions, or of all, its versions within the limits, and the shelf after its saves. The
+-- line that sums it up, unless memory ran out, is that of all.
 pub record IsSummedUp
     (opening now : ShelfState) (document : Document) (lists : List (List script.Line)) (told : Result Replies AllocError) : Type 0 where
   pub entries : List Entry
   pub legal : IsLegal document entries
+  pub front : IsFrontOf lists [] entries
   pub versions : AreWithin document entries
   pub shelf : ShelfIsRight opening document entries now
   pub sum : IfOk told (SumsUp document lists entries)

@@ -90,17 +90,17 @@ others_failed old new (flatten name) (inr flat) = others_put Fault _ name old.di
 others_failed old new (view name cols rows) same = others_untouched name old new same
 others_failed old new (audit name) same = others_untouched name old new same
 
-others_saved : (old new : ShelfState) (command : Asked) → MayHaveSaved old new command → Others (name_of command) old new
-others_saved old new (render name) same = others_untouched name old new same
-others_saved old new (info name with_all) same = others_untouched name old new same
-others_saved old new (make name seed) (inl same) = others_untouched name old new same
-others_saved old new (make name seed) (inr made) = others_made (opened old new name) new _ _ made.1
-others_saved old new (edit name workers) (inl same) = others_untouched name old new same
-others_saved old new (edit name workers) (inr edited) = others_right (opened old new name) new _ _ edited.2.shelf
-others_saved old new (pack name with_plans) same = others_untouched name old new same
-others_saved old new (flatten name) same = others_untouched name old new same
-others_saved old new (view name cols rows) same = others_untouched name old new same
-others_saved old new (audit name) same = others_untouched name old new same
+others_saved : (given : Given) (old new : ShelfState) (command : Asked) → MayHaveSaved given old new command → Others (name_of command) old new
+others_saved given old new (render name) same = others_untouched name old new same
+others_saved given old new (info name with_all) same = others_untouched name old new same
+others_saved given old new (make name seed) (inl same) = others_untouched name old new same
+others_saved given old new (make name seed) (inr made) = others_made (opened old new name) new _ _ made.history
+others_saved given old new (edit name workers) (inl same) = others_untouched name old new same
+others_saved given old new (edit name workers) (inr edited) = others_right (opened old new name) new _ _ edited.history.shelf
+others_saved given old new (pack name with_plans) same = others_untouched name old new same
+others_saved given old new (flatten name) same = others_untouched name old new same
+others_saved given old new (view name cols rows) same = others_untouched name old new same
+others_saved given old new (audit name) same = others_untouched name old new same
 
 others_come : {K : Type 0} (held : K → Option (List ℕ)) (faults : K → ℕ) (given : Given) (old new : ShelfState) (command : Asked)
     (before after : K) (result : Result (Unit {0}) Stopped) → ComesTo held faults given old new command before after result
@@ -111,7 +111,7 @@ others_come held faults given old new command before after (Err SaveFault) comes
     others_output given old new command unsaved comes.0 comes.1
 others_come held faults given old new command before after (Err SinkFault) comes =
     others_output given old new command in_part comes.0 comes.1
-others_come held faults given old new command before after (Err Memory) comes = others_saved old new command comes.1
+others_come held faults given old new command before after (Err Memory) comes = others_saved given old new command comes.1
 others_come held faults given old new command before after (Err SourceFault) comes =
     others_untouched (name_of command) old new comes.1
 others_come held faults given old new command before after (Err BadHead) comes =

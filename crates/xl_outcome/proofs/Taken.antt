@@ -4,7 +4,7 @@ use Rattle.spec_command.specs.Arguments.{Asked, edit, render, info, make, pack, 
 use Rattle.xl_ports.specs.Source.{led_by}
 use Rattle.xl_ports.specs.State.{ShelfState}
 use Rattle.xl_ports.proofs.Moments.{still}
-use Rattle.xl_outcome.specs.Outcome.{Takes, IsUntouched, MaySave}
+use Rattle.xl_outcome.specs.Outcome.{Given, Takes, IsUntouched, MaySave}
 
 pub led_by_nothing : (left : Option (List ℕ)) → left ≡ led_by [] left
 led_by_nothing None = refl
@@ -27,13 +27,13 @@ pub untouched : (s : ShelfState) → IsUntouched s s
 untouched s = record { contents = refl; quiet = still s.disk; saving = refl }
 
 -- nothing was saved
-pub nothing_saved : (s : ShelfState) (given : Option Asked) → MaySave s s given
-nothing_saved s None = untouched s
-nothing_saved s (Some (render name)) = untouched s
-nothing_saved s (Some (info name with_all)) = untouched s
-nothing_saved s (Some (make name seed)) = inl (untouched s)
-nothing_saved s (Some (edit name workers)) = inl (untouched s)
-nothing_saved s (Some (pack name with_plans)) = untouched s
-nothing_saved s (Some (flatten name)) = untouched s
-nothing_saved s (Some (view name cols rows)) = untouched s
-nothing_saved s (Some (audit name)) = untouched s
+pub nothing_saved : (given : Given) (s : ShelfState) (command : Option Asked) → MaySave given s s command
+nothing_saved given s None = untouched s
+nothing_saved given s (Some (render name)) = untouched s
+nothing_saved given s (Some (info name with_all)) = untouched s
+nothing_saved given s (Some (make name seed)) = inl (untouched s)
+nothing_saved given s (Some (edit name workers)) = inl (untouched s)
+nothing_saved given s (Some (pack name with_plans)) = untouched s
+nothing_saved given s (Some (flatten name)) = untouched s
+nothing_saved given s (Some (view name cols rows)) = untouched s
+nothing_saved given s (Some (audit name)) = untouched s

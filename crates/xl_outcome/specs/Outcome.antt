@@ -20,6 +20,7 @@ use Rattle.spec_saves.specs.Names.{save_faults}
 use Rattle.spec_saves.specs.Shelf.{ShelfIsRight}
 use Rattle.spec_text.specs.Text.{IsTextOf, Alone}
 use Rattle.spec_run.specs.First.{AreOfFirst}
+use Rattle.spec_run.specs.Fronts.{IsFrontOf}
 use Rattle.spec_run.specs.Versions.{AreWithin}
 use Rattle.xl_ports.specs.Disk.{read_at, Between, IsQuiet, StaysThrough}
 use Rattle.xl_ports.specs.Faults.{Rose}
@@ -164,24 +165,37 @@ IsOutput given old new (view name cols rows) ending out =
 IsOutput given old new (audit name) ending out =
     IsAudited given.left given.chests (read_at old.disk name) ending out × IsUntouched old new
 
--- The shelf where memory ran out: as before, or after a history. So each file that a crash might leave is the old one, or holds a
--- version of that history.
-abbrev pub MayHaveSaved : (old new : ShelfState) → Asked → Type 0
-MayHaveSaved old new (render name) = IsUntouched old new
-MayHaveSaved old new (info name with_all) = IsUntouched old new
-MayHaveSaved old new (make name seed) =
-    IsUntouched old new ⊎ ((entries : List Entry) × IsMadeHistory (opened old new name) new (document seed) entries)
-MayHaveSaved old new (edit name workers) =
-    IsUntouched old new ⊎ ((document : Document) × (entries : List Entry) × IsHistory name old new document entries)
-MayHaveSaved old new (pack name with_plans) = IsUntouched old new
-MayHaveSaved old new (flatten name) = IsUntouched old new
-MayHaveSaved old new (view name cols rows) = IsUntouched old new
-MayHaveSaved old new (audit name) = IsUntouched old new
+-- Such a history where memory ran out: its calls are the first of those of the script, or all.
+pub record IsCutHistory (given : Given) (name : List ℕ) (old new : ShelfState) : Type 0 where
+  pub document : Document
+  pub lists : List (List Line)
+  pub entries : List Entry
+  pub history : IsHistory name old new document entries
+  pub read : HasLines given lists
+  pub front : IsFrontOf lists given.chests entries
+
+-- The same of what is made.
+pub record IsCutMaking (name : List ℕ) (old new : ShelfState) (seed : ℕ) : Type 0 where
+  pub entries : List Entry
+  pub history : IsMadeHistory (opened old new name) new (document seed) entries
+  pub front : IsFrontOf (made_script seed) [] entries
+
+-- The shelf where memory ran out: as before, or after a history of the first calls. So each file that a crash might leave is the old
+-- one, or holds a version of that history which is saved there.
+abbrev pub MayHaveSaved : Given → (old new : ShelfState) → Asked → Type 0
+MayHaveSaved given old new (render name) = IsUntouched old new
+MayHaveSaved given old new (info name with_all) = IsUntouched old new
+MayHaveSaved given old new (make name seed) = IsUntouched old new ⊎ IsCutMaking name old new seed
+MayHaveSaved given old new (edit name workers) = IsUntouched old new ⊎ IsCutHistory given name old new
+MayHaveSaved given old new (pack name with_plans) = IsUntouched old new
+MayHaveSaved given old new (flatten name) = IsUntouched old new
+MayHaveSaved given old new (view name cols rows) = IsUntouched old new
+MayHaveSaved given old new (audit name) = IsUntouched old new
 
 -- the same of any words
-abbrev pub MaySave : (old new : ShelfState) → Option Asked → Type 0
-MaySave old new None = IsUntouched old new
-MaySave old new (Some command) = MayHaveSaved old new command
+abbrev pub MaySave : Given → (old new : ShelfState) → Option Asked → Type 0
+MaySave given old new None = IsUntouched old new
+MaySave given old new (Some command) = MayHaveSaved given old new command
 
 -- the shelf where a fault of it stopped the command: as before, or after a part of the one save of a command, or of the first of what
 -- is made
@@ -227,7 +241,7 @@ module _ {K : Type 0} (held : K → Option (List ℕ)) (faults : K → ℕ) wher
   abbrev pub ComesTo : Given → (before after : ShelfState) → Asked → (old new : K) → Result (Unit {0}) Stopped → Type 0
   ComesTo given before after command old new result =
       Comes (IsOutput given before after command) (IsUntouched before after) (FailsAtShelf before after command)
-      (MayHaveSaved before after command) old new result
+      (MayHaveSaved given before after command) old new result
 
 -- ---- why a command stopped
 

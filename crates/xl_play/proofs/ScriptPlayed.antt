@@ -18,6 +18,8 @@ use Rattle.xl_history.specs.Editing.{Editing, IsRight}
 use Rattle.spec_run.specs.Failed.{WhetherFailed}
 use Rattle.xl_play.specs.Told.{IsPlayed, IsToldOf}
 use Rattle.spec_run.specs.First.{AreOfFirst}
+use Rattle.spec_run.specs.Fronts.{IsFrontOf}
+use Rattle.spec_run.proofs.Fronts.{front_none}
 use Rattle.spec_run.specs.Versions.{AreWithin}
 use Rattle.xl_play.specs.declared.playing.Replies.{Replies}
 use Rattle.spec_run.proofs.VersionsWithin.{first_within}
@@ -31,6 +33,7 @@ nothing_played k now d lists chests workers e same within =
     (record {
       entries = [];
       legal = IsLegal-empty d;
+      front = front_none lists chests;
       versions = first_within d within;
       shelf = opened_right k d;
       told = tt;
@@ -40,12 +43,13 @@ nothing_played k now d lists chests workers e same within =
 pub played_on : {D : Type 0} (see : D → ShelfState) (old new : Editing D) (back : D) (lists : List (List Line))
     (chests : List (List FilterState)) (workers : ℕ) (replies : Result Replies AllocError)
     → new.history.base ≡ old.history.base → new.opening ≡ old.opening → IsLegal new.history.base new.history.entries
-    → AreWithin new.history.base new.history.entries → IsRight see new back
+    → AreWithin new.history.base new.history.entries → IsRight see new back → IsFrontOf lists chests new.history.entries
     → IfOk replies (IsToldOf old.history.base lists chests workers new.history.entries)
     → IsPlayed (see old.opening) (see back) old.history.base lists chests workers replies
-played_on {D} see old new back lists chests workers replies base opening legal versions right told = record {
+played_on {D} see old new back lists chests workers replies base opening legal versions right front told = record {
   entries = new.history.entries;
   legal = subst (λ (b : Document). IsLegal b new.history.entries) base legal;
+  front = front;
   versions = subst (λ (b : Document). AreWithin b new.history.entries) base versions;
   shelf =
       subst (λ (o : D). ShelfIsRight (see o) old.history.base new.history.entries (see back)) opening

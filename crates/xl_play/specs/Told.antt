@@ -45,12 +45,14 @@ pub record IsScriptPlayed {D : Type 0} (result : Result Replies AllocError) (old
   pub front : IsFrontOf lists chests new.history.entries
   pub told : IfOk result (IsToldOf old.history.base lists chests 0 new.history.entries)
 
--- a legal history, its versions within the limits, the shelf after its saves, and its text unless memory ran out
+-- A legal history of the first calls of a script, or of all, its versions within the limits, and the shelf after its saves. Its text,
+-- unless memory ran out, is that of all calls.
 pub record IsPlayed
     (opening now : ShelfState) (document : Document) (lists : List (List script.Line)) (chests : List (List FilterState)) (workers : ℕ)
     (replies : Result Replies AllocError) : Type 0 where
   pub entries : List Entry
   pub legal : IsLegal document entries
+  pub front : IsFrontOf lists chests entries
   pub versions : AreWithin document entries
   pub shelf : ShelfIsRight opening document entries now
   pub told : IfOk replies (IsToldOf document lists chests workers entries)

@@ -95,7 +95,7 @@ pub fn run<R: Threads + Wait + Sync, S: Source, K: Sink, D: Shelf, G: Gate>(
         (given_of (S.left source.old) (λ b. state b) chest.items) (D.shelf_state shelf)
         (D.shelf_state result.shelf) (asked_in (arguments_of words.now)) sink.old sink.new }
     ensures memory { result.status ≡ 8 → Keeps K.held K.faults sink.old sink.new
-        × MaySave (D.shelf_state shelf)
+        × MaySave (given_of (S.left source.old) (λ b. state b) chest.items) (D.shelf_state shelf)
         (D.shelf_state result.shelf) (asked_in (arguments_of words.now)) }
 
     // Where it stops before.

@@ -14,8 +14,9 @@ use Rattle.xl_ports.specs.State.{ShelfState}
 use Rattle.spec_saves.specs.Names.{Named, names, files, version_out, with_out, out_version}
 use Rattle.spec_saves.specs.Contents.{IsVersion, IsIn}
 use Rattle.spec_saves.specs.Shelf.{IsSettled, file_name}
-use Rattle.spec_saves.specs.Returns.{Among, EndsOn, DiskReturns, Returns}
-use Rattle.xl_snapshot.proofs.Returning.{IsThere, AreThere, one_more, names_there, version_stays, in_stays, saved_stays}
+use Rattle.spec_saves.specs.Returns.{Among, EndsOn, DiskReturns, MayBeSaved, Returns}
+use Rattle.spec_saves.proofs.Staying.{stays_version, stays_saved}
+use Rattle.xl_snapshot.proofs.Returning.{IsThere, AreThere, one_more, names_there, in_stays}
 
 files_there : (last : ℕ) (ns : List Named) (out : Option Saving) → AllByRecursion (IsThere last) ns
     → IfSome out (λ o. o.version ≤ last) → AllByRecursion (IsThere last) (with_out ns out)
@@ -46,14 +47,23 @@ module _ (base : Document) (es more : List Entry) (legal : IsLegal base es) (sam
   in_names opened name c is =
       subst (IsIn base (es ++ more) opened name c) (sym same) (in_stays base es more opened name c (names es) there.named is)
 
+  -- a file of the version that is out
+  out_later : (c : Content) → IsVersion base es (out_version base es) c
+      → IsVersion base (es ++ more) (out_version base (es ++ more)) c
+  out_later c is =
+      subst (λ (v : ℕ). IsVersion base (es ++ more) v c) (sym (ap version_out out))
+      (stays_version base es more (out_version base es) (version_low (latest (replay base es)) (replay base es).out there.going) c is)
+
+  saved_later : (how : SaveEnd) (c : Content) → MayBeSaved how base es c → MayBeSaved how base (es ++ more) c
+  saved_later Done c (inl is) = inl (stays_saved base es more legal.run c is)
+  saved_later Done c (inr is) = inr (out_later c is)
+  saved_later Fault c (inl is) = inl (stays_saved base es more legal.run c is)
+  saved_later Fault c (inr is) = inr (out_later c is)
+  saved_later Memory c is = stays_saved base es more legal.run c is
+
   ends_later : (how : SaveEnd) (name : List ℕ) (opened now : Disk) → EndsOn how name base es opened now
       → EndsOn how name base (es ++ more) opened now
-  ends_later Done name opened now ends = (
-    subst (λ (v : ℕ). IsVersion base (es ++ more) v (now.read name)) (sym (ap version_out out))
-        (version_stays base es more (out_version base es) (now.read name)
-        (version_low (latest (replay base es)) (replay base es).out there.going) ends.0),
-    ends.1,
-  )
+  ends_later Done name opened now ends = (out_later (now.read name) ends.0, ends.1)
   ends_later Fault name opened now ends = λ c may. in_files opened name c (ends c may)
   ends_later Memory name opened now ends = (
     λ c may. in_names opened name c (ends.0 c may),
@@ -67,7 +77,7 @@ module _ (base : Document) (es more : List Entry) (legal : IsLegal base es) (sam
     within = λ c was. in_files opened name c (r.within c was);
     left = λ since c le was. elim (r.left since c le was) [
       | inl left ↦ inl left
-      | inr is ↦ inr (saved_stays base es more c legal is)
+      | inr is ↦ inr (saved_later how c is)
     ];
     ends = ends_later how name opened now r.ends;
     elsewhere = r.elsewhere;

@@ -1,9 +1,7 @@
 -- What a save does to a shelf that was handed out is what the shelf has to keep that comes back.
-use Rattle.std.proofs.Common.{◌≡◌, inl, inr, ◌⊎◌, ℕ, zero, suc, ◌+◌, ◌<◌, ◌≤◌, Bool, cond, length, List, [], ◌∷◌, ◌++◌}
+use Rattle.std.proofs.Common.{◌≡◌, inl, inr, ◌⊎◌, ℕ, ◌+◌, ◌≤◌, Bool, cond, length, List, [], ◌∷◌, ◌++◌}
 use Rattle.std.proofs.Common.{Some, None, ap, sym, ◌∙◌, arith, subst}
-use Rattle.std.specs.Prelude.{Option, IfSome, Contains, fold, slice_index_or}
-use Rattle.std.proofs.lemmas.List.Concat.{flat_map-append, flat_map-cons}
-use Rattle.std.proofs.lemmas.List.Elements.{Contains-append_left, Contains-push}
+use Rattle.std.specs.Prelude.{Option, IfSome, Contains, fold}
 use Rattle.std.proofs.lemmas.List.Sums.{fold-append}
 use Rattle.std.specs.List.{AllByRecursion}
 use Rattle.spec_document.specs.Document.{Document}
@@ -12,20 +10,21 @@ use Rattle.spec_history.specs.Machine.{Reply, saved, save_fault, save_memory, St
 use Rattle.spec_history.specs.History.{Entry, Kind, asked, starts, ends, is_changed, latest_of, after_kind}
 use Rattle.spec_history.specs.History.{after_entry, replay_from, replay, RunFrom, document_of, EndsWith, MayEnd, MayBe}
 use Rattle.spec_history.specs.Kept.{IsLegal}
-use Rattle.spec_history.proofs.Growing.{document_of-append, replay-snoc, out-answer}
-use Rattle.spec_history.proofs.Versions.{IsSound, sound-initial, goes-step, ends-run, latest_of-legal}
+use Rattle.spec_history.proofs.Growing.{replay-snoc, out-answer}
+use Rattle.spec_history.proofs.Versions.{IsSound, sound-initial, goes-step, latest_of-legal}
 use Rattle.spec_world.specs.declared.SaveEnd.TheVariants.{Done, Fault, Memory}
-use Rattle.xl_ports.specs.Shelf.{Content, absent, file}
+use Rattle.xl_ports.specs.Shelf.{Content, file}
 use Rattle.xl_ports.specs.Disk.{Disk, MayLeave, MightHaveLeft, LeavesJust}
 use Rattle.xl_save.specs.Save.{SavesOnly, HasSaved}
 use Rattle.xl_save.proofs.Others.{others_stay}
 use Rattle.xl_ports.proofs.Moments.{others_still}
-use Rattle.spec_saves.specs.Names.{Named, the_old, version, names, files, saved_versions, after_one, after_end}
-use Rattle.spec_saves.specs.Names.{after_kind as after_named, versions_of, version_started, version_out, with_out}
+use Rattle.spec_saves.specs.Names.{Named, the_old, version, names, files, after_one, after_end}
+use Rattle.spec_saves.specs.Names.{after_kind as after_named, version_out, with_out}
 use Rattle.spec_saves.specs.Names.{out_version}
 use Rattle.spec_saves.specs.Contents.{IsVersion, IsNamed, IsIn, IsSaved}
 use Rattle.spec_saves.specs.Shelf.{DiskIsRight, IsSettled}
-use Rattle.spec_saves.specs.Returns.{DiskReturns}
+use Rattle.spec_saves.specs.Returns.{DiskReturns, MayBeSaved}
+use Rattle.spec_saves.proofs.Staying.{stays_version, stays_saved}
 
 -- ---- versions that are named are there
 
@@ -100,16 +99,11 @@ names_there base es legal =
 
 -- ---- contents stay what they are as entries come
 
-pub version_stays : (base : Document) (es more : List Entry) (v : ℕ) (c : Content) → v ≤ latest (replay base es)
-    → IsVersion base es v c → IsVersion base (es ++ more) v c
-version_stays base es more v absent le is = absurd is
-version_stays base es more v (file bytes) le is = subst (Written bytes) (sym (document_of-append base es more v le)) is
-
 named_stays : (base : Document) (es more : List Entry) (opened : Disk) (name : List ℕ) (c : Content) (n : Named)
     → IsThere (latest (replay base es)) n
     → IsNamed base es opened name c n → IsNamed base (es ++ more) opened name c n
 named_stays base es more opened name c the_old there is = is
-named_stays base es more opened name c (version v) there is = version_stays base es more v c there is
+named_stays base es more opened name c (version v) there is = stays_version base es more v there c is
 
 pub in_stays : (base : Document) (es more : List Entry) (opened : Disk) (name : List ℕ) (c : Content) (ns : List Named)
     → AllByRecursion (IsThere (latest (replay base es))) ns
@@ -129,54 +123,6 @@ in_last : (base : Document) (es : List Entry) (opened : Disk) (name : List ℕ) 
 in_last base es opened name c [] n is = inl is
 in_last base es opened name c (m ∷ ns) n is = inr (in_last base es opened name c ns n is)
 
--- ---- versions that a save started with are there
-
-both : {A : Type 0} (P : A → Type 0) (xs ys : List A) → AllByRecursion P xs → AllByRecursion P ys → AllByRecursion P (xs ++ ys)
-both P [] ys h k = k
-both P (x ∷ xs) ys h k = (h.0, both P xs ys h.1 k)
-
-one_of : {A : Type 0} (P : A → Type 0) (xs : List A) (x : A) → AllByRecursion P xs → (k : ℕ) → k < length xs
-    → slice_index_or xs k x ≡ x → P x
-one_of P [] x h k below is = absurd (omega (arith, below))
-one_of P (y ∷ xs) x h zero below is = subst P is h.0
-one_of P (y ∷ xs) x h (suc k) below is = one_of P xs x h.1 k (omega (arith, below)) is
-
-abbrev IsLow : (last v : ℕ) → Type 0
-IsLow last v = v ≤ last
-
-started_low : (base : Document) (s : State) (earlier : List Entry) (e : Entry) (k : Kind) (last : ℕ) → latest s ≤ last
-    → MayBe base s earlier e k → AllByRecursion (IsLow last) (versions_of k e.reply)
-started_low base s earlier e (asked c tables) last le may = tt
-started_low base s earlier e starts last le may =
-    subst (λ (r : Reply). AllByRecursion (IsLow last) (version_started r)) (sym may.2) (le, tt)
-started_low base s earlier e ends last le may = tt
-
-low_from : (base : Document) (s : State) (earlier es : List Entry) → IsSound s → RunFrom base s earlier es
-    → AllByRecursion (IsLow (latest (replay_from base s es))) (saved_versions es)
-low_from base s earlier [] sound run = tt
-low_from base s earlier (e ∷ es) sound run =
-    let goes = goes-step base s earlier e sound run.0 in
-    let more = (ends-run base s earlier (e ∷ es) sound run).more in
-    let last = latest (replay_from base s (e ∷ es)) in
-    let le : latest s ≤ last = omega arith in
-    subst (AllByRecursion (IsLow last)) (sym (flat_map-cons (λ (x : Entry). versions_of x.kind x.reply) e es))
-    (both (IsLow last) (versions_of e.kind e.reply) (saved_versions es) (started_low base s earlier e e.kind last le run.0)
-    (low_from base (after_entry base s e) (earlier ++ e ∷ []) es goes.sound run.1))
-
-pub saved_stays : (base : Document) (es more : List Entry) (c : Content) → IsLegal base es → IsSaved base es c
-    → IsSaved base (es ++ more) c
-saved_stays base es more c legal is =
-    let low : is.v ≤ latest (replay base es) =
-    one_of (IsLow (latest (replay base es))) (saved_versions es) is.v
-    (low_from base (initial base) [] es (sound-initial base) legal.run) is.started.0 is.started.1 is.started.2 in
-    record {
-      v = is.v;
-      started =
-          subst (λ (vs : List ℕ). Contains vs is.v) (sym (flat_map-append (λ (x : Entry). versions_of x.kind x.reply) es more))
-          (Contains-append_left (saved_versions es) (saved_versions more) is.v is.started);
-      is = version_stays base es more is.v c low is.is;
-    }
-
 -- ---- the shelf comes back from a save
 
 -- the start of a save names the version that stands
@@ -187,7 +133,6 @@ start_entry es session index = record { session = session; index = index; kind =
 pub record IsStarted (base : Document) (es : List Entry) (e : Entry) (v : ℕ) : Type 0 where
   pub same : names (es ++ e ∷ []) ≡ names es
   pub files_are : files base (es ++ e ∷ []) ≡ names es ++ version v ∷ []
-  pub started : Contains (saved_versions (es ++ e ∷ [])) v
   pub out : out_version base (es ++ e ∷ []) ≡ v
   pub low : v ≤ latest (replay base es)
 
@@ -203,9 +148,6 @@ start_is base es session index legal =
     record {
       same = same;
       files_are = ap (with_out (names (es ++ e ∷ []))) out ∙ ap (λ (ns : List Named). ns ++ version (latest_of es) ∷ []) same;
-      started = subst (λ (vs : List ℕ). Contains vs (latest_of es))
-          (sym (flat_map-append (λ (x : Entry). versions_of x.kind x.reply) es (e ∷ [])))
-          (Contains-push (saved_versions es) (latest_of es));
       out = ap version_out out;
       low = omega (arith, now);
     }
@@ -218,7 +160,7 @@ module _ {base : Document} {es : List Entry} {e : Entry} {v : ℕ} (legal : IsLe
   file_in bytes wrote =
       subst (IsIn base (es ++ e ∷ []) opened name (file bytes)) (sym start.files_are)
       (in_last base (es ++ e ∷ []) opened name (file bytes) (names es) (version v)
-      (version_stays base es (e ∷ []) v (file bytes) start.low wrote))
+      (stays_version base es (e ∷ []) v start.low (file bytes) wrote))
 
   old_in : (c : Content) → IsIn base es opened name c (names es)
       → IsIn base (es ++ e ∷ []) opened name c (files base (es ++ e ∷ []))
@@ -237,19 +179,24 @@ module _ {base : Document} {es : List Entry} {e : Entry} {v : ℕ} (legal : IsLe
   left_stays : (c : Content) (since : ℕ) → MightHaveLeft opened name since c ⊎ IsSaved base es c
       → MightHaveLeft opened name since c ⊎ IsSaved base (es ++ e ∷ []) c
   left_stays c since (inl was) = inl was
-  left_stays c since (inr is) = inr (saved_stays base es (e ∷ []) c legal is)
+  left_stays c since (inr is) = inr (stays_saved base es (e ∷ []) legal.run c is)
+
+  -- the version that is out
+  out_file : (bytes : List ℕ) → Written bytes (document_of base es v)
+      → IsVersion base (es ++ e ∷ []) (out_version base (es ++ e ∷ [])) (file bytes)
+  out_file bytes wrote =
+      subst (λ (n : ℕ). IsVersion base (es ++ e ∷ []) n (file bytes)) (sym start.out)
+      (stays_version base es (e ∷ []) v start.low (file bytes) wrote)
 
   either_left : (bytes : List ℕ) → Written bytes (document_of base es v) → {handed : Disk} → DiskIsRight name base es opened handed
       → (since : ℕ) (c : Content) → since ≤ opened.moment → MightHaveLeft handed name since c ⊎ (c ≡ file bytes)
-      → MightHaveLeft opened name since c ⊎ IsSaved base (es ++ e ∷ []) c
-  either_left bytes wrote right since c le (inl was) = left_stays c since (right.left since c le was)
+      → MightHaveLeft opened name since c ⊎ MayBeSaved Fault base (es ++ e ∷ []) c
+  either_left bytes wrote right since c le (inl was) = elim (left_stays c since (right.left since c le was)) [
+    | inl left ↦ inl left
+    | inr is ↦ inr (inl is)
+  ]
   either_left bytes wrote right since c le (inr is) =
-      inr (record {
-        v = v;
-        started = start.started;
-        is =
-            subst (IsVersion base (es ++ e ∷ []) v) (sym is) (version_stays base es (e ∷ []) v (file bytes) start.low wrote);
-      })
+      inr (inr (subst (IsVersion base (es ++ e ∷ []) (out_version base (es ++ e ∷ []))) (sym is) (out_file bytes wrote)))
 
   -- a save that failed
   pub failed_returns : (bytes : List ℕ) → Written bytes (document_of base es v) → {handed now : Disk}
@@ -276,8 +223,7 @@ module _ {base : Document} {es : List Entry} {e : Entry} {v : ℕ} (legal : IsLe
         left = wrong.left;
         ends = (
           subst (IsVersion base (es ++ e ∷ []) (out_version base (es ++ e ∷ []))) (sym has.read)
-              (subst (λ (n : ℕ). IsVersion base (es ++ e ∷ []) n (file bytes)) (sym start.out)
-              (version_stays base es (e ∷ []) v (file bytes) start.low wrote)),
+              (out_file bytes wrote),
           subst (LeavesJust now name) (sym has.read) has.just,
         );
         elsewhere = wrong.elsewhere;

@@ -17,4 +17,4 @@ returns g c =
     let played = c.play-replies.ensures in
     played_on see c.args.core c.play-replies.new.core c.into_shelf.result (lists_of c.args.script) _ 0 c.play-replies.result
     played.between.base_is played.between.opening_is played.between.legal c.know_versions.ensures c.into_shelf.ensures.right
-    played.told
+    played.front played.told

@@ -59,8 +59,9 @@ returns-clause-comes g c = λ given.
     (ok_at c.save_first.result (sym c.is_err.ensures.value ∙ c.if-is_err.false) c.save_first.ensures.saved c.args.seed
     c.in-Ok.ensures.file) in
     made_comes (document c.args.seed) (script c.args.seed) (seed_is_made c.args.seed) old first now saved g.K.Sink.held
-    g.K.Sink.faults _ _ c.args.sink.now c.write_replies.new.sink
+    g.K.Sink.faults _ _ _ c.args.sink.now c.write_replies.new.sink
     c.run_made-played.result.replies c.write_replies.result
+    (λ entries history front. inr (record { entries = entries; history = history; front = front }))
     run
     c.write_replies.ensures.writes
 

@@ -25,5 +25,5 @@ returns g c = λ seed same_document same_lists.
     (λ made.
     summed_on see core new c.into_shelf.result (lists_of c.args.made.script) _ c.play_beside-core.result.text
     c.sum_up-replies.result played.base played.opening played.legal c.know_versions.ensures c.into_shelf.ensures.right
-    made none played.text c.sum_up-replies.ensures.played c.sum_up-replies.ensures.text c.sum_up-replies.ensures.failed)
+    played.front made none played.text c.sum_up-replies.ensures.played c.sum_up-replies.ensures.text c.sum_up-replies.ensures.failed)
     (seed_is_made seed)
