@@ -16,7 +16,7 @@ use std::marker::Model;
 use xl_words::{Cause, CauseOrMemory, first_word};
 
 /// What a line asks for: a line of a session's script that is whole now, or nothing yet; or why it is bad.
-#[derive(Debug, Drop)]
+#[derive(Drop)]
 pub enum Heard {
     Plays(u8, Line),
     Nothing,
