@@ -1,5 +1,5 @@
 -- A group of one edit that paints is that edit.
-use Rattle.std.proofs.Common.{cond, sym, subst}
+use Rattle.std.proofs.Common.{[], cond, sym, subst}
 use Rattle.std.proofs.lemmas.Result.{err_from_is_err_and}
 use Rattle.std.specs.List.{AllByRecursion}
 use Rattle.spec_document.specs.Limits.{AreBytes}
