@@ -12,7 +12,7 @@ use denote.Struct.Tuple.{TupleAt, type_at}
 use Rattle.std.proofs.Crossing.{Arc-send}
 use Rattle.xl_ports.specs.declared.shelf.Shelf as Shelf
 use Rattle.xl_studio.specs.contracts.shared.SharedChronicle.TheImpl as chronicle
-use Rattle.xl_studio.proofs.Sent.{parts_send, seat_send, studio_row, studio_send, studio_sync}
+use Rattle.xl_studio.proofs.Sent.{parts_send, seat_field_send, studio_row, studio_send, studio_sync}
 use Rattle.xcf_sessions.specs.contracts.session.Session as Session
 use Rattle.xcf_sessions.specs.contracts.session.Session.TheInside as Inside
 
