@@ -6,10 +6,14 @@ use mir.Syntax.{Ty, Sym, Lifetime}
 use denote.Exit.{no}
 use denote.Param.{param, arg}
 use denote.Param.Send.{IsSend, IsSync, sendable, view_send, param_send, arg_send, mut_send, shr_send}
+use denote.Param.SendFields.{as_row_send, declared_send}
 use denote.RattleType.{RattleType}
 use denote.Ref.{MutRef, ShrRef}
 use denote.Struct.Tuple.{TupleAt, type_at}
 use Rattle.std.proofs.Crossing.{Arc-send}
+use Rattle.std.specs.contracts.alloc.Global as Global
+use Rattle.std.specs.contracts.impls.GlobalAllocator.TheImpl as heap
+use Rattle.std.specs.contracts.sync.Arc as Arc
 use Rattle.xl_ports.specs.declared.shelf.Shelf as Shelf
 use Rattle.xl_studio.specs.contracts.shared.SharedChronicle.TheImpl as chronicle
 use Rattle.xl_studio.proofs.Sent.{parts_send, seat_send, studio_row, studio_send, studio_sync}
@@ -23,8 +27,9 @@ module _ (D : RattleType) (g : Shelf.Ghosts D.Denot) where
   pub session_send : IsSend D → IsSend session_row
   session_send d =
       let c = chronicle.ghosts D g chronicle.no_dict chronicle.no_dict in
-      view_send (Inside.the_row D c g) _ _ _ _ (parts_send (Inside.the_type D c g) (
-        Arc-send (studio_row D g) (studio_send D g d) (studio_sync D g d),
+      view_send (Inside.the_row D c g) _ _ _ _ (declared_send (Inside.the_type D c g) (
+        as_row_send (Arc.the_field (studio_row D g) Global.the_row heap.ghosts)
+            (Arc-send (studio_row D g) (studio_send D g d) (studio_sync D g d)),
         (
           seat_send D g d,
           (search sendable, (search sendable, (search sendable, tt))),
