@@ -27,9 +27,12 @@ returns-in_default-clause-source_taken g c =
 
 pub returns-in_default-clause-memory : goal.returns-in_default-clause-memory
 returns-in_default-clause-memory g c = λ eight.
+    let given : Given =
+    given_of (g.S.Source.left c.args.source.now) (λ b. (goal.PointFilter-dyn g (b.vtable, b.value)).state b.value)
+    c.args.chest.items in
     let kept : ShelfState =
     g.D.Shelf.shelf_state c.args.shelf in
-    ((refl, refl), nothing_saved kept (asked_in (arguments_of c.args.words.now)))
+    ((refl, refl), nothing_saved given kept (asked_in (arguments_of c.args.words.now)))
 
 pub returns-clause-shelf_fault : goal.returns-clause-shelf_fault
 returns-clause-shelf_fault g c = λ six. elim c.match-done.branch [
