@@ -1,0 +1,17 @@
+mod Heard
+mod Turns
+mod Seats
+mod Answered
+mod Submitted
+mod Submitting
+mod Saved
+mod Saving
+mod Playing
+mod Texts
+mod Shown
+mod Plain
+mod Serving
+mod Desks
+mod Answering
+mod Talks
+mod Begun
