@@ -13,11 +13,11 @@ ghost use Rattle.xl_script.specs.Lines.{lists_of};
 ghost use Rattle.xl_filters.specs.Chests.{states_of};
 
 use crate::loading::read_document;
-use crate::scripts::filter_counts;
 use std::alloc::{AllocError, Global};
 use std::thread::Threads;
 use xl_filters::PointFilter;
 use xl_outcome::Stopped;
+use xl_play::filter_counts;
 use xl_ports::{Shelf, Sink, Source, write_all};
 use xl_verdict::{Audit, Unread, Verdict, find_verdict, read_audit, rejection_of, verdict_line};
 

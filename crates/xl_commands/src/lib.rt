@@ -7,6 +7,7 @@
 
 mod auditing;
 mod describing;
+mod ended;
 mod flattening;
 mod loading;
 mod made;
@@ -19,6 +20,7 @@ mod viewing;
 
 pub use auditing::audit;
 pub use describing::describe;
+pub use ended::{DONE, Ended, USAGE};
 pub use flattening::flatten;
 pub use loading::read_document;
 pub use made::{made_with_file, save_first};
@@ -27,6 +29,9 @@ pub use rendering::render;
 pub use replies::{sum_up, write_replies};
 pub use scripts::read_script;
 pub use viewing::view;
-pub use xl_outcome::{CommandEnd, MEMORY, Rejection, Stopped, write_line, write_stop};
+pub use xl_outcome::{
+    BAD_SOURCE, CommandEnd, MEMORY, Rejection, SHELF_FAULT, SINK_FAULT, SOURCE_FAULT, Stopped,
+    write_line, write_stop,
+};
 pub use xl_play::{Core, Played, Viewing, is_alone, know_eight, open_core, play_alone, replies_of};
 pub use xl_report::Made;

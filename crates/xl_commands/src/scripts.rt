@@ -10,27 +10,12 @@ ghost use Rattle.xl_script.specs.Lines.{lists_of};
 use std::alloc::{AllocError, Global};
 use xl_filters::PointFilter;
 use xl_outcome::Stopped;
+use xl_play::filter_counts;
 use xl_ports::{FailedOrMemory, Source, read_all};
 use xl_script::{BadLineOrMemory, MAX_SCRIPT_BYTES, Script, parse};
 
 /// How much of a script is read: one byte more than it may have.
 pub(crate) const MOST_BYTES: usize = MAX_SCRIPT_BYTES + 1;
-
-/// How many filters each session has.
-pub(crate) fn filter_counts(
-    alloc: Global,
-    chest: &[Vec<Box<dyn PointFilter + Send>>],
-) -> Result<Vec<u32>, AllocError>
-    requires { AllByRecursion (λ boxes. length boxes.items < 2 ^ 32) chest.now }
-    ensures { IfOk result (λ counts. counts.items ≡ map length
-        (states_of (λ b. state b) chest.now)) }
-{
-    let mut counts = Vec::with_capacity(alloc, chest.len())?;
-    for boxes in chest {
-        counts.push(boxes.len() as u32)?;
-    }
-    Ok(counts)
-}
 
 /// The lines of the sessions of a script.
 pub fn read_script<S: Source>(

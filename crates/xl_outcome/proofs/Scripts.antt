@@ -1,10 +1,10 @@
 -- A script that is read up to one byte more than it may have is read as a whole.
-use Rattle.std.proofs.Common.{◌≡◌, inl, inr, ℕ, ◌+◌, ◌≤◌, false, List, [], ◌∷◌, ◌++◌, length, take, Option, Some}
+use Rattle.std.proofs.Common.{◌≡◌, inl, inr, ℕ, ◌+◌, ◌≤◌, false, List, [], ◌++◌, length, take, Option, Some}
 use Rattle.std.proofs.Common.{None, Err, refl, sym, subst, ◌∙◌, ap, arith, length-append, ◌⊎◌}
 use Rattle.std.specs.Prelude.{IfSome, Result, Vec, map, nat_le}
 use Rattle.std.specs.declared.alloc.Global.{Global}
 use Rattle.std.proofs.lemmas.Bool.Decides.{nat_tests}
-use Rattle.std.proofs.lemmas.List.{append-nil, length-map, take-append-le}
+use Rattle.std.proofs.lemmas.List.{append-nil, take-append-le}
 use Rattle.spec_filters.specs.declared.FilterState.{FilterState}
 use Rattle.spec_script.specs.declared.TheConstants.{MAX_SCRIPT_BYTES}
 use Rattle.spec_script.specs.Script.{Line, script, line_of_byte}
@@ -57,14 +57,6 @@ pub read_with : (before after : Option (List ℕ)) (front text counts chests : L
 read_with before after front text counts chests r led how one two reads =
     subst (λ (ns : List ℕ). IfSome before (λ all. script all ns ≡ r)) two
     (read_of_source before after front counts r led how (ap (λ (t : List ℕ). script t counts) (sym one) ∙ reads))
-
--- how many filters each session has
-pub counts_are : {B : Type 0} (state : B → FilterState) (boxes : List (Vec B Global))
-    → map (λ (b : Vec B Global). length b.items) boxes ≡ map length (states_of state boxes)
-counts_are state [] = refl
-counts_are state (b ∷ boxes) =
-    ap (λ (n : ℕ). n ∷ map (λ (x : Vec _ Global). length x.items) boxes) (sym (length-map b.items state))
-    ∙ ap (λ (ns : List ℕ). length (map state b.items) ∷ ns) (counts_are state boxes)
 
 pub counts_same : {B : Type 0} (state : B → FilterState) (some all : List (Vec B Global)) (counts : List ℕ) → some ≡ all
     → counts ≡ map length (states_of state some) → counts ≡ map length (states_of state all)

@@ -8,6 +8,6 @@ mod stopped;
 
 pub use ended::CommandEnd;
 pub use line::write_line;
-pub use stop_lines::{MEMORY, write_stop};
+pub use stop_lines::{BAD_SOURCE, MEMORY, SHELF_FAULT, SINK_FAULT, SOURCE_FAULT, write_stop};
 pub use stopped::Stopped;
 pub use xl_verdict::Rejection;

@@ -8,19 +8,19 @@ use std::alloc::{AllocError, Global};
 use xl_ports::Sink;
 
 /// The status where a line of the script, or the head of what is audited, is refused.
-const BAD_SOURCE: u8 = 3;
+pub const BAD_SOURCE: u8 = 3;
 
 /// The status where the file holds no document.
 const REFUSED: u8 = 4;
 
 /// The status where the source failed.
-const SOURCE_FAULT: u8 = 5;
+pub const SOURCE_FAULT: u8 = 5;
 
 /// The status where the file could not be read, or a save failed.
-const SHELF_FAULT: u8 = 6;
+pub const SHELF_FAULT: u8 = 6;
 
 /// The status where the sink failed.
-const SINK_FAULT: u8 = 7;
+pub const SINK_FAULT: u8 = 7;
 
 /// The status where memory ran out.
 pub const MEMORY: u8 = 8;

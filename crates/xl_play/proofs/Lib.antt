@@ -1,14 +1,14 @@
+pub mod Answered
+pub mod Saved
 pub mod ScriptPlayed
 pub mod Submitted
 mod OfFirst
 mod Alone
-mod Answered
 mod Chests
 mod Keeping
 mod Lined
 mod Plain
 mod Grown
-mod Saved
 mod Seen
 mod Stays
 mod UnderWay

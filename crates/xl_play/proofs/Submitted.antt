@@ -68,7 +68,7 @@ by_peek h stack at tables (tile_of v) bytes shows = ap digest_of shows
 by_peek h stack at tables r bytes shows = refl
 
 -- the digest of the line is that of the tile in the desk
-reply_shown : (h : History) (base : Document) (w : World) (c : Call) (seen : ℕ) (tables : List (List ℕ)) (bytes : List ℕ)
+pub reply_shown : (h : History) (base : Document) (w : World) (c : Call) (seen : ℕ) (tables : List (List ℕ)) (bytes : List ℕ)
     → Shows h c (reply_to base w c seen tables) bytes
     → shown_of (reply_to base w c seen tables) bytes ≡ shown_digest h.base h.entries (asked c tables)
     (reply_to base w c seen tables)
@@ -93,7 +93,7 @@ pub record HasRoom (h : History) : Type 0 where
   pub free : length h.entries + 2 ≤ MAX_ENTRIES
   pub ended : (replay h.base h.entries).out ≡ None
 
-text_of : (seen : ℕ) (reply : code.Reply) → IsSaid seen (reply_of reply) → HasText reply
+pub text_of : (seen : ℕ) (reply : code.Reply) → IsSaid seen (reply_of reply) → HasText reply
 text_of seen (SaveMemory v) h = absurd h
 text_of seen HistoryFull h = absurd h
 text_of seen reply h = tt
@@ -111,7 +111,7 @@ module _ {D : Type 0} where
     pub replied : reply ≡ reply_to old.history.base (world old) c seen tables
     pub grown : new.history ≡ core.with_call old.history session c tables reply
 
-  taken : (old : Editing D) (session : ℕ) (c : Call) (seen : ℕ) (tables : List (List ℕ)) (reply : Reply) (new : Editing D)
+  pub taken : (old : Editing D) (session : ℕ) (c : Call) (seen : ℕ) (tables : List (List ℕ)) (reply : Reply) (new : Editing D)
       → HasRoom old.history → IsSubmitted old session c seen tables reply new
       → IsTaken old session c seen tables reply new
   taken old session c seen tables reply new room submitted =

@@ -5,6 +5,7 @@
 //! beside each other.
 #![tactic(auto)]
 
+mod filters;
 mod playing;
 mod saving;
 mod script_runs;
@@ -12,6 +13,7 @@ mod transcript;
 mod viewing;
 mod windows;
 
+pub use filters::filter_counts;
 pub use playing::{Replies, has_save_fault};
 pub use script_runs::{Played, is_alone, know_eight, play_alone, replies_of};
 pub use viewing::Viewing;

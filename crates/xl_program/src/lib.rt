@@ -19,5 +19,5 @@ mod obeying;
 mod running;
 mod script_runs;
 
-pub use running::{Ended, run};
-pub use xl_commands::{Rejection, Stopped};
+pub use running::run;
+pub use xl_commands::{Ended, Rejection, Stopped};

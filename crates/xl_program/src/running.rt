@@ -24,27 +24,9 @@ use std::alloc::Global;
 use std::sync::Wait;
 use std::thread::Threads;
 use xl_command::command_of;
-use xl_commands::{MEMORY, Stopped, write_line, write_stop};
+use xl_commands::{DONE, Ended, MEMORY, Stopped, USAGE, write_line, write_stop};
 use xl_filters::PointFilter;
 use xl_ports::{Gate, Shelf, Sink, Source};
-
-/// The status where all went well.
-const DONE: u8 = 0;
-
-/// The status where the words are no command.
-const USAGE: u8 = 2;
-
-/// The status that a command came to, and the shelf that was handed in.
-#[derive(Drop)]
-pub struct Ended<D> {
-    /// What the program is to end with: 0 where all went well, else by the table at `run`.
-    pub status: u8,
-    /// Why a command stopped, for people to be told. There is none where all went well, or where the words are no
-    /// command; and at status 8 the cause may be a line for which memory ran out. No clause speaks of it.
-    pub cause: Option<Stopped>,
-    /// The shelf that was handed in, with what the command saved.
-    pub shelf: D,
-}
 
 /// Does what the words ask for. The shelf comes back always.
 ///

@@ -19,14 +19,6 @@ use Rattle.xl_serve.proofs.Heard.{start_at, start_heard}
 use Rattle.xl_serve.proofs.Seats.{seated_none}
 use Rattle.xl_window.specs.Viewing as viewing
 
--- how many filters each session has
-pub counts_are : {B : Type 0} (state : B → FilterState) (boxes : List (Vec B Global))
-    → map (λ (b : Vec B Global). length b.items) boxes ≡ map length (states_of state boxes)
-counts_are state [] = refl
-counts_are state (b ∷ boxes) =
-    ap (λ (n : ℕ). n ∷ map (λ (x : Vec _ Global). length x.items) boxes) (sym (length-map b.items state))
-    ∙ ap (λ (ns : List ℕ). length (map state b.items) ∷ ns) (counts_are state boxes)
-
 count_is : (filters : List (List FilterState)) (session : ℕ)
     → unwrap_or (slice_get (map length filters) session) 0 ≡ length (list_at filters session)
 count_is [] session = refl

@@ -1,10 +1,7 @@
 mod Heard
 mod Turns
 mod Seats
-mod Answered
-mod Submitted
 mod Submitting
-mod Saved
 mod Saving
 mod Playing
 mod Texts

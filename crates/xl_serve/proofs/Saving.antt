@@ -14,7 +14,7 @@ use Rattle.xl_history.specs.Editing.{Editing, Begins, Ends, start_of, out_of, wi
 use Rattle.xl_history.specs.History.{History, version}
 use Rattle.xl_history.specs.declared.saving.Begun.TheVariants.{Snapshot}
 use Rattle.xl_serve.specs.Played.{GoesOn}
-use Rattle.xl_serve.proofs.Saved.{save_made}
+use Rattle.xl_play.proofs.Saved.{save_made}
 
 -- the save that is out is of the last version
 version_started : (h : History) (session : ℕ) → IsLegal h.base h.entries

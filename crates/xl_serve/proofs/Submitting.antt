@@ -21,9 +21,9 @@ use Rattle.xl_history.specs.Editing.{Editing, world, IsSubmitted, KeepsShelf, Is
 use Rattle.xl_history.specs.History.{History, Shows}
 use Rattle.xl_serve.specs.Played.{IsReady, GoesOn, IsReplied}
 use Rattle.xl_play.specs.Playing.{shown_of}
-use Rattle.xl_serve.proofs.Answered.{IsSaid, reply_said, said_fresh}
+use Rattle.xl_play.proofs.Answered.{IsSaid, reply_said, said_fresh}
 use Rattle.xl_serve.proofs.Seats.{seen_is_there}
-use Rattle.xl_serve.proofs.Submitted.{HasRoom, AnswersBy, IsTaken, taken, reply_shown, text_of}
+use Rattle.xl_play.proofs.Submitted.{HasRoom, AnswersBy, IsTaken, taken, reply_shown, text_of}
 
 -- which tables the entry has does not matter to the digest
 same_digest : (base : Document) (es : List Entry) (c : Call) (tables others : List (List ℕ)) (reply : Reply)

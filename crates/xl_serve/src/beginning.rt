@@ -11,6 +11,7 @@ use crate::server::Server;
 use std::alloc::{AllocError, AllocFailed, Global};
 use xl_core::{Core, Desk};
 use xl_filters::PointFilter;
+use xl_play::filter_counts;
 use xl_ports::Shelf;
 use xl_run::{desk_of, first_boxes};
 use xl_script::{Hearing, SESSIONS};
@@ -22,22 +23,6 @@ struct Parts {
     hearing: Hearing,
     desks: Vec<Desk>,
     viewer: Viewer,
-}
-
-// How many filters each session has.
-fn filter_counts(
-    alloc: Global,
-    chest: &[Vec<Box<dyn PointFilter + Send>>],
-) -> Result<Vec<u32>, AllocError>
-    requires { AllByRecursion (λ boxes. length boxes.items < 2 ^ 32) chest.now }
-    ensures { IfOk result (λ counts. counts.items ≡ map length
-        (states_of (λ b. state b) chest.now)) }
-{
-    let mut counts = Vec::with_capacity(alloc, chest.len())?;
-    for boxes in chest {
-        counts.push(boxes.len() as u32)?;
-    }
-    Ok(counts)
 }
 
 // A desk for each session, with its filters.

@@ -1,4 +1,4 @@
-use Rattle.xl_serve.proofs.Saved.{begun_out, begun_back, save_made}
+use Rattle.xl_play.proofs.Saved.{begun_out, begun_back, save_made}
 use Rattle.xl_serve.proofs.Saving.{save_reply, save_goes_on}
 use Rattle.xl_serve.proofs.saves.save_now.Goals as goal
 

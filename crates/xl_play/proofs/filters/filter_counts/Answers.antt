@@ -1,8 +1,8 @@
 use Rattle.std.proofs.Common.{◌∙◌, ap, length, map, take_all}
 use Rattle.std.specs.Prelude.{Vec}
 use Rattle.std.specs.declared.alloc.Global.{Global}
-use Rattle.xl_outcome.proofs.Scripts.{counts_are}
-use Rattle.xl_commands.proofs.scripts.filter_counts.Goals as goal
+use Rattle.xl_play.proofs.Chests.{counts_are}
+use Rattle.xl_play.proofs.filters.filter_counts.Goals as goal
 
 pub returns : goal.returns
 returns g c =
