@@ -19,7 +19,7 @@ use std::thread::Threads;
 use std::{fs, io};
 
 /// The files that have rows.
-const SETS: [&str; 8] = [
+const SETS: [&str; 9] = [
     "system.rows",
     "commands.rows",
     "audits.rows",
@@ -28,6 +28,7 @@ const SETS: [&str; 8] = [
     "damaged.rows",
     "gimp.rows",
     "sessions.rows",
+    "serve.rows",
 ];
 
 /// Rows that want what does not come, so that it is seen that they are looked at.

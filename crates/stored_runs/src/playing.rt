@@ -10,6 +10,7 @@ use xl_fakes::{MemoryShelf, MemorySink, MemorySource};
 use xl_ports::{Sink, Source};
 use xl_program::run;
 use xl_real::{FileShelf, OpenGate, StdSink, StdSource};
+use xl_serving::serve;
 
 /// What a run came to.
 #[derive(Drop)]
@@ -79,16 +80,23 @@ impl<'a, R: Threads + Wait + Sync> Player<'a, R> {
             mut sink,
             gate,
         } = devices;
-        let ended = run(
-            self.threads,
-            alloc,
-            words,
-            &mut source,
-            &mut sink,
-            shelf,
-            Vec::new(alloc),
-            &gate,
-        );
+        let chest = Vec::new(alloc);
+        let rt = self.threads;
+        let ended = match words.first() {
+            Some(verb) if *verb == "serve" => {
+                serve(rt, alloc, words, &mut source, &mut sink, shelf, chest)
+            }
+            _ => run(
+                rt,
+                alloc,
+                words,
+                &mut source,
+                &mut sink,
+                shelf,
+                chest,
+                &gate,
+            ),
+        };
         Outcome {
             status: ended.status,
             missed: gate.missed(),

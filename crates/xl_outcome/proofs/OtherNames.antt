@@ -27,7 +27,7 @@ Others name old new = Between old.disk new.disk (OthersStay name)
 
 -- ---- by what was saved
 
-others_untouched : (name : List ℕ) (old new : ShelfState) → IsUntouched old new → Others name old new
+pub others_untouched : (name : List ℕ) (old new : ShelfState) → IsUntouched old new → Others name old new
 others_untouched name old new same =
     weaker IsQuiet (OthersStay name) (λ a b quiet. quiet_others a b name quiet) old.disk new.disk same.quiet
 
@@ -44,7 +44,7 @@ others_put Starved d name before after puts =
       alone None = tt
       alone (Some a) = others_still a name
 
-others_right : (opening now : ShelfState) (base : Document) (es : List Entry) → ShelfIsRight opening base es now
+pub others_right : (opening now : ShelfState) (base : Document) (es : List Entry) → ShelfIsRight opening base es now
     → Others (file_name opening) opening now
 others_right opening now base es right =
     weaker (DiskIsRight (file_name opening) base es) (OthersStay (file_name opening)) (λ a b disk. disk.elsewhere)
@@ -128,7 +128,7 @@ others_come held faults given old new command before after (Err (Rejected why)) 
 
 -- ---- by the words
 
-other_of : (name other : List ℕ) (old new : Option Disk) → (other ≡ name → ⊥) → Between old new (OthersStay name)
+pub other_of : (name other : List ℕ) (old new : Option Disk) → (other ≡ name → ⊥) → Between old new (OthersStay name)
     → Between old new (λ before after. StaysThrough before after other)
 other_of name other old new not others =
     weaker (OthersStay name) (λ before after. StaysThrough before after other) (λ a b stay. stay other not) old new others

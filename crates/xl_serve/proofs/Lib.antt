@@ -10,5 +10,6 @@ mod Plain
 mod Serving
 mod Desks
 mod Answering
-mod Talks
+pub mod Talks
+mod Faulty
 mod Begun

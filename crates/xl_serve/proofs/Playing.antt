@@ -1,7 +1,7 @@
 -- What each kind of a session's line makes.
 use Rattle.std.proofs.Common.{◌≡◌, inl, inr, ℕ, ◌+◌, ◌≤◌, Bool, false, cond, List, [], ◌∷◌, ◌++◌, length, None, refl, sym, ap, ◌∙◌, subst, arith, append-nil}
 use Rattle.std.proofs.Common.{append_assoc, slice_set}
-use Rattle.std.specs.Prelude.{Option, codes}
+use Rattle.std.specs.Prelude.{Option, Result, Ok, Err, OnErr, codes}
 use Rattle.spec_filters.specs.declared.FilterState.{FilterState}
 use Rattle.spec_history.specs.declared.TheConstants.{MAX_ENTRIES}
 use Rattle.spec_history.specs.Machine.{Call, Reply, saved}
@@ -12,8 +12,8 @@ use Rattle.spec_script.specs.Script as script
 use Rattle.spec_script.specs.Fits.{dropped_by}
 use Rattle.spec_serve.specs.declared.TheConstants.{ROOM_FOR_SAVES}
 use Rattle.spec_serve.specs.Hearing.{plays}
-use Rattle.spec_serve.specs.Said.{entered, full, entry_text, told_line, short_line}
-use Rattle.spec_serve.specs.Talk.{IsAnswer}
+use Rattle.spec_serve.specs.Said.{Said, entered, full, entry_text, told_line, short_line}
+use Rattle.spec_serve.specs.Talk.{IsAnswer, IsTurn, MayEnd}
 use Rattle.spec_tables.specs.Agrees.{Agrees}
 use Rattle.spec_tables.specs.Tables.{expected_tables, filters_along}
 use Rattle.spec_tables.proofs.Chests.{some_list}
@@ -25,10 +25,26 @@ use Rattle.xl_history.specs.Editing.{start_of}
 use Rattle.xl_history.specs.History.{History, version}
 use Rattle.xl_play.specs.Playing.{with_save, shown_of}
 use Rattle.xl_serve.specs.Standing.{SeatState, seat_of, IsSeated, HasFilters}
-use Rattle.xl_serve.specs.Played.{IsReplied, IsPlayed}
+use Rattle.xl_serve.specs.Played.{IsReplied, IsCut, IsPlayed}
 use Rattle.xl_run.proofs.Chests.{stocked_after, stocked_without, agrees_without}
 use Rattle.xl_serve.proofs.Seats.{own_one}
 use Rattle.xl_serve.proofs.Texts.{one_text, two_texts}
+
+pub on_err : {T E P : Type 0} → P → (r : Result T E) → OnErr r P
+on_err p (Ok x) = tt
+on_err p (Err e) = p
+
+-- the turn of an entry, behind which the end of a save may stand
+entry_turn : (session number : ℕ) (line : script.Line) (e : Entry) (behind : List Said) → MayEnd behind
+    → IsAnswer number (plays session line) (entered e ∷ []) → IsTurn number (plays session line) (entered e ∷ behind)
+entry_turn session number line e behind may_end answers = record {
+  before = [];
+  answer = entered e ∷ [];
+  behind = behind;
+  parts = refl;
+  may_end = (tt, may_end);
+  answers = answers;
+}
 
 -- ---- a call
 
@@ -56,14 +72,7 @@ module _ (old new : History) (session : ℕ) (c : Call) (seen then_seen : ℕ) (
       record {
         answered = λ number. record {
           turn = entered e ∷ [];
-          is_turn = record {
-            before = [];
-            answer = entered e ∷ [];
-            behind = [];
-            parts = refl;
-            may_end = (tt, tt);
-            answers = inl (e, refl, refl, refl);
-          };
+          is_turn = entry_turn session number (script.call c) e [] tt (inl (e, refl, refl, refl));
           entries = es;
           said = (tt, tt);
           text_is = printed ∙ ap (λ (i : ℕ). line_text session i digest reply) index_is
@@ -82,6 +91,17 @@ module _ (old new : History) (session : ℕ) (c : Call) (seen then_seen : ℕ) (
             (is.used.states along seated.agrees) (now ∙ ap latest_of own) seated);
         has = λ given dropped has. stocked_after given dropped before after is.used.slots has;
       }
+
+  -- memory ran out for its line
+  pub call_cut : IsReplied old session c seen before after bytes reply new → IsCut session (script.call c) old new
+  call_cut is =
+      let some = some_list before in
+      let e = call_entry (expected_tables some.0 (asked c []) reply) in
+      inr (
+        entered e ∷ [],
+        λ number. entry_turn session number (script.call c) e [] tt (inl (e, refl, refl, refl)),
+        call_entries some.0 some.1 is,
+      )
 
 -- ---- a save in its place
 
@@ -125,6 +145,13 @@ module _ (old new : History) (session : ℕ) (seen then_seen : ℕ) (chest : Lis
   split : (old.entries ++ started ∷ []) ++ ended ∷ [] ≡ old.entries ++ started ∷ ended ∷ []
   split = append_assoc old.entries (started ∷ []) (ended ∷ [])
 
+  save_turn : (number : ℕ) → IsTurn number (plays session script.save) (entered started ∷ entered ended ∷ [])
+  save_turn number = entry_turn session number script.save started (entered ended ∷ []) tt (inl (started, refl, refl, refl))
+
+  -- memory ran out for its lines
+  pub save_cut : new ≡ with_save old session (end_reply how (version old)) → IsCut session script.save old new
+  save_cut is = inr (entered started ∷ entered ended ∷ [], save_turn, ap (λ (h : History). h.entries) is)
+
   pub save_played : (index : ℕ) (first last text : List ℕ) → new ≡ with_save old session (end_reply how (version old))
       → then_seen ≡ version old → ((es : List Entry) (e : Entry) → new.entries ≡ es ++ e ∷ [] → index ≡ e.index)
       → first ≡ told_line session index (codes "saving" ++ spaced (version old))
@@ -136,14 +163,7 @@ module _ (old new : History) (session : ℕ) (seen then_seen : ℕ) (chest : Lis
       record {
         answered = λ number. record {
           turn = entered started ∷ entered ended ∷ [];
-          is_turn = record {
-            before = [];
-            answer = entered started ∷ [];
-            behind = entered ended ∷ [];
-            parts = refl;
-            may_end = (tt, tt);
-            answers = inl (started, refl, refl, refl);
-          };
+          is_turn = save_turn number;
           entries = es;
           said = (tt, (tt, tt));
           text_is = joined ∙ ap (λ (l : List ℕ). l ++ last) first_is
@@ -164,6 +184,10 @@ module _ (old new : History) (session : ℕ) (seen then_seen : ℕ) (chest : Lis
         has = λ given dropped has. has;
       }
 
+save_by : (old new : History) (session v : ℕ) (how : SaveEnd) (reply : Reply) → v ≡ version old → reply ≡ end_reply how v
+    → new ≡ with_save old session reply → new ≡ with_save old session (end_reply how (version old))
+save_by old new session v how reply now is_end is = is ∙ ap (with_save old session) (is_end ∙ ap (end_reply how) now)
+
 -- the same of a reply and a version that are these
 pub save_played_by : (old new : History) (session seen v : ℕ) (chest : List (Option FilterState)) (how : SaveEnd) (reply : Reply)
     (index : ℕ) (text : List ℕ) → v ≡ version old → reply ≡ end_reply how v → new ≡ with_save old session reply
@@ -171,11 +195,14 @@ pub save_played_by : (old new : History) (session seen v : ℕ) (chest : List (O
     → text ≡ told_line session index (codes "saving" ++ spaced v) ++ told_line session index (entry_text [] ends (end_reply how v))
     → IsPlayed session script.save old new (seat_of seen chest) (seat_of v chest) text
 save_played_by old new session seen v chest how reply index text now is_end is indexed printed =
-    let by : new ≡ with_save old session (end_reply how (version old)) =
-    is ∙ ap (with_save old session) (is_end ∙ ap (end_reply how) now) in
-    save_played old new session seen v chest how index _ _ text by now indexed
+    save_played old new session seen v chest how index _ _ text (save_by old new session v how reply now is_end is) now indexed
     (ap (λ (n : ℕ). told_line session index (codes "saving" ++ spaced n)) now)
     (ap (λ (n : ℕ). told_line session index (entry_text [] ends (end_reply how n))) now) printed
+
+pub save_cut_by : (old new : History) (session v : ℕ) (how : SaveEnd) (reply : Reply) → v ≡ version old → reply ≡ end_reply how v
+    → new ≡ with_save old session reply → IsCut session script.save old new
+save_cut_by old new session v how reply now is_end is =
+    save_cut old new session 0 0 [] how (save_by old new session v how reply now is_end is)
 
 -- ---- no entry
 

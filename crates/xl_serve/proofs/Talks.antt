@@ -1,5 +1,5 @@
 -- A talk under way, from its first line to its last.
-use Rattle.std.proofs.Common.{◌≡◌, inl, inr, ℕ, ◌+◌, ◌≤◌, ◌^◌, true, false, List, [], ◌∷◌, ◌++◌, length, refl, sym, ap, ◌∙◌, subst, arith, append_assoc, append-nil, length-append}
+use Rattle.std.proofs.Common.{◌≡◌, inl, inr, ℕ, ◌+◌, ◌≤◌, ◌^◌, true, false, List, [], ◌∷◌, ◌++◌, length, map, refl, sym, ap, ◌∙◌, subst, arith, append_assoc, append-nil, length-append}
 use Rattle.std.specs.Prelude.{Option, Some, None, IfSome, option_map, take, Result, Ok, Err, OnOk, OnErr, IfErr, MatchResult}
 use Rattle.std.proofs.lemmas.List.{take-append-le}
 use Rattle.std.proofs.Math.Seq.{take-append-add}
@@ -10,8 +10,9 @@ use Rattle.spec_history.specs.Kept.{IsLegal, IsFresh}
 use Rattle.spec_script.specs.Script.{list_at}
 use Rattle.spec_script.specs.Words.{lines_of}
 use Rattle.spec_script.specs.declared.TheConstants.{MAX_SCRIPT_BYTES}
+use Rattle.spec_serve.specs.Hearing.{Hearing, hear, start_hearing}
 use Rattle.spec_serve.specs.Said.{Said, all_said, entries_of, told_text, texts_in, AreSaid}
-use Rattle.spec_serve.specs.Talk.{IsTalk}
+use Rattle.spec_serve.specs.Talk.{IsTurn, IsTalk}
 use Rattle.spec_serve.proofs.Stays.{told_stays}
 use Rattle.spec_tables.specs.Tables.{HaveTables}
 use Rattle.xl_history.specs.Editing.{Editing}
@@ -21,8 +22,9 @@ use Rattle.xl_lines.specs.Lines.{IsNext, IsLonger}
 use Rattle.xl_ports.specs.Faults.{Rose}
 use Rattle.xl_ports.specs.Sink.{appended, WritesAll, WritesPart}
 use Rattle.xl_ports.specs.Source.{led_by}
-use Rattle.xl_serve.specs.Serving.{Now, Stands, StandsOn, Answers}
-use Rattle.xl_serve.specs.Talked.{AreFirst, AreAll, IsTooLong}
+use Rattle.xl_serve.specs.Serving.{Now, Stands, StandsOn, Answers, IsCutAt}
+use Rattle.xl_serve.specs.Standing.{heard_from}
+use Rattle.xl_serve.specs.Talked.{AreFirst, AreAll, IsTooLong, IsCutTalk}
 use Rattle.xl_serve.specs.Talking.{WhyNone, HasSaid, LinesGo, IsUnderWay}
 use Rattle.xl_serve.specs.declared.ends.TalkEnd.{TalkEnd}
 use Rattle.xl_serve.specs.declared.ends.TalkEnd.TheVariants.{Ended, TooLong, SourceFault, SinkFault, Memory, NotBegun}
@@ -186,7 +188,7 @@ module _ {K : Type 0} (held : K → Option (List ℕ)) (faults : K → ℕ) wher
         talk = talk_of base filters way.lines way.turns now way.stands legal;
         first = are_first way.lines left unread way.left_is;
         stops = tt;
-        entries = ([], append-nil (entries_of (all_said way.turns)) ∙ sym (same ∙ way.stands.entries));
+        entries = same ∙ way.stands.entries;
         kept = subst (WritesPart held faults begun new) way.told (writes_part begun sink new way.first out way.writes part);
       }
 
@@ -219,15 +221,15 @@ module _ {K : Type 0} (held : K → Option (List ℕ)) (faults : K → ℕ) wher
       }
 
       -- memory ran out within a line
-      pub way_memory : (es : List Entry) → IsLegal now.history.base now.history.entries → IsPrefix now.history.entries es
-          → HasSaid held faults base filters left begun sink out es Memory
-      way_memory es legal longer = record {
+      way_memory : (es : List Entry) → IsLegal now.history.base now.history.entries
+          → IsCutTalk filters way.lines left now.history.entries es → HasSaid held faults base filters left begun sink out es Memory
+      way_memory es legal cut = record {
         lines = way.lines;
         turns = way.turns;
         talk = talk_of base filters way.lines way.turns now way.stands legal;
         first = are_first way.lines left unread way.left_is;
         stops = tt;
-        entries = subst (λ said. IsPrefix said es) way.stands.entries longer;
+        entries = subst (λ said. IsCutTalk filters way.lines left said es) way.stands.entries cut;
         kept = (way.first, way.writes, way.told);
       }
 
@@ -259,7 +261,7 @@ module _ {K : Type 0} (held : K → Option (List ℕ)) (faults : K → ℕ) wher
         kept = (way.first, way.writes, way.told);
       }
       way_stopped es Memory legal same why =
-          way_memory es legal ([], append-nil now.history.entries ∙ sym same)
+          way_memory es legal (inl same)
 
       -- the lines are as many as a talk may have
       pub way_full : (es : List Entry) (last : ℕ) → IsLegal now.history.base now.history.entries → es ≡ now.history.entries
@@ -298,19 +300,34 @@ module _ {K : Type 0} (held : K → Option (List ℕ)) (faults : K → ℕ) wher
                 ∙ told_more base filters (way.lines ++ line ∷ []) way.turns on.last new on.stands legal;
           }
 
+      -- memory ran out within the next line
+      cut_talk : (line : List ℕ) (after : Option (List ℕ)) (new : Now)
+          → IsNext true line (option_map lines_of unread) (option_map lines_of after) → IsCutAt number line now new
+          → IsCutTalk filters way.lines left now.history.entries new.history.entries
+      cut_talk line after new is (inl same) = inl same
+      cut_talk line after new is (inr cut) =
+          inr (
+            line,
+            cut.0,
+            are_first (way.lines ++ line ∷ []) left after (line_more way.lines line left unread after way.left_is is),
+            subst (λ n. IsTurn n (hear n line (heard_from 1 (start_hearing (map length filters)) way.lines)).asks cut.0) way.number_is
+                (subst (λ (h : Hearing). IsTurn number (hear number line h).asks cut.0) way.stands.heard cut.1),
+            cut.2,
+          )
+
       -- a line was answered, or memory ran out in it
       pub way_turned : {A : Type 0} (r : Result A TalkEnd) (line more : List ℕ) (after : Option (List ℕ)) (new : Now)
           → IsNext true line (option_map lines_of unread) (option_map lines_of after)
           → IsLegal now.history.base now.history.entries → IsLegal new.history.base new.history.entries
-          → IsPrefix now.history.entries new.history.entries
+          → OnErr r (IsCutAt number line now new)
           → OnOk r ((text : List ℕ) × Answers number line now new text × (more ≡ out ++ text))
           → OnErr r (more ≡ out) → IfErr r (λ end. end ≡ Memory)
           → MatchResult r (λ x. IsUnderWay held faults base filters left begun sink more (number + 1) after new)
           (λ end. HasSaid held faults base filters left begun sink more new.history.entries end)
-      way_turned (Ok x) line more after new is legal then_legal longer answered kept why =
+      way_turned (Ok x) line more after new is legal then_legal cut answered kept why =
           way_more line answered.0 more after new (number + 1) is
           (answered.1 base filters way.lines way.turns way.number_is way.stands) then_legal answered.2 refl
-      way_turned (Err end) line more after new is legal then_legal longer answered kept why =
+      way_turned (Err end) line more after new is legal then_legal cut answered kept why =
           subst (HasSaid held faults base filters left begun sink more new.history.entries) (sym why)
           (subst (λ (l : List ℕ). HasSaid held faults base filters left begun sink l new.history.entries Memory) (sym kept)
-          (way_memory new.history.entries legal longer))
+          (way_memory new.history.entries legal (cut_talk line after new is cut)))

@@ -1,5 +1,5 @@
 -- What an answered line has made of a history and of its session.
-use Rattle.std.specs.Prelude.{◌≡◌, ℕ, List, [], ◌++◌, IsSome, Option, None}
+use Rattle.std.specs.Prelude.{◌≡◌, ◌⊎◌, ℕ, List, [], ◌++◌, IsSome, Option, None}
 use Rattle.std.specs.List.{AllByRecursion}
 use Rattle.spec_filters.specs.declared.FilterState.{FilterState}
 use Rattle.spec_history.specs.Machine.{Call, Reply}
@@ -53,6 +53,12 @@ pub record IsAnswered (number : ℕ) (asks : Asks) (old new : History) (text : L
   pub entries : new.entries ≡ old.entries ++ entries_of turn
   pub said : AreSaid old.base old.entries turn
   pub text_is : text ≡ texts_in new.base new.entries turn
+
+-- memory ran out within a line of a session: nothing was entered for it, or just what answers it
+abbrev pub IsCut : (session : ℕ) → Line → (old new : History) → Type 0
+IsCut session line old new =
+    (new.entries ≡ old.entries)
+    ⊎ ((turn : List Said) × ((number : ℕ) → IsTurn number (plays session line) turn) × (new.entries ≡ old.entries ++ entries_of turn))
 
 -- a line of a session was played: the entries that it made are the session's, which goes on from where it was
 pub record IsPlayed (session : ℕ) (line : Line) (old new : History) (before after : SeatState) (text : List ℕ) : Type 0 where

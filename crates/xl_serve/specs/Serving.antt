@@ -1,11 +1,11 @@
 -- What stands for a talk between two of its lines.
-use Rattle.std.specs.Prelude.{◌≡◌, ℕ, ◌+◌, ◌<◌, List, [], ◌∷◌, ◌++◌, length, map, slice_index, slice_index_or, slice_set, Option}
+use Rattle.std.specs.Prelude.{◌≡◌, ◌⊎◌, ℕ, ◌+◌, ◌<◌, List, [], ◌∷◌, ◌++◌, length, map, slice_index, slice_index_or, slice_set, Option}
 use Rattle.spec_document.specs.Document.{Document}
 use Rattle.spec_filters.specs.declared.FilterState.{FilterState}
 use Rattle.spec_script.specs.Script.{Line, list_at}
-use Rattle.spec_serve.specs.Hearing.{Hearing, start_hearing}
+use Rattle.spec_serve.specs.Hearing.{Hearing, start_hearing, hear}
 use Rattle.spec_serve.specs.Said.{Said, entries_of, all_said, texts_in, AreSaid}
-use Rattle.spec_serve.specs.Talk.{AreTurns}
+use Rattle.spec_serve.specs.Talk.{IsTurn, AreTurns}
 use Rattle.xl_history.specs.History.{History}
 use Rattle.xl_serve.specs.Played.{IsPlayed}
 use Rattle.xl_serve.specs.Standing.{SeatState, seat_of, IsSeated, heard_from, session_at, HasFilters, IsHearing}
@@ -64,6 +64,13 @@ abbrev pub Answers : (number : ℕ) → (line : List ℕ) → (old new : Now) �
 Answers number line old new text =
     (base : Document) (filters : List (List FilterState)) (lines : List (List ℕ)) (turns : List (List Said))
     → number ≡ 1 + length lines → Stands base filters lines turns old → StandsOn base filters lines turns line text new
+
+-- memory ran out within the line of this number: nothing was entered for it, or just what answers it
+abbrev pub IsCutAt : (number : ℕ) → (line : List ℕ) → (old new : Now) → Type 0
+IsCutAt number line old new =
+    (new.history.entries ≡ old.history.entries)
+    ⊎ ((turn : List Said) × IsTurn number (hear number line old.hearing).asks turn
+    × (new.history.entries ≡ old.history.entries ++ entries_of turn))
 
 -- a line of a session was played, on its seat
 pub record IsPlayedOn (session : ℕ) (line : Line) (old new : Now) (text : List ℕ) : Type 0 where

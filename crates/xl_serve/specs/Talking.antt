@@ -53,7 +53,7 @@ module _ {K : Type 0} (held : K → Option (List ℕ)) (faults : K → ℕ) wher
     pub talk : IsTalk base filters lines turns
     pub first : AreFirst lines left
     pub stops : StopsBy lines left end
-    pub entries : AreSaidOf (entries_of (all_said turns)) es end
+    pub entries : AreSaidOf filters lines left (entries_of (all_said turns)) es end
     pub kept : IsKeptOf old new (told_text base (all_said turns)) out end
 
   -- a talk under way: what stands for it, the lines that are left, and what of it was written

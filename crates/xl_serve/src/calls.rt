@@ -1,5 +1,5 @@
 //! Calls of sessions.
-ghost use Rattle.std.specs.Prelude.{◌≡◌, ◌+◌, ◌<◌, ◌≤◌, List, [], ◌∷◌, ◌++◌, length, IfOk, IsSome, OnOk, string_bytes};
+ghost use Rattle.std.specs.Prelude.{◌≡◌, ◌+◌, ◌<◌, ◌≤◌, List, [], ◌∷◌, ◌++◌, length, IfOk, IsSome, OnErr, OnOk, string_bytes};
 ghost use Rattle.spec_history.specs.Calls.{IsCall};
 ghost use Rattle.spec_history.specs.declared.TheConstants.{MAX_ENTRIES};
 ghost use Rattle.spec_history.specs.History.{Entry as Plain};
@@ -11,7 +11,7 @@ ghost use Rattle.xl_answers.specs.Printed.{HasText};
 ghost use Rattle.xl_calls.specs.Calls.{call_of};
 ghost use Rattle.xl_calls.specs.Replies.{reply_of};
 ghost use Rattle.xl_filters.specs.Chests.{states_in};
-ghost use Rattle.xl_serve.specs.Played.{GoesOn, IsPlayed, IsReady, IsReplied};
+ghost use Rattle.xl_serve.specs.Played.{GoesOn, IsCut, IsPlayed, IsReady, IsReplied};
 ghost use Rattle.xl_play.specs.Playing.{shown_of};
 ghost use Rattle.xl_serve.specs.Standing.{seat_of};
 ghost use Rattle.spec_text.specs.Printed.{line_text};
@@ -47,6 +47,7 @@ fn submit_call<L: Ledger, D: Shelf>(
         (states_in state desk.old.chest) (states_in state desk.new.chest) desk.new.out
         (reply_of reply) core.new.history) }
     ensures text { IfOk result (λ reply. HasText reply) }
+    ensures as_before { OnErr result (core.new.history ≡ core.old.history) }
 {
     core.submit(alloc, session, call, seen, desk, steps)
 }
@@ -109,6 +110,8 @@ pub(crate) fn play_call<L: Ledger, D: Shelf>(
     ensures played { IfOk result (λ text. IsPlayed session (script.call (call_of call))
         core.old.history core.new.history (seat_of seen.old (states_in state desk.old.chest))
         (seat_of seen.new (states_in state desk.new.chest)) text.items) }
+    ensures cut { OnErr result (IsCut session (script.call (call_of call)) core.old.history
+        core.new.history) }
 {
     let reply = submit_call(alloc, core, session, call, *seen, desk, steps)?;
     *seen = core.version();

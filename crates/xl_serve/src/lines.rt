@@ -1,5 +1,5 @@
 //! Lines of sessions, which are calls, saves and filters that are dropped.
-ghost use Rattle.std.specs.Prelude.{◌≡◌, ◌+◌, ◌<◌, nat_lt, codes, length, IfOk, IsSome};
+ghost use Rattle.std.specs.Prelude.{◌≡◌, ◌+◌, ◌<◌, nat_lt, codes, length, IfOk, IsSome, OnErr};
 ghost use Rattle.spec_history.specs.Calls.{IsCall};
 ghost use Rattle.spec_history.specs.declared.TheConstants.{MAX_ENTRIES};
 ghost use Rattle.spec_history.specs.Limited.{edits_of};
@@ -12,7 +12,7 @@ ghost use Rattle.xl_calls.specs.Calls.{call_of};
 ghost use Rattle.xl_filters.specs.Chests.{states_in};
 ghost use Rattle.xl_script.specs.Lines.{line_of};
 ghost use Rattle.xl_run.specs.Filters.{FitsChest};
-ghost use Rattle.xl_serve.specs.Played.{GoesOn, IsPlayed, IsReady};
+ghost use Rattle.xl_serve.specs.Played.{GoesOn, IsCut, IsPlayed, IsReady};
 ghost use Rattle.xl_serve.specs.Standing.{seat_of};
 
 use crate::calls::play_call;
@@ -69,6 +69,8 @@ fn call_or_full<L: Ledger, D: Shelf>(
     ensures played { IfOk result (λ text. IsPlayed session (script.call (call_of call))
         core.old.history core.new.history (seat_of seen.old (states_in state desk.old.chest))
         (seat_of seen.new (states_in state desk.new.chest)) text.items) }
+    ensures cut { OnErr result (IsCut session (script.call (call_of call)) core.old.history
+        core.new.history) }
 {
     if has_room(core) {
         return play_call(alloc, core, session, call, seen, desk, steps);
@@ -91,6 +93,7 @@ fn save_or_full<D: Shelf>(
     ensures played { IfOk result (λ text. IsPlayed session script.save core.old.history
         core.new.history (seat_of seen.old (states_in state desk.now.chest))
         (seat_of seen.new (states_in state desk.now.chest)) text.items) }
+    ensures cut { OnErr result (IsCut session script.save core.old.history core.new.history) }
 {
     if has_room_for_save(core) {
         return play_save(alloc, core, session, seen);
@@ -117,6 +120,7 @@ pub(crate) fn play_line<L: Ledger, D: Shelf>(
     ensures played { IfOk result (λ text. IsPlayed session (line_of line) core.old.history
         core.new.history (seat_of seen.old (states_in state desk.old.chest))
         (seat_of seen.new (states_in state desk.new.chest)) text.items) }
+    ensures cut { OnErr result (IsCut session (line_of line) core.old.history core.new.history) }
 {
     match line {
         Line::Call(call) => call_or_full(alloc, core, session, call, seen, desk, steps),

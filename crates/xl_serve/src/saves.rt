@@ -1,5 +1,5 @@
 //! Saves of sessions, each made in its place.
-ghost use Rattle.std.specs.Prelude.{◌≡◌, ◌+◌, ◌<◌, ◌≤◌, List, [], ◌++◌, length, IfOk, IsSome, Option, string_bytes, codes};
+ghost use Rattle.std.specs.Prelude.{◌≡◌, ◌+◌, ◌<◌, ◌≤◌, List, [], ◌++◌, length, IfOk, IsSome, OnErr, Option, string_bytes, codes};
 ghost use Rattle.spec_history.specs.History.{ends};
 ghost use Rattle.spec_history.specs.declared.TheConstants.{MAX_ENTRIES};
 ghost use Rattle.spec_script.specs.Script as script;
@@ -9,7 +9,7 @@ ghost use Rattle.spec_filters.specs.declared.FilterState.{FilterState};
 ghost use Rattle.spec_world.specs.Events.{end_reply};
 ghost use Rattle.xl_calls.specs.Replies.{reply_of};
 ghost use Rattle.xl_history.specs.History.{version};
-ghost use Rattle.xl_serve.specs.Played.{GoesOn, IsPlayed, IsReady};
+ghost use Rattle.xl_serve.specs.Played.{GoesOn, IsCut, IsPlayed, IsReady};
 ghost use Rattle.xl_play.specs.Playing.{with_save};
 ghost use Rattle.xl_serve.specs.Standing.{seat_of};
 ghost use Rattle.spec_text.specs.Printed.{spaced};
@@ -47,6 +47,7 @@ fn save_now<D: Shelf>(
     ensures reply { IfOk result (λ made. reply_of made.reply ≡ end_reply made.how made.version) }
     ensures saved { IfOk result (λ made. core.new.history ≡ with_save core.old.history session
         (reply_of made.reply)) }
+    ensures as_before { OnErr result (core.new.history ≡ core.old.history) }
 {
     let (version, document, mut shelf) = match core.begin_save(alloc, session)? {
         Begun::Snapshot {
@@ -114,6 +115,7 @@ pub(crate) fn play_save<D: Shelf>(
     ensures played { IfOk result (λ text. (chest : List (Option FilterState)) → IsPlayed session script.save
         core.old.history core.new.history (seat_of seen.old chest) (seat_of seen.new chest)
         text.items) }
+    ensures cut { OnErr result (IsCut session script.save core.old.history core.new.history) }
 {
     let made = save_now(alloc, core, session)?;
     *seen = made.version;

@@ -1,12 +1,12 @@
 //! A document that is edited line by line.
-ghost use Rattle.std.specs.Prelude.{◌≡◌, ◌+◌, ◌<◌, map, length, None, IfOk, IsSome, slice_index, slice_index_or, slice_set, []};
+ghost use Rattle.std.specs.Prelude.{◌≡◌, ◌+◌, ◌<◌, map, length, None, IfOk, IsSome, OnErr, slice_index, slice_index_or, slice_set, []};
 ghost use Rattle.spec_script.specs.Words.{words_of};
 ghost use Rattle.spec_serve.specs.Seen.{seen_by};
 ghost use Rattle.xl_filters.specs.Chests.{states_in};
 ghost use Rattle.xl_script.specs.Lines.{line_of};
 ghost use Rattle.xl_run.specs.Filters.{FitsChest};
-ghost use Rattle.xl_serve.specs.Played.{GoesOn, IsReady};
-ghost use Rattle.xl_serve.specs.Serving.{now_of, chest_at, Answers, IsPlayedOn, StandsSomehow};
+ghost use Rattle.xl_serve.specs.Played.{GoesOn, IsCut, IsReady};
+ghost use Rattle.xl_serve.specs.Serving.{now_of, chest_at, Answers, IsCutAt, IsPlayedOn, StandsSomehow};
 ghost use Rattle.spec_serve.specs.Windows.{request_of};
 
 use crate::lines::play_line;
@@ -58,6 +58,8 @@ impl<D: Shelf> Server<D> {
             (now_of self.new.core.history self.new.hearing self.new.seen
             (map (λ d. states_in state d.chest) self.new.desks.items) self.new.viewer.seen)
             text.items) }
+        ensures cut { OnErr result (IsCut session (line_of line) self.old.core.history
+            self.new.core.history) }
     {
         let mut seen = self.seen[session as usize];
         let desk = &mut self.desks[session as usize];
@@ -86,6 +88,11 @@ impl<D: Shelf> Server<D> {
             (now_of self.new.core.history self.new.hearing self.new.seen
             (map (λ d. states_in state d.chest) self.new.desks.items) self.new.viewer.seen)
             text.items) }
+        ensures cut { OnErr result (IsCutAt number line.now
+            (now_of self.old.core.history self.old.hearing self.old.seen
+            (map (λ d. states_in state d.chest) self.old.desks.items) self.old.viewer.seen)
+            (now_of self.new.core.history self.new.hearing self.new.seen
+            (map (λ d. states_in state d.chest) self.new.desks.items) self.new.viewer.seen)) }
     {
         match self.hearing.hear(alloc, number, line)? {
             Heard::Plays(session, line) => self.play(alloc, session, line, steps),
@@ -94,7 +101,7 @@ impl<D: Shelf> Server<D> {
         }
     }
 
-    /// Answers a line: what is said to it.
+    /// Answers a line: what is said to it. Where memory runs out, nothing was entered for it, or just what answers it.
     pub fn answer<L: Ledger>(
         &mut self,
         alloc: Global,
@@ -113,6 +120,11 @@ impl<D: Shelf> Server<D> {
             (now_of self.new.core.history self.new.hearing self.new.seen
             (map (λ d. states_in state d.chest) self.new.desks.items) self.new.viewer.seen)
             text.items) }
+        ensures cut { OnErr result (IsCutAt number line.now
+            (now_of self.old.core.history self.old.hearing self.old.seen
+            (map (λ d. states_in state d.chest) self.old.desks.items) self.old.viewer.seen)
+            (now_of self.new.core.history self.new.hearing self.new.seen
+            (map (λ d. states_in state d.chest) self.new.desks.items) self.new.viewer.seen)) }
     {
         match request_of(line) {
             Some(Request::Look(session, window)) => show(
@@ -126,5 +138,13 @@ impl<D: Shelf> Server<D> {
             Some(Request::Wait(session)) => Ok(idle_line(alloc, session)?.into_bytes()),
             None => self.answer_script(alloc, number, line, steps),
         }
+    }
+
+    /// The core, when the talk has ended.
+    pub fn into_core(self) -> Core<D>
+        ensures { result ≡ self.core }
+    {
+        let Server { core, .. } = self;
+        core
     }
 }

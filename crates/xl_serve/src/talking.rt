@@ -11,8 +11,9 @@ ghost use Rattle.xl_filters.specs.Chests.{states_in};
 ghost use Rattle.xl_lines.specs.Lines.{lines_left, IsLonger, IsNext};
 ghost use Rattle.xl_ports.specs.Sink.{Writes};
 ghost use Rattle.xl_ports.specs.Source.{led_by};
+ghost use Rattle.xl_serve.specs.Causes.{HasEndCause, HasTurnCause};
 ghost use Rattle.xl_serve.specs.Played.{GoesOn, IsReady};
-ghost use Rattle.xl_serve.specs.Serving.{now_of, Answers, Stands, StandsSomehow};
+ghost use Rattle.xl_serve.specs.Serving.{now_of, Answers, IsCutAt, Stands, StandsSomehow};
 ghost use Rattle.xl_serve.specs.declared.ends.TalkEnd.TheVariants.{SinkFault, Memory};
 ghost use Rattle.xl_serve.specs.Talking.{HasSaid, IsUnderWay, Moves, NoLine};
 
@@ -72,6 +73,7 @@ fn next_line<S: Source>(
     ensures line { IfOk result (λ there. IsNext there line.new.items
         (lines_left lines.old (S.left source.old)) (lines_left lines.new (S.left source.new))) }
     ensures none { NoLine number (led_by lines.old (S.left source.old)) result }
+    ensures cause { HasTurnCause (S.faults source.old) (S.faults source.new) result }
 {
     match lines.next(source, MAX_SCRIPT_BYTES, line) {
         Ok(there) => Ok(there),
@@ -100,6 +102,11 @@ fn answer_line<L: Ledger, D: Shelf>(
         (now_of server.new.core.history server.new.hearing server.new.seen
         (map (λ d. states_in state d.chest) server.new.desks.items) server.new.viewer.seen) text × (out.new.items ≡ out.old.items ++ text)) }
     ensures kept { OnErr result (out.new.items ≡ out.old.items) }
+    ensures cut { OnErr result (IsCutAt number line.now
+        (now_of server.old.core.history server.old.hearing server.old.seen
+        (map (λ d. states_in state d.chest) server.old.desks.items) server.old.viewer.seen)
+        (now_of server.new.core.history server.new.hearing server.new.seen
+        (map (λ d. states_in state d.chest) server.new.desks.items) server.new.viewer.seen)) }
     ensures end { IfErr result (λ end. end ≡ Memory) }
 {
     let Ok(text) = server.answer(alloc, number, line, steps) else {
@@ -138,6 +145,7 @@ fn take_line<L: Ledger, S: Source, K: Sink, D: Shelf>(
         (map (λ d. states_in state d.chest) server.new.desks.items) server.new.viewer.seen))
         (λ end. HasSaid K.held K.faults base filters left begun sink.now out.new.items
         server.new.core.history.entries end) }
+    ensures cause { HasTurnCause (S.faults source.old) (S.faults source.new) result }
 {
     match next_line(lines, source, line, number) {
         Ok(true) => answer_line(alloc, server, number, line, steps, out),
@@ -173,6 +181,7 @@ fn take_turn<L: Ledger, S: Source, K: Sink, D: Shelf>(
         (map (λ d. states_in state d.chest) server.new.desks.items) server.new.viewer.seen))
         (λ end. HasSaid K.held K.faults base filters left begun sink.new out.new.items
         server.new.core.history.entries end) }
+    ensures cause { HasTurnCause (S.faults source.old) (S.faults source.new) result }
 {
     match make_way(lines, sink, out) {
         Ok(()) => take_line(alloc, server, lines, line, number, source, sink, out, steps),
@@ -202,6 +211,7 @@ pub fn answer_all<L: Ledger, S: Source, K: Sink, D: Shelf>(
         (now_of server.old.core.history server.old.hearing server.old.seen
         (map (λ d. states_in state d.chest) server.old.desks.items) server.old.viewer.seen) → out.old.items ≡ told_text base [] → HasSaid K.held K.faults base filters
         (S.left source.old) sink.old sink.new out.new.items server.new.core.history.entries result }
+    ensures cause { HasEndCause (S.faults source.old) (S.faults source.new) result }
 {
     let mut steps = Steps::<L>::new(blank);
     let mut lines = Lines::new(alloc);

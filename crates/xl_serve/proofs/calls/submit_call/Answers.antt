@@ -1,4 +1,5 @@
 use Rattle.std.proofs.Common.{arith}
+use Rattle.std.proofs.lemmas.Result.{on_err_weaker}
 use Rattle.xl_calls.specs.Calls.{call_of}
 use Rattle.xl_calls.specs.Replies.{reply_of}
 use Rattle.xl_serve.proofs.Seats.{seen_is_there}
@@ -24,4 +25,5 @@ returns g c =
           told.chest told.shown;
       text = submit_text old new c.args.session (call_of c.args.call) c.args.seen _ c.submit.result c.requires.ready c.requires.room
           c.requires.seen (λ filters agrees. told.answered filters agrees);
+      as_before = on_err_weaker c.submit.result (λ same. same.history) told.as_before;
     }

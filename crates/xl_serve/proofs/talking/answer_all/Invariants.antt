@@ -22,3 +22,4 @@ invariant-loop-number g l =
     (now_of l.server.core.history l.server.hearing l.server.seen
     (map (λ d. states_in (λ z. (goal.PointFilter-dyn g z).state z.1) d.chest) l.server.desks.items) l.server.viewer.seen))
     × (l.number ≤ 2 ^ 32 - 1)
+    × (g.S.Source.faults l.source ≡ g.S.Source.faults l.fn.source)
