@@ -58,11 +58,11 @@ class Fellow(Author):
         return lines if what == "group" else [lines]
 
 
-def random_script(draw, doc, most):
-    """Lines of one to eight sessions, of up to so many calls each, in any order. They were written on one history, call by call
-    in turn, so that most calls of a session fit what others do meanwhile."""
+def random_script(draw, doc, most, sessions=None):
+    """Lines of one to eight sessions, or of so many, of up to so many calls each, in any order. They were written on one history,
+    call by call in turn, so that most calls of a session fit what others do meanwhile."""
     history, asked, lists = History(doc), [], {}
-    numbers = draw.sample(range(SESSIONS), draw.randint(1, SESSIONS))
+    numbers = draw.sample(range(SESSIONS), sessions or draw.randint(1, SESSIONS))
     turns = [number for number in numbers for _ in range(draw.randint(1, most))]
     draw.shuffle(turns)
     fellows = {number: Fellow(draw, history, asked) for number in numbers}

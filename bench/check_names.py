@@ -8,7 +8,7 @@ crates:
 
 - a path is that of a file or folder, from the top, from `crates` or the end of one; `CRATE/NAME` may be a must-fail edit;
 - in "`a`, `b` and `c` of `CRATE`", or of a file, each name stands as a word in that crate or file;
-- any other name of code stands as a word somewhere in the crates or in bench.
+- any other name of code stands as a word somewhere in the crates, in bench or in clients.
 
 Words in capitals stand for something else (`crates/NAME/src`), what begins or ends with a point or a line is part of a name, and
 OUTSIDE has names of the toolchain and the system. The exit status is 1 where a name is not found.
@@ -64,7 +64,7 @@ class Tree:
             while "/" in path:
                 path = path.rpartition("/")[0]
                 self.paths.add(path)
-        self.words = words_in(path for path in self.files if path.startswith(("crates/", "bench/")))
+        self.words = words_in(path for path in self.files if path.startswith(("crates/", "bench/", "clients/")))
         self.by_crate = {}
 
     def words_of(self, crate):

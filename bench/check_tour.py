@@ -1,6 +1,8 @@
 #!/usr/bin/env python3
 """Runs the commands of docs/TOUR.md and of README.md, each page in a folder of its own, and tells where their output is another.
 
+A command that ends in << 'END' goes on to the line END. Modules of clients/python are found.
+
     check_tour.py BIN [--write]
 
 With --write the pages take what was written. The exit status is 1 where something differs.
@@ -19,11 +21,12 @@ PHOTO, ONE = "crates/written_files/data/groups-3.xcf", "crates/stored_runs/data/
 # The files that each page finds in its folder.
 PAGES = {"docs/TOUR.md": {"photo.xcf": PHOTO}, "README.md": {"photo.xcf": PHOTO, "one.xcf": ONE}}
 INDENT, PROMPT = "    ", "    $ "
+DOCUMENT, END = "<< 'END'\n", "END\n"
 
 
 def output(command, folder, path):
     done = subprocess.run(["bash", "-c", command], stdout=subprocess.PIPE, stderr=subprocess.STDOUT, cwd=folder, check=False,
-                          env={**os.environ, "PATH": path})
+                          env={**os.environ, "PATH": path, "PYTHONPATH": os.path.join(TOP, "clients", "python")})
     text = done.stdout.decode(errors="replace")
     return [INDENT + line + "\n" for line in text.splitlines()]
 
@@ -36,7 +39,12 @@ def rewritten(lines, folder, path):
         found.append(line)
         at += 1
         if line.startswith(PROMPT):
-            found += output(line[len(PROMPT):], folder, path)
+            command = line[len(PROMPT):]
+            while line.endswith(DOCUMENT) and not command.endswith("\n" + END):
+                command += lines[at][len(INDENT):] or "\n"
+                found.append(lines[at])
+                at += 1
+            found += output(command, folder, path)
             while at < len(lines) and lines[at].startswith(INDENT) and not lines[at].startswith(PROMPT):
                 at += 1
     return found

@@ -12,6 +12,8 @@ const MAKE: [&'static str; 4] = ["make", "photo.xcf", "--seed", "7"];
 
 const AUDIT: [&'static str; 2] = ["audit", "photo.xcf"];
 
+const SERVE: [&'static str; 2] = ["serve", "photo.xcf"];
+
 /// Scripts of sessions with four filters, and what is said of each.
 const BAD_SCRIPTS: [(&'static [u8], &'static str); 24] = [
     (b"0 top\n0 blur 1\n", "script line 2: unknown word \"blur\""),
@@ -101,7 +103,7 @@ const BAD_VIEWED: [(&'static [u8], &'static str); 2] = [
 ];
 
 /// Arguments, a status and its cause, and what is said.
-const STOPS: [(&'static [&'static str], u8, Stopped, &'static str); 16] = [
+const STOPS: [(&'static [&'static str], u8, Stopped, &'static str); 20] = [
     // the limits that a script breaks only where it is long
     (
         &EDIT,
@@ -209,10 +211,36 @@ const STOPS: [(&'static [&'static str], u8, Stopped, &'static str); 16] = [
         Stopped::ShelfFault,
         "photo.xcf: the file cannot be read",
     ),
+    // a talk ends at a line that is too long, and at one too many
+    (
+        &SERVE,
+        3,
+        Stopped::BadLine(BadLine {
+            line: 7,
+            cause: Cause::TooLong,
+        }),
+        "line 7: it has more than 16777216 bytes",
+    ),
+    (
+        &SERVE,
+        3,
+        Stopped::BadLine(BadLine {
+            line: 4294967295,
+            cause: Cause::TooLong,
+        }),
+        "line 4294967295: a talk has fewer lines",
+    ),
+    (
+        &SERVE,
+        6,
+        Stopped::ShelfFault,
+        "photo.xcf: the file cannot be read",
+    ),
+    (&SERVE, 8, Stopped::Memory, "photo.xcf: out of memory"),
 ];
 
 /// Arguments that are no command, and what is said of the first that is wrong, or of what is lacking.
-const NO_COMMANDS: [(&'static [&'static str], &'static str); 14] = [
+const NO_COMMANDS: [(&'static [&'static str], &'static str); 16] = [
     (&[], "there is no command"),
     (&["blur", "photo.xcf"], "\"blur\" is no command"),
     (&["edit"], "edit takes a FILE"),
@@ -247,6 +275,11 @@ const NO_COMMANDS: [(&'static [&'static str], &'static str); 14] = [
     (
         &["pack", "photo.xcf", "--plan=all"],
         "--plan takes no number",
+    ),
+    (&["serve"], "serve takes a FILE"),
+    (
+        &["serve", "photo.xcf", "--workers", "2"],
+        "\"--workers\" is no option of serve",
     ),
 ];
 
@@ -468,7 +501,7 @@ fn begins<'a>(
 fn is_listed(alloc: Global, words: &[&str], fault: &str) -> Result<bool, AllocError> {
     let front = format!(in alloc; "xcfedit {VERSION}: {fault}; the commands are\n")?;
     let said = begins(alloc, words, 2, None, front.as_str())?;
-    Ok(said.0 && said.1 == 9)
+    Ok(said.0 && said.1 == 10)
 }
 
 // The first arguments that are no command, counted from 0, of which something else is said.

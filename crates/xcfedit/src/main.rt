@@ -1,9 +1,10 @@
 //! `xcfedit render FILE` writes a file of GIMP's as a PAM to the standard output, `xcfedit info FILE` its layers as a
 //! line of JSON. `xcfedit edit FILE` makes the calls and saves of a script from the standard input on such a file, and
 //! writes the replies; `xcfedit view FILE` makes the calls of one and shows windows, and `xcfedit audit FILE` judges
-//! what an edit is said to have printed. `xcfedit make FILE` saves what a seed makes, `xcfedit pack FILE` the smallest
-//! file, and `xcfedit flatten FILE` one layer in the place of all. Where a command stops, or a call of a script does
-//! nothing, a sentence on the standard error says why.
+//! what an edit is said to have printed. `xcfedit serve FILE` answers the lines of a script one by one, as they come.
+//! `xcfedit make FILE` saves what a seed makes, `xcfedit pack FILE` the smallest file, and `xcfedit flatten FILE` one
+//! layer in the place of all. Where a command stops, or a call of a script does nothing, a sentence on the standard
+//! error says why.
 #![tactic(auto)]
 
 use std::alloc::AllocError;
@@ -15,6 +16,7 @@ use xl_filters::{Fade, Invert, PointFilter, Posterize, Threshold};
 use xl_messages::{FOUND_LEN, WatchedSink, load_found, message};
 use xl_program::{Ended, run};
 use xl_real::{FileShelf, OpenGate, StdSink, StdSource};
+use xl_serving::serve;
 
 /// The status where all went well.
 const DONE: u8 = 0;
@@ -37,6 +39,14 @@ fn words_given(rt: &HostRuntime) -> io::Result<Vec<String>> {
     Ok(words.collect(rt.alloc())?)
 }
 
+// Whether the words ask for a talk, or would if they were in order.
+fn is_served(words: &[&str]) -> bool {
+    match words.first() {
+        Some(name) => *name == "serve",
+        None => false,
+    }
+}
+
 // Does what the words ask for, over the real devices. Each session has four filters, in its slots 0 to 3.
 fn run_with_filters<R: Threads + Wait + Sync>(
     rt: &HostRuntime,
@@ -56,6 +66,9 @@ fn run_with_filters<R: Threads + Wait + Sync>(
     }
     let mut source = StdSource::new(rt);
     let shelf = FileShelf::new(rt);
+    if is_served(words) {
+        return Ok(serve(threads, alloc, words, &mut source, sink, shelf, chest));
+    }
     Ok(run(
         threads,
         alloc,

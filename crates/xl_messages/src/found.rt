@@ -1,9 +1,8 @@
 ghost use Rattle.std.specs.Prelude.{◌≡◌, ◌≤◌, length};
 ghost use Rattle.xl_ports.specs.Disk.{read_at};
 
-use crate::stops::file_of;
+use crate::asked::{asked_of, file_of};
 use std::alloc::Global;
-use xl_command::command_of;
 use xl_outcome::Stopped;
 use xl_ports::Shelf;
 
@@ -27,13 +26,10 @@ pub fn load_found<'a, D: Shelf>(
     let Some(Stopped::Refused(refused)) = cause else {
         return 0;
     };
-    let Ok(asked) = command_of(alloc, words) else {
+    let Ok(Some(asked)) = asked_of(alloc, words) else {
         return 0;
     };
-    let Some(command) = asked else {
-        return 0;
-    };
-    if shelf.select(file_of(command)).is_err() {
+    if shelf.select(file_of(asked)).is_err() {
         return 0;
     }
     shelf.load(refused.at, found).unwrap_or(0)

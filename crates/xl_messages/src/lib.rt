@@ -2,6 +2,7 @@
 //! the standard output, which these sentences never change.
 #![tactic(auto)]
 
+mod asked;
 mod faults;
 mod found;
 mod idle_calls;

@@ -1,3 +1,4 @@
+use crate::asked::{Asked, asked_of, file_of};
 use crate::faults::fault_text;
 use crate::lines::cause_text;
 use crate::names::shown;
@@ -8,12 +9,12 @@ use spec_fields::{Kind, ReadRefused};
 use spec_script::MAX_SCRIPT_BYTES;
 use std::alloc::{AllocError, Global};
 use std::slice::EscapeAscii;
-use xl_command::{Command, command_of};
+use xl_command::Command;
 use xl_outcome::{MEMORY, Rejection, Stopped};
 use xl_script::BadLine;
 
 const USAGE: &str =
-    "the commands are\n  xcfedit render FILE              writes the picture of FILE as a PAM\n  xcfedit info FILE [--all]        writes the layers of FILE as a line of JSON, with --all also its locks, colours and texts\n  xcfedit edit FILE [--workers N]  runs a script from standard input on FILE, N from 0 to 8\n  xcfedit make FILE --seed N       saves the document of the seed N, runs the seed's script on FILE and sums the run up in a line\n  xcfedit pack FILE [--plan]       saves FILE as small as it can be with run-length coded tiles\n  xcfedit flatten FILE             puts one layer in the place of all nodes of FILE\n  xcfedit view FILE --cols W --rows H  runs a script of session 0 on FILE, a tile with its neighbours, W and H from 1 to 16\n  xcfedit audit FILE               judges a script and what an edit of FILE by it is said to have printed, from standard input";
+    "the commands are\n  xcfedit render FILE              writes the picture of FILE as a PAM\n  xcfedit info FILE [--all]        writes the layers of FILE as a line of JSON, with --all also its locks, colours and texts\n  xcfedit edit FILE [--workers N]  runs a script from standard input on FILE, N from 0 to 8\n  xcfedit serve FILE               answers the lines of a script on FILE from standard input, each as it comes, also with pixels\n  xcfedit make FILE --seed N       saves the document of the seed N, runs the seed's script on FILE and sums the run up in a line\n  xcfedit pack FILE [--plan]       saves FILE as small as it can be with run-length coded tiles\n  xcfedit flatten FILE             puts one layer in the place of all nodes of FILE\n  xcfedit view FILE --cols W --rows H  runs a script of session 0 on FILE, a tile with its neighbours, W and H from 1 to 16\n  xcfedit audit FILE               judges a script and what an edit of FILE by it is said to have printed, from standard input";
 
 /// The version of the program, which stands in the manual page and in the changelog too.
 pub const VERSION: &str = "0.1.0";
@@ -27,21 +28,21 @@ pub fn message<'a>(
     cause: Option<Stopped>,
     found: &[u8],
 ) -> Result<String, AllocError> {
-    let command = command_of(alloc, words)?;
+    let asked = asked_of(alloc, words)?;
     if status == MEMORY {
-        return memory_text(alloc, command);
+        return memory_text(alloc, asked);
     }
-    let (Some(command), Some(stopped)) = (command, cause) else {
+    let (Some(asked), Some(stopped)) = (asked, cause) else {
         return usage_text(alloc, words);
     };
-    stop_text(alloc, command, stopped, found)
+    stop_text(alloc, asked, stopped, found)
 }
 
 // That memory ran out, and with which file.
-fn memory_text(alloc: Global, command: Option<Command<'_>>) -> Result<String, AllocError> {
-    match command {
-        Some(command) => {
-            let name = shown(file_of(command));
+fn memory_text(alloc: Global, asked: Option<Asked<'_>>) -> Result<String, AllocError> {
+    match asked {
+        Some(asked) => {
+            let name = shown(file_of(asked));
             format!(in alloc; "{name}: out of memory")
         }
         None => String::from_str(alloc, "out of memory"),
@@ -54,27 +55,18 @@ fn usage_text(alloc: Global, words: &[&str]) -> Result<String, AllocError> {
     format!(in alloc; "xcfedit {VERSION}: {fault}; {USAGE}")
 }
 
-/// The name of a command's file.
-pub fn file_of(command: Command<'_>) -> &str {
-    match command {
-        Command::Edit(name, _) | Command::Make(name, _) => name,
-        Command::Render(name) | Command::Flatten(name) | Command::Audit(name) => name,
-        Command::Info(name, _) | Command::Pack(name, _) | Command::View(name, _, _) => name,
-    }
-}
-
 fn stop_text(
     alloc: Global,
-    command: Command<'_>,
+    asked: Asked<'_>,
     stopped: Stopped,
     found: &[u8],
 ) -> Result<String, AllocError> {
-    let name = shown(file_of(command));
+    let name = shown(file_of(asked));
     match stopped {
         Stopped::SourceFault => String::from_str(alloc, "the script cannot be read"),
         Stopped::BadHead => head_text(alloc),
-        Stopped::BadLine(bad) => line_text(alloc, bad),
-        Stopped::ShelfFault => shelf_text(alloc, command),
+        Stopped::BadLine(bad) => bad_line_text(alloc, asked, bad),
+        Stopped::ShelfFault => shelf_text(alloc, asked),
         Stopped::Refused(refused) => refusal_text(alloc, name, refused, found),
         Stopped::NotFlattened(why) => format!(in alloc;
             "{name}: the image cannot be made flat: {why}"
@@ -82,7 +74,7 @@ fn stop_text(
         Stopped::SaveFault => format!(in alloc; "{name}: a save failed"),
         Stopped::Rejected(why) => rejection_text(alloc, name, why),
         Stopped::SinkFault => format!(in alloc; "{name}: the output cannot be written"),
-        Stopped::Memory => memory_text(alloc, Some(command)),
+        Stopped::Memory => memory_text(alloc, Some(asked)),
     }
 }
 
@@ -91,6 +83,22 @@ fn head_text(alloc: Global) -> Result<String, AllocError> {
     format!(in alloc;
         "the input is no line \"script N\" with N bytes of a script behind it, N from 0 to {MAX_SCRIPT_BYTES}, and the output; it has {MAX_SOURCE_BYTES} bytes at most"
     )
+}
+
+// The line at which a talk or a script is refused.
+fn bad_line_text(alloc: Global, asked: Asked<'_>, bad: BadLine) -> Result<String, AllocError> {
+    match asked {
+        Asked::Command(_) => line_text(alloc, bad),
+        Asked::Serve(_) => talk_text(alloc, bad.line),
+    }
+}
+
+// The line that ends a talk. Any other bad one is answered, and the talk goes on.
+fn talk_text(alloc: Global, line: u32) -> Result<String, AllocError> {
+    match line {
+        u32::MAX => format!(in alloc; "line {line}: a talk has fewer lines"),
+        _ => format!(in alloc; "line {line}: it has more than {MAX_SCRIPT_BYTES} bytes"),
+    }
 }
 
 // The bad line of a script.
@@ -102,9 +110,18 @@ fn line_text(alloc: Global, bad: BadLine) -> Result<String, AllocError> {
 
 // A fault of the shelf before the output: what is made is not read, but saved, and two commands may have failed at
 // either.
-fn shelf_text(alloc: Global, command: Command<'_>) -> Result<String, AllocError> {
-    let name = shown(file_of(command));
-    let done = match command {
+fn shelf_text(alloc: Global, asked: Asked<'_>) -> Result<String, AllocError> {
+    let name = shown(file_of(asked));
+    let done = match asked {
+        Asked::Serve(_) => "read",
+        Asked::Command(command) => use_of(command),
+    };
+    format!(in alloc; "{name}: the file cannot be {done}")
+}
+
+// What a command does with its file before it writes anything.
+fn use_of(command: Command<'_>) -> &'static str {
+    match command {
         Command::Make(_, _) => "saved",
         Command::Edit(_, _)
         | Command::Render(_)
@@ -112,8 +129,7 @@ fn shelf_text(alloc: Global, command: Command<'_>) -> Result<String, AllocError>
         | Command::View(_, _, _)
         | Command::Audit(_) => "read",
         Command::Pack(_, _) | Command::Flatten(_) => "read or saved",
-    };
-    format!(in alloc; "{name}: the file cannot be {done}")
+    }
 }
 
 // Why what was printed is none of the script's runs.

@@ -54,7 +54,7 @@ fn options_of(name: &str) -> Option<&'static [CommandOption]> {
         "make" => Some(&[SEED]),
         "pack" => Some(&[PLAN]),
         "view" => Some(&[COLUMNS, ROWS]),
-        "render" | "flatten" | "audit" => Some(&[]),
+        "render" | "flatten" | "audit" | "serve" => Some(&[]),
         _ => None,
     }
 }
