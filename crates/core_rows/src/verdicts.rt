@@ -1,6 +1,7 @@
 //! Verdicts on outputs of runs by filters over a document of one pixel.
 ghost use Rattle.std.specs.Prelude.{◌≡◌, ◌<◌, ◌≤◌, [], ◌∷◌, length, map, IfOk};
 ghost use Rattle.std.specs.List.{AllByRecursion};
+ghost use Rattle.spec_audit.specs.Limited.{AreNumbers};
 ghost use Rattle.spec_script.specs.Fits.{FitsFilters};
 ghost use Rattle.xl_audit.specs.Auditing.{IsFull};
 ghost use Rattle.xl_filters.specs.Chests.{states_in};
@@ -96,6 +97,7 @@ fn audited<L: Ledger>(
     requires full { AllByRecursion IsFull (map (λ c. states_in state c) chests.items) }
     requires fits { FitsFilters (map length (map (λ c. states_in state c) chests.items))
         (lists_of script.now) }
+    requires numbers { AreNumbers (lists_of script.now) }
 {
     let base = document(alloc, &ONE)?;
     let mut steps = Steps::<L>::new(blank);

@@ -25,6 +25,9 @@ pub fn fault_in(
     if u32::from(outcome.status) != number_in(row.needed("status")?)? {
         return Ok(Some("another status"));
     }
+    if outcome.status == 0 && outcome.has_draft() {
+        return Ok(Some("a draft is open"));
+    }
     if !has_wanted_text(alloc, row, outcome.text())? {
         return Ok(Some("another text"));
     }

@@ -35,6 +35,14 @@ impl Outcome {
             None => &[],
         }
     }
+
+    /// Whether a draft is open on a shelf in memory.
+    pub fn has_draft(&self) -> bool {
+        match &self.shelf {
+            Some(shelf) => shelf.has_draft(),
+            None => false,
+        }
+    }
 }
 
 /// What runs are played with.

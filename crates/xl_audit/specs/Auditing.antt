@@ -33,6 +33,10 @@ FitsChest chest (lines.forget slot) = Unit {0}
 abbrev pub start_of : Document → (scripts : List (List Line)) → (chests : List (List (Option FilterState))) → Start
 start_of base scripts chests = record { base = base; scripts = scripts; chests = map filters_in chests }
 
+-- each filter in a slot of its session's chest
+abbrev pub full_chests : (filters : List (List FilterState)) → List (List (Option FilterState))
+full_chests filters = map (λ fs. map (λ s. Some s) fs) filters
+
 -- chests for eight sessions, those behind the given ones without slots
 abbrev pub padded : (chests : List (List (Option FilterState))) → List (List (Option FilterState))
 padded chests = chests ++ replicate (8 - length chests) []

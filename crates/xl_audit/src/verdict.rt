@@ -2,8 +2,9 @@
 ghost use Rattle.std.specs.Prelude.{◌≡◌, ◌≤◌, [], length, map, IfOk, OnOk, MatchOption};
 ghost use Rattle.std.specs.List.{AllByRecursion};
 ghost use Rattle.spec_script.specs.Fits.{FitsFilters};
+ghost use Rattle.spec_audit.specs.Limited.{AreNumbers};
 ghost use Rattle.spec_audit.specs.Output.{IsMerge};
-ghost use Rattle.spec_audit.specs.Verdicts.{IsVerdict};
+ghost use Rattle.spec_audit.specs.Verdicts.{IsExact};
 ghost use Rattle.spec_audit.specs.Walk.{AllPass, FailsAt};
 ghost use Rattle.xl_audit.specs.Auditing.{ArePrintable, IsFull, padded, start_of};
 ghost use Rattle.xl_judging.specs.Versions.{AreWanted};
@@ -20,7 +21,7 @@ use std::alloc::{AllocError, Global};
 use std::sync::ledger::Ledger;
 use xl_blend::Steps;
 use xl_compose::Picture;
-use xl_doc::Document;
+use xl_doc::{Document, know_limits};
 use xl_filters::{Chest, PointFilter};
 use xl_judging::{Output, SessionCalls, read_shaped, script_calls, wanted_versions};
 use xl_script::{OrderWord, SESSIONS, Script};
@@ -158,10 +159,9 @@ fn judge<L: Ledger>(
 /// The replies are walked along the order, each beside what the machine answers and the digest of the tile that it
 /// shows. The script has to be one that was read for these chests, from which nothing was taken.
 ///
-/// At most one verdict is that of an output, and for a script that was read it is exact, by `verdict_is_exact` of
-/// `spec_audit`: accepted just where the output is a text of the script, shape just where it has not the shape of one,
+/// It is exact: accepted just where the output is a text of the script, shape just where it has not the shape of one,
 /// and reply just at the call of the first word that fails.
-#[tactic(auto, using(crate::proofs::Along::shape_prints))]
+#[tactic(auto, using(crate::proofs::Along::shape_prints, crate::proofs::Exactly::exactly))]
 pub fn audit<L: Ledger>(
     alloc: Global,
     base: Document,
@@ -175,10 +175,12 @@ pub fn audit<L: Ledger>(
     requires full { AllByRecursion IsFull (map (λ c. states_in state c) chests.items) }
     requires fits { FitsFilters (map length (map (λ c. states_in state c) chests.items))
         (lists_of script.now) }
+    requires numbers { AreNumbers (lists_of script.now) }
     ensures { IfOk result
-        (IsVerdict (start_of base (lists_of script.now) (map (λ c. states_in state c) chests.items))
+        (IsExact (start_of base (lists_of script.now) (map (λ c. states_in state c) chests.items))
         output.now) }
 {
+    know_limits(&base);
     let Some(output) = read_shaped(alloc, script, output)? else {
         return Ok(Verdict::Shape);
     };

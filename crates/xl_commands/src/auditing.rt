@@ -15,11 +15,12 @@ ghost use Rattle.xl_filters.specs.Chests.{states_of};
 use crate::loading::read_document;
 use std::alloc::{AllocError, Global};
 use std::thread::Threads;
+use xl_audit::{Verdict, find_verdict};
 use xl_filters::PointFilter;
 use xl_outcome::Stopped;
 use xl_play::filter_counts;
 use xl_ports::{Shelf, Sink, Source, write_all};
-use xl_verdict::{Audit, Unread, Verdict, find_verdict, read_audit, rejection_of, verdict_line};
+use xl_printed::{Audit, Unread, read_audit, rejection_of, verdict_line};
 
 /// Judges whether a printed run is one of an edit of a file by a script, with the filters of the sessions, and writes
 /// the verdict. Both stand in the source, behind a head that says how long the script is.

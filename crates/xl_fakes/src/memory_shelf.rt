@@ -115,6 +115,13 @@ impl MemoryShelf {
         }
     }
 
+    /// Whether a draft is open.
+    pub fn has_draft(&self) -> bool
+        ensures { result ≡ is_some self.now.draft }
+    {
+        self.draft.is_some()
+    }
+
     /// How many calls were made, up to the greatest number of the type.
     pub fn calls(&self) -> u32
         ensures { result ≡ min self.now.calls.made (2 ^ 32 - 1) }

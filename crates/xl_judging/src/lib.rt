@@ -10,4 +10,4 @@ mod versions;
 pub use calls::{SessionCalls, call_at, script_calls};
 pub use judging::{end_fits, is_printed, is_printed_without_digest, peek_fits, shows_version};
 pub use versions::{Versions, wanted_versions};
-pub use xl_printed::{MAX_SOURCE_BYTES, Output, Printed, read_shaped, split_source};
+pub use xl_printed::{Audit, MAX_SOURCE_BYTES, Output, Printed, read_shaped, split_source};

@@ -3,7 +3,7 @@ use Rattle.std.proofs.Common.{◌≡◌, ◌∙◌, ℕ, List, ap, sym, subst, r
 use Rattle.std.specs.Prelude.{Option, Some, IfSome, IfOk, Result, Ok, Err}
 use Rattle.std.specs.declared.alloc.AllocError.{AllocError}
 use Rattle.std.proofs.lemmas.Option.{none-some}
-use Rattle.xl_verdict.specs.Answers.{verdict_line, rejection_of}
+use Rattle.xl_printed.specs.Answers.{verdict_line, rejection_of}
 use Rattle.spec_audit.specs.Verdicts.{IsExact}
 use Rattle.spec_audit.specs.declared.Verdict.{Verdict}
 use Rattle.spec_audit.specs.declared.Verdict.TheVariants.{Accepted}
@@ -22,11 +22,10 @@ use Rattle.xl_outcome.specs.Parts.{Loads, ReadsSourceOf, StopsAudit, WritesVerdi
 use Rattle.xl_outcome.specs.declared.stopped.Stopped.{Stopped}
 use Rattle.xl_outcome.specs.declared.stopped.Stopped.TheVariants.{SourceFault, BadHead, BadLine, ShelfFault, Refused}
 use Rattle.xl_outcome.specs.declared.stopped.Stopped.TheVariants.{NotFlattened, SaveFault, Rejected, SinkFault, Memory}
-use Rattle.xl_verdict.specs.Judging.{started}
-use Rattle.xl_verdict.specs.declared.answers.Rejection.{Rejection}
-use Rattle.xl_verdict.specs.Reading.{ReadsAudit}
-use Rattle.xl_verdict.specs.declared.reading.Audit.{Audit}
-use Rattle.xl_verdict.specs.declared.reading.Unread.{Unread}
+use Rattle.xl_printed.specs.declared.answers.Rejection.{Rejection}
+use Rattle.xl_printed.specs.Reading.{ReadsAudit}
+use Rattle.xl_printed.specs.declared.reading.Audit.{Audit}
+use Rattle.xl_printed.specs.declared.reading.Unread.{Unread}
 use Rattle.xl_outcome.proofs.Taken.{untouched}
 
 -- ---- what an audit comes to
@@ -45,8 +44,8 @@ pub record IsAuditOpened (given : Given) (before mid : ShelfState) (name : List 
 module _ (given : Given) {before mid : ShelfState} {name : List ℕ} {d : Document} {found : Audit}
     (then : IsAuditOpened given before mid name d found) where
   is_audited : (ending : Ending) (verdict : Verdict)
-      → IsExact (started d (lists_of found.script) given.chests) found.output.items verdict → HasVerdict ending verdict
-      → IsAudited given.left given.chests (read_at before.disk name) ending (verdict_line verdict)
+      → IsExact (record { base = d; scripts = lists_of found.script; chests = given.chests }) found.output.items verdict
+      → HasVerdict ending verdict → IsAudited given.left given.chests (read_at before.disk name) ending (verdict_line verdict)
   is_audited ending verdict exact ends = record {
     document = d;
     lists = lists_of found.script;
@@ -63,7 +62,7 @@ module _ (given : Given) {before mid : ShelfState} {name : List ℕ} {d : Docume
   -- what is written, and the shelf
   pub audit_comes : {K : Type 0} (held : K → Option (List ℕ)) (faults : K → ℕ) (old new : K) (verdict : Result Verdict AllocError)
       (result : Result (Unit {0}) Stopped)
-      → IfOk verdict (IsExact (started d (lists_of found.script) given.chests) found.output.items)
+      → IfOk verdict (IsExact (record { base = d; scripts = lists_of found.script; chests = given.chests }) found.output.items)
       → WritesVerdict held faults old new verdict result → ComesTo held faults given before mid (audit name) old new result
   audit_comes held faults old new (Ok verdict) (Ok x) exact writes =
       (verdict_line verdict, (is_audited well verdict exact writes.1, then.untouched), writes.0)

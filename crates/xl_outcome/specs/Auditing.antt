@@ -1,6 +1,6 @@
 -- What is told of an output that is audited.
 use Rattle.std.specs.Prelude.{◌≡◌, ℕ, List, length, map, Option, IfSome, Ok}
-use Rattle.xl_verdict.specs.Answers.{verdict_line}
+use Rattle.xl_printed.specs.Answers.{verdict_line}
 use Rattle.spec_audit.specs.Verdicts.{IsExact}
 use Rattle.spec_audit.specs.declared.Verdict.{Verdict}
 use Rattle.spec_audit.specs.declared.Verdict.TheVariants.{Accepted}
@@ -11,8 +11,7 @@ use Rattle.spec_script.specs.Script.{Line, script}
 use Rattle.xl_ports.specs.Shelf.{Content}
 use Rattle.xl_outcome.specs.Endings.{Ending, well, unsaved, rejected, in_part}
 use Rattle.xl_outcome.specs.Files.{HoldsDocument}
-use Rattle.xl_verdict.specs.Judging.{started}
-use Rattle.xl_verdict.specs.Reading.{HasParts, IsBadLineBehind}
+use Rattle.xl_printed.specs.Reading.{HasParts, IsBadLineBehind}
 
 -- the source has a script with these lines and this output behind its head
 abbrev pub HasAudit : (left : Option (List ℕ)) → (chests : List (List FilterState)) → (lists : List (List Line)) → (output : List ℕ)
@@ -45,6 +44,6 @@ pub record IsAudited
   pub held : IfSome content (λ c. HoldsDocument c document)
   pub within : IsDocument document
   pub read : HasAudit left chests lists output
-  pub exact : IsExact (started document lists chests) output verdict
+  pub exact : IsExact (record { base = document; scripts = lists; chests = chests }) output verdict
   pub ends : HasVerdict ending verdict
   pub text : out ≡ verdict_line verdict

@@ -41,7 +41,7 @@ use Rattle.xl_outcome.specs.Viewing.{IsBadViewLine, IsViewed, IsViewScript}
 use Rattle.xl_outcome.specs.declared.stopped.Stopped.{Stopped}
 use Rattle.xl_outcome.specs.declared.stopped.Stopped.TheVariants.{SourceFault, BadHead, BadLine, ShelfFault, Refused}
 use Rattle.xl_outcome.specs.declared.stopped.Stopped.TheVariants.{NotFlattened, SaveFault, Rejected, SinkFault, Memory}
-use Rattle.xl_verdict.specs.Reading.{IsBadHead}
+use Rattle.xl_printed.specs.Reading.{IsBadHead}
 
 -- ---- the script, which is all that the source has left, or stands in it behind the head of an audit
 

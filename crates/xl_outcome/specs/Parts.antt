@@ -2,7 +2,7 @@
 use Rattle.std.specs.Prelude.{◌≡◌, ℕ, List, Option, Some, IfSome, Result, Ok, Err, String, string_bytes}
 use Rattle.std.specs.declared.alloc.AllocError.{AllocError}
 use Rattle.std.specs.declared.alloc.Global.{Global}
-use Rattle.xl_verdict.specs.Answers.{verdict_line, rejection_of}
+use Rattle.xl_printed.specs.Answers.{verdict_line, rejection_of}
 use Rattle.spec_audit.specs.declared.Verdict.{Verdict}
 use Rattle.spec_audit.specs.declared.Verdict.TheVariants.{Accepted}
 use Rattle.spec_command.specs.Arguments.{Asked, edit, render, info, make, pack, flatten, view, audit}
@@ -20,8 +20,8 @@ use Rattle.xl_outcome.specs.declared.stopped.Stopped.TheVariants.{SourceFault, B
 use Rattle.xl_outcome.specs.declared.stopped.Stopped.TheVariants.{NotFlattened, SaveFault, Rejected, SinkFault, Memory}
 use Rattle.xl_script.specs.Lines.{lists_of}
 use Rattle.xl_script.specs.declared.script.Line.{Line}
-use Rattle.xl_verdict.specs.Reading.{IsBadHead}
-use Rattle.xl_verdict.specs.declared.reading.Audit.{Audit}
+use Rattle.xl_printed.specs.Reading.{IsBadHead}
+use Rattle.xl_printed.specs.declared.reading.Audit.{Audit}
 
 -- the document of the file, or its first fault
 abbrev pub Loads : Option Content → Result Document Stopped → Type 0

@@ -10,4 +10,4 @@ pub use ended::CommandEnd;
 pub use line::write_line;
 pub use stop_lines::{BAD_SOURCE, MEMORY, SHELF_FAULT, SINK_FAULT, SOURCE_FAULT, write_stop};
 pub use stopped::Stopped;
-pub use xl_verdict::Rejection;
+pub use xl_printed::Rejection;

@@ -1,7 +1,7 @@
 use spec_fields::ReadRefused;
 use spec_flat::FlatRefused;
+use xl_printed::Rejection;
 use xl_script::BadLine;
-use xl_verdict::Rejection;
 
 /// Why a command did not end well.
 #[derive(Clone, Copy, Debug, PartialEq, Eq)]

@@ -1,6 +1,6 @@
 use Rattle.std.proofs.Common.{◌∙◌, [], arith}
 use Rattle.std.specs.Prelude.{Ok, Err}
-use Rattle.xl_verdict.specs.declared.reading.Unread.TheVariants.{BadLine}
+use Rattle.xl_printed.specs.declared.reading.Unread.TheVariants.{BadLine}
 use Rattle.xl_outcome.proofs.Audited.{audit_counted}
 use Rattle.xl_outcome.proofs.Scripts.{counts_same, same_fits}
 use Rattle.xl_outcome.proofs.Taken.{led_by_nothing}

@@ -3,10 +3,11 @@ ghost use Rattle.spec_audit.specs.Limited.{AreNumbers};
 ghost use Rattle.spec_script.specs.Fits.{FitsFilters};
 ghost use Rattle.xl_ports.specs.Source.{led_by, IsEnded};
 ghost use Rattle.xl_script.specs.Lines.{lists_of};
-ghost use Rattle.xl_verdict.specs.Reading.{HasCause, ReadsAudit};
+ghost use Rattle.xl_printed.specs.Reading.{HasCause, ReadsAudit};
 
+use crate::source::split_source;
+use spec_audit::MAX_SOURCE_BYTES;
 use std::alloc::Global;
-use xl_audit::{MAX_SOURCE_BYTES, split_source};
 use xl_ports::{FailedOrMemory, Source, read_all};
 use xl_script::{BadLine, BadLineOrMemory, Script, parse};
 

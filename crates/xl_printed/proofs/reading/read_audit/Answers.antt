@@ -1,7 +1,7 @@
 use Rattle.std.proofs.Common.{ℕ, Some, sym, subst}
-use Rattle.xl_verdict.specs.Reading.{HasCause}
-use Rattle.xl_verdict.proofs.Sources.{audit_ended, audit_led, audit_numbers}
-use Rattle.xl_verdict.proofs.reading.read_audit.Goals as goal
+use Rattle.xl_printed.specs.Reading.{HasCause}
+use Rattle.xl_printed.proofs.Sources.{audit_ended, audit_led, audit_numbers}
+use Rattle.xl_printed.proofs.reading.read_audit.Goals as goal
 
 pub returns-clause-reads : goal.returns-clause-reads
 returns-clause-reads g c =

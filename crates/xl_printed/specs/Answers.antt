@@ -3,8 +3,8 @@ use Rattle.std.specs.Prelude.{ℕ, List, [], ◌∷◌, ◌++◌, codes, Option,
 use Rattle.spec_text.specs.Printed.{place_text}
 use Rattle.spec_audit.specs.declared.Verdict.{Verdict}
 use Rattle.spec_audit.specs.declared.Verdict.TheVariants as verdicts
-use Rattle.xl_verdict.specs.declared.answers.Rejection.{Rejection}
-use Rattle.xl_verdict.specs.declared.answers.Rejection.TheVariants as rejections
+use Rattle.xl_printed.specs.declared.answers.Rejection.{Rejection}
+use Rattle.xl_printed.specs.declared.answers.Rejection.TheVariants as rejections
 
 -- a rejection has a number, and a reply is named as its line names it
 abbrev pub verdict_text : Verdict → List ℕ

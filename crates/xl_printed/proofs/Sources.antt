@@ -7,10 +7,10 @@ use Rattle.spec_audit.specs.Source.{IsSource}
 use Rattle.spec_audit.proofs.Names.{script_numbers}
 use Rattle.xl_ports.specs.Source.{led_by, IsEnded}
 use Rattle.xl_script.specs.Lines.{lists_of}
-use Rattle.xl_verdict.specs.Reading.{HasParts, IsBadHead, ReadsAudit}
-use Rattle.xl_verdict.specs.declared.reading.Audit.{Audit}
-use Rattle.xl_verdict.specs.declared.reading.Unread.{Unread}
-use Rattle.xl_verdict.specs.declared.reading.Unread.TheVariants.{SourceFault, BadHead, BadLine, Memory}
+use Rattle.xl_printed.specs.Reading.{HasParts, IsBadHead, ReadsAudit}
+use Rattle.xl_printed.specs.declared.reading.Audit.{Audit}
+use Rattle.xl_printed.specs.declared.reading.Unread.{Unread}
+use Rattle.xl_printed.specs.declared.reading.Unread.TheVariants.{SourceFault, BadHead, BadLine, Memory}
 
 front_has : (front more text output : List ℕ) → (length front ≡ 2 ^ 28 + 1) ⊎ (more ≡ []) → IsSource front text output
     → IsSource (front ++ more) text output

@@ -1,6 +1,6 @@
 ghost use Rattle.std.specs.Prelude.{◌≡◌, string_bytes, IfOk, MatchOption};
 ghost use Rattle.spec_audit.specs.declared.Verdict.TheVariants.{Accepted};
-ghost use Rattle.xl_verdict.specs.Answers.{rejection_of, verdict_line};
+ghost use Rattle.xl_printed.specs.Answers.{rejection_of, verdict_line};
 
 use spec_audit::Verdict;
 use std::alloc::{AllocError, Global};

@@ -1,7 +1,7 @@
 use Rattle.std.proofs.Common.{length, ◌<◌, ◌^◌}
 use Rattle.xl_filters.specs.Chests.{states_in}
-use Rattle.xl_verdict.proofs.Chests.{AreUpTo}
-use Rattle.xl_verdict.proofs.judging.chests_of.Given as goal
+use Rattle.xl_audit.proofs.Chests.{AreUpTo}
+use Rattle.xl_audit.proofs.judging.chests_of.Given as goal
 
 abbrev pub invariant-loop-boxes : goal.invariant-loop-boxes
 invariant-loop-boxes g l =

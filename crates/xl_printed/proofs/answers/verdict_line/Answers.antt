@@ -2,7 +2,7 @@ use Rattle.std.proofs.Common.{◌≡◌, ℕ, List, [], ◌∷◌, ◌++◌, app
 use Rattle.std.specs.Prelude.{codes, decimal, String, string_bytes, IfOk}
 use Rattle.std.specs.declared.alloc.AllocError.{AllocError}
 use Rattle.std.specs.declared.alloc.Global.{Global}
-use Rattle.xl_verdict.proofs.answers.verdict_line.Goals as goal
+use Rattle.xl_printed.proofs.answers.verdict_line.Goals as goal
 
 -- the pieces of the format, in its order
 abbrev in_pieces : (session index : ℕ) → List ℕ

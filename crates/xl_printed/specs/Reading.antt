@@ -4,9 +4,9 @@ use Rattle.spec_audit.specs.Source.{IsSource}
 use Rattle.spec_script.specs.Script.{script}
 use Rattle.xl_ports.specs.Faults.{Rose}
 use Rattle.xl_script.specs.Lines.{lists_of}
-use Rattle.xl_verdict.specs.declared.reading.Audit.{Audit}
-use Rattle.xl_verdict.specs.declared.reading.Unread.{Unread}
-use Rattle.xl_verdict.specs.declared.reading.Unread.TheVariants.{SourceFault, BadHead, BadLine, Memory}
+use Rattle.xl_printed.specs.declared.reading.Audit.{Audit}
+use Rattle.xl_printed.specs.declared.reading.Unread.{Unread}
+use Rattle.xl_printed.specs.declared.reading.Unread.TheVariants.{SourceFault, BadHead, BadLine, Memory}
 
 -- the source has this script and this output behind its head, where it is told
 abbrev pub HasParts : (left : Option (List ℕ)) → (text output : List ℕ) → Type 0

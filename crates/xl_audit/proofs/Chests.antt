@@ -1,16 +1,16 @@
--- The chests of the sessions, one after another.
+-- The chests of the sessions, made of boxes one after another.
 use Rattle.std.proofs.Common.{◌≡◌, ℕ, ◌≤◌, List, [], ◌∷◌, ◌++◌, length, map, refl, sym, ◌∙◌, ap, subst, arith}
 use Rattle.std.specs.Prelude.{Option, Some, Vec}
 use Rattle.std.specs.declared.alloc.Global.{Global}
 use Rattle.std.specs.List.{AllByRecursion}
 use Rattle.std.proofs.lemmas.List.{length-map}
+use Rattle.std.proofs.lemmas.Simd.{map-map}
 use Rattle.spec_filters.specs.declared.FilterState.{FilterState}
 use Rattle.spec_script.specs.Fits.{FitsFilters}
 use Rattle.spec_script.specs.Script.{Line}
-use Rattle.xl_audit.specs.Auditing.{filters_in, IsFull}
+use Rattle.xl_audit.specs.Auditing.{filters_in, full_chests, IsFull}
 use Rattle.xl_audit.proofs.Desks.{desks_more, desks_all}
 use Rattle.xl_filters.specs.Chests.{states_of}
-use Rattle.xl_verdict.specs.Judging.{full_chests}
 
 -- ---- one after another
 
@@ -25,38 +25,35 @@ pub record AreUpTo {C B : Type 0} (see : C → List (Option FilterState)) (state
   pub short : AllByRecursion Short rest
 
 module _ {C B : Type 0} (see : C → List (Option FilterState)) (state : B → FilterState) (Short : Vec B Global → Type 0) where
-  pub chests_begin : (chests : List C) (rest all : List (Vec B Global)) → chests ≡ [] → rest ≡ all → AllByRecursion Short all
+  pub boxes_begin : (chests : List C) (rest all : List (Vec B Global)) → chests ≡ [] → rest ≡ all → AllByRecursion Short all
       → AreUpTo see state Short chests rest all
-  chests_begin chests rest all none is short = record {
+  boxes_begin chests rest all none is short = record {
     so_far = ap (λ (cs : List C). map see cs ++ map (boxed state) rest) none ∙ ap (map (boxed state)) is;
     short = subst (AllByRecursion Short) (sym is) short;
   }
 
-  pub chests_short : (chests : List C) (rest more all : List (Vec B Global)) (b : Vec B Global)
+  pub boxes_short : (chests : List C) (rest more all : List (Vec B Global)) (b : Vec B Global)
       → AreUpTo see state Short chests rest all → rest ≡ b ∷ more → Short b
-  chests_short chests rest more all b up next = (subst (AllByRecursion Short) next up.short).0
+  boxes_short chests rest more all b up next = (subst (AllByRecursion Short) next up.short).0
 
-  pub chests_more : (chests new : List C) (rest more all : List (Vec B Global)) (b : Vec B Global) (c : C)
+  pub boxes_more : (chests new : List C) (rest more all : List (Vec B Global)) (b : Vec B Global) (c : C)
       → AreUpTo see state Short chests rest all → rest ≡ b ∷ more → new ≡ chests ++ c ∷ [] → see c ≡ boxed state b
       → AreUpTo see state Short new more all
-  chests_more chests new rest more all b c up next pushed same = record {
+  boxes_more chests new rest more all b c up next pushed same = record {
     so_far = desks_more see (boxed state) chests new rest more all c b up.so_far next pushed same;
     short = (subst (AllByRecursion Short) next up.short).1;
   }
 
   full_of : (lists : List (Vec B Global)) → map (boxed state) lists ≡ full_chests (states_of state lists)
-  full_of [] = refl
-  full_of (b ∷ lists) =
-      ap (λ (x : List (Option FilterState)). x ∷ map (boxed state) lists) (one b.items)
-      ∙ ap (λ (xs : List (List (Option FilterState))). map (λ s. Some s) (map state b.items) ∷ xs) (full_of lists)
-    where
-      one : (items : List B) → map (λ x. Some (state x)) items ≡ map (λ s. Some s) (map state items)
-      one [] = refl
-      one (x ∷ items) = ap (λ (xs : List (Option FilterState)). Some (state x) ∷ xs) (one items)
+  full_of lists =
+      let some : FilterState → Option FilterState = λ s. Some s in
+      let states : Vec B Global → List FilterState = λ boxes. map state boxes.items in
+      let each : (λ boxes. map some (states boxes)) ≡ boxed state = λ i boxes. map-map some state boxes.items i in
+      sym (map-map (map some) states lists ∙ ap (λ f. map f lists) each)
 
-  pub chests_all : (chests : List C) (rest all : List (Vec B Global)) → AreUpTo see state Short chests rest all → rest ≡ []
+  pub boxes_all : (chests : List C) (rest all : List (Vec B Global)) → AreUpTo see state Short chests rest all → rest ≡ []
       → map see chests ≡ full_chests (states_of state all)
-  chests_all chests rest all up none =
+  boxes_all chests rest all up none =
       desks_all see (boxed state) chests rest all up.so_far none ∙ full_of all
 
 -- ---- what they are
@@ -74,19 +71,19 @@ pub are_full : (chests : List (List (Option FilterState))) (filters : List (List
 are_full chests filters same = subst (AllByRecursion IsFull) (sym same) (all_full filters)
 
 full_lengths : (filters : List (List FilterState)) → map length (full_chests filters) ≡ map length filters
-full_lengths [] = refl
-full_lengths (fs ∷ filters) =
-    ap (λ (n : ℕ). n ∷ map length (full_chests filters)) (length-map fs (λ s. Some s))
-    ∙ ap (λ (ns : List ℕ). length fs ∷ ns) (full_lengths filters)
+full_lengths filters =
+    let some : FilterState → Option FilterState = λ s. Some s in
+    let each : (λ (fs : List FilterState). length (map some fs)) ≡ length = λ i fs. length-map fs some i in
+    map-map length (map some) filters ∙ ap (λ f. map f filters) each
 
 pub full_fit : (chests : List (List (Option FilterState))) (filters : List (List FilterState)) (lists : List (List Line))
     → chests ≡ full_chests filters → FitsFilters (map length filters) lists → FitsFilters (map length chests) lists
 full_fit chests filters lists same fits =
     subst (λ (ns : List ℕ). FitsFilters ns lists) (sym (ap (map length) same ∙ full_lengths filters)) fits
 
-pub few_chests : {C B : Type 0} (see : C → List (Option FilterState)) (state : B → FilterState) (chests : List C)
+pub few_boxes : {C B : Type 0} (see : C → List (Option FilterState)) (state : B → FilterState) (chests : List C)
     (lists : List (Vec B Global)) → map see chests ≡ full_chests (states_of state lists) → length lists ≤ 8 → length chests ≤ 8
-few_chests {B = B} see state chests lists same few =
+few_boxes {B = B} see state chests lists same few =
     let c = length-map chests see in
     let f = length-map (states_of state lists) (λ (fs : List FilterState). map (λ s. Some s) fs) in
     let l = length-map lists (λ (boxes : Vec B Global). map state boxes.items) in
@@ -96,8 +93,12 @@ slots_in : (filters : List FilterState) → filters_in (map (λ s. Some s) filte
 slots_in [] = refl
 slots_in (s ∷ filters) = ap (λ (fs : List FilterState). s ∷ fs) (slots_in filters)
 
-pub full_in : (filters : List (List FilterState)) → map filters_in (full_chests filters) ≡ filters
-full_in [] = refl
-full_in (fs ∷ filters) =
+all_in : (filters : List (List FilterState)) → map filters_in (full_chests filters) ≡ filters
+all_in [] = refl
+all_in (fs ∷ filters) =
     ap (λ (x : List FilterState). x ∷ map filters_in (full_chests filters)) (slots_in fs)
-    ∙ ap (λ (xs : List (List FilterState)). fs ∷ xs) (full_in filters)
+    ∙ ap (λ (xs : List (List FilterState)). fs ∷ xs) (all_in filters)
+
+pub full_in : (chests : List (List (Option FilterState))) (filters : List (List FilterState)) → chests ≡ full_chests filters
+    → map filters_in chests ≡ filters
+full_in chests filters same = ap (map filters_in) same ∙ all_in filters

@@ -1,3 +1,0 @@
-pub mod Sources
-mod Chests
-mod Exactly
