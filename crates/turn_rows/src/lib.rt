@@ -1,5 +1,7 @@
-//! Tests of the turn lock.
+//! Tests of the turn lock, and of shifts.
 #![tactic(auto)]
 
+#[cfg(test)]
+mod shifts;
 #[cfg(test)]
 mod turns;

@@ -13,7 +13,7 @@ use xl_filters::PointFilter;
 use xl_ports::{Gate, Shelf};
 use xl_run::Unplayed;
 use xl_script::Line;
-use xl_studio::{Desk, Seat};
+use xl_studio::{Desk, Seat, Shift};
 
 impl<'a, W: Wait, D: Shelf, G: Gate> Setting<'a, W, D, G> {
     // Makes what the lines of a session say, with a counter of steps that it makes from `blank`.
@@ -24,6 +24,7 @@ impl<'a, W: Wait, D: Shelf, G: Gate> Setting<'a, W, D, G> {
         seat: &mut Seat<D>,
         digests: &mut Vec<String>,
         blank: Blank,
+        shift: &mut Shift,
     ) -> Result<(), Unplayed>
         requires name { blank.name ≡ L.name }
         requires parts { blank.parts ≡ L.parts }
@@ -38,7 +39,7 @@ impl<'a, W: Wait, D: Shelf, G: Gate> Setting<'a, W, D, G> {
     {
         let mut steps = Steps::<L>::new(blank);
         for line in lines {
-            self.play_line(line, desk, seat, &mut steps, digests)?;
+            self.play_line(line, desk, seat, &mut steps, digests, shift)?;
         }
         Ok(())
     }
@@ -67,6 +68,16 @@ impl<'a, W: Wait, D: Shelf, G: Gate> Setting<'a, W, D, G> {
             (states_in state desk.old.chest) (lines_of lines.items) result seat.old seat.new
             (map string_bytes digests.new.items) }
     {
-        self.play_lines::<Brand>(lines, desk, seat, digests, Blank::new(1))
+        let mut shift = Shift::new();
+        let played = self.play_lines::<Brand>(
+            lines,
+            desk,
+            seat,
+            digests,
+            Blank::new(1),
+            &mut shift,
+        );
+        self.studio.go(&mut shift);
+        played
     }
 }

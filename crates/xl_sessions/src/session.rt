@@ -33,7 +33,7 @@ use xl_report::digest;
 use xl_rle::Keeping;
 use xl_run::{Unplayed, asks_tile};
 use xl_script::Line;
-use xl_studio::{Desk, Seat};
+use xl_studio::{Desk, Seat, Shift};
 
 // Why a run with this reply prints nothing, where it prints nothing.
 fn check_printed(reply: &Reply) -> Result<(), Unplayed>
@@ -85,14 +85,15 @@ impl<'a, W: Wait, D: Shelf, G: Gate> Setting<'a, W, D, G> {
         }
     }
 
-    // Makes a call of a session, and passes the gate before it and after it. A marked tile that it asks for is composed
-    // first.
+    // Makes a call of a session, in its shift, and passes the gate before it and after it. A marked tile that it asks for
+    // is composed first.
     fn make_call<L: Ledger>(
         &self,
         call: Call,
         desk: &mut Desk,
         seat: &mut Seat<D>,
         steps: &mut Steps<L>,
+        shift: &mut Shift,
     ) -> Result<Reply, AllocError>
         requires seat { CanGoOn self.now.studio.now self.now.session seat.old }
         requires call { IsCall (call_of call) }
@@ -104,6 +105,7 @@ impl<'a, W: Wait, D: Shelf, G: Gate> Setting<'a, W, D, G> {
     {
         self.gate
             .pass(Actor::Session(self.session), Place::BeforeCall);
+        self.studio.come(self.rt, &call, shift);
         self.refresh_asked(&call, seat, steps);
         let reply = self
             .studio
@@ -121,6 +123,7 @@ impl<'a, W: Wait, D: Shelf, G: Gate> Setting<'a, W, D, G> {
         seat: &mut Seat<D>,
         steps: &mut Steps<L>,
         digests: &mut Vec<String>,
+        shift: &mut Shift,
     ) -> Result<(), Unplayed>
         requires seat { CanGoOn self.now.studio.now self.now.session seat.old }
         requires call { IsCall (call_of call) }
@@ -132,7 +135,7 @@ impl<'a, W: Wait, D: Shelf, G: Gate> Setting<'a, W, D, G> {
             (map string_bytes digests.new.items) }
     {
         let asks = asks_tile(&call);
-        let reply = self.make_call(call, desk, seat, steps)?;
+        let reply = self.make_call(call, desk, seat, steps, shift)?;
         check_printed(&reply)?;
         say(self.alloc, asks, &reply, desk, digests)?;
         Ok(())
@@ -176,6 +179,7 @@ impl<'a, W: Wait, D: Shelf, G: Gate> Setting<'a, W, D, G> {
         seat: &mut Seat<D>,
         steps: &mut Steps<L>,
         digests: &mut Vec<String>,
+        shift: &mut Shift,
     ) -> Result<(), Unplayed>
         requires seat { CanGoOn self.now.studio.now self.now.session seat.old }
         requires fit { FitsChest (states_in state desk.old.chest) (line_of line) }
@@ -186,8 +190,11 @@ impl<'a, W: Wait, D: Shelf, G: Gate> Setting<'a, W, D, G> {
             (map string_bytes digests.new.items) }
     {
         match line {
-            Line::Call(call) => self.play_call(call, desk, seat, steps, digests),
-            Line::Save => self.play_save(seat),
+            Line::Call(call) => self.play_call(call, desk, seat, steps, digests, shift),
+            Line::Save => {
+                self.studio.go(shift);
+                self.play_save(seat)
+            }
             Line::Forget(slot) => {
                 desk.chest.forget(slot);
                 Ok(())

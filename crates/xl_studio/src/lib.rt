@@ -12,6 +12,7 @@ mod refreshing;
 mod saving;
 mod seat;
 mod shared;
+mod shifts;
 mod taking;
 
 pub use moment::Moment;
@@ -20,3 +21,4 @@ pub use shared::Shared;
 pub use taking::Taking;
 pub use xl_calls::{Group, NodeId, Reply, TileAt};
 pub use xl_core::{Core, Desk, Entry, EntryKind, JobDesk, Taken};
+pub use xl_shifts::Shift;

@@ -13,6 +13,7 @@ use crate::shared::Shared;
 use std::alloc::{AllocFailed, Global};
 use xl_core::{Core, Tally};
 use xl_ports::Shelf;
+use xl_shifts::Shifts;
 use xl_turn::TurnLock;
 use xl_wait::Calm;
 
@@ -39,6 +40,7 @@ impl<D: Shelf> Studio<D> {
                 Studio {
                     lock,
                     calm: Calm::new(),
+                    shifts: Shifts::new(),
                 },
                 Seat {
                     seat,
@@ -122,7 +124,11 @@ impl<D: Shelf> Studio<D> {
         ensures made { IsEachOnce (length result.history.entries) (made_of seat) }
         ensures right { IsRight result.history.base (world result) }
     {
-        let Studio { lock, calm: _ } = self;
+        let Studio {
+            lock,
+            calm: _,
+            shifts: _,
+        } = self;
         let Seat {
             seat,
             seen: _,

@@ -4,6 +4,7 @@ use std::snapshot::Snapshot;
 use xl_core::Tally;
 use xl_doc::{Document, NodeId, TileAt};
 use xl_ports::Shelf;
+use xl_shifts::Shifts;
 use xl_turn::{Chronicle, TurnLock};
 use xl_wait::Calm;
 
@@ -16,6 +17,8 @@ where
     pub(crate) lock: TurnLock<Shared<D>>,
     /// Where workers wait before they take a job, while calls keep coming.
     pub(crate) calm: Calm,
+    /// Where sessions wait that make one call after another.
+    pub(crate) shifts: Shifts,
 }
 
 /// What a session makes its calls with.
