@@ -447,6 +447,9 @@ class Check:
         with self.wire(stdin=folder) as wire:
             want([wire.piece(), wire.piece(), wire.piece()][1:] == [b"source fault\n", b""] and wire.status() == 5, "status 5")
         os.close(folder)
+        self.put()
+        with Wire(["sh", "-c", 'exec "$@" <&-', "sh", self.program, "serve", self.name]) as wire:
+            want(wire.rest() == [b"ready 200 200 9\n", b"order\n"] and wire.status() == 0, "without an input there are no lines")
         with open("/dev/full", "wb") as full, self.wire(stdout=full) as wire:
             wire.process.stdin.close()
             want(wire.status() == 7 and b"No space left" in wire.process.stderr.read(), "status 7")

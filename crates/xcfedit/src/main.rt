@@ -8,6 +8,7 @@
 #![tactic(auto)]
 
 use std::alloc::AllocError;
+use std::fs::File;
 use std::process::ExitCode;
 use std::sync::Wait;
 use std::thread::Threads;
@@ -67,6 +68,9 @@ fn run_with_filters<R: Threads + Wait + Sync>(
     let mut source = StdSource::new(rt);
     let shelf = FileShelf::new(rt);
     if is_served(words) {
+        // Where the program was started without a standard input, the file would be opened in its place, and its bytes
+        // taken for lines.
+        let _placeholder = File::open(rt, "/dev/null");
         return Ok(serve(threads, alloc, words, &mut source, sink, shelf, chest));
     }
     Ok(run(

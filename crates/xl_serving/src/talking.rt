@@ -28,13 +28,27 @@ use xl_script::{BadLine, Cause};
 use xl_serve::{Server, TalkEnd, answer_all};
 use xl_told::ready_line;
 
+// How wide a canvas is.
+fn width(document: &Document) -> u32
+    ensures { result ≡ document.now.width }
+{
+    document.width
+}
+
+// And how high.
+fn height(document: &Document) -> u32
+    ensures { result ≡ document.now.height }
+{
+    document.height
+}
+
 // What is said before the first line.
 fn first_text(alloc: Global, document: &Document) -> Result<Vec<u8>, AllocError>
     requires { AreNumbered document.now.nodes }
     ensures { IfOk result (λ out. out.items ≡ told_text document.now []) }
 {
     let next = next_id_of(document);
-    let line = ready_line(alloc, document.width, document.height, next)?;
+    let line = ready_line(alloc, width(document), height(document), next)?;
     Ok(line.into_bytes())
 }
 
