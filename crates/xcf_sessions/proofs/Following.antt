@@ -1,5 +1,5 @@
 -- What a session knows after a call, from what its seat knows.
-use Rattle.std.proofs.Common.{◌≡◌, ℕ, Bool, true, false, List, [], ◌∷◌, ◌++◌, refl, sym, ap, subst, ◌∙◌, Option}
+use Rattle.std.proofs.Common.{◌≡◌, ℕ, Bool, true, false, List, [], ◌∷◌, ◌++◌, length, refl, sym, ap, subst, ◌∙◌, Option}
 use Rattle.std.specs.Prelude.{None, MatchBool, Result, Ok, Err, IfOk, OnErr}
 use mathlib.Core.List.{IsPrefix}
 use Rattle.spec_document.specs.Document.{Document}
@@ -17,15 +17,16 @@ use Rattle.xl_studio.specs.declared.moment.Moment.TheVariants.{Made}
 use Rattle.xl_studio.specs.declared.seat.Seat.{Seat}
 use Rattle.xl_studio.specs.declared.seat.Studio.{Studio}
 use Rattle.xl_studio.specs.Answered as studios
+use Rattle.xl_studio.specs.Answered.{SeatGoesOn}
 use Rattle.xl_studio.specs.Calling.{Known, IsCalled, called_entry}
 use Rattle.xl_studio.specs.Calling as calling
 use Rattle.xl_studio.specs.Moments.{entries_in}
-use Rattle.xl_studio.specs.Seats.{base_of, front_of, known_by, opening_shelf}
+use Rattle.xl_studio.specs.Seats.{base_of, known_by, opening_shelf}
 use Rattle.xl_studio.specs.State.{State as Kept}
 use Rattle.xl_turn.proofs.Fronts.{prefix_self}
 use Rattle.xl_studio.proofs.Grown.{entries-append, entries-prefix}
 use Rattle.xcf_sessions.specs.Answered.{IsAnswered, IsFilterless}
-use Rattle.xcf_sessions.specs.Seen.{Seen, HasHeard}
+use Rattle.xcf_sessions.specs.Seen.{Seen, GoesOn, HasHeard}
 use Rattle.xcf_sessions.proofs.Filterless.{no_tables}
 
 -- the last entry of a run is one that the machine may make there
@@ -37,53 +38,63 @@ run_last base s earlier (e ∷ es) session index call reply run =
     run_last base (after_entry base s e) (earlier ++ e ∷ []) es session index call reply run.1
 
 module _ {K : Type 0} where
-  abbrev pub seen_in : (session : ℕ) → Document → K → List (Moment K) → Seen K
-  seen_in session base shelf front = record { session = session; base = base; entries = entries_in front; shelf = shelf }
+  abbrev pub seen_in : (session : ℕ) → Document → K → Known K → Seen K
+  seen_in session base shelf known =
+      record { session = session; base = base; entries = entries_in known.front; made = known.made; shelf = shelf }
 
-  by_room : (base : Document) (session : ℕ) (call : Call) (reply : machine.Reply) (full : Bool) (entered front : List (Moment K))
-      (A B : Type 0) → IsLegal base (entries_in front)
-      → MatchBool full ((reply ≡ machine.history_full) × (front ≡ entered) × A)
-      ((front ≡ entered ++ Made (called_entry (entries_in entered) session call [] reply) None ∷ []) × B)
-      → MatchBool full ((reply ≡ machine.history_full) × (entries_in front ≡ entries_in entered))
+  pub goes_on_in : (session : ℕ) (base : Document) (shelf : K) (old new : Known K) → IsLegal base (entries_in new.front)
+      → GoesOn (seen_in session base shelf old) (seen_in session base shelf new)
+  goes_on_in session base shelf old new legal = record { session = refl; base = refl; shelf = refl; legal = legal }
+
+  by_room : (base : Document) (session : ℕ) (call : Call) (reply : machine.Reply) (full : Bool) (entered : List (Moment K))
+      (old new : Known K) → IsLegal base (entries_in new.front)
+      → MatchBool full ((reply ≡ machine.history_full) × (new.front ≡ entered) × (new.made ≡ old.made))
+      ((new.front ≡ entered ++ Made (called_entry (entries_in entered) session call [] reply) None ∷ [])
+      × (new.made ≡ old.made ++ length (entries_in entered) ∷ []))
+      → MatchBool full ((reply ≡ machine.history_full) × (entries_in new.front ≡ entries_in entered) × (new.made ≡ old.made))
       (Answers base (replay base (entries_in entered)) call [] reply
-      × (entries_in front ≡ entries_in entered ++ called_entry (entries_in entered) session call [] reply ∷ []))
-  by_room base session call reply true entered front A B legal is = (is.0, ap entries_in is.1)
-  by_room base session call reply false entered front A B legal is =
+      × (entries_in new.front ≡ entries_in entered ++ called_entry (entries_in entered) session call [] reply ∷ [])
+      × (new.made ≡ old.made ++ length (entries_in entered) ∷ []))
+  by_room base session call reply true entered old new legal is = (is.0, ap entries_in is.1, is.2)
+  by_room base session call reply false entered old new legal is =
       let e : Entry = called_entry (entries_in entered) session call [] reply in
-      let grown : entries_in front ≡ entries_in entered ++ e ∷ [] = ap entries_in is.0 ∙ entries-append entered (Made e None ∷ []) in (
+      let grown : entries_in new.front ≡ entries_in entered ++ e ∷ [] =
+      ap entries_in is.0 ∙ entries-append entered (Made e None ∷ []) in (
         run_last base (initial base) [] (entries_in entered) session e.index call reply
             (subst (λ (es : List Entry). RunFrom base (initial base) [] es) grown legal.run),
         grown,
+        is.1,
       )
 
   answered_in : (session : ℕ) (base : Document) (shelf : K) (call : Call) (reply : machine.Reply)
       (after : List (Option FilterState)) (bytes : List ℕ) (old new : Known K) → IsFilterless call → IsLegal base (entries_in new.front)
       → studios.IsReplied base session call [] after bytes old new reply
-      → IsAnswered call reply (seen_in session base shelf old.front) (seen_in session base shelf new.front)
+      → IsAnswered call reply (seen_in session base shelf old) (seen_in session base shelf new)
   answered_in session base shelf call reply after bytes old new plain legal replied =
       let called : IsCalled base session call [] reply old new =
       subst (λ (tables : List (List ℕ)). IsCalled base session call tables reply old new) (no_tables call reply plain)
       (replied.called [] tt) in
       record {
+        goes_on = goes_on_in session base shelf old new legal;
         before = entries_in called.entered;
         begins = entries-prefix old.front called.entered called.begins;
-        is = by_room base session call reply (is_full (record { base = base; entries = entries_in called.entered })) called.entered
-            new.front _ _ legal called.made;
+        is = by_room base session call reply (is_full (record { base = base; entries = entries_in called.entered })) called.entered old
+            new legal called.made;
         fresh = replied.fresh;
-        same = record { session = refl; base = refl; shelf = refl };
       }
 
-  pub heard_in : (session : ℕ) (base : Document) (shelf : K) (old new : Known K) → calling.HasHeard old new
-      → HasHeard (seen_in session base shelf old.front) (seen_in session base shelf new.front)
-  heard_in session base shelf old new heard = record {
-    same = record { session = refl; base = refl; shelf = refl };
+  pub heard_in : (session : ℕ) (base : Document) (shelf : K) (old new : Known K) → IsLegal base (entries_in new.front)
+      → calling.HasHeard old new → HasHeard (seen_in session base shelf old) (seen_in session base shelf new)
+  heard_in session base shelf old new legal heard = record {
+    goes_on = goes_on_in session base shelf old new legal;
     begins = entries-prefix old.front new.front heard.begins;
+    made = heard.made;
   }
 
 module _ {K : Type 0} {C : Ghosts (Kept K) (Moment K)} where
   -- what a session with this seat knows
   abbrev pub seen_by : (session : ℕ) → Studio K → Seat K C → Seen K
-  seen_by session studio seat = seen_in session (base_of studio) (opening_shelf studio) (front_of seat)
+  seen_by session studio seat = seen_in session (base_of studio) (opening_shelf studio) (known_by seat)
 
   pub answered : {E : Type 0} (session : ℕ) (called kept : Studio K) (call : Call) (result : Result Reply E) (old new : Seat K C)
       (before after : List (Option FilterState)) (bytes bytes' : List ℕ) (steps steps' : ℕ) (was : Seen K) → called ≡ kept
@@ -99,14 +110,19 @@ module _ {K : Type 0} {C : Ghosts (Kept K) (Moment K)} where
       plain is.goes_on.seat.front.legal replied))
   answered session called kept call (Err e) old new before after bytes bytes' steps steps' was same view none plain is = tt
 
-  pub heard : {E : Type 0} (R : Type 0) (session : ℕ) (kept : Studio K) (result : Result R E) (old new : Seat K C) (was : Seen K)
-      → seen_by session kept old ≡ was → OnErr result (calling.HasHeard (known_by old) (known_by new))
-      → OnErr result (HasHeard was (seen_by session kept new))
-  heard R session kept (Ok reply) old new was view is = tt
-  heard R session kept (Err e) old new was view is =
+  pub heard : {E : Type 0} (R : Type 0) (session : ℕ) (called kept : Studio K) (result : Result R E) (old new : Seat K C) (was : Seen K)
+      → called ≡ kept → seen_by session kept old ≡ was → SeatGoesOn called old new
+      → OnErr result (calling.HasHeard (known_by old) (known_by new)) → OnErr result (HasHeard was (seen_by session kept new))
+  heard R session called kept (Ok reply) old new was same view goes_on is = tt
+  heard R session called kept (Err e) old new was same view goes_on is =
       subst (λ (seen : Seen K). HasHeard seen (seen_by session kept new)) view
-      (heard_in session (base_of kept) (opening_shelf kept) (known_by old) (known_by new) is)
+      (subst (λ (s : Studio K). HasHeard (seen_by session s old) (seen_by session s new)) same
+      (heard_in session (base_of called) (opening_shelf called) (known_by old) (known_by new) goes_on.seat.front.legal is))
 
 -- a session that did nothing has heard nothing
-pub same_heard : {K : Type 0} (seen : Seen K) → HasHeard seen seen
-same_heard seen = record { same = record { session = refl; base = refl; shelf = refl }; begins = prefix_self seen.entries }
+pub same_heard : {K : Type 0} (seen : Seen K) → IsLegal seen.base seen.entries → HasHeard seen seen
+same_heard seen legal = record {
+  goes_on = record { session = refl; base = refl; shelf = refl; legal = legal };
+  begins = prefix_self seen.entries;
+  made = refl;
+}

@@ -17,10 +17,10 @@ use Rattle.xcf_sessions.specs.Answered.{IsAnswered, IsTileCall}
 use Rattle.xcf_sessions.specs.Replies.{IsOfSave, IsOfTile}
 use Rattle.xcf_sessions.specs.Seen.{Seen}
 
-by_room : (full : Bool) (P : Reply → Type 0) (reply : Reply) (A B C : Type 0) → P machine.history_full → (C → P reply)
-    → MatchBool full ((reply ≡ machine.history_full) × A) (C × B) → P reply
-by_room true P reply A B C at_end from is = subst P (sym is.0) at_end
-by_room false P reply A B C at_end from is = from is.0
+by_room : (full : Bool) (P : Reply → Type 0) (reply : Reply) (A B C D E : Type 0) → P machine.history_full → (E → P reply)
+    → MatchBool full ((reply ≡ machine.history_full) × A × B) (E × C × D) → P reply
+by_room true P reply A B C D E at_end from is = subst P (sym is.0) at_end
+by_room false P reply A B C D E at_end from is = from is.0
 
 -- ---- a new version
 
@@ -34,7 +34,7 @@ own_given base s machine.top reply own is = absurd own
 
 pub own : {K : Type 0} (old new : Seen K) (call : Call) (reply : Reply) → IsOwnCall call → IsAnswered call reply old new → IsOwn reply
 own old new call reply is answered =
-    by_room _ IsOwn reply _ _ _ tt (own_given old.base _ call reply is) answered.is
+    by_room _ IsOwn reply _ _ _ _ _ tt (own_given old.base _ call reply is) answered.is
 
 -- ---- a picture
 
@@ -82,7 +82,7 @@ tile_given base s machine.top place reply of_tile is = absurd of_tile
 pub of_tile : {K : Type 0} (old new : Seen K) (call : Call) (at : TileAt) (reply : Reply) → IsTileCall call at → IsAnswered call reply old new
     → IsOfTile reply
 of_tile old new call at reply is answered =
-    by_room _ IsOfTile reply _ _ _ tt (tile_given old.base _ call at reply is) answered.is
+    by_room _ IsOfTile reply _ _ _ _ _ tt (tile_given old.base _ call at reply is) answered.is
 
 -- ---- a save
 

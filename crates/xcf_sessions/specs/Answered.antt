@@ -1,5 +1,5 @@
 -- What comes of a call of a session.
-use Rattle.std.specs.Prelude.{◌≡◌, ℕ, List, [], ◌∷◌, ◌++◌, Option, None, IfOk, IfSome, MatchBool, Result}
+use Rattle.std.specs.Prelude.{◌≡◌, ℕ, List, [], ◌∷◌, ◌++◌, length, Option, None, IfOk, IfSome, MatchBool, Result}
 use mathlib.Core.List.{IsPrefix}
 use Rattle.spec_document.specs.Document.{Document}
 use Rattle.spec_document.specs.declared.TileAt.{TileAt}
@@ -13,7 +13,7 @@ use Rattle.xl_core.specs.History.{is_full}
 use Rattle.xcf.specs.Plain.{IsPlainGroup}
 use Rattle.xcf.specs.declared.errors.NotShown.{NotShown}
 use Rattle.xcf_sessions.specs.declared.shown.Shown.{Shown}
-use Rattle.xcf_sessions.specs.Seen.{Seen, IsSame, HasHeard}
+use Rattle.xcf_sessions.specs.Seen.{Seen, GoesOn, HasHeard}
 
 -- a group of plain edits, or any other call
 abbrev pub IsFilterless : Call → Type 0
@@ -34,19 +34,20 @@ IsTileCall machine.redo at = ⊥
 IsTileCall machine.top at = ⊥
 
 -- The call was answered after some history that begins with what the session had seen: what the others asked in between comes first.
--- It is answered as the machine may answer it there, and is the next entry, with its reply; a full history stays as it is. A tile is
--- of no older version than the session had seen.
+-- It is answered as the machine may answer it there, and is the next entry, with its reply, and the one that the session made; a full
+-- history stays as it is, and none was made. A tile is of no older version than the session had seen.
 pub record IsAnswered {K : Type 0} (call : Call) (reply : Reply) (old new : Seen K) : Type 0 where
+  pub goes_on : GoesOn old new
   pub before : List Entry
   pub begins : IsPrefix old.entries before
   pub is : MatchBool (is_full (record { base = old.base; entries = before }))
-      ((reply ≡ machine.history_full) × (new.entries ≡ before))
+      ((reply ≡ machine.history_full) × (new.entries ≡ before) × (new.made ≡ old.made))
       (Answers old.base (replay old.base before) call [] reply × (new.entries
-      ≡ before ++ record { session = old.session; index = next_index before old.session; kind = asked call []; reply = reply } ∷ []))
+      ≡ before ++ record { session = old.session; index = next_index before old.session; kind = asked call []; reply = reply } ∷ [])
+      × (new.made ≡ old.made ++ length before ∷ []))
   pub fresh : IsFreshReply (latest_of old.entries) reply
-  pub same : IsSame old new
 
--- the result stands for such an answer; where it stands for none nothing was asked
+-- the result stands for such an answer; where it stands for none the session made no entry
 pub record IsTold {K : Type 0} (call : Call) (reply : Option Reply) (old new : Seen K) : Type 0 where
   pub answered : IfSome reply (λ reply. IsAnswered call reply old new)
   pub heard : reply ≡ None → HasHeard old new

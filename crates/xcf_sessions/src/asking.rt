@@ -76,6 +76,7 @@ impl<D: Shelf> Session<D> {
             (reply_of said.0) said.1) }
         ensures heard { OnErr result (HasHeard self.old self.new) }
     {
+        self.know_legal();
         let Ok(chest) = Chest::new(alloc, Vec::new(alloc)) else {
             return Err(AllocError);
         };
@@ -137,6 +138,7 @@ impl<D: Shelf> Session<D> {
         ensures group { IsSome (reply_in result) → IsPlainGroup (edits_of edits) }
         ensures fails { IfErr result (Fails (edits_of edits)) }
     {
+        self.know_legal();
         check_group(edits.as_slice())?;
         self.tell(rt, alloc, Call::Edit(Group { guard, edits }))
     }

@@ -14,7 +14,8 @@ impl<D: Shelf> Session<D> {
     /// written while the other sessions go on; a save waits for one that is under way.
     ///
     /// Errors: `Fault` where the shelf failed, after which a read gives the old file or the new one, as a crash does.
-    /// After all others the old file stands: `NoMemory` where memory ran out for the file, `HistoryFull`, and `Memory`.
+    /// After all others the save has left the file as it was: `NoMemory` where memory ran out for the new one, `HistoryFull`, and
+    /// `Memory`. A save is two entries, its start and its end; after the last two there is none.
     pub fn save<W: Wait>(&mut self, rt: &W, alloc: Global) -> Result<u32, NotSaved>
         ensures { IsSaveTold D.shelf_state (reply_saved result) self.old self.new }
     {

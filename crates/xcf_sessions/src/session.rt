@@ -1,3 +1,5 @@
+ghost use Rattle.spec_history.specs.Kept.{IsLegal};
+
 use std::alloc::Global;
 use std::marker::Model;
 use std::sync::Arc;
@@ -29,7 +31,7 @@ where
     ghost use Rattle.std.specs.Coded.{codes};
     ghost use Rattle.spec_document.specs.Code.{coded_document};
     ghost use Rattle.xl_studio.specs.Moments.{entries_in};
-    ghost use Rattle.xl_studio.specs.Seats.{base_of, front_of, opening_shelf, IsSeatOf};
+    ghost use Rattle.xl_studio.specs.Seats.{base_of, front_of, made_of, opening_shelf, IsSeatOf};
     ghost use Rattle.xcf_sessions.specs.Seen.{Seen};
 
     ghost Value = { Seen D };
@@ -40,9 +42,19 @@ where
       session = s.number;
       base = base_of (arc_value s.studio);
       entries = entries_in (front_of s.seat);
+      made = made_of s.seat;
       shelf = opening_shelf (arc_value s.studio);
     } };
 
     ghost invariant = { λ s. IsSeatOf (arc_value s.studio) s.seat × (s.number < 8)
         × (s.width ≡ (base_of (arc_value s.studio)).width) × (s.height ≡ (base_of (arc_value s.studio)).height) };
+}
+
+impl<D: Shelf> Session<D> {
+    // Tells contracts that the history which it knows is legal.
+    pub(crate) fn know_legal(&self)
+        ensures { IsLegal self.now.base self.now.entries }
+    {
+        let _number = self.number;
+    }
 }

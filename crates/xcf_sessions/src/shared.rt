@@ -38,7 +38,7 @@ impl<D: Shelf> Model for SharedEditor<D>
 where
     Shared<D>: Chronicle<Entry = Moment<D>>,
 {
-    ghost use Rattle.std.specs.Prelude.{◌≡◌, ◌+◌, ◌≤◌, ◌^◌};
+    ghost use Rattle.std.specs.Prelude.{◌≡◌, ◌+◌, ◌≤◌, ◌^◌, []};
     ghost use Rattle.std.specs.Arc.{arc_value};
     ghost use Rattle.std.specs.Coded.{codes};
     ghost use Rattle.spec_document.specs.Code.{coded_document};
@@ -54,6 +54,7 @@ where
       session = s.opened;
       base = base_of (arc_value s.studio);
       entries = entries_in (front_of s.seat);
+      made = [];
       shelf = opening_shelf (arc_value s.studio);
     } };
 
@@ -90,22 +91,22 @@ impl<D: Shelf> SharedEditor<D> {
     }
 
     /// The image that a file holds, from the file's bytes, with a history without entries, and a shelf on which it is saved
-    /// under a name. The file need not stand there.
+    /// under a name. The file need not stand there, and nothing that is kept on the shelf changes.
     ///
     /// Errors: `NotOpened` with why the bytes are no image, or that memory ran out, and `NoName` where the shelf fails to select
-    /// the name.
+    /// the name. The shelf is gone then.
     pub fn open(
         alloc: Global,
         file: Vec<u8>,
         mut shelf: D,
         name: &str,
     ) -> Result<SharedEditor<D>, NotShared>
-        ensures { OpensShared D.shelf_state file.items name.now result }
+        ensures { OpensShared D.shelf_state file.items name.now shelf result }
     {
         let document = open(alloc, file)?;
-        if shelf.select(name).is_err() {
+        let Ok(()) = shelf.select(name) else {
             return Err(NotShared::NoName);
-        }
+        };
         Ok(SharedEditor::of(alloc, document, shelf)?)
     }
 

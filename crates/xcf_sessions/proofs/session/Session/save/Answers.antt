@@ -18,7 +18,9 @@ returns g c =
     let new = c.save.new.seat in
     elim c.match-save.branch [
       | in-Ok w ↦ save_told see number c.deref.result.now kept _ (reply_saved c.match-save.result) old new c.args.self.now
-          c.deref.ensures c.self.view_is (ap reply_saved w.result-is ∙ w.outcome_of_save.ensures) w.in-Ok.ensures.saved
+          c.deref.ensures c.self.view_is (ap reply_saved w.result-is ∙ w.outcome_of_save.ensures) w.in-Ok.ensures.goes_on
+          w.in-Ok.ensures.saved
       | in-Err w ↦ subst (λ r. IsSaveTold see (reply_saved r) c.args.self.now (seen_by number kept new)) (sym w.result-is)
-          (save_failed see number kept old new c.args.self.now c.self.view_is w.in-Err.ensures.failed)
+          (save_failed see number c.deref.result.now kept old new c.args.self.now c.deref.ensures c.self.view_is
+          w.in-Err.ensures.goes_on w.in-Err.ensures.failed)
     ]

@@ -20,5 +20,5 @@ returns-clause-answered g c =
 
 pub returns-clause-heard : goal.returns-clause-heard
 returns-clause-heard g c =
-    heard _ c.self.inside.number (arc_value c.self.inside.studio) c.call.result c.self.inside.seat c.call.new.seat c.args.self.now
-    c.self.view_is c.call.ensures.failed
+    heard _ c.self.inside.number c.deref.result.now (arc_value c.self.inside.studio) c.call.result c.self.inside.seat c.call.new.seat
+    c.args.self.now c.deref.ensures c.self.view_is c.call.ensures.goes_on c.call.ensures.failed
