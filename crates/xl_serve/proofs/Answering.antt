@@ -1,17 +1,18 @@
 -- What a line makes of what stands, by what it asks for.
-use Rattle.std.proofs.Common.{◌≡◌, ℕ, ◌+◌, ◌<◌, List, length, map, refl, sym, ap, ◌∙◌, subst}
+use Rattle.std.proofs.Common.{◌≡◌, inr, ℕ, ◌+◌, ◌<◌, List, length, map, refl, sym, ap, ◌∙◌, subst}
 use Rattle.std.specs.Prelude.{Option, Some, None, IfSome, slice_index}
 use Rattle.std.proofs.lemmas.List.{length-map}
 use Rattle.spec_script.specs.Script.{Line}
 use Rattle.spec_script.specs.Words.{words_of}
 use Rattle.spec_serve.specs.Hearing.{Asks, plays, requests, nothing, bad, Hearing, Heard, hear, hear_script}
 use Rattle.spec_serve.specs.Seen.{seen_by}
+use Rattle.spec_serve.specs.Talk.{IsTurn}
 use Rattle.spec_serve.specs.Windows.{Request, request_of}
 use Rattle.xl_history.specs.Editing.{Editing}
 use Rattle.xl_history.specs.History.{History}
 use Rattle.xl_run.specs.Filters.{FitsChest}
 use Rattle.xl_serve.specs.Played.{IsAnswered, GoesOn}
-use Rattle.xl_serve.specs.Serving.{Now, chest_at, StandsSomehow, Answers, IsPlayedOn}
+use Rattle.xl_serve.specs.Serving.{Now, chest_at, StandsSomehow, Answers, IsCutAt, IsPlayedOn}
 use Rattle.xl_serve.specs.Standing.{IsHearing}
 use Rattle.xl_serve.proofs.Heard.{IsHeardFit, dropped_then, AsksFit, heard_fit}
 use Rattle.xl_serve.proofs.Plain.{no_request, is_request, request_fit}
@@ -68,6 +69,17 @@ module _ (number : ℕ) (line : List ℕ) (old : Now) (asks : Asks) (hearing : H
   plays_on session played new text asked on base_is same viewed base filters lines turns at stands =
       played_on base filters lines turns number line old at stands session played heard on.seen on.chest text new heard_is asked
       (fit_of stands.hearing_is) on.played base_is same on.seen_is on.chests_is (viewed stands.viewed)
+
+  pub plays_made : (session : ℕ) (played : Line) (new : Now) (text : List ℕ) → asks ≡ plays session played
+      → IsPlayedOn session played (record old { hearing = hearing }) new text → IsCutAt number line old new
+  plays_made session played new text asked on =
+      let answered = on.played.answered number in
+      inr (
+        answered.turn,
+        subst (λ (h : Heard). IsTurn number h.asks answered.turn) heard_is
+            (subst (λ (a : Asks). IsTurn number a answered.turn) (sym asked) answered.is_turn),
+        answered.entries,
+      )
 
   plain_on : (plain : Asks) (text : List ℕ) → asks ≡ plain → ((s : ℕ) (dropped : List ℕ) → dropped_then plain s dropped ≡ dropped)
       → IsAnswered number plain old.history old.history text → Answers number line old (record old { hearing = hearing }) text

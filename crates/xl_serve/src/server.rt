@@ -1,5 +1,5 @@
 //! A document that is edited line by line.
-ghost use Rattle.std.specs.Prelude.{◌≡◌, ◌+◌, ◌<◌, map, length, None, IfOk, IsSome, OnErr, slice_index, slice_index_or, slice_set, []};
+ghost use Rattle.std.specs.Prelude.{◌≡◌, ◌+◌, ◌<◌, map, length, None, IfOk, IsSome, OnErr, OnOk, slice_index, slice_index_or, slice_set, []};
 ghost use Rattle.spec_script.specs.Words.{words_of};
 ghost use Rattle.spec_serve.specs.Seen.{seen_by};
 ghost use Rattle.xl_filters.specs.Chests.{states_in};
@@ -93,6 +93,11 @@ impl<D: Shelf> Server<D> {
             (map (λ d. states_in state d.chest) self.old.desks.items) self.old.viewer.seen)
             (now_of self.new.core.history self.new.hearing self.new.seen
             (map (λ d. states_in state d.chest) self.new.desks.items) self.new.viewer.seen)) }
+        ensures made { OnOk result (IsCutAt number line.now
+            (now_of self.old.core.history self.old.hearing self.old.seen
+            (map (λ d. states_in state d.chest) self.old.desks.items) self.old.viewer.seen)
+            (now_of self.new.core.history self.new.hearing self.new.seen
+            (map (λ d. states_in state d.chest) self.new.desks.items) self.new.viewer.seen)) }
     {
         match self.hearing.hear(alloc, number, line)? {
             Heard::Plays(session, line) => self.play(alloc, session, line, steps),
@@ -121,6 +126,11 @@ impl<D: Shelf> Server<D> {
             (map (λ d. states_in state d.chest) self.new.desks.items) self.new.viewer.seen)
             text.items) }
         ensures cut { OnErr result (IsCutAt number line.now
+            (now_of self.old.core.history self.old.hearing self.old.seen
+            (map (λ d. states_in state d.chest) self.old.desks.items) self.old.viewer.seen)
+            (now_of self.new.core.history self.new.hearing self.new.seen
+            (map (λ d. states_in state d.chest) self.new.desks.items) self.new.viewer.seen)) }
+        ensures made { OnOk result (IsCutAt number line.now
             (now_of self.old.core.history self.old.hearing self.old.seen
             (map (λ d. states_in state d.chest) self.old.desks.items) self.old.viewer.seen)
             (now_of self.new.core.history self.new.hearing self.new.seen
