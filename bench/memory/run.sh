@@ -26,7 +26,7 @@ fi
 memory=$copy/tree/crates/undo_memory
 if [ ! -d "$memory" ]; then
     mkdir -p "$memory/src"
-    echo 'undo_memory: sample_files sample_documents xl_ports xl_fakes xl_blend xl_filters xl_calls xl_core' >> "$copy/tree/crates.txt"
+    echo 'undo_memory: sample_bytes sample_documents xl_ports xl_fakes xl_blend xl_filters xl_calls xl_core' >> "$copy/tree/crates.txt"
 fi
 cp "$here/main.rt.txt" "$memory/src/main.rt"
 

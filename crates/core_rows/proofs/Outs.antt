@@ -1,7 +1,7 @@
 -- The jobs that are out stay right as the history goes on.
 use Rattle.std.proofs.Common.{◌≡◌, ℕ, ◌+◌, ◌≤◌, Bool, true, false, cond, ◌==◌, List, [], ◌∷◌, ◌++◌}
 use Rattle.std.proofs.Common.{sym, ◌∙◌, ap, subst, arith}
-use Rattle.std.specs.Prelude.{Option, Some, None, Result, Ok, Err, IfOk, IfSome, OnErr, option_to_list}
+use Rattle.std.specs.Prelude.{Result, Ok, Err, IfOk, OnErr}
 use Rattle.std.specs.List.{AllByRecursion}
 use Rattle.std.proofs.lemmas.List.{append-nil}
 use Rattle.spec_document.specs.Grid.{is_on_grid}
@@ -18,7 +18,6 @@ use Rattle.spec_world.specs.Events as events
 use Rattle.spec_world.specs.Events.{Outcome}
 use Rattle.spec_world.specs.Right as worlds
 use Rattle.spec_world.proofs.Filled.{all-behind}
-use Rattle.xl_compose.specs.Job.{Job, StandsFor, IsDone}
 use Rattle.xl_compose.specs.declared.clean.Done.{Done}
 use Rattle.xl_core.specs.Editing.{Editing, world, IsSubmitted, IsPictureOf, IsAsBefore}
 use Rattle.xl_core.specs.History.{History, version, document}
@@ -118,25 +117,7 @@ all_front : {A : Type 0} (P : A → Type 0) (xs ys : List A) → AllByRecursion 
 all_front P [] ys all = (tt, all)
 all_front P (x ∷ xs) ys all = let rest = all_front P xs ys all.1 in ((all.0, rest.0), rest.1)
 
-pub all_parted : (h : History) (outs rest : List Done) (last : Option Done) → outs ≡ rest ++ option_to_list last
-    → AllByRecursion (IsPictureOf h) outs
-    → AllByRecursion (IsPictureOf h) rest × IfSome last (IsPictureOf h)
-all_parted h outs rest last is all =
-    go last (all_front (IsPictureOf h) rest (option_to_list last) (subst (AllByRecursion (IsPictureOf h)) is all))
-  where
-    go : (o : Option Done) → AllByRecursion (IsPictureOf h) rest × AllByRecursion (IsPictureOf h) (option_to_list o)
-        → AllByRecursion (IsPictureOf h) rest × IfSome o (IsPictureOf h)
-    go None both = (both.0, tt)
-    go (Some d) both = (both.0, both.1.0)
-
 -- ---- a job that was taken and composed
-
-pub of_last : (h : History) (job : Job) (done : Done) → StandsFor (document h) job.stack job.at (version h) job → IsDone job done
-    → IsOfLast h done
-of_last h job done stands is = record {
-  version_is = is.version_is ∙ stands.version_is;
-  picture_is = is.picture_is ∙ (stands.picture_is ∙ (λ i. project (document h) (sym is.node_is i) (sym is.at_is i)));
-}
 
 pub picture_is_of : (h : History) (done : Done) → IsOfLast h done → has_stack (document h) done.node.0 ≡ true
     → is_on_grid (document h).width (document h).height done.at ≡ true → IsPictureOf h done

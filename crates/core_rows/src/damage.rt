@@ -1,6 +1,6 @@
 use crate::changes::{damage_by_colouring, damage_by_fading, damage_by_showing, with_zero};
 use crate::lists::{entry, is_list};
-use sample_files::{DEEP, FOUR, TWO};
+use sample_bytes::{DEEP, FOUR, TWO};
 use std::test::Fail;
 
 /// Where the visibility of the second layer of `FOUR` stands.

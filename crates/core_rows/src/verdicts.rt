@@ -7,8 +7,8 @@ ghost use Rattle.xl_audit.specs.Auditing.{IsFull};
 ghost use Rattle.xl_filters.specs.Chests.{states_in};
 ghost use Rattle.xl_script.specs.Lines.{lists_of};
 
+use sample_bytes::ONE;
 use sample_documents::document;
-use sample_files::ONE;
 use std::alloc::{AllocError, Global};
 use std::marker::Brand;
 use std::sync::ledger::{Blank, Ledger};

@@ -1,5 +1,5 @@
 //! How many tiles the way back from an edit keeps.
-use sample_files::TWO;
+use sample_bytes::TWO;
 use std::alloc::{AllocError, Global};
 use std::test::Fail;
 use xcf::{Bytes, Edit, Edits, Image, NodeId, Rect};

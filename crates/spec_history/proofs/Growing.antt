@@ -1,7 +1,7 @@
 -- Histories that grow by an entry. Versions.antt counts the versions, and Seen.antt says what a session has seen then.
 use Rattle.std.proofs.Common.{◌≡◌, ℕ, ◌+◌, ◌<◌, ◌≤◌, Bool, true, false, cond, List, [], ◌∷◌, ◌++◌, length, get_or}
 use Rattle.std.proofs.Common.{refl, sym, ◌∙◌, ap, subst, arith, lit<, append_assoc, length-append}
-use Rattle.std.specs.Prelude.{◌==◌, ◌&&◌, not, Option, Result, Ok, Err, MatchBool, slice_get, option_to_list}
+use Rattle.std.specs.Prelude.{◌==◌, ◌&&◌, not, Option, Result, Ok, Err, slice_get, option_to_list}
 use Rattle.std.proofs.lemmas.List.{append-nil, get_or_append_left}
 use Rattle.std.proofs.lemmas.List.Sums.{sum_by_push, sum_by-cons}
 use Rattle.std.proofs.lemmas.List.Elements.{filter-append}
@@ -92,10 +92,6 @@ mine-snoc es e session = filter-append (λ x. x.session == session) es (e ∷ []
 pub cond_both : {A : Type 0} (P : A → Type 0) (b : Bool) (x y : A) → P x → P y → P (cond b x y)
 cond_both P true x y p q = p
 cond_both P false x y p q = q
-
-pub match_both : (b : Bool) {P Q P' Q' : Type 0} → (P → P') → (Q → Q') → MatchBool b P Q → MatchBool b P' Q'
-match_both true f g h = f h
-match_both false f g h = g h
 
 -- ---- no call lets a save out or in
 
@@ -213,9 +209,6 @@ positive-grows old new (more, e) some = let l = ap length e in omega (arith, sim
 -- a history has the version 0 at least
 pub some_documents : (base : Document) (es : List Entry) → 0 < length (replay base es).documents
 some_documents base es = positive-grows (base ∷ []) (replay base es).documents (grows-replay_from base (initial base) es) (lit< tt)
-
-pub latest_within : (base : Document) (es : List Entry) → latest (replay base es) < length (replay base es).documents
-latest_within base es = let some = some_documents base es in omega arith
 
 -- more entries leave the document of a version as it was
 pub document_of-append : (base : Document) (es more : List Entry) (version : ℕ)

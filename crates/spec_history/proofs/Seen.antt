@@ -1,6 +1,6 @@
 -- What a session has seen after one more entry.
-use Rattle.std.proofs.Common.{◌≡◌, ℕ, ◌+◌, ◌≤◌, Bool, true, false, cond, List, [], ◌∷◌, ◌++◌, arith}
-use Rattle.std.specs.Prelude.{◌==◌, not, Option, Result, Ok, Err, MatchBool}
+use Rattle.std.proofs.Common.{◌≡◌, ℕ, ◌+◌, ◌≤◌, Bool, true, false, cond, List, [], ◌∷◌, arith}
+use Rattle.std.specs.Prelude.{not, Option, Result, Ok, Err}
 use Rattle.spec_document.specs.declared.TileAt.{TileAt}
 use Rattle.spec_document.specs.Grid.{is_on_grid}
 use Rattle.spec_document.specs.Document.{Document}
@@ -9,9 +9,8 @@ use Rattle.spec_edit.specs.Apply.{At, Refused, apply_group}
 use Rattle.spec_history.specs.Machine.{Call, edit, undo, redo, tile, peek, top, Reply, changed, Done, State, latest}
 use Rattle.spec_history.specs.Machine.{document_at, names, stays, again, moved, not_top, tile_of, no_stack}
 use Rattle.spec_history.specs.Machine.{outside_tile, has_stack, tile_reply, made, undo_answer, redo_answer, answer}
-use Rattle.spec_history.specs.History.{Entry, is_changed, latest_of}
-use Rattle.spec_history.specs.Kept.{IsFreshReply, IsFreshFrom, IsFresh}
-use Rattle.spec_history.proofs.Growing.{cond_both, match_both, latest_of-cons}
+use Rattle.spec_history.specs.Kept.{IsFreshReply}
+use Rattle.spec_history.proofs.Growing.{cond_both}
 
 one_more : (b : Bool) (now n : ℕ) → cond b (now + 1) now + n ≡ now + (cond b 1 0 + n)
 one_more true now n = omega arith
@@ -20,32 +19,6 @@ one_more false now n = omega arith
 no_less : (b : Bool) (now seen : ℕ) → seen ≤ now → seen ≤ cond b (now + 1) now
 no_less true now seen le = omega arith
 no_less false now seen le = le
-
--- an entry behind the others, with a reply that is fresh to whoever has seen the last version or less
-fresh-snoc : (session now seen : ℕ) (es : List Entry) (e : Entry)
-    → seen ≤ now → IsFreshFrom session now seen es
-    → ((last : ℕ) → last ≤ now + latest_of es → IsFreshReply last e.reply)
-    → IsFreshFrom session now seen (es ++ e ∷ [])
-fresh-snoc session now seen [] e le fresh last =
-    match_both (e.session == session) {P = Unit {0}} {Q = Unit {0}} {P' = IsFreshReply seen e.reply × Unit {0}} {Q' = Unit {0}}
-    (λ h. (last seen (omega arith), tt)) (λ h. tt)
-    (elim (e.session == session) as (λ b. MatchBool b (Unit {0}) (Unit {0})) [ true ↦ tt | false ↦ tt ])
-fresh-snoc session now seen (x ∷ es) e le fresh last =
-    let now' = cond (is_changed x.reply) (now + 1) now in
-    let count : now' + latest_of es ≡ now + latest_of (x ∷ es) =
-    rw (latest_of-cons x es) (one_more (is_changed x.reply) now (latest_of es)) in
-    let later : (l : ℕ) → l ≤ now' + latest_of es → IsFreshReply l e.reply = λ l h. last l (omega (arith, h, count)) in
-    match_both (x.session == session)
-    {P = IsFreshReply seen x.reply × IsFreshFrom session now' now' es} {Q = IsFreshFrom session now' seen es}
-    {P' = IsFreshReply seen x.reply × IsFreshFrom session now' now' (es ++ e ∷ [])} {Q' =
-    IsFreshFrom session now' seen (es ++ e ∷ [])}
-    (λ h. (h.0, fresh-snoc session now' now' es e (omega arith) h.1 later))
-    (λ h. fresh-snoc session now' seen es e (no_less (is_changed x.reply) now seen le) h later)
-    fresh
-
-pub IsFresh-snoc : (es : List Entry) (e : Entry) (session : ℕ)
-    → IsFresh es session → ((seen : ℕ) → seen ≤ latest_of es → IsFreshReply seen e.reply) → IsFresh (es ++ e ∷ []) session
-IsFresh-snoc es e session fresh last = fresh-snoc session 0 0 es e (omega arith) fresh (λ l h. last l (omega (arith, h)))
 
 fresh_cond : (seen : ℕ) (b : Bool) (x y : Reply) → IsFreshReply seen x → IsFreshReply seen y → IsFreshReply seen (cond b x y)
 fresh_cond seen b x y p q = cond_both (IsFreshReply seen) b x y p q

@@ -1,7 +1,7 @@
 -- The digests of the tiles that a session was shown, as the history grows.
 use Rattle.std.proofs.Common.{◌≡◌, ℕ, ◌+◌, ◌<◌, ◌≤◌, Bool, true, false, cond, List, [], ◌∷◌, ◌++◌, length, Some, None}
 use Rattle.std.proofs.Common.{refl, sym, ◌∙◌, ap, subst, arith, append-nil, append_assoc}
-use Rattle.std.specs.Prelude.{◌&&◌, not, Option, Result, Ok, Err}
+use Rattle.std.specs.Prelude.{not}
 use Rattle.std.specs.List.{AllByRecursion}
 use Rattle.std.proofs.lemmas.List.Concat.{flat_map-append, flat_map-cons}
 use mathlib.Core.List.{IsPrefix}
@@ -9,19 +9,17 @@ use Rattle.spec_document.specs.declared.TileAt.{TileAt}
 use Rattle.spec_document.specs.Grid.{is_on_grid}
 use Rattle.spec_document.specs.Document.{Document}
 use Rattle.spec_document.specs.Picture.{project}
-use Rattle.spec_edit.specs.Edit.{Edit}
-use Rattle.spec_edit.specs.Apply.{At, Refused, apply_group}
-use Rattle.spec_history.specs.Machine.{Call, edit, undo, redo, tile, peek, top, Reply, moved, tile_of, no_stack}
-use Rattle.spec_history.specs.Machine.{outside_tile, State, Saving, Done, Answer, latest, document_at, initial, names}
-use Rattle.spec_history.specs.Machine.{stays, made, answer, undo_answer, redo_answer, has_stack, tile_reply}
-use Rattle.spec_history.specs.History.{Entry, Kind, asked, starts, ends, after_entry, replay_from, replay, Answers}
+use Rattle.spec_history.specs.Machine.{tile_of, no_stack}
+use Rattle.spec_history.specs.Machine.{outside_tile, State, Saving, latest, initial}
+use Rattle.spec_history.specs.Machine.{has_stack, tile_reply}
+use Rattle.spec_history.specs.History.{Entry, Kind, starts, ends, after_entry, replay_from, replay}
 use Rattle.spec_history.specs.History.{PeekAnswers, MayPeek, EndsWith, MayEnd, MayBe, RunFrom}
 use Rattle.spec_history.specs.Kept.{IsLegal}
-use Rattle.spec_history.proofs.Growing.{cond_both, document_of-append}
+use Rattle.spec_history.proofs.Growing.{document_of-append}
 use Rattle.spec_history.proofs.Versions.{IsSound, sound-initial, goes-step, ends-run}
 use Rattle.spec_text.specs.Text.{digest_of, shown_digest}
 use Rattle.spec_seats.specs.Picked.{is_at, picked_from, picked}
-use Rattle.spec_seats.specs.Digests.{is_tile_reply, asks_tile, shows_tile, digest_in, digests_in}
+use Rattle.spec_seats.specs.Digests.{shows_tile, digest_in, digests_in}
 use Rattle.spec_seats.proofs.Entries.{picked-none}
 use Rattle.spec_seats.proofs.More.{picked_grown, picked_one, picked_two, before_end, with_save}
 use Rattle.spec_text.proofs.Shown.{IsUpTo, up_to_later, up_to_step, digest_stays}
@@ -122,41 +120,3 @@ digests_save base places es entered s between t legal begins within starts_so en
     ∙ digests_longer base places es all legal longer
 
 -- ---- the digest of a reply
-
-no_tile_made : (s : State) (old : At) (es : List Edit) (tables : List (List ℕ)) (r : Result At Refused)
-    → is_tile_reply (made s old es tables r).reply ≡ false
-no_tile_made s old es tables (Err r) = refl
-no_tile_made s old es tables (Ok new) = refl
-
-no_tile_undo : (s : State) (named : Option ℕ) (ds : List Done) → is_tile_reply (undo_answer s named ds).reply ≡ false
-no_tile_undo s named [] = refl
-no_tile_undo s named (d ∷ ds) = cond_both (λ (a : Answer). is_tile_reply a.reply ≡ false) (names named d.group) _ _ refl refl
-
-no_tile_redo : (s : State) (ds : List Done) → is_tile_reply (redo_answer s ds).reply ≡ false
-no_tile_redo s [] = refl
-no_tile_redo s (d ∷ ds) = refl
-
-tile_asked : (base : Document) (s : State) (c : Call) (tables : List (List ℕ)) (r : Reply) → Answers base s c tables r
-    → is_tile_reply r ≡ true → asks_tile c ≡ true
-tile_asked base s (edit guard es) tables r same is =
-    let old : At = record { document = document_at base s (latest s); next = s.next_id } in
-    let none : is_tile_reply (answer base s (edit guard es) tables).reply ≡ false =
-    cond_both (λ (a : Answer). is_tile_reply a.reply ≡ false) (names guard (latest s))
-    (made s old es tables (apply_group old es tables)) (stays s (moved (latest s)))
-    (no_tile_made s old es tables (apply_group old es tables)) refl in
-    sym none ∙ ap is_tile_reply (sym same) ∙ is
-tile_asked base s (undo named) tables r same is = sym (no_tile_undo s named s.undo) ∙ ap is_tile_reply (sym same) ∙ is
-tile_asked base s redo tables r same is = sym (no_tile_redo s s.redo) ∙ ap is_tile_reply (sym same) ∙ is
-tile_asked base s (tile stack at) tables r same is = refl
-tile_asked base s (peek stack at) tables r same is = refl
-tile_asked base s top tables r same is = ap is_tile_reply (sym same) ∙ is
-
-both_or_none : (asks shown : Bool) → (shown ≡ true → asks ≡ true) → (asks && shown) ≡ shown
-both_or_none true shown h = refl
-both_or_none false true h = h refl
-both_or_none false false h = refl
-
--- a call shows a tile where its reply is one
-pub shows_as_reply : (base : Document) (s : State) (c : Call) (tables : List (List ℕ)) (r : Reply) → Answers base s c tables r
-    → shows_tile (asked c tables) r ≡ is_tile_reply r
-shows_as_reply base s c tables r answers = both_or_none (asks_tile c) (is_tile_reply r) (tile_asked base s c tables r answers)

@@ -6,11 +6,6 @@ use Rattle.spec_history.specs.Machine.{Call}
 use Rattle.spec_tables.specs.Agrees.{IsPartAfter}
 use Rattle.spec_standing.specs.Now.{Now, accepts}
 
--- of the machine that a value stands for
-pub part_seen : (inside seen : Now) (call : Call) (before after : List (Option FilterState)) → inside ≡ seen
-    → IsPartAfter (accepts inside call) before after call → IsPartAfter (accepts seen call) before after call
-part_seen inside seen call before after same part = subst (λ n. IsPartAfter (accepts n call) before after call) same part
-
 -- of the call that was asked
 pub part_asked : {A E : Type 0} (r : Result A E) (now : Now) (one other : Call) (before after : List (Option FilterState))
     → one ≡ other → OnErr r (IsPartAfter (accepts now one) before after one)

@@ -8,7 +8,7 @@ use std::process::Abort;
 use std::sync::Wait;
 use std::test::Fail;
 use std::thread::{Threads, join};
-use xl_turn::{Chronicle, Seat, TurnLock};
+use xl_turn::{Chronicle, TurnLock, TurnSeat};
 
 /// Who took a turn, in order.
 #[derive(Drop)]
@@ -50,7 +50,7 @@ impl Tally {
     }
 }
 
-fn take_turn<W: Wait>(rt: &W, lock: &TurnLock<Tally>, seat: &mut Seat<Tally>, who: u64)
+fn take_turn<W: Wait>(rt: &W, lock: &TurnLock<Tally>, seat: &mut TurnSeat<Tally>, who: u64)
     requires { IsOf lock.now seat.old × IsIdle seat.old }
     ensures { IsOf lock.now seat.new × IsIdle seat.new × (weight_of seat.new ≡ weight_of seat.old) }
 {
@@ -62,10 +62,10 @@ fn take_turn<W: Wait>(rt: &W, lock: &TurnLock<Tally>, seat: &mut Seat<Tally>, wh
 fn take_turns<W: Wait>(
     rt: &W,
     lock: &TurnLock<Tally>,
-    mut seat: Seat<Tally>,
+    mut seat: TurnSeat<Tally>,
     who: u64,
     rounds: u32,
-) -> Seat<Tally>
+) -> TurnSeat<Tally>
     requires { IsOf lock.now seat × IsIdle seat }
     ensures { IsOf lock.now result × IsIdle result × (weight_of result ≡ weight_of seat) }
 {
@@ -78,11 +78,11 @@ fn take_turns<W: Wait>(
 fn by_two<R: Threads + Wait + Sync>(
     rt: &R,
     lock: &TurnLock<Tally>,
-    first: Seat<Tally>,
-    second: Seat<Tally>,
+    first: TurnSeat<Tally>,
+    second: TurnSeat<Tally>,
     who: u64,
     rounds: u32,
-) -> Seat<Tally>
+) -> TurnSeat<Tally>
     requires who { who < 100 }
     requires first { IsOf lock.now first × IsIdle first }
     requires second { IsOf lock.now second × IsIdle second }
@@ -98,7 +98,7 @@ fn by_two<R: Threads + Wait + Sync>(
     first
 }
 
-type Two = (Seat<Tally>, Seat<Tally>);
+type Two = (TurnSeat<Tally>, TurnSeat<Tally>);
 
 fn by_four<R: Threads + Wait + Sync>(
     rt: &R,
@@ -107,7 +107,7 @@ fn by_four<R: Threads + Wait + Sync>(
     right: Two,
     who: u64,
     rounds: u32,
-) -> Seat<Tally>
+) -> TurnSeat<Tally>
     requires who { who < 90 }
     requires left { IsOf lock.now left.0 × IsIdle left.0 × IsOf lock.now left.1 × IsIdle left.1 }
     requires right { IsOf lock.now right.0 × IsIdle right.0 × IsOf lock.now right.1
@@ -118,13 +118,13 @@ fn by_four<R: Threads + Wait + Sync>(
 {
     let (mut seat, other) = join(
         rt,
-        || -> Seat<Tally>
+        || -> TurnSeat<Tally>
             requires { IsSync R.row × (who < 90) × IsOf lock.now left.0 × IsIdle left.0
                 × IsOf lock.now left.1 × IsIdle left.1 }
             ensures { IsOf lock.entry.now result × IsIdle result
                 × (weight_of result ≡ weight_of left.0 + weight_of left.1) }
         { by_two(rt, lock, left.0, left.1, who, rounds) },
-        || -> Seat<Tally>
+        || -> TurnSeat<Tally>
             requires { IsSync R.row × (who < 90) × IsOf lock.now right.0 × IsIdle right.0
                 × IsOf lock.now right.1 × IsIdle right.1 }
             ensures { IsOf lock.entry.now result × IsIdle result
@@ -135,7 +135,7 @@ fn by_four<R: Threads + Wait + Sync>(
     seat
 }
 
-fn two_more(lock: &TurnLock<Tally>, seat: &mut Seat<Tally>) -> Two
+fn two_more(lock: &TurnLock<Tally>, seat: &mut TurnSeat<Tally>) -> Two
     requires { IsOf lock.now seat.old × IsIdle seat.old × (3 ≤ weight_of seat.old) }
     ensures first { IsOf lock.now result.0 × IsIdle result.0 × (weight_of result.0 ≡ 1) }
     ensures second { IsOf lock.now result.1 × IsIdle result.1 × (weight_of result.1 ≡ 1) }
@@ -168,14 +168,14 @@ fn eight_threads(rt: HostRuntime) -> Result<(), Fail> {
     let handle = &rt;
     let (mut seat, other) = join(
         &rt,
-        || -> Seat<Tally>
+        || -> TurnSeat<Tally>
             requires { IsOf shared.now seat × IsIdle seat × IsOf shared.now e × IsIdle e
                 × IsOf shared.now c.0 × IsIdle c.0 × IsOf shared.now c.1 × IsIdle c.1 }
             ensures { IsOf shared.entry.now result × IsIdle result
                 × (weight_of result ≡ (weight_of seat + weight_of e)
                 + (weight_of c.0 + weight_of c.1)) }
         { by_four(handle, shared, (seat, e), c, 0, 500) },
-        || -> Seat<Tally>
+        || -> TurnSeat<Tally>
             requires { IsOf shared.now a × IsIdle a × IsOf shared.now b × IsIdle b
                 × IsOf shared.now d.0 × IsIdle d.0 × IsOf shared.now d.1 × IsIdle d.1 }
             ensures { IsOf shared.entry.now result × IsIdle result

@@ -7,6 +7,7 @@ use denote.Ref.{Bor}
 use Rattle.std.specs.Str.Parse.{starts_with_minus}
 use Rattle.spec_command.specs.Arguments.{Argument, Asked, edit, render, info, make, pack, flatten, view, audit}
 use Rattle.spec_command.specs.Grammar.{plain_app, is_faultless}
+use Rattle.spec_window.specs.Window.{IsWindowSize}
 use Rattle.xl_command.specs.declared.command.Command.{Command}
 use Rattle.xl_command.specs.declared.command.Command.TheVariants as code
 
@@ -42,13 +43,6 @@ asked_of (code.Pack name with_plans) = pack name.now with_plans
 asked_of (code.Flatten name) = flatten name.now
 asked_of (code.View name cols rows) = view name.now cols rows
 asked_of (code.Audit name) = audit name.now
-
--- a window has 1 to 16 columns and rows
-pub record IsWindowSize (cols rows : ℕ) : Type 0 where
-  pub some_cols : 1 ≤ cols
-  pub few_cols : cols ≤ 16
-  pub some_rows : 1 ≤ rows
-  pub few_rows : rows ≤ 16
 
 -- an edit asks for eight workers at most, and a view for a window
 abbrev pub IsInRange : Asked → Type 0

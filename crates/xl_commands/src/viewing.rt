@@ -6,7 +6,7 @@ ghost use Rattle.spec_script.specs.Fits.{FitsFilters};
 ghost use Rattle.spec_script.specs.Script.{list_at};
 ghost use Rattle.spec_view.specs.Script.{IsViewedLine};
 ghost use Rattle.spec_view.specs.Text.{Views};
-ghost use Rattle.xl_command.specs.Asking.{IsWindowSize};
+ghost use Rattle.spec_window.specs.Window.{IsWindowSize};
 ghost use Rattle.xl_doc.specs.Numbered.{AreNumbered};
 ghost use Rattle.xl_ports.specs.Disk.{read_at};
 ghost use Rattle.xl_outcome.specs.AtSource.{IfOfSource};

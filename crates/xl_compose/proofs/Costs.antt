@@ -1,7 +1,7 @@
 -- Sums of steps.
 use Rattle.std.proofs.Common.{◌≡◌, ℕ, ◌+◌, ◌-◌, ◌*◌, ◌<◌, ◌≤◌, min, Bool, true, false, ap, ◌∙◌, arith}
 use Rattle.std.proofs.lemmas.Nat.{mul-le}
-use Rattle.xl_compose.specs.Cost.{one_if, visible_with}
+use Rattle.xl_compose.specs.Cost.{visible_with}
 
 -- a row more
 pub row_cost : (old so_far new rows w len : ℕ) → so_far ≡ old + rows * w → new ≡ so_far + len → len ≡ w → new ≡ old + (rows + 1) * w
@@ -11,22 +11,11 @@ row_cost old so_far new rows w len before more size = omega (arith, before, more
 pub part_cost : (old new ph pw h w : ℕ) → new ≡ old + ph * pw → ph ≤ h → pw ≤ w → new ≤ old + h * w
 part_cost old new ph pw h w is rows columns = omega (arith, is, mul-le ph pw h w rows columns)
 
--- a node over what is under it
-pub leaf_cost : (old mid new under n : ℕ) (visible : Bool) → mid ≤ old + under * n → new ≤ mid + one_if visible * n
-    → new ≤ old + (one_if visible + under) * n
-leaf_cost old mid new under n true below here = omega (arith, below, here)
-leaf_cost old mid new under n false below here = omega (arith, below, here)
-
 pub group_cost : (old mid inner new under inside n m : ℕ) (visible : Bool) → visible ≡ true → m ≡ n → mid ≤ old + under * n
     → inner ≤ mid + inside * n → new ≡ inner + m
     → new ≤ old + (visible_with visible inside + under) * n
 group_cost old mid inner new under inside n m true e same below in_it here = omega (arith, same, below, in_it, here)
 group_cost old mid inner new under inside n m false e same below in_it here = cc
-
-pub hidden_cost : (old new under inside n : ℕ) (visible : Bool) → visible ≡ false → new ≤ old + under * n
-    → new ≤ old + (visible_with visible inside + under) * n
-hidden_cost old new under inside n false e below = omega (arith, below)
-hidden_cost old new under inside n true e below = cc
 
 spread_sum : (count x y w : ℕ) → count * ((x + y) * w) ≡ count * (x * w) + count * (y * w)
 spread_sum count x y w = omega arith

@@ -9,9 +9,6 @@ use Rattle.spec_document.specs.Blend.{mul}
 use Rattle.xl_compose.specs.Neat.{IsNeat}
 use Rattle.spec_document.specs.Over.{over, over_normal, over_blended, mean, clear}
 
-mul-255 : (a : ℕ) → mul a 255 ≡ a
-mul-255 a = omega arith
-
 mean_below : (total above below : ℕ) → 0 < total → mean total 0 above below ≡ below
 mean_below total above below h =
     let whole : total - 0 ≡ total = omega arith in

@@ -1,6 +1,6 @@
 -- How far the filters of a group are asked.
 use Rattle.std.proofs.Common.{◌≡◌, ℕ, ◌+◌, ◌<◌, ◌≤◌, false, cond, List, [], ◌∷◌, ◌++◌, length, take, drop, get_or, sym}
-use Rattle.std.proofs.Common.{◌∙◌, ap, subst, arith, length-append, take_all}
+use Rattle.std.proofs.Common.{◌∙◌, ap, subst, arith, length-append}
 use Rattle.std.specs.Prelude.{Option, Some, None, is_some, IsTrue, IfSome, slice_set, option_map}
 use Rattle.std.specs.List.{AllByRecursion}
 use Rattle.std.proofs.lemmas.List.{drop_more, take_more, take-map, map-append, drop_all}
@@ -13,7 +13,7 @@ use Rattle.spec_filters.specs.Filters.{table_of, after_use}
 use Rattle.spec_filters.specs.Slots.{state_at, has_slot}
 use Rattle.spec_tables.specs.Acceptance.{filter_count}
 use Rattle.spec_tables.specs.Agrees.{AreThere, IsUsed, AreAsked, IsPartUsed}
-use Rattle.spec_tables.proofs.Asked.{none_asked, plain_asked, filter_asked, filter_used, filter_with}
+use Rattle.spec_tables.proofs.Asked.{plain_asked, filter_asked, filter_used, filter_with}
 use Rattle.spec_tables.proofs.Asked.{first_there, others_there}
 use Rattle.spec_tables.proofs.Chests.{same_there}
 use Rattle.xl_calls.specs.declared.edit.Edit.{Edit}
@@ -34,10 +34,6 @@ pub record IsAsking (old now : List (Option FilterState)) (edits : List Edit) (i
   pub count : IsCounted edits index (length tables)
   pub bytes : AllByRecursion AreBytes tables
   pub there : AreThere old (edits_of (drop index edits))
-
-pub asking_begins : (chest : List (Option FilterState)) (edits : List Edit) → AreThere chest (edits_of edits)
-    → IsAsking chest chest edits 0 []
-asking_begins chest edits h = record { asked = none_asked chest; count = omega arith; bytes = tt; there = h }
 
 -- the edits up to the next one
 one_more : (edits : List Edit) (index : ℕ) (e : Edit) → index < length edits → e ≡ get_or edits index e
@@ -121,13 +117,6 @@ asked_part old now new edits index tables e slot way inside is which put =
       subst (IsUsed old new) (one_more edits index e inside is ∙ sym (take-map edit_of (index + 1) edits))
           (filter_used old now new (edits_of (take index edits)) (edit_of e) f.0 f.1 slot way.asked.used f.2 put),
     )
-
--- all were asked
-pub all_asked : (old now : List (Option FilterState)) (edits : List Edit) (index : ℕ) (tables : List (List ℕ))
-    → IsAsking old now edits index tables → length edits ≤ index
-    → AreAsked old now (edits_of edits) tables
-all_asked old now edits index tables way past =
-    subst (λ es. AreAsked old now (edits_of es) tables) (take_all index edits past) way.asked
 
 pub all_counted : (edits : List Edit) (index count : ℕ) → IsCounted edits index count → length edits ≤ index
     → count ≡ filter_count (edits_of edits)

@@ -1,15 +1,12 @@
 -- What stood in a buffer stays in front of what is appended.
-use Rattle.std.proofs.Common.{◌≡◌, ℕ, ◌≤◌, List, [], ◌++◌, length, take, drop, refl, sym, ap, ◌∙◌, arith, append_assoc}
-use Rattle.std.proofs.Common.{append-nil, length-take}
+use Rattle.std.proofs.Common.{◌≡◌, ℕ, List, [], ◌++◌, length, take, drop, refl, sym, ap, ◌∙◌, append_assoc}
+use Rattle.std.proofs.Common.{append-nil}
 use Rattle.std.proofs.lemmas.List.{take_at, take-append-drop}
 use Rattle.xl_fields.specs.Behind.{BeginsWith}
 
 -- bytes were appended
 pub begins_appended : (old more new : List ℕ) → new ≡ old ++ more → BeginsWith new old
 begins_appended old more new is = ap (take (length old)) is ∙ take_at old more (length old) refl
-
-pub begins_short : (whole front : List ℕ) → BeginsWith whole front → length front ≤ length whole
-begins_short whole front begins = omega (arith, ap length begins, length-take (length front) whole)
 
 pub begins_itself : (old new : List ℕ) → new ≡ old → BeginsWith new old
 begins_itself old new is = begins_appended old [] new (is ∙ sym (append-nil old))

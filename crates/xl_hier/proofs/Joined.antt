@@ -77,10 +77,3 @@ module _ {file : List ℕ} {first : ℕ} {f : Frame} {bands : List BandRoom} {ti
   pub joined_fault : (e : ReadRefusedOrMemory) → band.outcome ≡ Err e → HasRead file first f (Err e)
   joined_fault e bad =
       band_fault now.so_far within e [] band.tiles.items (subst (BandRead file first f now.row [] band.tiles.items) bad first_read)
-
--- all are put together
-pub all_joined : {file : List ℕ} {first : ℕ} {f : Frame} {bands : List BandRoom} {tiles : List (List ℕ)}
-    → Joining file first f bands tiles → length bands ≡ 0 → SoFar file first f (tiles_along f.height) tiles
-all_joined {file = file} {first = first} {f = f} {bands = bands} {tiles = tiles} joining none =
-    let all : joining.row ≡ tiles_along f.height = omega (arith, joining.left, none) in
-    subst (λ n. SoFar file first f n tiles) all joining.so_far

@@ -2,7 +2,6 @@
 use Rattle.std.proofs.Common.{◌≡◌, ℕ, ◌+◌, ◌≤◌, List, [], ◌∷◌, ◌++◌, length, refl, sym}
 use Rattle.std.proofs.Common.{◌∙◌, ap, subst, arith, length-append, add-zero}
 use Rattle.std.specs.Prelude.{Option, Some, None, IsSome}
-use Rattle.std.specs.declared.snapshot.Snapshot.{Snapshot}
 use Rattle.spec_document.specs.Document.{Document}
 use Rattle.spec_history.specs.Machine.{Call, Reply, saved, State, Saving, latest}
 use Rattle.spec_history.specs.History.{Entry, asked, starts, replay, EndsWith, MayEnd}
@@ -17,7 +16,7 @@ use Rattle.spec_saves.specs.Returns.{Returns, end_entry}
 use Rattle.spec_saves.proofs.Staying.{saves_started-snoc, stays_right}
 use Rattle.spec_saves.proofs.Ending.{comes_back_right}
 use Rattle.xl_history.specs.Editing.{last_of, index_out}
-use Rattle.xl_history.specs.Holding.{all_seen, IsPlace, at_hand, Holds}
+use Rattle.xl_history.specs.Holding.{IsPlace, at_hand, Holds}
 use Rattle.xl_history.specs.Room.{owed_in}
 use Rattle.xl_history.specs.declared.saving.ShelfPlace.{ShelfPlace}
 use Rattle.xl_history.specs.declared.saving.ShelfPlace.TheVariants.{In, Out}
@@ -71,11 +70,6 @@ owed_is K (In k) None there = refl
 owed_is K (In k) (Some out) there = absurd there
 owed_is K (Out index version) None there = absurd there
 owed_is K (Out index version) (Some out) there = refl
-
-pub seen-snoc : {K : Type 0} (seen : List (Snapshot K)) (s : Snapshot K) (k : K) → s.value ≡ k
-    → all_seen (seen ++ s ∷ []) ≡ all_seen seen ++ k ∷ []
-seen-snoc [] s k is = ap (λ x. x ∷ []) is
-seen-snoc (x ∷ seen) s k is = ap (λ xs. x.value ∷ xs) (seen-snoc seen s k is)
 
 pub last-snoc : {K : Type 0} (first : K) (ks : List K) (k : K) → last_of first (ks ++ k ∷ []) ≡ k
 last-snoc first [] k = refl

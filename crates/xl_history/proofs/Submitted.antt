@@ -6,7 +6,6 @@ use Rattle.std.proofs.lemmas.Bool.Decides.{nat_tests}
 use Rattle.spec_document.specs.Document.{Document}
 use Rattle.spec_history.specs.Machine as machine
 use Rattle.spec_history.specs.History.{asked, replay, next_index}
-use Rattle.spec_history.specs.Calls.{IsCall}
 use Rattle.spec_history.specs.declared.TheConstants.{MAX_ENTRIES}
 use Rattle.spec_world.specs.World.{World, entries_owed, free_entries}
 use Rattle.spec_world.specs.Events as events
@@ -51,15 +50,6 @@ pub right_same : {K : Type 0} (one old : Editing K) → one ≡ old → worlds.I
 right_same one old same is = subst (λ c. worlds.IsRight c.history.base (world c)) same is
 
 -- ---- calls that are no peeks
-
--- they are calls
-pub no_peek_is_call : (call : Call) → IsNoPeek call → IsCall call
-no_peek_is_call (machine.edit guard edits) built = built
-no_peek_is_call (machine.undo named) built = tt
-no_peek_is_call machine.redo built = tt
-no_peek_is_call (machine.tile stack at) built = tt
-no_peek_is_call (machine.peek stack at) built = tt
-no_peek_is_call machine.top built = tt
 
 -- they are answered as the machine answers them
 machine_reply : (base : Document) (w : World) (call : Call) (seen : ℕ) (tables : List (List ℕ)) → IsNoPeek call

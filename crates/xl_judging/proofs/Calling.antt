@@ -1,8 +1,7 @@
 -- The calls of the sessions, as they are listed.
-use Rattle.std.proofs.Common.{◌≡◌, ℕ, zero, suc, ◌+◌, ◌<◌, ◌≤◌, List, [], ◌∷◌, ◌++◌, length, map, drop, refl, ap, sym, ◌∙◌, arith, get_or, append_assoc, append-nil}
+use Rattle.std.proofs.Common.{◌≡◌, ℕ, zero, suc, ◌+◌, ◌<◌, List, [], ◌∷◌, ◌++◌, length, map, drop, refl, ap, sym, ◌∙◌, arith, get_or, append_assoc}
 use Rattle.std.specs.Prelude.{slice_get, unwrap_or}
 use Rattle.std.proofs.Math.Seq.{drop-cons}
-use Rattle.std.proofs.lemmas.List.{drop_all}
 use Rattle.std.proofs.lemmas.Option.{unwrap_or-slice_get}
 use Rattle.spec_document.specs.Rect.{count_from}
 use Rattle.spec_script.specs.Script as script
@@ -25,9 +24,6 @@ line_calls (script.forget slot) = []
 pub record AreCalled (lines : List Line) (place : ℕ) (calls : List script.Line) : Type 0 where
   pub same : calls ++ calls_of (lines_of (drop place lines)) ≡ calls_of (lines_of lines)
 
-pub called_begin : (lines : List Line) → AreCalled lines 0 []
-called_begin lines = record { same = refl }
-
 first_calls : (line : script.Line) (ls : List script.Line) → calls_of (line ∷ ls) ≡ line_calls line ++ calls_of ls
 first_calls (script.call c) ls = refl
 first_calls script.save ls = refl
@@ -47,11 +43,6 @@ called_more lines place calls d called lt =
           ∙ ap (λ (ls : List script.Line). calls ++ calls_of ls) (sym at) ∙ called.same;
     }
 
-pub called_all : (lines : List Line) (place : ℕ) (calls : List script.Line) → AreCalled lines place calls → length lines ≤ place
-    → calls ≡ calls_of (lines_of lines)
-called_all lines place calls called le =
-    sym (append-nil calls) ∙ ap (λ (ls : List Line). calls ++ calls_of (lines_of ls)) (sym (drop_all place lines le)) ∙ called.same
-
 -- ---- all sessions
 
 pub record AreGathered (lists : List (List Line)) (session : ℕ) (calls : List (List script.Line)) : Type 0 where
@@ -70,9 +61,6 @@ list_lines [] (suc session) = refl
 list_lines (ls ∷ lists) zero = refl
 list_lines (ls ∷ lists) (suc session) = list_lines lists session
 
-pub gathered_begin : (lists : List (List Line)) → AreGathered lists 0 []
-gathered_begin lists = record { same = refl }
-
 pub gathered_more : (lists : List (List Line)) (session : ℕ) (calls : List (List script.Line)) (next : List script.Line)
     → AreGathered lists session calls → next ≡ calls_of (lines_of (get_or lists session []))
     → AreGathered lists (session + 1) (calls ++ next ∷ [])
@@ -86,11 +74,6 @@ gathered_more lists session calls next gathered is =
       same = (λ i. gathered.same i ++ is i ∷ []) ∙ ap (λ (s : List script.Line). map f (count_from 0 session) ++ s ∷ []) (at ∙ ap f z)
           ∙ sym (map_snoc f 0 session) ∙ ap (λ (n : ℕ). map f (count_from 0 n)) one;
     }
-
-pub gathered_all : (lists : List (List Line)) (session : ℕ) (calls : List (List script.Line)) → AreGathered lists session calls
-    → session ≡ 8 → calls ≡ calls_in (lists_of lists)
-gathered_all lists session calls gathered is =
-    gathered.same ∙ ap (λ (n : ℕ). map (λ (k : ℕ). calls_for (lists_of lists) k) (count_from 0 n)) is
 
 -- ---- a word
 

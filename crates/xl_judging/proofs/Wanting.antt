@@ -1,7 +1,6 @@
 -- The versions that the words of an order want.
-use Rattle.std.proofs.Common.{◌≡◌, ℕ, ◌+◌, ◌<◌, ◌≤◌, Bool, List, [], ◌∷◌, length, take, sym, subst, get_or}
+use Rattle.std.proofs.Common.{◌≡◌, ℕ, ◌+◌, ◌<◌, Bool, List, [], ◌∷◌, length, take, sym, subst, get_or}
 use Rattle.std.specs.Prelude.{Option, Some, None}
-use Rattle.std.proofs.Common.{take_all}
 use Rattle.std.proofs.lemmas.List.{take_more}
 use Rattle.spec_document.proofs.Elements.{all-append, all-each}
 use Rattle.spec_text.specs.declared.OrderWord.{OrderWord}
@@ -26,10 +25,6 @@ pub record AreWantedTo (calls : List (List Line)) (replies : List (List Printed)
     : Type 0 where
   pub all : AreWanted calls replies wanted (take place order)
 
-pub wanted_begin : (calls : List (List Line)) (replies : List (List Printed)) (order : List OrderWord) (wanted : List Bool)
-    → AreWantedTo calls replies order 0 wanted
-wanted_begin calls replies order wanted = record { all = tt }
-
 -- one word more
 pub wanted_more : (calls : List (List Line)) (replies : List (List Printed)) (order : List OrderWord) (place : ℕ) (d : OrderWord)
     (old new : List Bool) → AreWantedTo calls replies order place old → place < length order → WantsMore old new
@@ -39,10 +34,6 @@ wanted_more calls replies order place d old new before lt more here = record {
       (all-append (WantsOfWord calls replies new) (take place order) (get_or order place d ∷ [])
       (words_more calls replies old new (take place order) more before.all) (here, tt));
 }
-
-pub wanted_all : (calls : List (List Line)) (replies : List (List Printed)) (order : List OrderWord) (place : ℕ) (wanted : List Bool)
-    → AreWantedTo calls replies order place wanted → length order ≤ place → AreWanted calls replies wanted order
-wanted_all calls replies order place wanted before le = subst (AreWanted calls replies wanted) (take_all place order le) before.all
 
 -- the same, where the words are read from a list that is the order
 pub wanted_on : (calls : List (List Line)) (replies : List (List Printed)) (order items : List OrderWord) (place : ℕ) (d : OrderWord)

@@ -12,10 +12,6 @@ abbrev pub with_front : List (List ℕ) → Read (List (List ℕ)) → Read (Lis
 with_front front (Ok names) = Ok (front ++ names)
 with_front front (Err fault) = Err fault
 
-pub nothing_read : (read : Read (List (List ℕ))) → with_front [] read ≡ read
-nothing_read (Ok names) = refl
-nothing_read (Err fault) = refl
-
 pub at_end : (front : List (List ℕ)) (all : Read (List (List ℕ))) (room left : ℕ) (payload : List ℕ) (at : ℕ)
     → room ≡ suc left → (at == length payload) ≡ true → with_front front (names_at room payload at) ≡ all
     → front ≡ result_unwrap_or all []

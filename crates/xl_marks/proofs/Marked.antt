@@ -1,6 +1,6 @@
 -- A loop over damage: what is left of it leads to the same cache.
-use Rattle.std.proofs.Common.{◌≡◌, ℕ, ◌+◌, ◌<◌, ◌≤◌, List, length, drop, get_or, sym, ◌∙◌, ap}
-use Rattle.std.proofs.lemmas.List.{drop_more, drop_all}
+use Rattle.std.proofs.Common.{◌≡◌, ℕ, ◌+◌, ◌<◌, List, length, drop, get_or, sym, ◌∙◌, ap}
+use Rattle.std.proofs.lemmas.List.{drop_more}
 use Rattle.spec_document.specs.declared.Rect.{Rect}
 use Rattle.spec_cache.specs.Cache.{Cache, mark}
 use Rattle.xl_tree.specs.declared.naming.NodeId.{NodeId}
@@ -13,11 +13,5 @@ pub marked-next : (damage : List (NodeId × Rect)) (i version : ℕ) (first cach
     ≡ marked_by (pairs_of damage) version first
 marked-next damage i version first cache d within left =
     ap (λ xs. marked_by (pairs_of xs) version cache) (sym (drop_more damage i d within)) ∙ left
-
-pub marked-all : (damage : List (NodeId × Rect)) (i version : ℕ) (first cache : Cache) → length damage ≤ i
-    → marked_by (pairs_of (drop i damage)) version cache ≡ marked_by (pairs_of damage) version first
-    → cache ≡ marked_by (pairs_of damage) version first
-marked-all damage i version first cache past left =
-    ap (λ xs. marked_by (pairs_of xs) version cache) (sym (drop_all i damage past)) ∙ left
 
 -- ---- those that come

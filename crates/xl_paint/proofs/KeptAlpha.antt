@@ -1,5 +1,5 @@
 -- New bytes with the old alpha.
-use Rattle.std.proofs.Common.{◌≡◌, ◌≢◌, ℕ, ◌+◌, ◌-◌, ◌*◌, ◌<◌, ◌≤◌, Bool, true, ◌==◌, ◌&&◌, cond, List, length, slice_index}
+use Rattle.std.proofs.Common.{◌≡◌, ◌≢◌, ℕ, ◌+◌, ◌-◌, ◌*◌, ◌<◌, ◌≤◌, true, ◌==◌, cond, List, length, slice_index}
 use Rattle.std.proofs.Common.{refl, sym, ◌∙◌, ap, arith, inl, inr, set, get_or-set_other, get_or-set_same, eq-eqb}
 use Rattle.std.proofs.lemmas.List.{length-set}
 use Rattle.std.proofs.lemmas.Bool.{cases_lt, cases_order, ne_eqb}
@@ -80,12 +80,3 @@ rows_kept rect p old new bytes is full same each = record {
       ap (slice_index bytes) place
       ∙ (each k c few hc ∙ (λ i. cond (c == n - 1) (was i) (slice_index new (sym place i))));
 }
-
--- rows of new bytes with another name
-pub but_alpha_rows : (rect : Rect) (p : Plane) (keeps : Bool) (a b : ℕ → ℕ → ℕ → ℕ)
-    → ((column row c : ℕ) → column < rect.w → row < rect.h → c < p.bpp → a column row c ≡ b column row c)
-    → (column row c : ℕ) → column < rect.w → row < rect.h → c < p.bpp
-    → but_alpha_in keeps p rect a column row c ≡ but_alpha_in keeps p rect b column row c
-but_alpha_rows rect p keeps a b same column row c hx hy hc =
-    ap (λ v. cond (keeps && c == p.bpp - 1) (byte_at p (part_above_0 rect.x + column) (part_above_0 rect.y + row) c) v)
-    (same column row c hx hy hc)

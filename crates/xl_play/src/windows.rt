@@ -13,7 +13,7 @@ ghost use Rattle.spec_text.specs.Text.{calls_of, digest_of};
 ghost use Rattle.spec_view.specs.Script.{is_viewed_call, IsViewedLine};
 ghost use Rattle.spec_view.specs.Text.{Views};
 ghost use Rattle.spec_window.specs.Window.{window, window_refusal};
-ghost use Rattle.xl_command.specs.Asking.{IsWindowSize};
+ghost use Rattle.spec_window.specs.Window.{IsWindowSize};
 ghost use Rattle.xl_history.specs.History.{document};
 ghost use Rattle.xl_calls.specs.Calls.{call_of};
 ghost use Rattle.xl_calls.specs.Replies.{reply_of};

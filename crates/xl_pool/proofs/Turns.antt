@@ -1,10 +1,10 @@
 -- Loops over stacks that go, and stacks that come: what is left of them leads to the same cache.
-use Rattle.std.proofs.Common.{◌≡◌, ℕ, ◌+◌, ◌-◌, ◌<◌, ◌≤◌, true, false, List, ◌∷◌, length, drop, get_or, refl, sym, ◌∙◌}
+use Rattle.std.proofs.Common.{◌≡◌, ℕ, ◌+◌, ◌-◌, ◌<◌, false, List, ◌∷◌, length, drop, get_or, sym, ◌∙◌}
 use Rattle.std.proofs.Common.{ap, subst, arith}
 use Rattle.std.specs.Prelude.{Some}
-use Rattle.std.proofs.lemmas.List.{drop_more, drop_all}
+use Rattle.std.proofs.lemmas.List.{drop_more}
 use Rattle.spec_cache.specs.Slots.{Slots, AreOfCanvas}
-use Rattle.spec_cache.specs.Cache.{Cache, IsCache, slots_of, has_slots, add_stack, drop_stack}
+use Rattle.spec_cache.specs.Cache.{Cache, IsCache, slots_of, has_slots, drop_stack}
 use Rattle.spec_cache.proofs.Found.{canvas-found}
 use Rattle.spec_cache.proofs.Order.{is_cache-filter}
 use Rattle.xl_tree.specs.declared.naming.NodeId.{NodeId}
@@ -23,24 +23,6 @@ pub record HaveGone (stacks : List NodeId) (i : ℕ) (first : Cache) (start : Po
   pub canvas : IsCache start.width start.height cache
   pub pool_is : pool ≡ record start { count = start.count + i }
 
-pub gone-first : (stacks : List NodeId) (first : Cache) (start : Pool) → AreGoing (numbers stacks) first
-    → IsCache start.width start.height first
-    → HaveGone stacks 0 first start first start
-gone-first stacks first start going canvas = record {
-  left = refl;
-  going = going;
-  canvas = canvas;
-  pool_is = ap (λ n. record start { count = n }) (let e : start.count ≡ start.count + 0 = omega arith in e);
-}
-
-pub gone-has : (stacks : List NodeId) (i : ℕ) (first : Cache) (start : Pool) (cache : Cache) (pool : Pool) (d : NodeId)
-    → i < length stacks
-    → HaveGone stacks i first start cache pool → has_slots cache (get_or stacks i d).0 ≡ true
-gone-has stacks i first start cache pool d within have =
-    let here : AreGoing (numbers (get_or stacks i d ∷ drop (i + 1) stacks)) cache =
-    subst (λ xs. AreGoing (numbers xs) cache) (drop_more stacks i d within) have.going in
-    here.0
-
 pub gone-next : (stacks : List NodeId) (i : ℕ) (first : Cache) (start : Pool) (cache : Cache) (pool : Pool) (d : NodeId)
     → i < length stacks
     → HaveGone stacks i first start cache pool
@@ -55,11 +37,6 @@ gone-next stacks i first start cache pool d within have =
       pool_is = ap {A = Pool} (λ p. record p { count = p.count + 1 }) have.pool_is
           ∙ ap (λ n. record start { count = n }) (let e : start.count + i + 1 ≡ start.count + (i + 1) = omega arith in e);
     }
-
-pub gone-all : (stacks : List NodeId) (i : ℕ) (first : Cache) (start : Pool) (cache : Cache) (pool : Pool) → length stacks ≤ i
-    → HaveGone stacks i first start cache pool → cache ≡ without_stacks (numbers stacks) first
-gone-all stacks i first start cache pool past have =
-    ap (λ xs. without_stacks (numbers xs) cache) (sym (drop_all i stacks past)) ∙ have.left
 
 -- slots that are handed out are for the canvas
 pub slots-sides : (width height : ℕ) (cache : Cache) (stack : ℕ) (s : Slots) → IsCache width height cache
@@ -76,15 +53,6 @@ pub record HaveCome (stacks : List NodeId) (i version : ℕ) (first : Cache) (st
   pub coming : AreComing (numbers (drop i stacks)) start.width start.height version cache
   pub pool_is : pool ≡ record start { count = start.count - i }
 
-pub come-first : (stacks : List NodeId) (version : ℕ) (first : Cache) (start : Pool)
-    → AreComing (numbers stacks) start.width start.height version first
-    → HaveCome stacks 0 version first start first start
-come-first stacks version first start coming = record {
-  left = refl;
-  coming = coming;
-  pool_is = ap (λ n. record start { count = n }) (let e : start.count ≡ start.count - 0 = omega arith in e);
-}
-
 pub come-here : (stacks : List NodeId) (i version : ℕ) (first : Cache) (start : Pool) (cache : Cache) (pool : Pool) (d : NodeId)
     → i < length stacks
     → HaveCome stacks i version first start cache pool
@@ -93,25 +61,3 @@ come-here stacks i version first start cache pool d within have =
     let here : AreComing (numbers (get_or stacks i d ∷ drop (i + 1) stacks)) start.width start.height version cache =
     subst (λ xs. AreComing (numbers xs) start.width start.height version cache) (drop_more stacks i d within) have.coming in
     (here.0, here.1.0)
-
-pub come-next : (stacks : List NodeId) (i version : ℕ) (first : Cache) (start : Pool) (cache : Cache) (pool : Pool) (d : NodeId)
-    → i < length stacks
-    → HaveCome stacks i version first start cache pool
-    → HaveCome stacks (i + 1) version first start (add_stack (get_or stacks i d).0 start.width start.height version cache)
-    (record pool { count = pool.count - 1 })
-come-next stacks i version first start cache pool d within have =
-    let here : AreComing (numbers (get_or stacks i d ∷ drop (i + 1) stacks)) start.width start.height version cache =
-    subst (λ xs. AreComing (numbers xs) start.width start.height version cache) (drop_more stacks i d within) have.coming in
-    record {
-      left = ap (λ xs. with_stacks (numbers xs) start.width start.height version cache) (sym (drop_more stacks i d within))
-          ∙ have.left;
-      coming = here.1.1;
-      pool_is = ap {A = Pool} (λ p. record p { count = p.count - 1 }) have.pool_is
-          ∙ ap (λ n. record start { count = n }) (let e : start.count - i - 1 ≡ start.count - (i + 1) = omega arith in e);
-    }
-
-pub come-all : (stacks : List NodeId) (i version : ℕ) (first : Cache) (start : Pool) (cache : Cache) (pool : Pool)
-    → length stacks ≤ i
-    → HaveCome stacks i version first start cache pool → cache ≡ with_stacks (numbers stacks) start.width start.height version first
-come-all stacks i version first start cache pool past have =
-    ap (λ xs. with_stacks (numbers xs) start.width start.height version cache) (sym (drop_all i stacks past)) ∙ have.left

@@ -1,5 +1,5 @@
 -- How what a crash leaves goes on over several calls of a shelf.
-use Rattle.std.proofs.Common.{◌≡◌, ◌⊎◌, inl, inr, ⊎_elim, ℕ, ◌+◌, ◌-◌, ◌≤◌, List, Option, Some, None, refl, sym, ◌∙◌, subst, arith}
+use Rattle.std.proofs.Common.{◌⊎◌, inl, inr, ⊎_elim, ℕ, ◌≤◌, List, Option, Some, None, refl, sym, ◌∙◌, subst, arith}
 use Rattle.std.specs.Prelude.{Contains}
 use Rattle.xl_ports.specs.Shelf.{Content}
 use Rattle.xl_ports.specs.Disk.{Disk, MayLeave, MightHaveLeft, Between, Elapses, Stays, IsQuiet, StaysThrough, OthersStay}
@@ -39,14 +39,6 @@ stays_back a b name stays c (inr other) = inr (subst (λ (l : List Content). Con
 pub stays_on : (a b : Disk) (name : List ℕ) → Stays a b name → (c : Content) → MayLeave a name c → MayLeave b name c
 stays_on a b name stays c (inl read) = inl (read ∙ sym stays.read)
 stays_on a b name stays c (inr other) = inr (subst (λ (l : List Content). Contains l c) (sym stays.others) other)
-
--- what might have been left since a moment might have been left since any earlier one
-pub since_earlier : (a : Disk) (name : List ℕ) (earlier since : ℕ) (c : Content) → earlier ≤ since → MightHaveLeft a name since c
-    → MightHaveLeft a name earlier c
-since_earlier a name earlier since c le (inl may) = inl may
-since_earlier a name earlier since c le (inr gone) =
-    let is : since ≡ earlier + (since - earlier) = omega (arith, le) in
-    inr (a.gone_earlier name earlier (since - earlier) c (subst (λ (n : ℕ). Contains (a.gone name n) c) is gone))
 
 pub no_time : (a : Disk) → Elapses a a
 no_time a = record { later = omega arith; nothing_else = λ name since c le left. inl left; keeps = λ name since c le left. left }
@@ -126,11 +118,6 @@ still (Some a) = quiet_still a
 
 pub quiet_quiet : (old mid new : Option Disk) → Between old mid IsQuiet → Between mid new IsQuiet → Between old new IsQuiet
 quiet_quiet old mid new = one_then IsQuiet IsQuiet IsQuiet quiet_then old mid new
-
--- the draft stays
-pub kept_still : (disk : Option Disk) → Between disk disk KeepsDraft
-kept_still None = tt
-kept_still (Some a) = refl
 
 pub kept_kept : (old mid new : Option Disk) → Between old mid KeepsDraft → Between mid new KeepsDraft → Between old new KeepsDraft
 kept_kept old mid new = one_then KeepsDraft KeepsDraft KeepsDraft (λ a b c first second. second ∙ first) old mid new

@@ -1,8 +1,7 @@
 -- Lines and words that are read one after another.
-use Rattle.std.proofs.Common.{◌≡◌, ℕ, suc, ◌+◌, ◌-◌, ◌<◌, ◌≤◌, Bool, true, false, cond, List, [], ◌∷◌, ◌++◌, length, take, drop, refl, ap, sym, ◌∙◌, arith, subst, append_assoc, append-nil, get_or, eq-eqb, ne_eqb}
+use Rattle.std.proofs.Common.{◌≡◌, ℕ, suc, ◌+◌, ◌-◌, ◌<◌, ◌≤◌, Bool, true, false, cond, List, [], ◌∷◌, ◌++◌, length, take, drop, refl, ap, sym, ◌∙◌, arith, subst, append_assoc, get_or, eq-eqb, ne_eqb}
 use Rattle.std.specs.Prelude.{Option, Some, None, option_map}
 use Rattle.std.proofs.Math.Seq.{drop-cons}
-use Rattle.std.proofs.lemmas.List.{drop_all}
 use Rattle.spec_script.specs.Words.{◌>>=◌, split_at, words_of}
 use Rattle.spec_text.specs.declared.OrderWord.{OrderWord}
 use Rattle.spec_audit.specs.Output.{Printed}
@@ -23,14 +22,6 @@ pub record IsLinesLeft (session count index : ℕ) (text rest : List ℕ) (done 
 behind_none : (o : Option (List Printed × List ℕ)) → behind o [] ≡ o
 behind_none None = refl
 behind_none (Some t) = refl
-
-pub lines_begin : (session count : ℕ) (text : List ℕ) → IsLinesLeft session count 0 text text []
-lines_begin session count text =
-    let z : count - 0 ≡ count = omega arith in
-    record {
-      within = omega arith;
-      same = ap (λ (n : ℕ). behind (read_lines session 0 n text) []) z ∙ behind_none (read_lines session 0 count text);
-    }
 
 -- a reply, and what is behind its line
 abbrev pair : Printed → List ℕ → Printed × List ℕ
@@ -80,13 +71,6 @@ lines_more session count index text rest after done p left lt is = record {
       ∙ ap (λ (n : ℕ). behind (read_lines session index n rest) done) (sym (count_more count index lt)) ∙ left.same;
 }
 
-pub lines_end : (session count index : ℕ) (text rest : List ℕ) (done : List Printed) → IsLinesLeft session count index text rest done → count ≤ index
-    → read_lines session 0 count text ≡ Some (done, rest)
-lines_end session count index text rest done left le =
-    let z : count - index ≡ 0 = omega (arith, le) in
-    sym left.same ∙ ap (λ (n : ℕ). behind (read_lines session index n rest) done) z
-    ∙ ap (λ (ps : List Printed). Some (ps, rest)) (append-nil done)
-
 -- ---- words
 
 abbrev words_after : Option (List OrderWord) → (done : List OrderWord) → Option (List OrderWord)
@@ -94,13 +78,6 @@ words_after o done = option_map (λ (ws : List OrderWord). done ++ ws) o
 
 pub record IsWordsLeft (text rest : List ℕ) (done : List OrderWord) : Type 0 where
   pub same : words_after (read_words (words_of rest)) done ≡ read_words (words_of text)
-
-after_none : (o : Option (List OrderWord)) → words_after o [] ≡ o
-after_none None = refl
-after_none (Some ws) = refl
-
-pub words_begin : (text : List ℕ) → IsWordsLeft text text []
-words_begin text = record { same = after_none (read_words (words_of text)) }
 
 after_more : (o : Option (List OrderWord)) (w : OrderWord) (done : List OrderWord)
     → words_after (option_map (λ (ws : List OrderWord). w ∷ ws) o) done ≡ words_after o (done ++ w ∷ [])
@@ -114,24 +91,6 @@ words_more text rest word after done w left split is = record {
       ∙ ap (λ (o : Option OrderWord). words_after (o >>= λ x. option_map (λ (ws : List OrderWord). x ∷ ws) (read_words (words_of after))) done) (sym is)
       ∙ ap (λ (ws : List (List ℕ)). words_after (read_words ws) done) (sym split) ∙ left.same;
 }
-
-pub words_bad : (text rest word after : List ℕ) (done : List OrderWord) → IsWordsLeft text rest done
-    → split_at 32 rest ≡ word ∷ split_at 32 after → read_word word ≡ None → read_words (words_of text) ≡ None
-words_bad text rest word after done left split is =
-    sym left.same ∙ ap (λ (ws : List (List ℕ)). words_after (read_words ws) done) split
-    ∙ ap (λ (o : Option OrderWord). words_after (o >>= λ x. option_map (λ (ws : List OrderWord). x ∷ ws) (read_words (words_of after))) done) is
-
-pub words_last : (text rest : List ℕ) (done : List OrderWord) (w : OrderWord) → IsWordsLeft text rest done → split_at 32 rest ≡ rest ∷ []
-    → read_word rest ≡ Some w → read_words (words_of text) ≡ Some (done ++ w ∷ [])
-words_last text rest done w left split is =
-    sym left.same ∙ ap (λ (ws : List (List ℕ)). words_after (read_words ws) done) split
-    ∙ ap (λ (o : Option OrderWord). words_after (o >>= λ x. option_map (λ (ws : List OrderWord). x ∷ ws) (Some [])) done) is
-
-pub words_last_bad : (text rest : List ℕ) (done : List OrderWord) → IsWordsLeft text rest done → split_at 32 rest ≡ rest ∷ []
-    → read_word rest ≡ None → read_words (words_of text) ≡ None
-words_last_bad text rest done left split is =
-    sym left.same ∙ ap (λ (ws : List (List ℕ)). words_after (read_words ws) done) split
-    ∙ ap (λ (o : Option OrderWord). words_after (o >>= λ x. option_map (λ (ws : List OrderWord). x ∷ ws) (Some [])) done) is
 
 -- ---- the mark of an end
 
@@ -169,13 +128,6 @@ pub record IsSessionsLeft (counts : List ℕ) (session : ℕ) (text rest : List 
   pub within : session ≤ length counts
   pub same : sessions_behind (read_sessions session (drop session counts) rest) done ≡ read_sessions 0 counts text
 
-sessions_none : (o : Option (List (List Printed) × List ℕ)) → sessions_behind o [] ≡ o
-sessions_none None = refl
-sessions_none (Some t) = refl
-
-pub sessions_begin : (counts text : List ℕ) → IsSessionsLeft counts 0 text text []
-sessions_begin counts text = record { within = omega arith; same = sessions_none (read_sessions 0 counts text) }
-
 counts_at : (counts : List ℕ) (session : ℕ) → session < length counts → drop session counts ≡ get_or counts session 0 ∷ drop (session + 1) counts
 counts_at counts session lt =
     let one : suc session ≡ session + 1 = omega arith in
@@ -187,13 +139,6 @@ list_pair ps after = (ps, after)
 -- a session's list in front of those that are read behind it
 abbrev lists_front : (session : ℕ) (counts : List ℕ) → List Printed × List ℕ → Option (List (List Printed) × List ℕ)
 lists_front session counts t = read_sessions (session + 1) counts t.1 >>= λ more. Some (t.0 ∷ more.0, more.1)
-
-pub sessions_bad : (counts : List ℕ) (session : ℕ) (text rest : List ℕ) (done : List (List Printed)) → IsSessionsLeft counts session text rest done
-    → session < length counts → read_lines session 0 (get_or counts session 0) rest ≡ None → read_sessions 0 counts text ≡ None
-sessions_bad counts session text rest done left lt is =
-    sym left.same
-    ∙ ap (λ (ns : List ℕ). sessions_behind (read_sessions session ns rest) done) (counts_at counts session lt)
-    ∙ ap (λ (o : Option (List Printed × List ℕ)). sessions_behind (o >>= lists_front session (drop (session + 1) counts)) done) is
 
 sessions_more_behind : (o : Option (List (List Printed) × List ℕ)) (ps : List Printed) (done : List (List Printed))
     → sessions_behind (o >>= λ more. Some (ps ∷ more.0, more.1)) done ≡ sessions_behind o (done ++ ps ∷ [])
@@ -211,10 +156,3 @@ sessions_more counts session text rest after done ps left lt is = record {
       ∙ ap (λ (ns : List ℕ). sessions_behind (read_sessions session ns rest) done) (sym (counts_at counts session lt))
       ∙ left.same;
 }
-
-pub sessions_end : (counts : List ℕ) (session : ℕ) (text rest : List ℕ) (done : List (List Printed)) → IsSessionsLeft counts session text rest done
-    → length counts ≤ session → read_sessions 0 counts text ≡ Some (done, rest)
-sessions_end counts session text rest done left le =
-    sym left.same
-    ∙ ap (λ (ns : List ℕ). sessions_behind (read_sessions session ns rest) done) (drop_all session counts le)
-    ∙ ap (λ (pss : List (List Printed)). Some (pss, rest)) (append-nil done)

@@ -1,6 +1,6 @@
 -- Looking up the tables of phrases and of causes.
-use Rattle.std.proofs.Common.{◌≡◌, ℕ, suc, ◌+◌, ◌<◌, ◌≤◌, true, false, List, [], ◌∷◌, length, map, drop, slice_index_or}
-use Rattle.std.proofs.Common.{refl, ap, sym, ◌∙◌, arith, Bor, ◌==◌, subst, eq-eqb}
+use Rattle.std.proofs.Common.{◌≡◌, ℕ, suc, ◌+◌, ◌<◌, ◌≤◌, false, List, [], ◌∷◌, length, map, drop, slice_index_or}
+use Rattle.std.proofs.Common.{refl, ap, sym, ◌∙◌, arith, Bor, ◌==◌, subst}
 use Rattle.std.specs.Prelude.{Some, None, Option}
 use Rattle.std.proofs.lemmas.List.{drop_all}
 use Rattle.std.proofs.Math.Seq.{drop-cons}
@@ -80,14 +80,6 @@ cause_at : (entries : List CodeEntry) (place code : ℕ) (words : List (List ℕ
     → cause_from entries place code words
     ≡ read_cause (entry_cause (slice_index_or entries place d) ∷ map entry_cause (drop (suc place) entries)) code words
 cause_at entries place code words d h = ap (λ (es : List CodeEntry). read_cause (map entry_cause es) code words) (drop-cons entries place d h)
-
-pub cause_found : (entries : List CodeEntry) (place code : ℕ) (d : CodeEntry) → IsCauseLeft entries place code → place < length entries
-    → code ≡ (slice_index_or entries place d).0
-    → (words : List (List ℕ)) → cause_if_any (Some (slice_index_or entries place d).1) words ≡ read_cause causes code words
-cause_found entries place code d left h e words =
-    let x = slice_index_or entries place d in
-    let is : (code == x.0) ≡ true = eq-eqb code x.0 e in
-    sym (cause_at entries place code words d h ∙ rw is refl) ∙ left.same words
 
 pub cause_goes_on : (entries : List CodeEntry) (place code : ℕ) (d : CodeEntry) → IsCauseLeft entries place code → place < length entries
     → (code ≡ (slice_index_or entries place d).0 → ⊥) → IsCauseLeft entries (place + 1) code

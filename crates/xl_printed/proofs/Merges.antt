@@ -1,44 +1,14 @@
 -- Words taken one after another are a merge just where all are.
-use Rattle.std.proofs.Common.{◌≡◌, ℕ, zero, suc, ◌+◌, ◌<◌, ◌≤◌, Bool, true, false, List, [], ◌∷◌, length, map, drop, refl, ap, sym, ◌∙◌, arith, get_or, eq-eqb, ne_eqb, ◌==◌}
-use Rattle.std.specs.Prelude.{Option, Some, None, ◌&&◌}
+use Rattle.std.proofs.Common.{◌≡◌, ℕ, zero, suc, ◌<◌, ◌≤◌, Bool, true, false, List, [], ◌∷◌, length, map, drop, refl, ap, sym, ◌∙◌, arith, get_or, eq-eqb, ne_eqb, ◌==◌}
+use Rattle.std.specs.Prelude.{◌&&◌}
 use Rattle.std.specs.Str.{bytes_eq}
-use Rattle.std.proofs.Math.Seq.{drop-cons}
-use Rattle.std.proofs.lemmas.List.{drop_all}
-use Rattle.spec_script.specs.Words.{◌>>=◌}
 use Rattle.spec_text.specs.declared.OrderWord.{OrderWord}
-use Rattle.xl_printed.specs.Merging.{Merging, take_word, take_words, before_all, merges, is_whole}
+use Rattle.xl_printed.specs.Merging.{Merging, take_words, before_all}
 
 -- ---- the loop over the words
 
 pub record AreTaken (saves : List (List Bool)) (order : List OrderWord) (place : ℕ) (m : Merging) : Type 0 where
   pub same : take_words saves m (drop place order) ≡ take_words saves before_all order
-
-pub taken_begin : (saves : List (List Bool)) (order : List OrderWord) → AreTaken saves order 0 before_all
-taken_begin saves order = record { same = refl }
-
-taken_at : (saves : List (List Bool)) (order : List OrderWord) (place : ℕ) (m : Merging) (d : OrderWord) → place < length order
-    → take_words saves m (drop place order) ≡ (take_word saves m (get_or order place d) >>= λ n. take_words saves n (drop (place + 1) order))
-taken_at saves order place m d lt =
-    let one : suc place ≡ place + 1 = omega arith in
-    ap (take_words saves m) (drop-cons order place d lt ∙ ap (λ (n : ℕ). get_or order place d ∷ drop n order) one)
-
-pub taken_more : (saves : List (List Bool)) (order : List OrderWord) (place : ℕ) (m n : Merging) (d : OrderWord) → AreTaken saves order place m
-    → place < length order → Some n ≡ take_word saves m (get_or order place d) → AreTaken saves order (place + 1) n
-taken_more saves order place m n d taken lt is = record {
-  same = ap (λ (o : Option Merging). o >>= λ x. take_words saves x (drop (place + 1) order)) is
-      ∙ sym (taken_at saves order place m d lt) ∙ taken.same;
-}
-
-pub taken_bad : (saves : List (List Bool)) (order : List OrderWord) (place : ℕ) (m : Merging) (d : OrderWord) → AreTaken saves order place m
-    → place < length order → None ≡ take_word saves m (get_or order place d) → merges saves order ≡ false
-taken_bad saves order place m d taken lt is =
-    ap (is_whole saves) (sym taken.same ∙ taken_at saves order place m d lt
-    ∙ ap (λ (o : Option Merging). o >>= λ x. take_words saves x (drop (place + 1) order)) (sym is))
-
-pub taken_all : (saves : List (List Bool)) (order : List OrderWord) (place : ℕ) (m : Merging) → AreTaken saves order place m
-    → length order ≤ place → is_whole saves (Some m) ≡ merges saves order
-taken_all saves order place m taken le =
-    ap (is_whole saves) (sym (ap (take_words saves m) (drop_all place order le)) ∙ taken.same)
 
 -- ---- the numbers of calls
 

@@ -1,9 +1,7 @@
 -- The calls of the sessions, as they are counted.
-use Rattle.std.proofs.Common.{◌≡◌, ℕ, zero, suc, ◌+◌, ◌<◌, ◌≤◌, ◌^◌, Bool, true, false, List, [], ◌∷◌, ◌++◌, length, map, drop, refl, ap, sym, ◌∙◌, arith, subst, get_or, append_assoc, append-nil}
+use Rattle.std.proofs.Common.{◌≡◌, ℕ, zero, suc, ◌+◌, ◌<◌, ◌≤◌, ◌^◌, Bool, true, false, List, [], ◌∷◌, ◌++◌, length, map, drop, refl, ap, sym, ◌∙◌, arith, subst, get_or}
 use Rattle.std.specs.Prelude.{Some, None}
 use Rattle.std.specs.List.{AllByRecursion}
-use Rattle.std.proofs.Math.Seq.{drop-cons}
-use Rattle.std.proofs.lemmas.List.{drop_all}
 use Rattle.std.proofs.lemmas.Option.{unwrap_or-slice_get}
 use Rattle.spec_document.specs.Rect.{count_from}
 use Rattle.spec_script.specs.Script as script
@@ -14,7 +12,7 @@ use Rattle.spec_audit.specs.Reading.{read_output}
 use Rattle.spec_audit.proofs.OneVerdict.{shape_read}
 use Rattle.spec_audit.proofs.Written.{read_shape}
 use Rattle.xl_script.specs.declared.script.Line.{Line}
-use Rattle.xl_script.specs.Lines.{line_of, lines_of, lists_of}
+use Rattle.xl_script.specs.Lines.{lines_of, lists_of}
 use Rattle.xl_printed.specs.Merging.{saves_along, saves_of, merges}
 use Rattle.xl_printed.proofs.MergesAre.{merges_true, merges_all}
 
@@ -27,33 +25,6 @@ line_saves (script.forget slot) = []
 
 pub record AreSaved (lines : List Line) (place : ℕ) (saves : List Bool) : Type 0 where
   pub same : saves ++ saves_along (calls_of (lines_of (drop place lines))) ≡ saves_along (calls_of (lines_of lines))
-
-pub saved_begin : (lines : List Line) → AreSaved lines 0 []
-saved_begin lines = record { same = refl }
-
-first_saves : (line : script.Line) (ls : List script.Line) → saves_along (calls_of (line ∷ ls)) ≡ line_saves line ++ saves_along (calls_of ls)
-first_saves (script.call c) ls = refl
-first_saves script.save ls = refl
-first_saves (script.forget slot) ls = refl
-
-pub saved_more : (lines : List Line) (place : ℕ) (saves : List Bool) (d : Line) → AreSaved lines place saves → place < length lines
-    → AreSaved lines (place + 1) (saves ++ line_saves (line_of (get_or lines place d)))
-saved_more lines place saves d saved lt =
-    let one : suc place ≡ place + 1 = omega arith in
-    let line = line_of (get_or lines place d) in
-    let rest = lines_of (drop (place + 1) lines) in
-    let at : lines_of (drop place lines) ≡ line ∷ rest =
-    ap lines_of (drop-cons lines place d lt) ∙ ap (λ (n : ℕ). line ∷ lines_of (drop n lines)) one in
-    record {
-      same = append_assoc saves (line_saves line) (saves_along (calls_of rest))
-          ∙ ap (λ (xs : List Bool). saves ++ xs) (sym (first_saves line rest))
-          ∙ ap (λ (ls : List script.Line). saves ++ saves_along (calls_of ls)) (sym at) ∙ saved.same;
-    }
-
-pub saved_all : (lines : List Line) (place : ℕ) (saves : List Bool) → AreSaved lines place saves → length lines ≤ place
-    → saves ≡ saves_along (calls_of (lines_of lines))
-saved_all lines place saves saved le =
-    sym (append-nil saves) ∙ ap (λ (ls : List Line). saves ++ saves_along (calls_of (lines_of ls))) (sym (drop_all place lines le)) ∙ saved.same
 
 -- ---- all sessions
 
@@ -72,9 +43,6 @@ list_lines [] (suc session) = refl
 list_lines (ls ∷ lists) zero = refl
 list_lines (ls ∷ lists) (suc session) = list_lines lists session
 
-pub listed_begin : (lists : List (List Line)) → AreListed lists 0 []
-listed_begin lists = record { same = refl }
-
 pub listed_more : (lists : List (List Line)) (session : ℕ) (saves : List (List Bool)) (next : List Bool) → AreListed lists session saves
     → next ≡ saves_along (calls_of (lines_of (get_or lists session []))) → AreListed lists (session + 1) (saves ++ next ∷ [])
 listed_more lists session saves next listed is =
@@ -88,11 +56,6 @@ listed_more lists session saves next listed is =
       same = (λ i. listed.same i ++ is i ∷ []) ∙ ap (λ (s : List Bool). map f (count_from 0 session) ++ s ∷ []) (at ∙ ap f z)
           ∙ sym (map_snoc f 0 session) ∙ ap (λ (n : ℕ). map f (count_from 0 n)) one;
     }
-
-pub listed_all : (lists : List (List Line)) (session : ℕ) (saves : List (List Bool)) → AreListed lists session saves → session ≡ 8
-    → saves ≡ saves_of (lists_of lists)
-listed_all lists session saves listed is =
-    listed.same ∙ ap (λ (n : ℕ). map (λ (k : ℕ). saves_along (calls_for (lists_of lists) k)) (count_from 0 n)) is
 
 -- ---- counts
 

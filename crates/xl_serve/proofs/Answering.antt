@@ -1,7 +1,6 @@
 -- What a line makes of what stands, by what it asks for.
-use Rattle.std.proofs.Common.{◌≡◌, inr, ℕ, ◌+◌, ◌<◌, List, length, map, refl, sym, ap, ◌∙◌, subst}
+use Rattle.std.proofs.Common.{◌≡◌, inr, ℕ, ◌+◌, ◌<◌, List, length, refl, sym, ap, ◌∙◌, subst}
 use Rattle.std.specs.Prelude.{Option, Some, None, IfSome, slice_index}
-use Rattle.std.proofs.lemmas.List.{length-map}
 use Rattle.spec_script.specs.Script.{Line}
 use Rattle.spec_script.specs.Words.{words_of}
 use Rattle.spec_serve.specs.Hearing.{Asks, plays, requests, nothing, bad, Hearing, Heard, hear, hear_script}
@@ -27,9 +26,6 @@ pub viewed_still : {D : Type 0} (old new : Editing D) (viewed then_viewed : Opti
 viewed_still old new viewed then_viewed same goes is =
     subst (λ v. viewing.GoesOn v new.history) (sym same)
     (goes_further viewed old.history new.history is (goes.base_is, goes.longer))
-
-pub some_desks : {D X : Type 0} (f : D → X) (ds : List D) → length (map f ds) ≡ 8 → length ds ≡ 8
-some_desks f ds eight = sym (length-map ds f) ∙ eight
 
 -- ---- a line that is no request
 

@@ -4,7 +4,7 @@ use Rattle.std.proofs.Common.{append_assoc, slice_set}
 use Rattle.std.specs.Prelude.{Option, Result, Ok, Err, OnErr, codes}
 use Rattle.spec_filters.specs.declared.FilterState.{FilterState}
 use Rattle.spec_history.specs.declared.TheConstants.{MAX_ENTRIES}
-use Rattle.spec_history.specs.Machine.{Call, Reply, saved}
+use Rattle.spec_history.specs.Machine.{Call, Reply}
 use Rattle.spec_history.specs.History.{Entry, asked, ends, is_changed, next_index, latest_of, mine}
 use Rattle.spec_history.specs.Kept.{IsFreshReply}
 use Rattle.spec_history.proofs.Growing.{latest_of-snoc}
@@ -104,9 +104,6 @@ module _ (old new : History) (session : ℕ) (c : Call) (seen then_seen : ℕ) (
       )
 
 -- ---- a save in its place
-
-start_reply : History → Reply
-start_reply old = saved (version old)
 
 -- no end of a save says anything of a tile, or changes the document
 end_fresh : (how : SaveEnd) (v seen : ℕ) → IsFreshReply seen (end_reply how v)

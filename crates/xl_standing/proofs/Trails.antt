@@ -1,5 +1,5 @@
 -- A trail, whose oldest group stands first, beside the groups that can be undone or redone, whose next one stands first.
-use Rattle.std.proofs.Common.{◌≡◌, ℕ, zero, suc, ◌+◌, ◌-◌, ◌<◌, ◌≤◌, inl, inr, List, [], ◌∷◌, ◌++◌, length, take, drop}
+use Rattle.std.proofs.Common.{◌≡◌, ℕ, zero, suc, ◌+◌, ◌-◌, ◌≤◌, inl, inr, List, [], ◌∷◌, ◌++◌, length, take, drop}
 use Rattle.std.proofs.Common.{refl, sym, ◌∙◌, ap, arith, length-append}
 use Rattle.std.specs.Prelude.{reverse, Some, option_map, slice_get}
 use Rattle.std.proofs.lemmas.List.{take_at, take_all, take-append-drop, length-drop, reverse-append, reverse-reverse, length-reverse}
@@ -33,11 +33,6 @@ reverse-newest n xs = elim (cases_lt (length xs) n) as (λ _. reverse (newest n 
 -- a group comes last, and so on top
 pub reverse-pushed : {X : Type 0} (xs : List X) (x : X) → reverse (newest MAX_UNDO (xs ++ x ∷ [])) ≡ push x (reverse xs)
 reverse-pushed xs x = reverse-newest MAX_UNDO (xs ++ x ∷ []) ∙ ap (take MAX_UNDO) (reverse-append xs (x ∷ []))
-
-pub newest-whole : {X : Type 0} (xs : List X) (x : X) → length xs < MAX_UNDO → newest MAX_UNDO (xs ++ x ∷ []) ≡ xs ++ x ∷ []
-newest-whole xs x room =
-    let none : length (xs ++ x ∷ []) - MAX_UNDO ≡ 0 = omega (arith, room, length-append xs (x ∷ [])) in
-    ap (λ k. drop k (xs ++ x ∷ [])) none
 
 pub newest-few : {X : Type 0} (n : ℕ) (xs : List X) → (length (newest n xs) ≤ n) × (length (newest n xs) ≤ length xs)
 newest-few n xs = (omega (arith, length-drop (length xs - n) xs), omega (arith, length-drop (length xs - n) xs))

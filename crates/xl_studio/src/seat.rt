@@ -27,7 +27,7 @@ pub struct Seat<D: Shelf>
 where
     Shared<D>: Chronicle<Entry = Moment<D>>,
 {
-    pub(crate) seat: xl_turn::Seat<Shared<D>>,
+    pub(crate) seat: xl_turn::TurnSeat<Shared<D>>,
     // The last version of the front.
     pub(crate) seen: u32,
     // Whether the last answer to it was that no more jobs are given out.

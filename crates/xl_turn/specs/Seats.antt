@@ -1,6 +1,6 @@
 -- A seat and a lock as callers see them: what a seat knows, whether it waits or holds the list, and what it may leave.
 use Rattle.std.specs.Prelude.{◌≡◌, ◌⊎◌, ℕ, ◌+◌, ◌-◌, ◌%◌, ◌^◌, ◌<◌, ◌≤◌, cond, ltb, List, [], ◌∷◌, ◌++◌, length, Option, None}
-use Rattle.xl_turn.specs.declared.seat.Seat.{Seat}
+use Rattle.xl_turn.specs.declared.seat.TurnSeat.{TurnSeat}
 use Rattle.xl_turn.specs.declared.seat.TurnLock.{TurnLock}
 use Rattle.xl_turn.specs.declared.seat.Held.{Held}
 use Rattle.xl_turn.specs.declared.view.Chronicle.{Ghosts}
@@ -14,35 +14,35 @@ opened_with lock = lock.table.shared.key.value
 
 module _ {T E : Type 0} {C : Ghosts T E} where
   -- a beginning of the one history
-  abbrev pub front_of : Seat T E C → List E
+  abbrev pub front_of : TurnSeat T E C → List E
   front_of s = s.seat.me.0.front
 
   -- the places of the entries that were made with this seat
-  abbrev pub made_of : Seat T E C → List ℕ
+  abbrev pub made_of : TurnSeat T E C → List ℕ
   made_of s = s.seat.me.0.made
 
   -- the weights of a lock's seats have the sum 2 ^ 32
-  abbrev pub weight_of : Seat T E C → ℕ
+  abbrev pub weight_of : TurnSeat T E C → ℕ
   weight_of s = s.seat.me.0.weight
 
   -- the list that the seat entered last
-  abbrev pub entered_by : Seat T E C → List E
+  abbrev pub entered_by : TurnSeat T E C → List E
   entered_by s = s.seat.me.0.entered
 
   -- how many entries the opening list had
-  abbrev pub start_of : Seat T E C → ℕ
+  abbrev pub start_of : TurnSeat T E C → ℕ
   start_of s = s.seat.me.0.start
 
   -- the seat is this lock's
-  abbrev pub IsOf : TurnLock T E → Seat T E C → Type 0
+  abbrev pub IsOf : TurnLock T E → TurnSeat T E C → Type 0
   IsOf lock s = (s.seat.table_id ≡ lock.table.shared.table_id) × (start_of s ≡ length (C.entries (opened_with lock)))
 
   -- the seat waits for nothing and holds nothing
-  abbrev pub IsIdle : Seat T E C → Type 0
+  abbrev pub IsIdle : TurnSeat T E C → Type 0
   IsIdle s = (s.seat.me.0.stage ≡ Idle) × (s.seat.me.1 ≡ [])
 
   -- it is the seat that entered the held value
-  abbrev pub Holds : Seat T E C → Held T → Type 0
+  abbrev pub Holds : TurnSeat T E C → Held T → Type 0
   Holds s held =
       (s.seat.me.0.stage ≡ Served)
       × (s.seat.me.1 ≡ (0, None) ∷ [])
@@ -50,7 +50,7 @@ module _ {T E : Type 0} {C : Ghosts T E} where
       × (held.len ≡ length (entered_by s))
 
   -- front, places and weight stay
-  pub record Keeps (before after : Seat T E C) : Type 0 where
+  pub record Keeps (before after : TurnSeat T E C) : Type 0 where
     pub front_stays : front_of after ≡ front_of before
     pub made_stays : made_of after ≡ made_of before
     pub weight_stays : weight_of after ≡ weight_of before

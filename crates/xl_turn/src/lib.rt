@@ -9,5 +9,5 @@ mod rule;
 mod seat;
 mod view;
 
-pub use seat::{Held, Seat, TurnLock};
+pub use seat::{Held, TurnLock, TurnSeat};
 pub use view::{Chronicle, Stage, View};
