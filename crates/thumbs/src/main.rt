@@ -55,7 +55,7 @@ fn hiding(alloc: Global, document: &Document) -> Result<Edits, AllocError> {
 // Hides the temporary layers, where there are any: a group has at least one edit.
 fn hide_temporary(alloc: Global, image: &mut Image) -> Result<(), NotEdited> {
     let edits = hiding(alloc, image.document())?;
-    if edits.len() == 0 {
+    if edits.is_empty() {
         return Ok(());
     }
     image.edit(alloc, edits)
