@@ -1,4 +1,4 @@
-ghost use Rattle.std.specs.Prelude.{◌≡◌, ◌<◌, IfOk, IsSome, IsTrue, OnOk, Ok, length};
+ghost use Rattle.std.specs.Prelude.{◌≡◌, ◌<◌, IfOk, IsSome, IsTrue, Ok};
 ghost use Rattle.spec_document.specs.Document.{renumber};
 ghost use Rattle.spec_file.specs.Reading.{reading};
 ghost use Rattle.spec_document.specs.Forest.{stack_at};

@@ -1,7 +1,6 @@
 -- What a session knows after a call, from what its seat knows.
-use Rattle.std.proofs.Common.{◌≡◌, ℕ, Bool, true, false, List, [], ◌∷◌, ◌++◌, length, refl, sym, ap, subst, ◌∙◌, Option}
+use Rattle.std.proofs.Common.{◌≡◌, ℕ, Bool, true, false, List, [], ◌∷◌, ◌++◌, length, refl, ap, subst, ◌∙◌, Option}
 use Rattle.std.specs.Prelude.{None, MatchBool, Result, Ok, Err, IfOk, OnErr}
-use mathlib.Core.List.{IsPrefix}
 use Rattle.spec_document.specs.Document.{Document}
 use Rattle.spec_filters.specs.declared.FilterState.{FilterState}
 use Rattle.spec_history.specs.History.{Entry, Answers, RunFrom, after_entry, asked, replay, replay_from}

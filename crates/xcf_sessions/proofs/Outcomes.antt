@@ -1,12 +1,12 @@
 -- Which replies a call of a session may get.
-use Rattle.std.proofs.Common.{◌≡◌, ℕ, Bool, true, false, cond, [], refl, sym, subst}
+use Rattle.std.proofs.Common.{◌≡◌, ℕ, Bool, true, false, cond, [], sym, subst}
 use Rattle.std.specs.Prelude.{not, Option, Some, None, MatchBool, MatchOption}
 use Rattle.spec_document.specs.Document.{Document}
 use Rattle.spec_document.specs.declared.TileAt.{TileAt}
 use Rattle.spec_document.specs.Grid.{is_on_grid}
 use Rattle.spec_history.specs.History.{Answers, MayPeek}
 use Rattle.spec_history.specs.Machine as machine
-use Rattle.spec_history.specs.Machine.{Call, Reply, State, answer, has_stack, tile_reply, version_shown}
+use Rattle.spec_history.specs.Machine.{Call, Reply, State, has_stack, tile_reply, version_shown}
 use Rattle.spec_history.proofs.Growing.{cond_both}
 use Rattle.spec_world.specs.declared.SaveEnd.{SaveEnd}
 use Rattle.spec_world.specs.declared.SaveEnd.TheVariants.{Done, Fault, Memory}

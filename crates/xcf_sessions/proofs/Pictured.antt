@@ -7,7 +7,7 @@ use Rattle.spec_history.specs.Machine.{Call, Reply}
 use Rattle.xl_core.specs.History.{Shows}
 use Rattle.xcf.specs.declared.errors.NotShown.{NotShown}
 use Rattle.xcf_sessions.specs.declared.shown.Shown.{Shown}
-use Rattle.xcf_sessions.specs.Answered.{IsShown, IsTileCall, ShowsIn}
+use Rattle.xcf_sessions.specs.Answered.{IsTileCall, ShowsIn}
 use Rattle.xcf_sessions.specs.Replies.{reply_shown}
 use Rattle.xcf_sessions.specs.Seen.{Seen, history_of}
 

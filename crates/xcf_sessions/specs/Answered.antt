@@ -1,7 +1,6 @@
 -- What comes of a call of a session.
 use Rattle.std.specs.Prelude.{◌≡◌, ℕ, List, [], ◌∷◌, ◌++◌, length, Option, None, IfOk, IfSome, MatchBool, Result}
 use mathlib.Core.List.{IsPrefix}
-use Rattle.spec_document.specs.Document.{Document}
 use Rattle.spec_document.specs.declared.TileAt.{TileAt}
 use Rattle.spec_document.specs.Grid.{tile_rect}
 use Rattle.spec_document.specs.Picture.{project}

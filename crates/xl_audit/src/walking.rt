@@ -1,12 +1,11 @@
 //! A walk along the order of an output, word by word, as far as each passes.
-ghost use Rattle.std.specs.Prelude.{◌≡◌, ◌+◌, ◌^◌, ◌<◌, List, true, false, [], length, IfOk, OnOk, MatchOption, Some, option_map, slice_index, slice_set};
+ghost use Rattle.std.specs.Prelude.{◌≡◌, ◌+◌, ◌^◌, ◌<◌, List, true, false, [], IfOk, OnOk, MatchOption, Some, option_map, slice_index, slice_set};
 ghost use Rattle.spec_cache.specs.Cache.{kept};
 ghost use Rattle.spec_history.specs.Calls.{IsCall};
 ghost use Rattle.spec_history.specs.Limited.{edits_of};
 ghost use Rattle.spec_history.specs.History.{Entry, is_changed};
 ghost use Rattle.spec_history.specs.Machine as machine;
 ghost use Rattle.spec_audit.specs.Deciding.{IsPlainCall};
-ghost use Rattle.spec_script.specs.Script.{Line};
 ghost use Rattle.spec_tables.specs.Agrees.{Agrees, AreThere, SameSlots};
 ghost use Rattle.spec_audit.specs.Walk.{Start, call_at, printed_at};
 ghost use Rattle.xl_audit.specs.Auditing.{FitsChest};

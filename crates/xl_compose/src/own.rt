@@ -1,9 +1,8 @@
 //! The pixels of a layer, from its bytes: one loop for each kind of layer.
-ghost use Rattle.std.specs.Prelude.{◌≡◌, ◌*◌, ◌<◌, ◌≤◌, ◌^◌, ℕ, length, slice_index_or, slice_get};
+ghost use Rattle.std.specs.Prelude.{◌≡◌, ◌*◌, ◌<◌, ◌≤◌, ◌^◌, ℕ, length, slice_get};
 ghost use Rattle.spec_document.specs.Document.{bytes_of_kind};
 ghost use Rattle.spec_document.specs.Source.{mapped};
-ghost use Rattle.spec_document.specs.Over.{clear};
-ghost use Rattle.xl_compose.specs.Own.{pixel_at, ArePixels};
+ghost use Rattle.xl_compose.specs.Own.{ArePixels};
 
 use xl_blend::Pixel;
 

@@ -3,7 +3,7 @@ ghost use Rattle.std.specs.Prelude.{◌≡◌, ◌+◌, ◌*◌, ◌<◌, ◌≤
 ghost use Rattle.spec_document.specs.Forest.{levels, stack_at};
 ghost use Rattle.spec_document.specs.declared.TheConstants.{MAX_DEPTH};
 ghost use Rattle.spec_document.specs.Rect.{part_above_0};
-ghost use Rattle.spec_document.specs.Picture.{picture as pixel_of_picture, picture_bytes};
+ghost use Rattle.spec_document.specs.Picture.{picture_bytes};
 ghost use Rattle.xl_doc.specs.Canvas.{IsInside};
 ghost use Rattle.xl_doc.specs.Nodes.{MarksAgree, nodes_of};
 ghost use Rattle.xl_compose.specs.Cost.{visible_in, visible_below};

@@ -5,10 +5,9 @@ ghost use Rattle.spec_document.specs.Forest.{levels};
 ghost use Rattle.spec_document.specs.Source.{faded, layer_source};
 ghost use Rattle.spec_document.specs.Picture.{any_visible, laid, stack_pixel, mode_above as mode_over};
 ghost use Rattle.xl_doc.specs.Nodes.{IsLeaf, MarksAgree, layer_of, nodes_of};
-ghost use Rattle.xl_compose.specs.Cost.{one_if, visible_in};
+ghost use Rattle.xl_compose.specs.Cost.{visible_in};
 ghost use Rattle.xl_compose.specs.Laid.{pixel};
 ghost use Rattle.xl_compose.specs.Source.{sheet_source};
-ghost use Rattle.xl_compose.specs.Neat.{IsNeat};
 ghost use Rattle.spec_document.specs.declared.TheConstants.{MAX_SIDE};
 ghost use Rattle.xl_tile.specs.declared.tile.TheConstants.{SCRATCH};
 

@@ -1,5 +1,5 @@
 //! The versions that printed peeks show.
-ghost use Rattle.std.specs.Prelude.{◌≡◌, ◌≤◌, true, [], length, OnOk, IfOk, Some, None, MatchOption};
+ghost use Rattle.std.specs.Prelude.{◌≡◌, ◌≤◌, true, [], OnOk, IfOk, Some, None, MatchOption};
 ghost use Rattle.xl_judging.specs.Calls.{line_in};
 ghost use Rattle.xl_judging.specs.Versions.{version_named, is_wanted, WantsMore, WantsOfWord, AreWanted, share_at, with_share};
 ghost use Rattle.spec_audit.specs.Walk.{printed_at};

@@ -29,7 +29,6 @@ use Rattle.xl_serve.specs.Talking.{WhyNone, HasSaid, LinesGo, IsUnderWay}
 use Rattle.xl_serve.specs.declared.ends.TalkEnd.{TalkEnd}
 use Rattle.xl_serve.specs.declared.ends.TalkEnd.TheVariants.{Ended, TooLong, SourceFault, SinkFault, Memory, NotBegun}
 use Rattle.xl_serve.proofs.Turns.{all_more}
-use mathlib.Core.List.{IsPrefix}
 
 -- ---- lines
 

@@ -4,7 +4,6 @@ ghost use Rattle.spec_history.specs.History.{ends};
 ghost use Rattle.spec_history.specs.declared.TheConstants.{MAX_ENTRIES};
 ghost use Rattle.spec_script.specs.Script as script;
 ghost use Rattle.spec_serve.specs.Said.{entry_text, told_line};
-ghost use Rattle.spec_serve.specs.Seen.{seen_by};
 ghost use Rattle.spec_filters.specs.declared.FilterState.{FilterState};
 ghost use Rattle.spec_world.specs.Events.{end_reply};
 ghost use Rattle.xl_calls.specs.Replies.{reply_of};

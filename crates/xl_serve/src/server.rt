@@ -1,12 +1,12 @@
 //! A document that is edited line by line.
-ghost use Rattle.std.specs.Prelude.{◌≡◌, ◌+◌, ◌<◌, map, length, None, IfOk, IsSome, OnErr, OnOk, slice_index, slice_index_or, slice_set, []};
+ghost use Rattle.std.specs.Prelude.{◌≡◌, ◌+◌, ◌<◌, map, length, None, IfOk, IsSome, OnErr, OnOk, slice_index, slice_index_or, []};
 ghost use Rattle.spec_script.specs.Words.{words_of};
 ghost use Rattle.spec_serve.specs.Seen.{seen_by};
 ghost use Rattle.xl_filters.specs.Chests.{states_in};
 ghost use Rattle.xl_script.specs.Lines.{line_of};
 ghost use Rattle.xl_run.specs.Filters.{FitsChest};
 ghost use Rattle.xl_serve.specs.Played.{GoesOn, IsCut, IsReady};
-ghost use Rattle.xl_serve.specs.Serving.{now_of, chest_at, Answers, IsCutAt, IsPlayedOn, StandsSomehow};
+ghost use Rattle.xl_serve.specs.Serving.{now_of, Answers, IsCutAt, IsPlayedOn, StandsSomehow};
 ghost use Rattle.spec_serve.specs.Windows.{request_of};
 
 use crate::lines::play_line;

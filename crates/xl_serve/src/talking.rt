@@ -1,5 +1,5 @@
 //! A talk from its first line to its last.
-ghost use Rattle.std.specs.Prelude.{◌≡◌, ◌++◌, ◌<◌, ◌^◌, ℕ, List, [], length, map, IfOk, IfSome, IsSome, IfErr, MatchResult, Option, OnErr, OnOk, ◌+◌};
+ghost use Rattle.std.specs.Prelude.{◌≡◌, ◌++◌, ◌<◌, ◌^◌, ℕ, List, [], map, IfOk, IsSome, IfErr, MatchResult, Option, OnErr, OnOk, ◌+◌};
 ghost use Rattle.spec_text.specs.Printed.{order_text};
 ghost use Rattle.xl_serve.specs.Talked.{closing};
 ghost use Rattle.spec_document.specs.Document.{Document as Plain};
@@ -8,7 +8,7 @@ ghost use Rattle.spec_history.specs.History.{Entry};
 ghost use Rattle.spec_script.specs.declared.TheConstants.{MAX_SCRIPT_BYTES};
 ghost use Rattle.spec_serve.specs.Said.{told_text};
 ghost use Rattle.xl_filters.specs.Chests.{states_in};
-ghost use Rattle.xl_lines.specs.Lines.{lines_left, IsLonger, IsNext};
+ghost use Rattle.xl_lines.specs.Lines.{lines_left, IsNext};
 ghost use Rattle.xl_ports.specs.Sink.{Writes};
 ghost use Rattle.xl_ports.specs.Source.{led_by};
 ghost use Rattle.xl_serve.specs.Causes.{HasEndCause, HasTurnCause};

@@ -1,9 +1,9 @@
 //! Windows that are shown.
-ghost use Rattle.std.specs.Prelude.{◌≡◌, ◌≤◌, ℕ, List, IfOk};
+ghost use Rattle.std.specs.Prelude.{◌≡◌, ◌≤◌, ℕ, IfOk};
 ghost use Rattle.spec_serve.specs.Hearing.{requests};
 ghost use Rattle.spec_serve.specs.Windows.{looks};
 ghost use Rattle.spec_window.specs.declared.TheConstants.{MAX_WINDOW};
-ghost use Rattle.xl_serve.specs.Played.{IsAnswered, IsReady};
+ghost use Rattle.xl_serve.specs.Played.{IsAnswered};
 ghost use Rattle.xl_told.specs.Requests.{window_is};
 ghost use Rattle.xl_window.specs.Viewing as viewing;
 

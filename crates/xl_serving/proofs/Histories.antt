@@ -1,6 +1,6 @@
 -- The talk that was had over a file, and its shelf.
 use Rattle.std.proofs.Common.{◌≡◌, ◌≢◌, ◌⊎◌, ◌+◌, ◌≤◌, inl, inr, ℕ, List, Some, None, refl, ap, sym, ◌∙◌, subst, arith}
-use Rattle.std.specs.Prelude.{Option, Result, Err}
+use Rattle.std.specs.Prelude.{Option, Err}
 use Rattle.spec_document.specs.Document.{Document}
 use Rattle.spec_history.specs.History.{Entry}
 use Rattle.spec_history.specs.Kept.{IsLegal}
@@ -8,19 +8,13 @@ use Rattle.spec_run.specs.Versions.{AreWithin}
 use Rattle.spec_run.proofs.Earlier.{right_earlier}
 use Rattle.spec_run.proofs.LastFile.{has_last}
 use Rattle.spec_saves.specs.Shelf.{ShelfIsRight}
-use Rattle.spec_serve.specs.Said.{all_said, entries_of}
-use Rattle.xl_commands.specs.Outcome.{Given, IsHistory, IsUntouched, LoadsFew, most_loads, ShelfCause, WritesStop, opened}
-use Rattle.xl_commands.specs.Parts.{Loads}
+use Rattle.xl_commands.specs.Outcome.{IsHistory, IsUntouched, LoadsFew, most_loads, ShelfCause, WritesStop, opened}
 use Rattle.xl_commands.proofs.OtherNames.{all_stay, other_of, others_right, others_untouched}
-use Rattle.xl_history.specs.Editing.{Editing, IsRight}
 use Rattle.xl_outcome.specs.declared.stopped.Stopped.{Stopped}
 use Rattle.xl_outcome.specs.declared.stopped.Stopped.TheVariants as stopped
-use Rattle.xl_ports.specs.Shelf.{Content}
 use Rattle.xl_ports.specs.State.{ShelfState}
-use Rattle.xl_serve.specs.Talking.{HasSaid}
-use Rattle.xl_serve.specs.declared.ends.TalkEnd.{TalkEnd}
 use Rattle.xl_serving.specs.Opened.{IsOpened}
-use Rattle.xl_serving.specs.Served.{IsTalked, ShelfGoes}
+use Rattle.xl_serving.specs.Served.{ShelfGoes}
 
 -- ---- the shelf, where nothing was saved
 

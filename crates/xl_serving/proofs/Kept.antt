@@ -1,5 +1,5 @@
 -- How what is kept of a talk that has ended is written.
-use Rattle.std.proofs.Common.{◌≡◌, inl, inr, ℕ, Bool, true, false, List, ◌++◌, refl, sym, ap, ◌∙◌, subst, append_assoc, append-nil}
+use Rattle.std.proofs.Common.{◌≡◌, inl, inr, ℕ, Bool, true, false, List, ◌++◌, refl, sym, ap, ◌∙◌, subst, append_assoc}
 use Rattle.std.specs.Prelude.{Option}
 use Rattle.spec_history.specs.History.{Entry}
 use Rattle.xl_ports.specs.Sink.{WritesAll, WritesPart}

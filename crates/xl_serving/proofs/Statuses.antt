@@ -1,11 +1,10 @@
 -- What is told at each status.
-use Rattle.std.proofs.Common.{◌≡◌, ◌≢◌, ◌⊎◌, inl, inr, ℕ, Bool, true, false, List, ◌++◌, Some, refl, ap, sym, subst, arith}
-use Rattle.std.specs.Prelude.{Option, IfSome, Result, Err}
+use Rattle.std.proofs.Common.{◌≡◌, ◌≢◌, ◌⊎◌, inl, inr, ℕ, Bool, true, false, List, ◌++◌, refl, ap, sym, subst, arith}
+use Rattle.std.specs.Prelude.{Option, IfSome, Err}
 use Rattle.spec_command.specs.Arguments.{Argument}
 use Rattle.spec_command.specs.Ends as stop
 use Rattle.spec_document.specs.Document.{Document}
 use Rattle.spec_fields.specs.declared.ReadRefused.{ReadRefused}
-use Rattle.spec_history.specs.History.{Entry}
 use Rattle.spec_run.specs.Failed.{NoneFailed, SomeFailed, AnyFailed, WhetherFailed}
 use Rattle.spec_saves.specs.Names.{save_faults}
 use Rattle.xl_commands.specs.Files.{HasFault}
@@ -17,7 +16,7 @@ use Rattle.xl_outcome.specs.declared.stopped.Stopped.TheVariants as stopped
 use Rattle.xl_ports.specs.Disk.{read_at}
 use Rattle.xl_ports.specs.Faults.{Rose}
 use Rattle.xl_ports.specs.Shelf.{selected_content}
-use Rattle.xl_ports.specs.Sink.{WritesAll, WritesPart}
+use Rattle.xl_ports.specs.Sink.{WritesAll}
 use Rattle.xl_ports.specs.State.{ShelfState}
 use Rattle.xl_serve.specs.Causes.{HasEndCause}
 use Rattle.xl_serve.specs.declared.ends.TalkEnd.{TalkEnd}

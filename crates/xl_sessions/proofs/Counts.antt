@@ -3,7 +3,7 @@ use Rattle.std.proofs.Common.{◌≡◌, ℕ, zero, suc, ◌+◌, ◌*◌, ◌<�
 use Rattle.std.proofs.Common.{Some, inl, inr, refl, ap, ◌∙◌, arith, length-append}
 use Rattle.std.proofs.lemmas.Bool.{lt-ltb, cases_lt}
 use Rattle.std.proofs.lemmas.List.Concat.{flat_map-cons}
-use Rattle.std.specs.List.{AllByRecursion, AllZip}
+use Rattle.std.specs.List.{AllByRecursion}
 use Rattle.spec_filters.specs.declared.FilterState.{FilterState}
 use Rattle.spec_history.specs.declared.TheConstants.{MAX_ENTRIES}
 use Rattle.spec_script.specs.Fits.{count_calls}
@@ -25,7 +25,7 @@ use Rattle.xl_studio.specs.Seats.{front_of}
 use Rattle.xl_studio.specs.State.{State}
 use Rattle.xl_turn.specs.declared.view.Chronicle.{Ghosts}
 use Rattle.xl_turn.specs.Seats.{IsEachOnce}
-use Rattle.xl_turn.specs.Sums.{total, times, same, below}
+use Rattle.xl_turn.specs.Sums.{total, times, same}
 use Rattle.xl_turn.proofs.Totals.{same_le, same_false}
 
 -- ---- a list in which each number below n stands once

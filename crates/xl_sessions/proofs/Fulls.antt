@@ -14,7 +14,7 @@ use Rattle.spec_world.specs.World.{entries_owed}
 use Rattle.spec_world.specs.declared.SaveEnd.{SaveEnd}
 use Rattle.spec_world.specs.declared.SaveEnd.TheVariants.{Done, Fault, Memory}
 use Rattle.spec_world.specs.Events.{end_reply}
-use Rattle.xl_studio.specs.History.{History, is_full}
+use Rattle.xl_studio.specs.History.{is_full}
 use Rattle.spec_script.specs.Script.{Line}
 use Rattle.xl_sessions.specs.Full.{most_made, MakesAtMost, FindsFull, IsStoppedAtFull}
 use Rattle.xl_run.specs.declared.unplayed.Unplayed.{Unplayed}

@@ -1,5 +1,5 @@
 -- The shelf after a save is one that a core takes back.
-use Rattle.std.proofs.Common.{◌≡◌, ℕ, List, [], ◌∷◌, ◌++◌, Some, None, ap, sym, ◌∙◌, arith, subst}
+use Rattle.std.proofs.Common.{◌≡◌, ℕ, List, [], ◌∷◌, ◌++◌, Some, None, ap, sym, ◌∙◌, subst}
 use Rattle.std.specs.Prelude.{Option, unwrap_or}
 use Rattle.spec_document.specs.Document.{Document}
 use Rattle.spec_layout.specs.Layout.{Written}

@@ -24,7 +24,6 @@ use Rattle.xl_calls.specs.Applicable.{HasNext}
 use Rattle.xl_calls.specs.Edits.{edit_of, edits_of}
 use Rattle.xl_checks.specs.Found.{sheet_found}
 use Rattle.xl_damage.specs.Painted.{IsPaint}
-use Rattle.xl_undo.specs.Layers.{HasLayer}
 use Rattle.xl_paint.specs.Applied.{at}
 use Rattle.xl_standing.specs.Made.{MayPaint}
 use Rattle.xl_standing.proofs.Groups.{same_table, applied_is}

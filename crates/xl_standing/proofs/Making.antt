@@ -1,6 +1,6 @@
 -- What a group that is not made leaves.
 use Rattle.std.proofs.Common.{◌≡◌, ℕ, Bool, true, cond, List, [], sym, ◌∙◌, ap, subst}
-use Rattle.std.specs.Prelude.{Option, None, Result}
+use Rattle.std.specs.Prelude.{Option, None}
 use Rattle.spec_document.specs.Document.{Document}
 use Rattle.spec_damage.specs.Damage.{Pair}
 use Rattle.spec_edit.specs.Edit.{Edit}

@@ -6,7 +6,7 @@ ghost use Rattle.spec_edit.specs.Edit.{IsEdit};
 ghost use Rattle.spec_edit.specs.Effect.{effect, makes_node};
 ghost use Rattle.spec_edit.specs.Refusal.{refusal};
 ghost use Rattle.xl_calls.specs.Applicable.{HasNext};
-ghost use Rattle.xl_calls.specs.Edits.{edit_of, edits_of};
+ghost use Rattle.xl_calls.specs.Edits.{edit_of};
 ghost use Rattle.xl_edit.specs.Applied.{at};
 ghost use Rattle.xl_standing.specs.Made.{IsMadeOf, MayPaint};
 ghost use Rattle.xl_standing.specs.Painted.{IsWhy};

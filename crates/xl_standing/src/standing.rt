@@ -1,5 +1,5 @@
 //! What stands now: the last document, what an undo or a redo gives, and the pictures that are kept.
-ghost use Rattle.std.specs.Prelude.{◌≡◌, ◌+◌, ◌<◌, ◌≤◌, ◌^◌, true, false, [], length, option_map, IfOk, IfSome, IsOk, OnOk};
+ghost use Rattle.std.specs.Prelude.{◌≡◌, ◌+◌, ◌<◌, ◌≤◌, ◌^◌, true, false, [], length, option_map, IfOk, IfSome, IsOk};
 ghost use Rattle.std.specs.Prelude.{IfErr, OnErr, Some, None};
 ghost use Rattle.std.specs.List.{AllByRecursion};
 ghost use Rattle.spec_cache.specs.Cache.{no_slots, is_clean, kept, next_place, after_take, finish, install};
@@ -19,7 +19,7 @@ ghost use Rattle.xl_desk.specs.TileJobs.{is_marked, GivesJob};
 ghost use Rattle.xl_desk.specs.Needs.{tile_cost};
 ghost use Rattle.xl_desk.specs.Places.{place_of_job, place_done};
 ghost use Rattle.spec_standing.specs.Group.{damage_along};
-ghost use Rattle.spec_standing.specs.Now.{first_now, at_now, with_cache, accepts, made_now, edited, undone, taken_back, redone};
+ghost use Rattle.spec_standing.specs.Now.{first_now, at_now, with_cache, accepts, made_now, edited, undone, redone};
 ghost use Rattle.spec_standing.specs.Now.{next_version, shown, peeked, top_of, Gives, ShowsTile, ShowsKept};
 ghost use Rattle.spec_standing.specs.Now.{KeepsDesk, IsKeptNow, IsTileOf};
 ghost use Rattle.xl_doc.specs.Numbered.{AreNumbered};

@@ -1,4 +1,4 @@
-ghost use Rattle.std.specs.Prelude.{◌≡◌, ◌+◌, ◌≤◌, ◌<◌, true, false, IfOk, OnErr, IsSome};
+ghost use Rattle.std.specs.Prelude.{◌≡◌, ◌+◌, ◌≤◌, ◌<◌, false, IfOk, OnErr, IsSome};
 ghost use Rattle.spec_history.specs.Calls.{IsCall};
 ghost use Rattle.spec_history.specs.Kept.{IsLegal};
 ghost use Rattle.spec_history.specs.Limited.{edits_of};

@@ -1,7 +1,7 @@
 use Rattle.std.proofs.Common.{◌≡◌, [], ◌∷◌, ◌++◌, sym, ◌∙◌, ap, subst, not, filter}
 use Rattle.spec_document.specs.Limits.{IsDocument}
 use Rattle.spec_history.specs.Machine.{has_stack}
-use Rattle.spec_world.specs.World.{group_ids, stack_ids}
+use Rattle.spec_world.specs.World.{group_ids}
 use Rattle.xl_regions.specs.Pairs.{numbers}
 use Rattle.xl_doc.specs.Nodes.{nodes_of}
 use Rattle.spec_standing.specs.Change.{came_to}

@@ -1,7 +1,7 @@
 use Rattle.std.proofs.Common.{◌≡◌, ◌*◌, ◌≤◌, length, arith, ap, ◌∙◌}
 use Rattle.std.proofs.lemmas.Nat.{mul-le}
 use Rattle.std.proofs.lemmas.Result.{IfOk-weaker}
-use Rattle.xl_tiles.proofs.UniformTiles.{no_rows, repeated_rows}
+use Rattle.xl_tiles.proofs.UniformTiles.{repeated_rows}
 use Rattle.xl_tiles.proofs.fill.repeat_in_rows.Goals as goal
 
 pub repeat-requires : goal.repeat-requires

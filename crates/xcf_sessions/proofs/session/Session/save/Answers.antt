@@ -1,7 +1,6 @@
 -- What the seat knows of a save, and of one that did not begin.
 use Rattle.std.proofs.Common.{ap, subst, sym, ◌∙◌}
 use Rattle.std.specs.Arc.{arc_value}
-use Rattle.xl_calls.specs.Replies.{reply_of}
 use Rattle.xcf_sessions.specs.Replies.{reply_saved}
 use Rattle.xcf_sessions.specs.Saved.{IsSaveTold}
 use Rattle.xcf_sessions.proofs.Following.{seen_by}

@@ -10,7 +10,7 @@ use Rattle.xl_calls.specs.Edits.{edits_of}
 use Rattle.xl_calls.specs.Replies.{reply_of}
 use Rattle.spec_standing.specs.Change.{Change, change_between, gone_along, IsCacheOf}
 use Rattle.spec_standing.specs.Group.{damage_along}
-use Rattle.spec_standing.specs.Now.{Now, Response, Gives, next_version, accepted, step_made, made_now, at_now}
+use Rattle.spec_standing.specs.Now.{Now, Response, Gives, next_version, step_made, made_now, at_now}
 use Rattle.spec_standing.specs.Steps.{Step, Lead, IsChange, stepped}
 use Rattle.xl_undo.specs.Leads.{Way}
 use Rattle.xl_standing.proofs.Making.{leaves_same, turned_change}

@@ -1,6 +1,6 @@
 -- The slot of the tile is clean from then on.
 use Rattle.std.proofs.Common.{◌≡◌, ◌+◌, ◌≤◌, not, sym, ◌∙◌, ap, subst}
-use Rattle.std.specs.Prelude.{reverse, Some, None}
+use Rattle.std.specs.Prelude.{reverse}
 use Rattle.spec_history.specs.Machine as machine
 use Rattle.xl_desk.specs.Needs.{tile_cost}
 use Rattle.spec_standing.specs.Now.{Now, Gives, with_cache, shown}
