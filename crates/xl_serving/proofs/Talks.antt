@@ -1,7 +1,8 @@
 -- What a talk over a file comes to.
-use Rattle.std.proofs.Common.{◌≡◌, ℕ, Bool, List, Some, refl, sym, subst}
+use Rattle.std.proofs.Common.{◌≡◌, ℕ, Bool, List, Some, None, refl, sym, subst}
 use Rattle.std.specs.Prelude.{Option}
 use Rattle.spec_document.specs.Document.{Document}
+use Rattle.spec_history.specs.History.{replay}
 use Rattle.spec_history.specs.Kept.{IsLegal}
 use Rattle.spec_run.specs.Failed.{WhetherFailed}
 use Rattle.spec_run.specs.Versions.{AreWithin}
@@ -41,6 +42,7 @@ pub record IsTalkedOver {D : Type 0} (see : D → ShelfState) (opening back : D)
   pub base_is : core.history.base ≡ base
   pub opening_is : core.opening ≡ opening
   pub legal : IsLegal core.history.base core.history.entries
+  pub ended : (replay core.history.base core.history.entries).out ≡ None
   pub versions : AreWithin core.history.base core.history.entries
   pub right : IsRight see core back
 
@@ -78,6 +80,7 @@ module _ {D K S : Type 0} (see : D → ShelfState) (held : K → Option (List �
         stops = said.stops;
         entered = said.entries;
         history = history_of there (see back) es right legal versions;
+        ended = subst (λ (b : Document). (replay b es).out ≡ None) over.base_is over.ended;
       } in
       let written = ends begun (told_text base (all_said said.turns)) said.kept in (
         talk_told held faults count given (Some name) before (see back) was now begun last end written.0 talk status written.1 cause written.2,

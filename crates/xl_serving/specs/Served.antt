@@ -1,11 +1,11 @@
 -- What serving a file comes to, by the status.
-use Rattle.std.specs.Prelude.{◌≡◌, ◌≢◌, ◌⊎◌, ◌==◌, ℕ, List, [], ◌∷◌, ◌++◌, Option, Some, IfSome, IsTrue}
+use Rattle.std.specs.Prelude.{◌≡◌, ◌≢◌, ◌⊎◌, ◌==◌, ℕ, List, [], ◌∷◌, ◌++◌, Option, Some, None, IfSome, IsTrue}
 use Rattle.std.specs.List.{list_any}
 use Rattle.spec_command.specs.Arguments.{Argument}
 use Rattle.spec_command.specs.Ends as stop
 use Rattle.spec_document.specs.Document.{Document}
 use Rattle.spec_fields.specs.declared.ReadRefused.{ReadRefused}
-use Rattle.spec_history.specs.History.{Entry}
+use Rattle.spec_history.specs.History.{Entry, replay}
 use Rattle.spec_run.specs.Failed.{NoneFailed, SomeFailed, AnyFailed}
 use Rattle.spec_saves.specs.Names.{save_faults}
 use Rattle.spec_serve.specs.Said.{Said, all_said, entries_of, told_text}
@@ -26,7 +26,7 @@ use Rattle.xl_serve.specs.declared.ends.TalkEnd.TheVariants.{Ended, TooLong, Sou
 -- ---- the talk and its file
 
 -- A talk over the document that the file held, where that is told: what was said to which of the lines that the source had left, why
--- no further line was taken, and the history of what was said, after whose saves the file is.
+-- no further line was taken, and the history of what was said, after whose saves the file is. Each save that began has ended.
 pub record IsTalked (given : Given) (served : Option Argument) (before after : ShelfState) (end : TalkEnd) : Type 0 where
   pub name : Argument
   pub asked : served ≡ Some name
@@ -39,6 +39,7 @@ pub record IsTalked (given : Given) (served : Option Argument) (before after : S
   pub stops : StopsBy lines given.left end
   pub entered : AreSaidOf given.chests lines given.left (entries_of (all_said turns)) entries end
   pub history : IsHistory name before after document entries
+  pub ended : (replay document entries).out ≡ None
 
 module _ {given : Given} {served : Option Argument} {before after : ShelfState} {end : TalkEnd} where
   -- the text of all that was said

@@ -1,4 +1,5 @@
-use Rattle.std.proofs.Common.{◌≡◌, ap, ◌∙◌, sym, subst}
+use Rattle.std.proofs.Common.{◌≡◌, None, ap, ◌∙◌, sym, subst}
+use Rattle.spec_history.specs.History.{replay}
 use Rattle.spec_history.specs.Kept.{IsLegal}
 use Rattle.xl_commands.specs.Outcome.{Given, given_of}
 use Rattle.xl_history.specs.Editing.{Editing}
@@ -24,6 +25,7 @@ returns-in-Ok g c = λ before name there.
       base_is = ap (λ (e : Editing _). e.history.base) same ∙ talked.goes_on.base_is ∙ ap (λ (e : Editing _). e.history.base) made.core;
       opening_is = ap (λ (e : Editing _). e.opening) same ∙ talked.goes_on.opening_is ∙ ap (λ (e : Editing _). e.opening) made.core;
       legal = subst (λ (e : Editing _). IsLegal e.history.base e.history.entries) (sym same) talked.goes_on.ready.legal;
+      ended = subst (λ (e : Editing _). (replay e.history.base e.history.entries).out ≡ None) (sym same) talked.goes_on.ready.ended;
       versions = c.end_talk.ensures.within;
       right = c.end_talk.ensures.right;
     })
