@@ -449,7 +449,7 @@ class Check:
         os.close(folder)
         self.put()
         with Wire(["sh", "-c", 'exec "$@" <&-', "sh", self.program, "serve", self.name]) as wire:
-            want(wire.rest() == [b"ready 200 200 9\n", b"order\n"] and wire.status() == 0, "without an input there are no lines")
+            want(wire.rest() == [b"ready 200 200 9\n", b"source fault\n"] and wire.status() == 5, "an input that is closed cannot be read")
         with open("/dev/full", "wb") as full, self.wire(stdout=full) as wire:
             wire.process.stdin.close()
             want(wire.status() == 7 and b"No space left" in wire.process.stderr.read(), "status 7")

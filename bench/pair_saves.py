@@ -13,7 +13,8 @@ Of a pair these have to hold:
 - the last file has of each process the number of its last `saved`, so it has no save that was said to fail, and none is lost;
 - both end with status 0, or 6 where a reply says `save fault`, and no draft is left.
 A fifo, a folder, a socket and a link to one are refused at once, with status 6 and a sentence, by each command that saves, and
-these and two devices by `render`.
+these and two devices by `render`. Where a command is started without some of the standard streams, its file is as it was or as it
+would be with them, and without an output no command tells that all was written.
 The exit status is 1 where something else comes.
 """
 
@@ -183,6 +184,40 @@ def not_refused(program, folder):
     return len(wrong)
 
 
+# which of the standard streams a command is started without
+CLOSED = ("<&- >&- 2>&-", ">&- 2>&-", "<&- >&-", ">&-", "2>&-", "<&-")
+
+
+def status_closed(program, folder, words, closing):
+    """The status of a command that is started without these streams, on the script of the folder."""
+    shell = ["sh", "-c", 'exec "$@" < script > out 2> told ' + closing, "sh", program, *words]
+    return subprocess.run(shell, cwd=folder).returncode
+
+
+def content_of(folder, name):
+    with open(os.path.join(folder, name), "rb") as file:
+        return file.read()
+
+
+def spoiled(program, folder):
+    """How many commands without a standard stream left another file than with all of them, or told that all was written where there was
+    no output."""
+    put_file(folder, "script", b"0 top\n0 save\n")
+    status_closed(program, folder, ["make", "made", "--seed", "1"], "")
+    before, wrong = content_of(folder, "made"), 0
+    for command in (["make", "f", "--seed", "1"], ["pack", "f"], ["flatten", "f"], ["edit", "f"]):
+        put_file(folder, "f", before)
+        status_closed(program, folder, command, "")
+        right = (before, content_of(folder, "f"))
+        for closing in CLOSED:
+            put_file(folder, "f", before)
+            status = status_closed(program, folder, command, closing)
+            if content_of(folder, "f") not in right or (">&-" in closing.split() and status == 0):
+                print("WRONG: %s %s, status %d" % (" ".join(command), closing, status))
+                wrong += 1
+    return wrong
+
+
 def arguments():
     parser = argparse.ArgumentParser(description=__doc__, formatter_class=argparse.RawDescriptionHelpFormatter)
     parser.add_argument("--binary", required=True, metavar="BIN")
@@ -199,6 +234,8 @@ def main():
     versions, counts, wrong = Versions(given.side, given.saves), Counter(), 0
     with tempfile.TemporaryDirectory() as folder:
         wrong += not_refused(program, folder)
+    with tempfile.TemporaryDirectory() as folder:
+        wrong += spoiled(program, folder)
     with tempfile.TemporaryDirectory() as folder:
         for process in FILLERS:
             put_file(folder, "script %d" % process, ("\n".join(script(process, given)) + "\n").encode())

@@ -33,6 +33,10 @@ const SINK_FAULT: u8 = 7;
 
 const SESSIONS: usize = 8;
 
+/// What stands for a standard input, output or error that the program was started without. A folder can neither be read
+/// nor written.
+const NO_STREAM: &str = "/";
+
 // The words behind the program's name.
 fn words_given(rt: &HostRuntime) -> io::Result<Vec<String>> {
     let mut words = env::args(rt)?;
@@ -68,9 +72,6 @@ fn run_with_filters<R: Threads + Wait + Sync>(
     let mut source = StdSource::new(rt);
     let shelf = FileShelf::new(rt);
     if is_served(words) {
-        // Where the program was started without a standard input, the file would be opened in its place, and its bytes
-        // taken for lines.
-        let _placeholder = File::open(rt, "/dev/null");
         return Ok(serve(threads, alloc, words, &mut source, sink, shelf, chest));
     }
     Ok(run(
@@ -139,5 +140,12 @@ fn start<R: Threads + Wait + Sync>(rt: &HostRuntime, threads: &R) -> Result<u8, 
 }
 
 fn main(rt: HostRuntime) -> ExitCode {
+    // A file that is opened gets the lowest number that is free. Where one of the three streams is closed that would be
+    // its number, and what is meant for the stream would be written into the file.
+    let _streams = [
+        File::open(&rt, NO_STREAM),
+        File::open(&rt, NO_STREAM),
+        File::open(&rt, NO_STREAM),
+    ];
     ExitCode::from(start(&rt, &rt).unwrap_or(MEMORY))
 }
