@@ -240,7 +240,7 @@ const STOPS: [(&'static [&'static str], u8, Stopped, &'static str); 20] = [
 ];
 
 /// Arguments that are no command, and what is said of the first that is wrong, or of what is lacking.
-const NO_COMMANDS: [(&'static [&'static str], &'static str); 16] = [
+const NO_COMMANDS: [(&'static [&'static str], &'static str); 22] = [
     (&[], "there is no command"),
     (&["blur", "photo.xcf"], "\"blur\" is no command"),
     (&["edit"], "edit takes a FILE"),
@@ -275,6 +275,27 @@ const NO_COMMANDS: [(&'static [&'static str], &'static str); 16] = [
     (
         &["pack", "photo.xcf", "--plan=all"],
         "--plan takes no number",
+    ),
+    (
+        &["info", "photo.xcf", "--all", "--all"],
+        "--all is given twice",
+    ),
+    (
+        &["edit", "photo.xcf", "--workers", "1", "--workers=2"],
+        "--workers is given twice",
+    ),
+    (&["render", "--"], "render takes a FILE"),
+    (
+        &["render", "--", "-photo.xcf"],
+        "\"-photo.xcf\" begins with a minus",
+    ),
+    (
+        &["info", "--", "photo.xcf", "--all"],
+        "\"--all\" is one word too many",
+    ),
+    (
+        &["info", "--all", "--", "photo.xcf", "--"],
+        "\"--\" is one word too many",
     ),
     (&["serve"], "serve takes a FILE"),
     (

@@ -124,7 +124,10 @@ fn start<R: Threads + Wait + Sync>(rt: &HostRuntime, threads: &R) -> Result<u8, 
         Ok(words) => words,
         Err(error) if error.kind() == io::ErrorKind::OutOfMemory => return Err(AllocError),
         // Words that cannot be read are no command, like none at all.
-        Err(_) => Vec::new(alloc),
+        Err(_) => {
+            let _ = eprintln!(rt; "xcfedit: an argument is no UTF-8");
+            Vec::new(alloc)
+        }
     };
     let mut words = Vec::new(alloc);
     for word in &given {

@@ -102,6 +102,8 @@ struct Walk<'a> {
     options: &'a [CommandOption],
     // The option whose number comes next.
     awaiting: Option<CommandOption>,
+    // Whether `--` was met, behind which nothing is an option.
+    only_files: bool,
     has_file: bool,
 }
 
@@ -131,7 +133,7 @@ impl<'a> Walk<'a> {
         let is_first = !self.has_file;
         self.has_file = true;
         let word_shown = shown(word);
-        if word.starts_with('-') {
+        if word.starts_with('-') && (is_first || !self.only_files) {
             return Ok(Some(format!(in alloc; "\"{word_shown}\" begins with a minus")?));
         }
         if is_first {
@@ -145,10 +147,14 @@ impl<'a> Walk<'a> {
         if let Some(option) = self.awaiting.take() {
             return value_fault(alloc, option, word);
         }
-        if word.starts_with("--") {
-            return self.option_fault(alloc, word);
+        if self.only_files || !word.starts_with("--") {
+            return self.file_fault(alloc, word);
         }
-        self.file_fault(alloc, word)
+        if word == "--" {
+            self.only_files = true;
+            return Ok(None);
+        }
+        self.option_fault(alloc, word)
     }
 
     // What is lacking behind the last word, if something is.
@@ -178,6 +184,26 @@ fn is_given(option: &str, words: &[&str]) -> bool {
     false
 }
 
+// Whether an option stands among the words twice.
+fn is_given_twice(option: &str, words: &[&str]) -> bool {
+    for place in 0..words.len() {
+        if words[place].starts_with(option) {
+            return is_given(option, &words[place + 1..]);
+        }
+    }
+    false
+}
+
+// The first option that is given twice.
+fn doubled_option(options: &[CommandOption], words: &[&str]) -> Option<&'static str> {
+    for option in options {
+        if is_given_twice(option.name, words) {
+            return Some(option.name);
+        }
+    }
+    None
+}
+
 // The first option that the command needs and that is not there.
 fn lacking_option(options: &[CommandOption], words: &[&str]) -> Option<&'static str> {
     for option in options {
@@ -202,8 +228,8 @@ fn first_fault(
     walk.lack(alloc, words)
 }
 
-/// What is wrong with arguments that are no command: the first word that is wrong, or what is lacking. It has words for
-/// all but for an option that is given twice.
+/// What is wrong with arguments that are no command: the first word that is wrong, what is lacking, or which option is
+/// given twice.
 pub fn words_fault(alloc: Global, words: &[&str]) -> Result<String, AllocError> {
     let Some((name, rest)) = words.split_first() else {
         return String::from_str(alloc, "there is no command");
@@ -216,10 +242,14 @@ pub fn words_fault(alloc: Global, words: &[&str]) -> Result<String, AllocError> 
         name,
         options,
         awaiting: None,
+        only_files: false,
         has_file: false,
     };
-    match first_fault(alloc, &mut walk, rest)? {
-        Some(fault) => Ok(fault),
+    if let Some(fault) = first_fault(alloc, &mut walk, rest)? {
+        return Ok(fault);
+    }
+    match doubled_option(options, rest) {
+        Some(option) => format!(in alloc; "{option} is given twice"),
         None => String::from_str(alloc, "these words are no command"),
     }
 }
