@@ -5,7 +5,7 @@ ghost use Rattle.spec_generated.specs.Generated.{document, script};
 ghost use Rattle.spec_script.specs.Fits.{FitsFilters};
 ghost use Rattle.spec_world.specs.declared.SaveEnd.TheVariants as save_end;
 ghost use Rattle.xl_doc.specs.Numbered.{AreNumbered};
-ghost use Rattle.xl_commands.specs.Outcome.{Given, ComesTo, LoadsFew, ShelfCauseOf};
+ghost use Rattle.xl_commands.specs.Outcome.{Given, ComesTo, ShelfCauseOf};
 ghost use Rattle.xl_commands.specs.Parts.{StopsMaking};
 ghost use Rattle.xl_commands.specs.Played.{IsSummedUp};
 ghost use Rattle.xl_script.specs.Lines.{lists_of};
@@ -42,7 +42,7 @@ pub fn make<R: Threads + Wait + Sync, K: Sink, D: Shelf, G: Gate>(
     ensures stops { StopsMaking result.result }
     ensures cause { ShelfCauseOf (D.shelf_state shelf)
         (D.shelf_state result.shelf) (make_of name.now seed) result.result }
-    ensures few_loads { LoadsFew (D.shelf_state shelf) (D.shelf_state result.shelf) }
+    ensures no_load { (D.shelf_state result.shelf).loads ≡ (D.shelf_state shelf).loads }
     ensures selected { ((D.shelf_state result.shelf).selected ≡ (D.shelf_state shelf).selected) ⊎
         ((D.shelf_state result.shelf).selected ≡ Some name.now) }
     ensures named { OnOk result.result ((D.shelf_state result.shelf).selected ≡ Some name.now) }

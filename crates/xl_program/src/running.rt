@@ -1,6 +1,6 @@
-ghost use Rattle.std.specs.Prelude.{◌≡◌, ◌≢◌, ◌<◌, ◌≤◌, ◌^◌, ◌⊎◌, ◌↔◌, length, None, option_map, IfSome};
+ghost use Rattle.std.specs.Prelude.{◌≡◌, ◌≢◌, ◌<◌, ◌≤◌, ◌^◌, ◌⊎◌, ◌↔◌, length, Some, None, Err, option_map, IfSome};
 ghost use Rattle.std.specs.List.{AllByRecursion};
-ghost use Rattle.spec_command.specs.Arguments.{name_of};
+ghost use Rattle.spec_command.specs.Arguments.{Asked, name_of};
 ghost use Rattle.spec_command.specs.Ends as stop;
 ghost use Rattle.spec_command.specs.Grammar.{asked_in};
 ghost use Rattle.spec_fields.specs.declared.ReadRefused.{ReadRefused};
@@ -16,7 +16,8 @@ ghost use Rattle.xl_commands.specs.Files.{CannotBeFlat, HasFault};
 ghost use Rattle.xl_commands.specs.Lines.{WritesLine};
 ghost use Rattle.xl_commands.specs.Outcome.{given_of, ComesWell, ShelfFails, WritesInPart, WritesRejection, ComesAfterScript};
 ghost use Rattle.xl_commands.specs.Outcome.{MaySave, IsUntouched, StopsBefore, RefusesSource, InGrammar, Keeps};
-ghost use Rattle.xl_commands.specs.Outcome.{Takes, IsStatus, LoadsFew, OtherNamesStay};
+ghost use Rattle.xl_commands.specs.Outcome.{ComesTo, Takes, IsStatus, LoadsFew, OtherNamesStay, WritesStop};
+ghost use Rattle.xl_commands.specs.Parts.{StopsFor};
 
 use crate::host::Host;
 use crate::obeying::obey;
@@ -47,7 +48,8 @@ use xl_ports::{Gate, Shelf, Sink, Source};
 /// 8 memory ran out, 9 the image of the file cannot be made flat, 10 the printed run is rejected, which is written.
 ///
 /// No clause says that memory is there, that a device does not fail, or that a run of sessions, which may wait,
-/// returns. Where memory runs out for the line of a stop, the status is 8 and not that of the stop.
+/// returns. Where memory runs out for the line of a stop, the status is 8 and not that of the stop; the cause that is
+/// answered is still that of the stop.
 pub fn run<R: Threads + Wait + Sync, S: Source, K: Sink, D: Shelf, G: Gate>(
     rt: &R,
     alloc: Global,
@@ -110,6 +112,13 @@ pub fn run<R: Threads + Wait + Sync, S: Source, K: Sink, D: Shelf, G: Gate>(
         (D.shelf_state shelf)
         (D.shelf_state result.shelf) }
     ensures shelf_as_before { StopsBeforeShelf result.status → result.shelf ≡ shelf }
+    ensures cause { (command : Asked) → asked_in (arguments_of words.now) ≡ Some command
+        → IfSome result.cause (λ stopped. StopsFor (given_of (S.left source.old) (λ b. state b)
+        chest.items) (read_at (D.shelf_state shelf).disk) command (Err stopped) × ((mid : K)
+        × ComesTo K.held K.faults (given_of (S.left source.old) (λ b. state b) chest.items)
+        (D.shelf_state shelf) (D.shelf_state result.shelf) command sink.old mid (Err stopped)
+        × WritesStop K.held K.faults mid sink.new stopped result.status)) }
+    ensures no_cause { (result.cause ≡ None) ↔ ((result.status ≡ 0) ⊎ (result.status ≡ 2)) }
 
     // What becomes of the source and the shelf.
     ensures no_reading_fault { result.status ≢ 6 → (D.shelf_state result.shelf).reading
@@ -121,6 +130,8 @@ pub fn run<R: Threads + Wait + Sync, S: Source, K: Sink, D: Shelf, G: Gate>(
     ensures other_names { OtherNamesStay (D.shelf_state shelf) (D.shelf_state result.shelf)
         (asked_in (arguments_of words.now)) }
     ensures few_loads { LoadsFew (D.shelf_state shelf) (D.shelf_state result.shelf) }
+    ensures no_load { (ReadsFile (asked_in (arguments_of words.now)) → ⊥)
+        → (D.shelf_state result.shelf).loads ≡ (D.shelf_state shelf).loads }
     ensures selected { ((D.shelf_state result.shelf).selected ≡ (D.shelf_state shelf).selected) ⊎
         ((D.shelf_state result.shelf).selected ≡ option_map name_of
         (asked_in (arguments_of words.now))) }

@@ -93,13 +93,6 @@ returns-clause-named g c =
     ((c.run_made-played.ensures c.args.seed c.in-Ok.ensures.document c.in-Ok.ensures.script).shelf.selected
     ∙ ok_at c.save_first.result (sym c.is_err.ensures.value ∙ c.if-is_err.false) c.save_first.ensures.named)
 
-pub returns-clause-few_loads : goal.returns-clause-few_loads
-returns-clause-few_loads g c =
-    let run = c.run_made-played.ensures c.args.seed c.in-Ok.ensures.document c.in-Ok.ensures.script in
-    omega (arith, run.shelf.loads, c.save_first.ensures.loads)
-
-pub returns-in_default-clause-few_loads : goal.returns-in_default-clause-few_loads
-returns-in_default-clause-few_loads g c = omega arith
-
-pub returns-then-is_err-clause-few_loads : goal.returns-then-is_err-clause-few_loads
-returns-then-is_err-clause-few_loads g c = omega (arith, c.save_first.ensures.loads)
+pub returns-clause-no_load : goal.returns-clause-no_load
+returns-clause-no_load g c =
+    (c.run_made-played.ensures c.args.seed c.in-Ok.ensures.document c.in-Ok.ensures.script).shelf.loads ∙ c.save_first.ensures.loads

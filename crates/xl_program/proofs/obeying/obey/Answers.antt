@@ -99,3 +99,27 @@ returns-in-View-clause-shelf_as_before g c = λ reads. c.view.ensures.shelf_as_b
 
 pub returns-in-Audit-clause-shelf_as_before : goal.returns-in-Audit-clause-shelf_as_before
 returns-in-Audit-clause-shelf_as_before g c = λ reads. c.audit-result.ensures.shelf_as_before
+
+pub returns-in-Make-clause-few_loads : goal.returns-in-Make-clause-few_loads
+returns-in-Make-clause-few_loads g c = omega (arith, c.make.ensures.no_load)
+
+pub returns-in-Render-clause-no_load : goal.returns-in-Render-clause-no_load
+returns-in-Render-clause-no_load g c = λ none. absurd (none (rw c.in-Render.is tt))
+
+pub returns-in-Info-clause-no_load : goal.returns-in-Info-clause-no_load
+returns-in-Info-clause-no_load g c = λ none. absurd (none (rw c.in-Info.is tt))
+
+pub returns-in-Edit-clause-no_load : goal.returns-in-Edit-clause-no_load
+returns-in-Edit-clause-no_load g c = λ none. absurd (none (rw c.in-Edit.is tt))
+
+pub returns-in-Pack-clause-no_load : goal.returns-in-Pack-clause-no_load
+returns-in-Pack-clause-no_load g c = λ none. absurd (none (rw c.in-Pack.is tt))
+
+pub returns-in-Flatten-clause-no_load : goal.returns-in-Flatten-clause-no_load
+returns-in-Flatten-clause-no_load g c = λ none. absurd (none (rw c.in-Flatten.is tt))
+
+pub returns-in-View-clause-no_load : goal.returns-in-View-clause-no_load
+returns-in-View-clause-no_load g c = λ none. absurd (none (rw c.in-View.is tt))
+
+pub returns-in-Audit-clause-no_load : goal.returns-in-Audit-clause-no_load
+returns-in-Audit-clause-no_load g c = λ none. absurd (none (rw c.in-Audit.is tt))

@@ -1,6 +1,6 @@
 use Rattle.std.proofs.Common.{◌≡◌, inl, inr, refl, false, true, Option, Some, sym, ◌∙◌, ap, subst, arith}
-use Rattle.std.specs.Prelude.{IfSome, option_map}
-use Rattle.spec_command.specs.Arguments.{Asked, name_of}
+use Rattle.std.specs.Prelude.{ℕ, List, IfSome, Err, option_map}
+use Rattle.spec_command.specs.Arguments.{Asked, edit, render, info, make, pack, flatten, view, audit, name_of}
 use Rattle.spec_command.specs.Grammar.{asked_in}
 use Rattle.spec_command.specs.Ends.{source_fault, refused, flat_refused, stop_line}
 use Rattle.xl_command.specs.Asking.{asked_of, arguments_of}
@@ -11,7 +11,9 @@ use Rattle.xl_commands.specs.AtSource.{StopsBeforeShelf}
 use Rattle.xl_commands.specs.Command.{IsFlatten, ReadsFile, ReadsSource}
 use Rattle.xl_commands.specs.Files.{CannotBeFlat, HasFault}
 use Rattle.xl_commands.specs.Lines.{WritesLine}
-use Rattle.xl_commands.specs.Outcome.{Given, given_of, InGrammar, OtherNamesStay}
+use Rattle.xl_commands.specs.Outcome.{Given, given_of, ComesTo, InGrammar, OtherNamesStay}
+use Rattle.xl_commands.specs.Parts.{StopsFor}
+use Rattle.xl_commands.specs.declared.Stopped.TheVariants.{Memory}
 use Rattle.xl_commands.proofs.AtSource.{at_source}
 use Rattle.xl_commands.proofs.Taken.{nothing_taken, nothing_saved}
 use Rattle.xl_commands.proofs.OtherNames.{all_stay, names_stay}
@@ -207,4 +209,60 @@ returns-clause-shelf_as_before g c = λ before. elim c.match-done.branch [
       at_source given content g.K.Sink.held g.K.Sink.faults _ (asked_of c.in-Some.command) w.in-Err.stopped _ _ _ _ (sym w.status-is)
       before (rw w.in-Err.is at c.obey-done.ensures.stops) w.write_stop-status.ensures
       (rw w.in-Err.is at c.obey-done.ensures.shelf_as_before)
+]
+
+pub returns-in_default-clause-no_load : goal.returns-in_default-clause-no_load
+returns-in_default-clause-no_load g c = λ none. refl
+
+pub returns-in_default-asked-clause-no_load : goal.returns-in_default-asked-clause-no_load
+returns-in_default-asked-clause-no_load g c = λ none. refl
+
+pub returns-clause-no_load : goal.returns-clause-no_load
+returns-clause-no_load g c = λ none.
+    let is : Some (asked_of c.in-Some.command) ≡ asked_in (arguments_of c.args.words.now) =
+    rw c.in-Some.is at c.in-Ok.ensures.asked in
+    c.obey-done.ensures.no_load (λ reads. none (subst (λ (o : Option Asked). ReadsFile o) is reads))
+
+-- each command may stop so
+without_memory : (given : Given) (content : List ℕ → Option Content) (command : Asked) → StopsFor given content command (Err Memory)
+without_memory given content (edit name workers) = tt
+without_memory given content (render name) = tt
+without_memory given content (info name with_all) = tt
+without_memory given content (make name seed) = tt
+without_memory given content (pack name with_plans) = tt
+without_memory given content (flatten name) = tt
+without_memory given content (view name cols rows) = tt
+without_memory given content (audit name) = tt
+
+pub returns-in_default-clause-cause : goal.returns-in_default-clause-cause
+returns-in_default-clause-cause g c = λ command asked.
+    let given : Given =
+    given_of (g.S.Source.left c.args.source.now) (λ b. (goal.PointFilter-dyn g (b.vtable, b.value)).state b.value)
+    c.args.chest.items in
+    let kept : ShelfState = g.D.Shelf.shelf_state c.args.shelf in (
+      without_memory given (read_at kept.disk) command,
+      (c.args.sink.now, ((refl, refl), nothing_saved given kept (Some command)), (refl, refl)),
+    )
+
+pub returns-clause-cause : goal.returns-clause-cause
+returns-clause-cause g c = λ command asked. elim c.match-done.branch [
+  | in-Ok-result w ↦ rw c.err.ensures.value (rw w.in-Ok-result.is tt)
+  | in-Err w ↦
+      let given : Given =
+      given_of (g.S.Source.left c.args.source.now) (λ b. (goal.PointFilter-dyn g (b.vtable, b.value)).state b.value)
+      c.args.chest.items in
+      let content = read_at (g.D.Shelf.shelf_state c.args.shelf).disk in
+      let before : ShelfState = g.D.Shelf.shelf_state c.args.shelf in
+      let after : ShelfState = g.D.Shelf.shelf_state c.obey-done.result.shelf in
+      let same : Some (asked_of c.in-Some.command) ≡ Some command = rw c.in-Some.is at c.in-Ok.ensures.asked ∙ asked in
+      rw c.err.ensures.value (rw w.in-Err.is (
+        subst (λ (o : Option Asked). IfSome o (λ a. StopsFor given content a (Err w.in-Err.stopped))) same
+            (rw w.in-Err.is at c.obey-done.ensures.stops),
+        (
+          c.obey-done.new.sink,
+          subst (λ (o : Option Asked). IfSome o (λ a. ComesTo g.K.Sink.held g.K.Sink.faults given before after a c.args.sink.now
+              c.obey-done.new.sink (Err w.in-Err.stopped))) same (rw w.in-Err.is at c.obey-done.ensures.comes),
+          rw w.sink-is (rw w.status-is w.write_stop-status.ensures),
+        ),
+      ))
 ]
