@@ -1,5 +1,5 @@
 -- The talk that was had over a file, and its shelf.
-use Rattle.std.proofs.Common.{◌≡◌, ◌≢◌, ◌⊎◌, ◌+◌, ◌≤◌, inl, inr, ℕ, List, Some, None, refl, ap, sym, ◌∙◌, subst, arith}
+use Rattle.std.proofs.Common.{◌≡◌, ◌≢◌, ◌⊎◌, ◌+◌, ◌≤◌, inl, inr, ℕ, List, Some, None, refl, ap, sym, subst, arith}
 use Rattle.std.specs.Prelude.{Option, Err}
 use Rattle.spec_document.specs.Document.{Document}
 use Rattle.spec_history.specs.History.{Entry}

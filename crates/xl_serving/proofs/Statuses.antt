@@ -1,5 +1,5 @@
 -- What is told at each status.
-use Rattle.std.proofs.Common.{◌≡◌, ◌≢◌, ◌⊎◌, inl, inr, ℕ, Bool, true, false, List, ◌++◌, refl, ap, sym, subst, arith}
+use Rattle.std.proofs.Common.{◌≡◌, ◌≢◌, ◌⊎◌, inl, inr, ℕ, Bool, true, false, List, refl, ap, sym, subst, arith}
 use Rattle.std.specs.Prelude.{Option, IfSome, Err}
 use Rattle.spec_command.specs.Arguments.{Argument}
 use Rattle.spec_command.specs.Ends as stop

@@ -1,4 +1,4 @@
-use Rattle.std.proofs.Common.{◌≡◌, refl, inl, inr, sym, ◌∙◌, subst, arith}
+use Rattle.std.proofs.Common.{refl, inl, inr, sym, ◌∙◌, subst}
 use Rattle.std.specs.Prelude.{Option, List, [], ℕ, IsSome}
 use Rattle.spec_document.specs.Document.{Document}
 use Rattle.spec_generated.specs.Generated.{document, script}
