@@ -5,7 +5,9 @@
 
 mod others;
 
-use others::{change_between, come_between, save_beside, show_end};
+use others::{
+    change_before_draft, change_behind_draft, change_between, come_between, save_beside, show_end,
+};
 use std::alloc::Global;
 use std::fs::Permissions;
 use std::os::unix::fs::{PermissionsExt, symlink};
@@ -37,8 +39,11 @@ fn try_save(rt: &HostRuntime, name: &str, bytes: &[u8]) -> io::Result<()> {
         },
         Err(_) => "not selected",
     };
-    let line = format!(in rt.alloc(); "{name} {end}")?;
-    rt.println(line.as_str())
+    println!(rt; "{name} {end}")?;
+    match shelf.error() {
+        Some(error) => println!(rt; "  {error}"),
+        None => Ok(()),
+    }
 }
 
 // What stands under a name, and how long it is read.
@@ -173,6 +178,8 @@ fn try_all(rt: &HostRuntime) -> io::Result<()> {
     select_another(rt)?;
     select_in_vain(rt)?;
     save_with_rights(rt)?;
+    change_before_draft(rt)?;
+    change_behind_draft(rt)?;
     change_between(rt)?;
     come_between(rt)?;
     save_beside(rt)?;

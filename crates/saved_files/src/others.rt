@@ -1,5 +1,5 @@
 // What other programs and shelves do to a file between its load and a save, and what becomes of the save.
-ghost use Rattle.std.specs.Prelude.{OnOk, IsSome};
+ghost use Rattle.std.specs.Prelude.{◌≡◌, OnOk, IsSome, true};
 
 use crate::{show_file, show_whether_there};
 use std::alloc::Global;
@@ -10,6 +10,8 @@ use xl_save::save;
 
 /// The file that is loaded and saved here.
 const SHARED: &str = "folder/shared";
+
+const SHARED_DRAFT: &str = "folder/shared.draft";
 
 /// More bytes than the file ever has.
 const LIMIT: usize = 100;
@@ -54,6 +56,48 @@ pub fn show_end(rt: &HostRuntime, shelf: &FileShelf, end: Result<(), Failed>) ->
     }
 }
 
+/// A change ahead of a draft is seen by the call that would make it, and none is made.
+pub fn change_before_draft(rt: &HostRuntime) -> io::Result<()> {
+    fs::write(rt, SHARED, "old")?;
+    let mut shelf = FileShelf::new(rt);
+    if load(rt.alloc(), &mut shelf).is_err() {
+        return rt.println("not loaded");
+    }
+    Change::Length.make(rt)?;
+    rt.println("another length before the draft")?;
+    let begun = shelf.draft_new();
+    show_end(rt, &shelf, begun)?;
+    show_whether_there(rt, SHARED_DRAFT)
+}
+
+// What is left of a save once its draft is made.
+fn finish<D: Shelf>(shelf: &mut D) -> Result<(), Failed>
+    requires selected { IsSome (D.shelf_state shelf.old).selected }
+    requires opened { (D.shelf_state shelf.old).is_open ≡ true }
+{
+    shelf.draft_add(b"my")?;
+    shelf.draft_sync()?;
+    shelf.swap_in()
+}
+
+/// A change behind that is seen before the draft takes the file's name, and the draft is removed.
+pub fn change_behind_draft(rt: &HostRuntime) -> io::Result<()> {
+    let mut shelf = FileShelf::new(rt);
+    if load(rt.alloc(), &mut shelf).is_err() {
+        return rt.println("not loaded");
+    }
+    if shelf.draft_new().is_err() {
+        return rt.println("not begun");
+    }
+    rt.println("another file behind the draft")?;
+    show_whether_there(rt, SHARED_DRAFT)?;
+    Change::File.make(rt)?;
+    let end = finish(&mut shelf);
+    show_end(rt, &shelf, end)?;
+    show_file(rt, SHARED)?;
+    show_whether_there(rt, SHARED_DRAFT)
+}
+
 fn save_behind(rt: &HostRuntime, change: Change) -> io::Result<()> {
     fs::write(rt, SHARED, "old")?;
     let mut shelf = FileShelf::new(rt);
@@ -76,7 +120,7 @@ pub fn change_between(rt: &HostRuntime) -> io::Result<()> {
     rt.println("no file")?;
     save_behind(rt, Change::Removal)?;
     show_whether_there(rt, SHARED)?;
-    show_whether_there(rt, "folder/shared.draft")
+    show_whether_there(rt, SHARED_DRAFT)
 }
 
 /// A file that comes to be after its name was selected.

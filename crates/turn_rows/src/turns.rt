@@ -135,6 +135,43 @@ fn by_four<R: Threads + Wait + Sync>(
     seat
 }
 
+fn by_eight<R: Threads + Wait + Sync>(
+    rt: &R,
+    lock: &TurnLock<Tally>,
+    first: Two,
+    second: Two,
+    third: Two,
+    fourth: Two,
+) -> TurnSeat<Tally>
+    requires first { IsOf lock.now first.0 × IsIdle first.0 × IsOf lock.now first.1 × IsIdle first.1 }
+    requires second { IsOf lock.now second.0 × IsIdle second.0 × IsOf lock.now second.1 × IsIdle second.1 }
+    requires third { IsOf lock.now third.0 × IsIdle third.0 × IsOf lock.now third.1 × IsIdle third.1 }
+    requires fourth { IsOf lock.now fourth.0 × IsIdle fourth.0 × IsOf lock.now fourth.1 × IsIdle fourth.1 }
+    ensures { IsOf lock.now result × IsIdle result
+        × (weight_of result ≡ ((weight_of first.0 + weight_of first.1) + (weight_of second.0 + weight_of second.1))
+        + ((weight_of third.0 + weight_of third.1) + (weight_of fourth.0 + weight_of fourth.1))) }
+{
+    let (mut seat, other) = join(
+        rt,
+        || -> TurnSeat<Tally>
+            requires { IsSync R.row × IsOf lock.now first.0 × IsIdle first.0 × IsOf lock.now first.1 × IsIdle first.1
+                × IsOf lock.now second.0 × IsIdle second.0 × IsOf lock.now second.1 × IsIdle second.1 }
+            ensures { IsOf lock.entry.now result × IsIdle result
+                × (weight_of result ≡ (weight_of first.0 + weight_of first.1)
+                + (weight_of second.0 + weight_of second.1)) }
+        { by_four(rt, lock, (first.0, first.1), (second.0, second.1), 0, 500) },
+        || -> TurnSeat<Tally>
+            requires { IsSync R.row × IsOf lock.now third.0 × IsIdle third.0 × IsOf lock.now third.1 × IsIdle third.1
+                × IsOf lock.now fourth.0 × IsIdle fourth.0 × IsOf lock.now fourth.1 × IsIdle fourth.1 }
+            ensures { IsOf lock.entry.now result × IsIdle result
+                × (weight_of result ≡ (weight_of third.0 + weight_of third.1)
+                + (weight_of fourth.0 + weight_of fourth.1)) }
+        { by_four(rt, lock, (third.0, third.1), (fourth.0, fourth.1), 4, 500) },
+    );
+    lock.join(&mut seat, other);
+    seat
+}
+
 fn two_more(lock: &TurnLock<Tally>, seat: &mut TurnSeat<Tally>) -> Two
     requires { IsOf lock.now seat.old × IsIdle seat.old × (3 ≤ weight_of seat.old) }
     ensures first { IsOf lock.now result.0 × IsIdle result.0 × (weight_of result.0 ≡ 1) }
@@ -164,26 +201,7 @@ fn eight_threads(rt: HostRuntime) -> Result<(), Fail> {
     let c = two_more(&lock, &mut seat);
     let d = two_more(&lock, &mut seat);
     let e = lock.split(&mut seat);
-    let shared = &lock;
-    let handle = &rt;
-    let (mut seat, other) = join(
-        &rt,
-        || -> TurnSeat<Tally>
-            requires { IsOf shared.now seat × IsIdle seat × IsOf shared.now e × IsIdle e
-                × IsOf shared.now c.0 × IsIdle c.0 × IsOf shared.now c.1 × IsIdle c.1 }
-            ensures { IsOf shared.entry.now result × IsIdle result
-                × (weight_of result ≡ (weight_of seat + weight_of e)
-                + (weight_of c.0 + weight_of c.1)) }
-        { by_four(handle, shared, (seat, e), c, 0, 500) },
-        || -> TurnSeat<Tally>
-            requires { IsOf shared.now a × IsIdle a × IsOf shared.now b × IsIdle b
-                × IsOf shared.now d.0 × IsIdle d.0 × IsOf shared.now d.1 × IsIdle d.1 }
-            ensures { IsOf shared.entry.now result × IsIdle result
-                × (weight_of result ≡ (weight_of a + weight_of b)
-                + (weight_of d.0 + weight_of d.1)) }
-        { by_four(handle, shared, (a, b), d, 4, 500) },
-    );
-    lock.join(&mut seat, other);
+    let seat = by_eight(&rt, &lock, (seat, e), c, (a, b), d);
     let tally = lock.close(seat);
     assert_eq!(rt; tally.len(), 4000);
     for who in 0..8 {

@@ -5,6 +5,7 @@ use std::alloc::AllocError;
 use std::io;
 use thiserror::Error;
 use xcf::{NotEdited, NotOpened, NotShown};
+use xl_real::ShelfError;
 
 /// Why a program over images goes no further: an error of the facade, or what the system said.
 #[derive(Debug, Drop, Error)]
@@ -20,9 +21,9 @@ pub enum Failure {
     NotEdited(NotEdited),
     #[error("not shown: {0}")]
     NotShown(NotShown),
-    /// What the system said of a save. A read of the file gives the old one or the new one.
+    /// What the system said of a save, and of what. A read of the file gives the old one or the new one.
     #[error("not saved: {0}")]
-    NotSaved(io::Error),
+    NotSaved(ShelfError),
 }
 
 impl From<AllocError> for Failure {

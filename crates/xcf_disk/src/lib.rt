@@ -10,4 +10,4 @@ mod saving;
 pub use errors::Failure;
 pub use opening::{edit_file, open_file};
 pub use saving::save_file;
-pub use xl_real::FileShelf;
+pub use xl_real::{FileShelf, ShelfError};

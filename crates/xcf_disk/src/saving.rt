@@ -6,7 +6,7 @@ use std::io;
 use std::io::ErrorKind;
 use xcf::{Document, save};
 use xl_ports::{Failed, Shelf};
-use xl_real::FileShelf;
+use xl_real::{FileShelf, ShelfError};
 
 // Puts the bytes of a file under a path, in place of what is there.
 fn put(file: &[u8], path: &str, shelf: &mut FileShelf) -> Result<(), Failed> {
@@ -15,10 +15,10 @@ fn put(file: &[u8], path: &str, shelf: &mut FileShelf) -> Result<(), Failed> {
 }
 
 // What the system said of the last call that failed.
-fn said_of(shelf: &FileShelf) -> io::Error {
+fn said_of(shelf: &FileShelf) -> ShelfError {
     match shelf.error() {
         Some(error) => *error,
-        None => io::Error::from(ErrorKind::Other),
+        None => ShelfError::File(io::Error::from(ErrorKind::Other)),
     }
 }
 

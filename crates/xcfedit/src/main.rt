@@ -94,16 +94,7 @@ fn tell_calls(rt: &HostRuntime, sink: &WatchedSink<StdSink>) {
     }
 }
 
-// What the system said of the file or of the output, where the command stopped there.
-fn system_error<'a>(ended: &'a Ended<FileShelf>, out: &'a StdSink) -> Option<&'a io::Error> {
-    match ended.status {
-        SHELF_FAULT => ended.shelf.error(),
-        SINK_FAULT => out.error(),
-        _ => None,
-    }
-}
-
-// Says why a command stopped.
+// Says why a command stopped, and where it stopped at the file or at the output what the system said of that.
 fn tell_stop(rt: &HostRuntime, words: &[&str], ended: &mut Ended<FileShelf>, out: &StdSink) {
     let alloc = rt.alloc();
     let cause = ended.cause;
@@ -112,9 +103,10 @@ fn tell_stop(rt: &HostRuntime, words: &[&str], ended: &mut Ended<FileShelf>, out
     let Ok(text) = message(alloc, words, ended.status, cause, &found[..count]) else {
         return;
     };
-    let _ = match system_error(ended, out) {
-        Some(error) => eprintln!(rt; "{text}: {error}"),
-        None => rt.eprintln(text),
+    let _ = match (ended.status, ended.shelf.error(), out.error()) {
+        (SHELF_FAULT, Some(error), _) => eprintln!(rt; "{text}: {error}"),
+        (SINK_FAULT, _, Some(error)) => eprintln!(rt; "{text}: {error}"),
+        _ => rt.eprintln(text),
     };
 }
 

@@ -1,4 +1,3 @@
-mod FlatGroup
 pub mod Edited
 pub mod MadeRuns
 -- of what commands and runs come to

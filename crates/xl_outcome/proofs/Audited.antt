@@ -2,10 +2,11 @@
 use Rattle.std.proofs.Common.{◌≡◌, ◌∙◌, ℕ, List, ap, sym, subst, refl}
 use Rattle.std.specs.Prelude.{Option, Some, IfSome, IfOk, Result, Ok, Err}
 use Rattle.std.specs.declared.alloc.AllocError.{AllocError}
-use Rattle.std.proofs.lemmas.Option.{none-some}
+use Rattle.std.proofs.lemmas.Option.{none-some, same_Some}
 use Rattle.xl_printed.specs.Answers.{verdict_line, rejection_of}
 use Rattle.spec_audit.specs.Verdicts.{IsExact}
 use Rattle.spec_audit.specs.declared.Verdict.{Verdict}
+use Rattle.spec_audit.specs.declared.Verdict.TheVariants as verdicts
 use Rattle.spec_audit.specs.declared.Verdict.TheVariants.{Accepted}
 use Rattle.spec_command.specs.Arguments.{audit}
 use Rattle.spec_document.specs.Document.{Document}
@@ -14,7 +15,7 @@ use Rattle.xl_ports.specs.Disk.{read_at}
 use Rattle.xl_ports.specs.Shelf.{Content}
 use Rattle.xl_ports.specs.State.{ShelfState}
 use Rattle.xl_script.specs.Lines.{lists_of}
-use Rattle.xl_outcome.specs.Auditing.{HasVerdict, IsAudited}
+use Rattle.xl_outcome.specs.Auditing.{HasVerdict, IsAudited, rejection_line}
 use Rattle.xl_outcome.specs.Endings.{Ending, well, rejected, in_part}
 use Rattle.xl_outcome.specs.Files.{HoldsDocument}
 use Rattle.xl_outcome.specs.Outcome.{Given, ComesTo, IsUntouched, ReadsToEnd}
@@ -23,6 +24,7 @@ use Rattle.xl_outcome.specs.declared.stopped.Stopped.{Stopped}
 use Rattle.xl_outcome.specs.declared.stopped.Stopped.TheVariants.{SourceFault, BadHead, BadLine, ShelfFault, Refused}
 use Rattle.xl_outcome.specs.declared.stopped.Stopped.TheVariants.{NotFlattened, SaveFault, Rejected, SinkFault, Memory}
 use Rattle.xl_printed.specs.declared.answers.Rejection.{Rejection}
+use Rattle.xl_printed.specs.declared.answers.Rejection.TheVariants as rejections
 use Rattle.xl_printed.specs.Reading.{ReadsAudit}
 use Rattle.xl_printed.specs.declared.reading.Audit.{Audit}
 use Rattle.xl_printed.specs.declared.reading.Unread.{Unread}
@@ -33,6 +35,12 @@ use Rattle.xl_outcome.proofs.Taken.{untouched}
 -- what is rejected for some reason was not accepted
 not_accepted : (verdict : Verdict) (why : Rejection) → rejection_of verdict ≡ Some why → verdict ≡ Accepted → ⊥
 not_accepted verdict why is accepted = none-some why (sym (ap rejection_of accepted) ∙ is)
+
+-- its line names that reason
+names_reason : (verdict : Verdict) (why : Rejection) → rejection_of verdict ≡ Some why → verdict_line verdict ≡ rejection_line why
+names_reason verdicts.Accepted why is = absurd (none-some why is)
+names_reason verdicts.Shape why is = ap rejection_line (same_Some rejections.Shape why is)
+names_reason (verdicts.Reply session index) why is = ap rejection_line (same_Some (rejections.Reply session index) why is)
 
 -- what was known when the output was judged
 pub record IsAuditOpened (given : Given) (before mid : ShelfState) (name : List ℕ) (d : Document) (found : Audit) : Type 0 where
@@ -67,7 +75,8 @@ module _ (given : Given) {before mid : ShelfState} {name : List ℕ} {d : Docume
   audit_comes held faults old new (Ok verdict) (Ok x) exact writes =
       (verdict_line verdict, (is_audited well verdict exact writes.1, then.untouched), writes.0)
   audit_comes held faults old new (Ok verdict) (Err (Rejected why)) exact writes =
-      (verdict_line verdict, (is_audited rejected verdict exact (not_accepted verdict why writes.1), then.untouched), writes.0)
+      let audited = is_audited rejected verdict exact (not_accepted verdict why writes.1) in
+      (verdict_line verdict, ((audited, then.untouched), names_reason verdict why writes.1), writes.0)
   audit_comes held faults old new (Ok verdict) (Err SinkFault) exact writes =
       (verdict_line verdict, (is_audited in_part verdict exact tt, then.untouched), writes)
   audit_comes held faults old new (Ok verdict) (Err Memory) exact writes = ((ap held writes, ap faults writes), then.untouched)

@@ -1,21 +1,19 @@
 -- What a run comes to that makes the image of a file flat.
-use Rattle.std.proofs.Common.{◌≡◌, inr, ℕ, List, Some, None, ap, refl, sym, ◌∙◌, subst}
-use Rattle.std.specs.Prelude.{Option, unwrap_or, IfSome, Result, Ok, Err}
+use Rattle.std.proofs.Common.{◌≡◌, inr, ℕ, List, Some, None, ap, refl, ◌∙◌}
+use Rattle.std.specs.Prelude.{Option, IfSome, Result, Ok, Err}
 use Rattle.spec_command.specs.Arguments.{flatten}
 use Rattle.spec_document.specs.Document.{Document}
 use Rattle.spec_document.specs.Ids.{next_id}
 use Rattle.spec_document.specs.Limits.{IsDocument}
 use Rattle.spec_flat.specs.Flat.{flat_refusal}
 use Rattle.spec_flat.specs.Flattened.{BecomesFlat}
-use Rattle.spec_layout.specs.Layout.{Written}
 use Rattle.spec_world.specs.declared.SaveEnd.TheVariants.{Done, Fault}
-use Rattle.xl_calls.specs.declared.call.Group.{Group}
 use Rattle.xl_layout.proofs.Short.{read}
 use Rattle.xl_ports.specs.Disk.{read_at, Disk, Between}
 use Rattle.xl_ports.specs.Shelf.{Content}
 use Rattle.xl_ports.specs.State.{ShelfState}
 use Rattle.xl_outcome.specs.Files.{HoldsDocument}
-use Rattle.xl_outcome.specs.Flattening.{made_flat, flattened_line, HasFlat, IsFlatGroup, IsFlatSave, IsFlattened}
+use Rattle.xl_outcome.specs.Flattening.{made_flat, flattened_line, HasFlat, IsFlatSave, IsFlattened}
 use Rattle.xl_outcome.specs.Flattening.{SavesAndTells}
 use Rattle.xl_outcome.specs.Outcome.{ComesTo, Given, IsUntouched, opened, ShelfCauseOf}
 use Rattle.xl_outcome.specs.Parts.{StopsFlatten}
@@ -118,42 +116,6 @@ module _ {before mid : ShelfState} {name : List ℕ} {d : Document} (known_then 
   flat_cause held faults old new (Err SaveFault) saves = absurd saves
   flat_cause held faults old new (Err (Rejected why)) saves = absurd saves
   flat_cause held faults old new (Err Memory) saves = absurd saves
-
--- ---- of the shelves of a run
-
-module _ {D : Type 0} (state : D → ShelfState) where
-  pub flat_read : (shelf mid : D) (name : List ℕ) (d : Document) (group : Group)
-      → IfSome (read_at (state shelf).disk name) (λ c. HoldsDocument c d) → IsDocument d
-      → IsUntouched (state shelf) (state mid)
-      → (state mid).selected ≡ Some name → (state mid).reading ≡ (state shelf).reading → IsFlatGroup d group
-      → IsFlatRead (state shelf) (state mid) name d
-  flat_read shelf mid name d group holds within untouched named reads flat = record {
-    holds = holds;
-    within = within;
-    untouched = untouched;
-    named = named;
-    reading = reads;
-    allowed = flat.allowed;
-    becomes = flat.becomes;
-  }
-
-  -- the shelf that a core gives back is the one that it was handed
-  pub handed_back : (inside : Option D) (after : Option D) (mid back : D) → inside ≡ Some mid → after ≡ inside → after ≡ Some back
-      → back ≡ mid
-  handed_back inside after mid back first then last =
-      ap (λ (o : Option D). unwrap_or o mid) (sym last ∙ (then ∙ first))
-
-  pub saved_there : {K : Type 0} (held : K → Option (List ℕ)) (faults : K → ℕ) (mid back new : D) (base d : Document)
-      (file : List ℕ) (old told : K) (result : Result (Unit {0}) Stopped)
-      → ((d : Document) → Written file d
-      → SavesAndTells held faults d (state back) (state new) old told result)
-      → back ≡ mid → Written file (made_flat base) → base ≡ d
-      → SavesAndTells held faults (made_flat d) (state mid) (state new) old
-      told result
-  saved_there held faults mid back new base d file old told result saves same written base_is =
-      subst (λ (k : D). SavesAndTells held faults (made_flat d) (state k)
-      (state new) old told result) same
-      (saves (made_flat d) (subst (λ (x : Document). Written file (made_flat x)) base_is written))
 
 -- ---- why it stops
 

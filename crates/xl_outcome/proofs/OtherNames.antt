@@ -124,7 +124,7 @@ others_come held faults given old new command before after (Err (Refused why)) c
 others_come held faults given old new command before after (Err (NotFlattened why)) comes =
     others_untouched (name_of command) old new comes.1
 others_come held faults given old new command before after (Err (Rejected why)) comes =
-    others_output given old new command rejected comes.0 comes.1
+    others_output given old new command rejected comes.0 comes.1.0
 
 -- ---- by the words
 

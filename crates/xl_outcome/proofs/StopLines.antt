@@ -141,8 +141,8 @@ module _ (given : Given) (content : List ℕ → Option Content) where
   bad_line_of (make name seed) bad stops = absurd stops
   bad_line_of (pack name with_plans) bad stops = absurd stops
   bad_line_of (flatten name) bad stops = absurd stops
-  bad_line_of (edit name workers) bad stops = stops
-  bad_line_of (view name cols rows) bad stops = stops
+  bad_line_of (edit name workers) bad stops = stops.0
+  bad_line_of (view name cols rows) bad stops = stops.0
   bad_line_of (audit name) bad stops = stops
 
   -- and what a refused head does
@@ -341,7 +341,8 @@ module _ {K : Type 0} (held : K → Option (List ℕ)) (faults : K → ℕ) (giv
       → ComesTo held faults given before after command old mid (Err stopped) → WritesStop held faults mid new stopped status
       → WritesRejection held faults given before after (Some command) old new
   rejection_written command (Rejected why) status old mid new ten comes told =
-      subst (λ (k : K). WritesSome held faults (IsOutput given before after command rejected) old k) (sym told.1) comes
+      subst (λ (k : K). WritesSome held faults (IsOutput given before after command rejected) old k) (sym told.1)
+      (comes.0, comes.1.0, comes.2)
   rejection_written command SourceFault status old mid new ten comes told = absurd (omega (arith, ten, told.0))
   rejection_written command BadHead status old mid new ten comes told = absurd (omega (arith, ten, told.0))
   rejection_written command (BadLine bad) status old mid new ten comes (inl told) = absurd (omega (arith, ten, told.0))

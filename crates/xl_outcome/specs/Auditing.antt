@@ -3,6 +3,7 @@ use Rattle.std.specs.Prelude.{◌≡◌, ℕ, List, length, map, Option, IfSome,
 use Rattle.xl_printed.specs.Answers.{verdict_line}
 use Rattle.spec_audit.specs.Verdicts.{IsExact}
 use Rattle.spec_audit.specs.declared.Verdict.{Verdict}
+use Rattle.spec_audit.specs.declared.Verdict.TheVariants as verdicts
 use Rattle.spec_audit.specs.declared.Verdict.TheVariants.{Accepted}
 use Rattle.spec_document.specs.Document.{Document}
 use Rattle.spec_document.specs.Limits.{IsDocument}
@@ -12,6 +13,8 @@ use Rattle.xl_ports.specs.Shelf.{Content}
 use Rattle.xl_outcome.specs.Endings.{Ending, well, unsaved, rejected, in_part}
 use Rattle.xl_outcome.specs.Files.{HoldsDocument}
 use Rattle.xl_printed.specs.Reading.{HasParts, IsBadLineBehind}
+use Rattle.xl_printed.specs.declared.answers.Rejection.{Rejection}
+use Rattle.xl_printed.specs.declared.answers.Rejection.TheVariants as rejections
 
 -- the source has a script with these lines and this output behind its head
 abbrev pub HasAudit : (left : Option (List ℕ)) → (chests : List (List FilterState)) → (lists : List (List Line)) → (output : List ℕ)
@@ -31,6 +34,11 @@ HasVerdict well verdict = verdict ≡ Accepted
 HasVerdict unsaved verdict = ⊥
 HasVerdict rejected verdict = verdict ≡ Accepted → ⊥
 HasVerdict in_part verdict = Unit {0}
+
+-- the line of the verdict that rejects for this reason
+abbrev pub rejection_line : Rejection → List ℕ
+rejection_line rejections.Shape = verdict_line verdicts.Shape
+rejection_line (rejections.Reply session index) = verdict_line (verdicts.Reply session index)
 
 -- The line of the verdict on the output behind the head, by its script, on a document within the limits which the file holds where
 -- its content is told. The verdict is exact.

@@ -6,16 +6,10 @@ use Rattle.spec_document.specs.Ids.{next_id}
 use Rattle.spec_file.specs.Reading.{reading}
 use Rattle.spec_flat.specs.Flat.{flat_refusal}
 use Rattle.spec_flat.specs.Flattened.{flat_document, BecomesFlat}
-use Rattle.spec_filters.specs.declared.FilterState.{FilterState}
-use Rattle.spec_flat.specs.Flat.{flat_edits}
-use Rattle.spec_history.specs.Calls.{IsGroupOfEdits}
 use Rattle.spec_layout.specs.Layout.{Written}
 use Rattle.spec_saves.specs.Shelf.{file_name}
-use Rattle.spec_tables.specs.Agrees.{AreThere}
 use Rattle.spec_world.specs.declared.SaveEnd.{SaveEnd}
 use Rattle.spec_world.specs.declared.SaveEnd.TheVariants.{Done, Fault}
-use Rattle.xl_calls.specs.declared.call.Group.{Group}
-use Rattle.xl_calls.specs.Edits.{edits_of}
 use Rattle.xl_ports.specs.Shelf.{Content, file}
 use Rattle.xl_ports.specs.Disk.{Disk}
 use Rattle.xl_ports.specs.Sink.{WritesAll, WritesPart}
@@ -63,28 +57,25 @@ MayBeFlattened content opening now = IsFlatSave content opening now Fault
 
 -- ---- the parts of it
 
--- a group that makes the document flat at version 0, by edits that ask no filter
-pub record IsFlatGroup (d : Document) (group : Group) : Type 0 where
+-- a file of the image made flat, of a document that may be made so; it shows what the document showed
+pub record IsFlatFile (d : Document) (bytes : List ℕ) : Type 0 where
   pub allowed : flat_refusal d ≡ None
-  pub guard : group.guard ≡ Some 0
-  pub edits : edits_of group.edits ≡ flat_edits d (next_id d)
-  pub is_group : IsGroupOfEdits (edits_of group.edits)
-  pub plain : (chest : List (Option FilterState)) → AreThere chest (edits_of group.edits)
   pub becomes : BecomesFlat d (next_id d)
+  pub written : Written bytes (made_flat d)
 
--- the group, or the first cause that keeps the image from being made flat
-abbrev pub GivesGroup : Document → Result Group Stopped → Type 0
-GivesGroup d (Ok group) = IsFlatGroup d group
-GivesGroup d (Err (NotFlattened why)) = flat_refusal d ≡ Some why
-GivesGroup d (Err Memory) = Unit {0}
-GivesGroup d (Err SourceFault) = ⊥
-GivesGroup d (Err BadHead) = ⊥
-GivesGroup d (Err (BadLine bad)) = ⊥
-GivesGroup d (Err ShelfFault) = ⊥
-GivesGroup d (Err (Refused why)) = ⊥
-GivesGroup d (Err SaveFault) = ⊥
-GivesGroup d (Err (Rejected why)) = ⊥
-GivesGroup d (Err SinkFault) = ⊥
+-- the file, or the first cause that keeps the image from being made flat
+abbrev pub GivesFlatFile : Document → Result (List ℕ) Stopped → Type 0
+GivesFlatFile d (Ok bytes) = IsFlatFile d bytes
+GivesFlatFile d (Err (NotFlattened why)) = flat_refusal d ≡ Some why
+GivesFlatFile d (Err Memory) = Unit {0}
+GivesFlatFile d (Err SourceFault) = ⊥
+GivesFlatFile d (Err BadHead) = ⊥
+GivesFlatFile d (Err (BadLine bad)) = ⊥
+GivesFlatFile d (Err ShelfFault) = ⊥
+GivesFlatFile d (Err (Refused why)) = ⊥
+GivesFlatFile d (Err SaveFault) = ⊥
+GivesFlatFile d (Err (Rejected why)) = ⊥
+GivesFlatFile d (Err SinkFault) = ⊥
 
 module _ {K : Type 0} (held : K → Option (List ℕ)) (faults : K → ℕ) where
   -- a document is saved and the line written; or a fault stopped the save, or one of the sink came while the line was written

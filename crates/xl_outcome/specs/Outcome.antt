@@ -29,7 +29,7 @@ use Rattle.xl_ports.specs.Sink.{WritesAll, WritesPart}
 use Rattle.xl_ports.specs.Source.{led_by, IsEnded}
 use Rattle.xl_ports.specs.State.{ShelfState}
 use Rattle.xl_filters.specs.Chests.{states_of}
-use Rattle.xl_outcome.specs.Auditing.{IsAudited, IsAuditScript, IsBadAuditLine}
+use Rattle.xl_outcome.specs.Auditing.{IsAudited, IsAuditScript, IsBadAuditLine, rejection_line}
 use Rattle.xl_outcome.specs.Endings.{Ending, well, unsaved, rejected, in_part, HaveFailed}
 use Rattle.xl_outcome.specs.Files.{HoldsDocument}
 use Rattle.xl_outcome.specs.Flattening.{IsFlattened, MayBeFlattened}
@@ -222,12 +222,13 @@ module _ {K : Type 0} (held : K → Option (List ℕ)) (faults : K → ℕ) wher
   abbrev pub WritesFront : (IsOut : List ℕ → Type 0) → (old new : K) → Type 0
   WritesFront IsOut old new = (out : List ℕ) × IsOut out × WritesPart held faults old new out
 
-  -- what is written and what was saved; where a command stops before its end nothing is
+  -- what is written and what was saved; where a command stops before its end nothing is, and a rejection is the one that is written
   abbrev pub Comes : (IsOut : Ending → List ℕ → Type 0) → (Untouched Failed Saved : Type 0) → (old new : K)
       → Result (Unit {0}) Stopped → Type 0
   Comes IsOut Untouched Failed Saved old new (Ok x) = WritesSome (IsOut well) old new
   Comes IsOut Untouched Failed Saved old new (Err SaveFault) = WritesSome (IsOut unsaved) old new
-  Comes IsOut Untouched Failed Saved old new (Err (Rejected why)) = WritesSome (IsOut rejected) old new
+  Comes IsOut Untouched Failed Saved old new (Err (Rejected why)) =
+      WritesSome (λ out. IsOut rejected out × (out ≡ rejection_line why)) old new
   Comes IsOut Untouched Failed Saved old new (Err SinkFault) = WritesFront (IsOut in_part) old new
   Comes IsOut Untouched Failed Saved old new (Err Memory) = Keeps old new × Saved
   Comes IsOut Untouched Failed Saved old new (Err SourceFault) = Keeps old new × Untouched

@@ -7,7 +7,6 @@ use Rattle.spec_audit.specs.declared.Verdict.{Verdict}
 use Rattle.spec_audit.specs.declared.Verdict.TheVariants.{Accepted}
 use Rattle.spec_command.specs.Arguments.{Asked, edit, render, info, make, pack, flatten, view, audit}
 use Rattle.spec_document.specs.Document.{Document}
-use Rattle.spec_script.specs.Script as script
 use Rattle.spec_script.specs.Script.{list_at}
 use Rattle.xl_ports.specs.Shelf.{Content}
 use Rattle.xl_ports.specs.Sink.{WritesAll, WritesPart}
@@ -22,6 +21,7 @@ use Rattle.xl_script.specs.Lines.{lists_of}
 use Rattle.xl_script.specs.declared.script.Line.{Line}
 use Rattle.xl_printed.specs.Reading.{IsBadHead}
 use Rattle.xl_printed.specs.declared.reading.Audit.{Audit}
+use Rattle.xl_words.specs.Causes.{Blames}
 
 -- the document of the file, or its first fault
 abbrev pub Loads : Option Content → Result Document Stopped → Type 0
@@ -31,10 +31,10 @@ Loads content (Err ShelfFault) = Unit {0}
 Loads content (Err Memory) = Unit {0}
 Loads content (Err stopped) = ⊥
 
--- the lines of the script, or the line that is refused
+-- the lines of the script, or the line that is refused, and a cause that blames a word rightly
 abbrev pub ReadsScript : Given → Result (List (List Line)) Stopped → Type 0
 ReadsScript given (Ok lists) = HasLines given (lists_of lists)
-ReadsScript given (Err (BadLine bad)) = IsBadLine given bad.line
+ReadsScript given (Err (BadLine bad)) = IsBadLine given bad.line × Blames bad.cause
 ReadsScript given (Err SourceFault) = Unit {0}
 ReadsScript given (Err Memory) = Unit {0}
 ReadsScript given (Err stopped) = ⊥
@@ -42,7 +42,7 @@ ReadsScript given (Err stopped) = ⊥
 -- the same of a script that may be viewed
 abbrev pub ReadsViewed : Given → Result (List (List Line)) Stopped → Type 0
 ReadsViewed given (Ok lists) = HasViewLines given.left (first_filters given) (list_at (lists_of lists) 0)
-ReadsViewed given (Err (BadLine bad)) = IsBadViewLine given.left (first_filters given) bad.line
+ReadsViewed given (Err (BadLine bad)) = IsBadViewLine given.left (first_filters given) bad.line × Blames bad.cause
 ReadsViewed given (Err SourceFault) = Unit {0}
 ReadsViewed given (Err Memory) = Unit {0}
 ReadsViewed given (Err stopped) = ⊥
@@ -122,7 +122,7 @@ abbrev pub StopsEdit : Given → Option Content → Result (Unit {0}) Stopped �
 StopsEdit given content (Ok x) = Unit {0}
 StopsEdit given content (Err SourceFault) = Unit {0}
 StopsEdit given content (Err BadHead) = ⊥
-StopsEdit given content (Err (BadLine bad)) = IsBadLine given bad.line
+StopsEdit given content (Err (BadLine bad)) = IsBadLine given bad.line × Blames bad.cause
 StopsEdit given content (Err ShelfFault) = IsScript given
 StopsEdit given content (Err (Refused refused)) = IsScript given × IfSome content (λ c. HasFault c refused)
 StopsEdit given content (Err (NotFlattened why)) = ⊥
@@ -136,7 +136,7 @@ abbrev pub StopsView : Given → Option Content → Result (Unit {0}) Stopped �
 StopsView given content (Ok x) = Unit {0}
 StopsView given content (Err SourceFault) = Unit {0}
 StopsView given content (Err BadHead) = ⊥
-StopsView given content (Err (BadLine bad)) = IsBadViewLine given.left (first_filters given) bad.line
+StopsView given content (Err (BadLine bad)) = IsBadViewLine given.left (first_filters given) bad.line × Blames bad.cause
 StopsView given content (Err ShelfFault) = IsViewScript given.left (first_filters given)
 StopsView given content (Err (Refused refused)) =
     IsViewScript given.left (first_filters given) × IfSome content (λ c. HasFault c refused)

@@ -18,6 +18,7 @@ ghost use Rattle.xl_commands.specs.Outcome.{given_of, ComesWell, ShelfFails, Wri
 ghost use Rattle.xl_commands.specs.Outcome.{MaySave, IsUntouched, StopsBefore, RefusesSource, InGrammar, Keeps};
 ghost use Rattle.xl_commands.specs.Outcome.{ComesTo, Takes, IsStatus, LoadsFew, OtherNamesStay, WritesStop};
 ghost use Rattle.xl_commands.specs.Parts.{StopsFor};
+ghost use Rattle.xl_commands.specs.declared.Stopped.TheVariants.{Memory};
 
 use crate::host::Host;
 use crate::obeying::obey;
@@ -118,6 +119,8 @@ pub fn run<R: Threads + Wait + Sync, S: Source, K: Sink, D: Shelf, G: Gate>(
         × ComesTo K.held K.faults (given_of (S.left source.old) (λ b. state b) chest.items)
         (D.shelf_state shelf) (D.shelf_state result.shelf) command sink.old mid (Err stopped)
         × WritesStop K.held K.faults mid sink.new stopped result.status)) }
+    ensures cause_without { asked_in (arguments_of words.now) ≡ None
+        → IfSome result.cause (λ stopped. stopped ≡ Memory) }
     ensures no_cause { (result.cause ≡ None) ↔ ((result.status ≡ 0) ⊎ (result.status ≡ 2)) }
 
     // What becomes of the source and the shelf.

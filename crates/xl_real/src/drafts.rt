@@ -1,5 +1,6 @@
 // The draft of a file: how it is made, takes the file's name, or is removed.
 use crate::places::draft_of;
+use crate::shelf_error::ShelfError;
 use crate::stamps::{Stamp, look};
 use std::fs::{File, OpenOptions, Permissions, TryLockError};
 use std::io::{ErrorKind, Write};
@@ -30,7 +31,7 @@ impl Draft {
     ///
     /// An older draft is removed, and never cut: it may be another name of a file that is to stay. One that is locked
     /// is that of a save under way, and an error.
-    pub fn new(rt: &HostRuntime, place: &str) -> io::Result<Draft> {
+    pub fn new(rt: &HostRuntime, place: &str) -> Result<Draft, ShelfError> {
         let name = draft_of(rt.alloc(), place)?;
         remove_older(rt, &name)?;
         let permissions = permissions_of(rt, place)?;
@@ -43,7 +44,7 @@ impl Draft {
         let draft = Draft { file, name };
         if let Err(error) = draft.prepare(rt, permissions) {
             // What another process has locked is left to it.
-            if error.kind() != ErrorKind::WouldBlock {
+            if error.said().kind() != ErrorKind::WouldBlock {
                 draft.discard(rt);
             }
             return Err(error);
@@ -52,32 +53,36 @@ impl Draft {
     }
 
     // What a draft needs before its first byte: the lock, its name, which it may have lost before, and its bits.
-    fn prepare(&self, rt: &HostRuntime, permissions: Option<Permissions>) -> io::Result<()> {
+    fn prepare(
+        &self,
+        rt: &HostRuntime,
+        permissions: Option<Permissions>,
+    ) -> Result<(), ShelfError> {
         self.lock()?;
         self.check_name(rt)?;
         match permissions {
-            Some(permissions) => self.file.set_permissions(permissions),
+            Some(bits) => self.file.set_permissions(bits).map_err(ShelfError::Draft),
             None => Ok(()),
         }
     }
 
     // Takes the lock. An error where another process holds it, or there are no locks.
-    fn lock(&self) -> io::Result<()> {
+    fn lock(&self) -> Result<(), ShelfError> {
         match self.file.try_lock() {
             Ok(()) => Ok(()),
             Err(TryLockError::WouldBlock) => Err(is_being_saved()),
-            Err(TryLockError::Error(error)) => Err(error),
+            Err(TryLockError::Error(error)) => Err(ShelfError::Draft(error)),
         }
     }
 
     /// Adds bytes at its end.
-    pub fn add(&mut self, bytes: &[u8]) -> io::Result<()> {
-        self.file.write_all(bytes)
+    pub fn add(&mut self, bytes: &[u8]) -> Result<(), ShelfError> {
+        self.file.write_all(bytes).map_err(ShelfError::Draft)
     }
 
     /// Brings it to the disk.
-    pub fn sync(&self) -> io::Result<()> {
-        self.file.sync_all()
+    pub fn sync(&self) -> Result<(), ShelfError> {
+        self.file.sync_all().map_err(ShelfError::Draft)
     }
 
     /// What it is now, under whatever name. `None` where the system does not say.
@@ -97,17 +102,17 @@ impl Draft {
     }
 
     /// An error where something else stands under its name, or nothing.
-    pub fn check_name(&self, rt: &HostRuntime) -> io::Result<()> {
+    pub fn check_name(&self, rt: &HostRuntime) -> Result<(), ShelfError> {
         if self.has_name(rt) {
             return Ok(());
         }
-        let message = "the draft was removed by another program";
-        Err(io::Error::new(ErrorKind::NotFound, message))
+        let message = "another program removed it";
+        Err(ShelfError::Draft(io::Error::new(ErrorKind::NotFound, message)))
     }
 
     /// Gives it the file's name.
-    pub fn rename(&self, rt: &HostRuntime, place: &str) -> io::Result<()> {
-        fs::rename(rt, &self.name, place)
+    pub fn rename(&self, rt: &HostRuntime, place: &str) -> Result<(), ShelfError> {
+        fs::rename(rt, &self.name, place).map_err(ShelfError::of_rename)
     }
 
     /// Its file, which is no draft any longer.
@@ -126,13 +131,13 @@ impl Draft {
 }
 
 // What keeps a save from its draft: that of another process.
-fn is_being_saved() -> io::Error {
+fn is_being_saved() -> ShelfError {
     let message = "another process is saving the file";
-    io::Error::new(ErrorKind::WouldBlock, message)
+    ShelfError::File(io::Error::new(ErrorKind::WouldBlock, message))
 }
 
 // Opens a file for writing, and for later loads, that must not be there.
-fn open_new(rt: &HostRuntime, name: &str, mode: u32) -> io::Result<File> {
+fn open_new(rt: &HostRuntime, name: &str, mode: u32) -> Result<File, ShelfError> {
     let opened = OpenOptions::new()
         .read(true)
         .write(true)
@@ -141,31 +146,36 @@ fn open_new(rt: &HostRuntime, name: &str, mode: u32) -> io::Result<File> {
         .open(rt, name);
     match opened {
         Err(error) if error.kind() == ErrorKind::AlreadyExists => Err(is_being_saved()),
-        opened => opened,
+        opened => opened.map_err(ShelfError::of_draft_name),
     }
 }
 
 // Removes what stands under a draft's name, if there is anything, but for a draft that is locked.
-fn remove_older(rt: &HostRuntime, name: &str) -> io::Result<()> {
+fn remove_older(rt: &HostRuntime, name: &str) -> Result<(), ShelfError> {
     match fs::symlink_metadata(rt, name) {
         Ok(found) if found.is_file() => remove_unlocked(rt, name),
         // No draft, which may not be opened either.
-        Ok(_) => fs::remove_file(rt, name),
-        Err(error) => unless_absent(Err(error)),
+        Ok(_) => remove_name(rt, name),
+        Err(error) => unless_absent(Err(error)).map_err(ShelfError::of_draft_name),
     }
 }
 
+// Removes what stands under a draft's name, if there is anything, whatever it is.
+fn remove_name(rt: &HostRuntime, name: &str) -> Result<(), ShelfError> {
+    unless_absent(fs::remove_file(rt, name)).map_err(ShelfError::of_draft_name)
+}
+
 // Removes a draft that no process has locked. Where it has another name by then, that stays.
-fn remove_unlocked(rt: &HostRuntime, name: &str) -> io::Result<()> {
+fn remove_unlocked(rt: &HostRuntime, name: &str) -> Result<(), ShelfError> {
     let name = String::from_str(rt.alloc(), name)?;
     let file = match open_older(rt, &name) {
         Ok(file) => file,
-        Err(error) => return unless_absent(Err(error)),
+        Err(error) => return unless_absent(Err(error)).map_err(ShelfError::Draft),
     };
     let older = Draft { file, name };
     older.lock()?;
     if older.has_name(rt) {
-        unless_absent(fs::remove_file(rt, &older.name))
+        remove_name(rt, &older.name)
     } else {
         Ok(())
     }

@@ -4,6 +4,7 @@ ghost use Rattle.xl_ports.specs.Faults.{HasCause, Rose};
 
 use crate::drafts::Draft;
 use crate::places::{check_room, folder_of, place_of};
+use crate::shelf_error::ShelfError;
 use crate::stamps::{Stamp, look, open_regular};
 use std::fs::File;
 use std::io;
@@ -19,11 +20,12 @@ use xl_ports::{Failed, Shelf};
 /// - `select` reads links, and answers `Failed` where a link cannot be followed, what stands there is no regular file,
 ///   or its name leaves no room for that of the draft. It removes the draft that is open.
 /// - `load` opens the file once and reads at the offset that is asked for. After a save it reads what was saved.
-/// - `draft_new` removes an older draft, makes a new one that must not be there, locks it, and gives it the permission
-///   bits of the file, where there is one. It fails while another shelf or process has a draft of the file.
+/// - `draft_new` fails where another program has changed the file: what stands there is not what this shelf put there
+///   last, or opened to read, or else found when it selected the name. Else it removes an older draft, makes a new one
+///   that must not be there, locks it, and gives it the permission bits of the file, where there is one. It fails while
+///   another shelf or process has a draft of the file.
 /// - `draft_add` writes, and `draft_sync` syncs the draft.
-/// - `swap_in` renames the draft over the file, unless another program has changed the file: what stands there is not
-///   what this shelf put there last, or opened to read, or else found when it selected the name. Nobody is kept from
+/// - `swap_in` renames the draft over the file, unless another program has changed the file by then. Nobody is kept from
 ///   the file between that look and the rename but other shelves.
 /// - `settle` syncs the file's folder.
 ///
@@ -42,8 +44,8 @@ pub struct FileShelf {
     loads: u64,
     reading_faults: u64,
     saving_faults: u64,
-    // What the system said of the last call that failed.
-    error: Option<io::Error>,
+    // Why the last call failed that did.
+    error: Option<ShelfError>,
 }
 
 impl FileShelf {
@@ -70,8 +72,9 @@ impl FileShelf {
         }
     }
 
-    /// What the system said of the last call that failed, for people to be told. No clause speaks of it.
-    pub fn error(&self) -> Option<&io::Error> {
+    /// What the system said of the last call that failed, and what that was about, for people to be told. No clause
+    /// speaks of it.
+    pub fn error(&self) -> Option<&ShelfError> {
         self.error.as_ref()
     }
 
@@ -84,12 +87,12 @@ impl FileShelf {
         ensures cause { Rose self.old.reading_faults self.new.reading_faults }
     {
         self.reading_faults = self.reading_faults.saturating_add(1);
-        self.error = Some(error);
+        self.error = Some(ShelfError::File(error));
         Failed
     }
 
     // Counts a fault where a call that saves failed.
-    fn conclude(&mut self, done: io::Result<()>) -> Result<(), Failed>
+    fn conclude(&mut self, done: Result<(), ShelfError>) -> Result<(), Failed>
         ensures name { self.new.name ≡ self.old.name }
         ensures draft { self.new.draft ≡ self.old.draft }
         ensures loads { self.new.loads ≡ self.old.loads }
@@ -106,7 +109,7 @@ impl FileShelf {
     }
 
     // Counts a fault where a call on the draft failed, and then removes the draft.
-    fn conclude_draft(&mut self, done: io::Result<()>) -> Result<(), Failed>
+    fn conclude_draft(&mut self, done: Result<(), ShelfError>) -> Result<(), Failed>
         ensures name { self.new.name ≡ self.old.name }
         ensures draft { self.new.draft ≡ self.old.draft }
         ensures loads { self.new.loads ≡ self.old.loads }
@@ -163,9 +166,10 @@ impl Shelf for FileShelf {
     }
 
     fn draft_new(&mut self) -> Result<(), Failed> {
-        // What is locked by this shelf is an older one to the next.
-        self.draft = None;
-        let done = match Draft::new(&self.rt, &self.place) {
+        if let Some(draft) = self.draft.take() {
+            draft.discard(&self.rt);
+        }
+        let done = match begin(&self.rt, &self.place, &self.seen) {
             Ok(draft) => {
                 self.draft = Some(draft);
                 Ok(())
@@ -245,20 +249,41 @@ fn load_at(
     given
 }
 
+// An error where another program has changed the file.
+fn check_file(rt: &HostRuntime, place: &str, seen: &Option<Stamp>) -> io::Result<()> {
+    if look(rt, place)? == *seen {
+        return Ok(());
+    }
+    let message = "the file was changed by another program";
+    Err(io::Error::other(message))
+}
+
+// A draft of the file, unless another program has changed the file: then no save of it is begun.
+fn begin(rt: &HostRuntime, place: &str, seen: &Option<Stamp>) -> Result<Draft, ShelfError> {
+    check_file(rt, place, seen)?;
+    Draft::new(rt, place)
+}
+
 // Gives the draft the file's name, unless another program has changed the file, and sees what it is then.
-fn swap(rt: &HostRuntime, draft: &Draft, place: &str, seen: &mut Option<Stamp>) -> io::Result<()> {
+fn swap(
+    rt: &HostRuntime,
+    draft: &Draft,
+    place: &str,
+    seen: &mut Option<Stamp>,
+) -> Result<(), ShelfError> {
     draft.check_name(rt)?;
     // The last call before the rename, since nobody else is kept from the file between the two.
-    if look(rt, place)? != *seen {
-        let message = "the file was changed by another program";
-        return Err(io::Error::other(message));
-    }
+    check_file(rt, place, seen)?;
     draft.rename(rt, place)?;
     *seen = draft.stamp();
     Ok(())
 }
 
 // Brings the names in the file's folder to the disk.
-fn sync_folder(rt: &HostRuntime, place: &str) -> io::Result<()> {
-    File::open(rt, folder_of(place))?.sync_all()
+fn sync_folder(rt: &HostRuntime, place: &str) -> Result<(), ShelfError> {
+    sync_path(rt, folder_of(place)).map_err(ShelfError::Folder)
+}
+
+fn sync_path(rt: &HostRuntime, path: &str) -> io::Result<()> {
+    File::open(rt, path)?.sync_all()
 }

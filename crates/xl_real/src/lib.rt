@@ -7,12 +7,14 @@ mod drafts;
 mod file_shelf;
 mod open_gate;
 mod places;
+mod shelf_error;
 mod stamps;
 mod std_sink;
 mod std_source;
 
 pub use file_shelf::FileShelf;
 pub use open_gate::OpenGate;
+pub use shelf_error::ShelfError;
 pub use stamps::read_regular;
 pub use std_sink::StdSink;
 pub use std_source::StdSource;

@@ -29,7 +29,7 @@ use Rattle.xl_studio.proofs.Grown.{entries-append, entries-moments}
 use Rattle.xl_studio.proofs.Seated.{latest_prefix, call_may_leave, start_within}
 
 -- a picture of a version stays one as the history goes on
-picture_goes_on : (base : Document) (es more : List Entry) (done : Done) → IsLegal base es
+pub picture_goes_on : (base : Document) (es more : List Entry) (done : Done) → IsLegal base es
     → IsPictureOf (record { base = base; entries = es }) done → latest_of es ≤ latest_of (es ++ more)
     → IsPictureOf (record { base = base; entries = es ++ more }) done
 picture_goes_on base es more done legal is later =

@@ -1,12 +1,12 @@
 -- A studio and its seats as callers see them.
-use Rattle.std.specs.Prelude.{◌≡◌, ℕ, List}
+use Rattle.std.specs.Prelude.{◌≡◌, ℕ, List, Option}
 use mathlib.Core.List.{IsPrefix}
 use Rattle.spec_document.specs.Document.{Document}
 use Rattle.spec_history.specs.History.{latest_of}
 use Rattle.spec_history.specs.Kept.{IsLegal}
 use Rattle.xl_history.specs.History.{History}
 use Rattle.xl_turn.specs.declared.view.Chronicle.{Ghosts}
-use Rattle.xl_turn.specs.Seats.{opened_with, start_of, IsOf, IsIdle}
+use Rattle.xl_turn.specs.Seats.{opened_with, start_of, Exchange, IsOf, IsIdle}
 use Rattle.xl_turn.specs.Seats as turns
 use Rattle.xl_studio.specs.declared.moment.Moment.{Moment}
 use Rattle.xl_studio.specs.declared.seat.Seat.{Seat}
@@ -52,6 +52,10 @@ module _ {K : Type 0} {C : Ghosts (State K) (Moment K)} where
   -- the weights of a studio's seats have the sum 2 ^ 32
   abbrev pub weight_of : Seat K C → ℕ
   weight_of s = turns.weight_of s.seat
+
+  -- what its last turn took out of the lock and put back
+  abbrev pub last_turn : Seat K C → Option (Exchange (State K))
+  last_turn s = turns.last_turn s.seat
 
   -- what the seat knows
   abbrev pub known_by : Seat K C → Known K

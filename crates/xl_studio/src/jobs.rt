@@ -52,7 +52,8 @@ impl<D: Shelf> JobDesk for Studio<D> {
     ghost use Rattle.xl_studio.specs.Calling.{HasHeard};
     ghost use Rattle.xl_studio.specs.Jobs.{job_out, tally_of, IsWorker};
     ghost use Rattle.xl_studio.specs.Moments.{entries_in};
-    ghost use Rattle.xl_studio.specs.Seats.{base_of, front_of, weight_of, made_of, known_by};
+    ghost use Rattle.xl_studio.specs.Refreshing.{HandsIn};
+    ghost use Rattle.xl_studio.specs.Seats.{base_of, history_of, front_of, weight_of, made_of, last_turn, known_by};
 
     type Seat = Seat<D>;
 
@@ -105,12 +106,15 @@ impl<D: Shelf> JobDesk for Studio<D> {
         taken
     }
 
-    // Of the cache it says the answer alone, as `refresh` does: the list that a seat knows has no pictures.
+    // What it says beside the trait: the core that was put back is the one that was taken out, with the picture handed
+    // in (`handed`).
     fn finish<W: Wait>(&self, rt: &W, seat: &mut Seat<D>, done: Done) -> Finished
         requires seat { IsWorker self.now seat.old }
         requires done { IsOutcomeOf (job_out seat.old) done }
         ensures finished { result ≡ finished_by (base_of self.now) (entries_in (front_of seat.new))
             (place_done done) done.version }
+        ensures handed { HandsIn (history_of (base_of self.now) (front_of seat.new)) done result
+            (last_turn seat.new) }
         ensures seat { IsWorker self.now seat.new }
         ensures none { job_out seat.new ≡ None }
         ensures closed { seat.new.closed ≡ seat.old.closed }

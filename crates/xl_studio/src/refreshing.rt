@@ -1,12 +1,13 @@
 ghost use Rattle.std.specs.Prelude.{◌≡◌, None, IfOk, IfSome};
 ghost use Rattle.xl_history.specs.Editing.{IsPictureOf};
+ghost use Rattle.xl_history.specs.History.{version};
 ghost use Rattle.xl_history.specs.Jobs.{finished_by};
 ghost use Rattle.xl_history.specs.Places.{place_done};
 ghost use Rattle.xl_studio.specs.Answered.{SeatGoesOn};
 ghost use Rattle.xl_studio.specs.Calling.{HasHeard};
 ghost use Rattle.xl_studio.specs.Moments.{entries_in};
-ghost use Rattle.xl_studio.specs.Refreshing.{IsJobAt, IsRefreshed};
-ghost use Rattle.xl_studio.specs.Seats.{base_of, history_of, front_of, known_by, IsSeatOf};
+ghost use Rattle.xl_studio.specs.Refreshing.{IsJobAt, HandsIn, IsRefreshed};
+ghost use Rattle.xl_studio.specs.Seats.{base_of, history_of, front_of, known_by, last_turn, IsSeatOf};
 
 use crate::seat::{Seat, Studio};
 use crate::taking::Taking;
@@ -44,7 +45,7 @@ impl<D: Shelf> Studio<D> {
     }
 
     // The second hold: the picture is kept, unless its tile was marked at a later version or its stack is gone. The
-    // answer is what the seat can know of that: the lock's list has no pictures.
+    // lock's list has no pictures, so what the turn took out and put back tells that.
     fn hand_in<W: Wait>(&self, rt: &W, seat: &mut Seat<D>, done: Done) -> Finished
         requires seat { IsSeatOf self.now seat.old }
         requires done { IsPictureOf (history_of (base_of self.now) (front_of seat.old)) done }
@@ -52,6 +53,8 @@ impl<D: Shelf> Studio<D> {
         ensures heard { HasHeard (known_by seat.old) (known_by seat.new) }
         ensures finished { result ≡ finished_by (base_of self.now) (entries_in (front_of seat.new))
             (place_done done) done.version }
+        ensures handed { HandsIn (history_of (base_of self.now) (front_of seat.new)) done result
+            (last_turn seat.new) }
     {
         let mut held = self.lock.enter(rt, &mut seat.seat);
         let finished = held.value.finish(done);
@@ -67,8 +70,8 @@ impl<D: Shelf> Studio<D> {
     /// The first hold of the turn makes a job of the last version, and the second hands its picture in: it is kept,
     /// unless the tile was marked at a later version or its stack is gone. Where the slot is clean, or the stack or the
     /// tile is not there, there is no job and no second hold. It makes no entry, and takes no job of the desk: the slot
-    /// does not count as taken, and the seat's tally does not count the picture. What the cache has then is no clause of
-    /// this one, since a seat knows the list of moments alone: `Shared::finish` says it under the lock.
+    /// does not count as taken, and the seat's tally does not count the picture. The core that the second hold puts back
+    /// is the one that it took out, with the picture handed in.
     ///
     /// Where memory runs out nothing is composed, which is no failure: the call that asks for the tile decides.
     pub fn refresh<W: Wait, L: Ledger>(
@@ -85,8 +88,9 @@ impl<D: Shelf> Studio<D> {
         ensures goes_on { SeatGoesOn self.now seat.old seat.new }
         ensures heard { HasHeard (known_by seat.old) (known_by seat.new) }
         ensures refreshed { IfSome result
-            (IsRefreshed (history_of (base_of self.now) (front_of seat.new)) node.0 at steps.old
-            steps.new) }
+            (λ finished. IsRefreshed (version (history_of (base_of self.now) (front_of seat.old)))
+            (history_of (base_of self.now) (front_of seat.new)) node.0 at steps.old steps.new finished
+            (last_turn seat.new)) }
         ensures no_step { result ≡ None → steps.new ≡ steps.old }
     {
         match self.job_for(rt, alloc, seat, node, at) {

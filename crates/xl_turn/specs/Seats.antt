@@ -1,8 +1,10 @@
 -- A seat and a lock as callers see them: what a seat knows, whether it waits or holds the list, and what it may leave.
 use Rattle.std.specs.Prelude.{◌≡◌, ◌⊎◌, ℕ, ◌+◌, ◌-◌, ◌%◌, ◌^◌, ◌<◌, ◌≤◌, cond, ltb, List, [], ◌∷◌, ◌++◌, length, Option, None}
+use Rattle.std.specs.Prelude.{option_map}
 use Rattle.xl_turn.specs.declared.seat.TurnSeat.{TurnSeat}
 use Rattle.xl_turn.specs.declared.seat.TurnLock.{TurnLock}
 use Rattle.xl_turn.specs.declared.seat.Held.{Held}
+use Rattle.xl_turn.specs.declared.seat.Turned.{Turned}
 use Rattle.xl_turn.specs.declared.view.Chronicle.{Ghosts}
 use Rattle.xl_turn.specs.declared.view.Stage.TheVariants.{Idle, Served}
 use Rattle.xl_turn.specs.Sums.{times, below}
@@ -11,6 +13,18 @@ use Rattle.xl_turn.specs.Turns.{Closes}
 -- the value with which the lock was opened
 abbrev pub opened_with : {T E : Type 0} → TurnLock T E → T
 opened_with lock = lock.table.shared.key.value
+
+-- the value that a turn took out of the lock, and the one that it put back
+pub record Exchange (T : Type 0) : Type 0 where
+  pub out : T
+  pub back : T
+
+abbrev pub exchanged : {T : Type 0} → Turned T → Exchange T
+exchanged turned = record { out = turned.out.value; back = turned.back.value }
+
+-- the value as it was taken out
+abbrev pub taken_out : {T : Type 0} → Held T → T
+taken_out held = held.out.value
 
 module _ {T E : Type 0} {C : Ghosts T E} where
   -- a beginning of the one history
@@ -28,6 +42,10 @@ module _ {T E : Type 0} {C : Ghosts T E} where
   -- the list that the seat entered last
   abbrev pub entered_by : TurnSeat T E C → List E
   entered_by s = s.seat.me.0.entered
+
+  -- what its last turn took out and put back, once it has had one
+  abbrev pub last_turn : TurnSeat T E C → Option (Exchange T)
+  last_turn s = option_map exchanged s.last
 
   -- how many entries the opening list had
   abbrev pub start_of : TurnSeat T E C → ℕ

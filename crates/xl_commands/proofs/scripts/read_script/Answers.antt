@@ -14,8 +14,9 @@ returns-in-Err-Refused-clause-reads g c =
     let taken = c.in-Ok.ensures in
     let counts = counts_same _ _ c.args.chest.now.items _ c.deref.ensures.value c.in-Ok-filter_counts.ensures in
     let fails = rw c.in-Err-Refused.field-0-is at c.in-Err-Refused.ensures.read in
-    read_with _ _ c.in-Ok.text.items c.deref-2.result.now c.deref-3.result.now _ _ taken.given taken.all c.deref-2.ensures.value
-    (c.deref-3.ensures.value ∙ counts) fails
+    let refused = read_with _ _ c.in-Ok.text.items c.deref-2.result.now c.deref-3.result.now _ _ taken.given taken.all
+    c.deref-2.ensures.value (c.deref-3.ensures.value ∙ counts) fails in
+    (refused, rw c.in-Err-Refused.field-0-is at c.in-Err-Refused.ensures.blamed)
 
 pub returns-in-Ok-parse-clause-fits : goal.returns-in-Ok-parse-clause-fits
 returns-in-Ok-parse-clause-fits g c =

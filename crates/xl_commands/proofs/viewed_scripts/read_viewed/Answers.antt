@@ -16,8 +16,9 @@ returns-in-Err-Refused-clause-reads g c =
     let taken = c.in-Ok.ensures in
     let count = first_same _ _ c.args.chest.now.items _ c.deref-2.ensures.value c.first_count.ensures in
     let fails = rw c.in-Err-Refused.field-0-is at c.in-Err-Refused.ensures.read in
-    view_reads _ _ c.in-Ok.text.items c.deref.result.now _ _ _ taken.given taken.all c.deref.ensures.value count
-    (ap first_session fails)
+    let refused = view_reads _ _ c.in-Ok.text.items c.deref.result.now _ _ _ taken.given taken.all c.deref.ensures.value count
+    (ap first_session fails) in
+    (refused, rw c.in-Err-Refused.field-0-is at c.in-Err-Refused.ensures.blamed)
 
 pub returns-in-Ok-parse_viewed-clause-fits : goal.returns-in-Ok-parse_viewed-clause-fits
 returns-in-Ok-parse_viewed-clause-fits g c =

@@ -61,7 +61,7 @@ returns-in-Flatten-clause-comes g c =
     let given : Given =
     given_of (g.S.Source.left c.args.source.now) (λ b. (goal.PointFilter-dyn g (b.vtable, b.value)).state b.value)
     c.args.chest.items in
-    rw c.in-Flatten.is (c.flatten.ensures.comes given)
+    rw c.in-Flatten.is (c.flatten-result.ensures.comes given)
 
 pub returns-in-View-clause-comes : goal.returns-in-View-clause-comes
 returns-in-View-clause-comes g c = rw c.in-View.is c.view.ensures.comes

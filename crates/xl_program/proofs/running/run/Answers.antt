@@ -1,5 +1,6 @@
 use Rattle.std.proofs.Common.{◌≡◌, inl, inr, refl, false, true, Option, Some, sym, ◌∙◌, ap, subst, arith}
-use Rattle.std.specs.Prelude.{ℕ, List, IfSome, Err, option_map}
+use Rattle.std.specs.Prelude.{ℕ, List, IfSome, None, Err, option_map}
+use Rattle.std.proofs.lemmas.Option.{none-some}
 use Rattle.spec_command.specs.Arguments.{Asked, edit, render, info, make, pack, flatten, view, audit, name_of}
 use Rattle.spec_command.specs.Grammar.{asked_in}
 use Rattle.spec_command.specs.Ends.{source_fault, refused, flat_refused, stop_line}
@@ -266,3 +267,8 @@ returns-clause-cause g c = λ command asked. elim c.match-done.branch [
         ),
       ))
 ]
+
+pub returns-clause-cause_without : goal.returns-clause-cause_without
+returns-clause-cause_without g c = λ none.
+    let same : Some (asked_of c.in-Some.command) ≡ None = rw c.in-Some.is at c.in-Ok.ensures.asked ∙ none in
+    absurd (none-some _ (sym same))

@@ -10,6 +10,7 @@ use Rattle.xl_studio.specs.Jobs.{job_out}
 use Rattle.xl_studio.proofs.Grown.{entries-prefix}
 use Rattle.xl_studio.proofs.Seated.{back, base_entered, front_after}
 use Rattle.xl_studio.proofs.Quiet.{begins_stayed, picture_of}
+use Rattle.xl_studio.proofs.Refreshed.{hands_in}
 use Rattle.xl_studio.proofs.jobs.StudioJobDesk.finish.Given as given
 use Rattle.xl_studio.proofs.jobs.StudioJobDesk.finish.Goals as goal
 use Rattle.xl_studio.proofs.jobs.StudioJobDesk.finish.Goals.{After-leave}
@@ -71,3 +72,11 @@ returns-clause-finished g c =
     ap entries_in (c.leave.ensures.front ∙ stays.moments) ∙ back held in
     c.finish-finished.ensures.by_history
     ∙ (λ i. finished_by (sym base i) (sym es i) (place_done c.args.done) c.args.done.version)
+
+pub returns-clause-handed : goal.returns-clause-handed
+returns-clause-handed g c =
+    hands_in (base_of c.args.self.now) (turns.front_of c.leave.new.seat) c.args.done c.finish-finished.result
+    (turns.last_turn c.leave.new.seat) (turns.taken_out c.enter-held.result) c.enter-held.result.value c.finish-finished.new.self
+    c.enter-held.ensures.out c.leave.ensures.turn (base_is g (goal.at.returns-clause-handed g c).After-leave) c.leave.ensures.front
+    c.finish-finished.ensures.stays c.finish-finished.ensures.core c.finish-finished.ensures.closing
+    c.finish-finished.ensures.finished
