@@ -3,5 +3,6 @@
 
 #[cfg(test)]
 mod shifts;
+mod tally;
 #[cfg(test)]
 mod turns;

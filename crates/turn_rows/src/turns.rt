@@ -1,54 +1,14 @@
 //! Threads that take turns.
-ghost use Rattle.std.specs.Prelude.{◌≡◌, ◌+◌, ◌<◌, ◌≤◌, ◌^◌, [], ◌∷◌, ◌++◌, MatchBool};
+ghost use Rattle.std.specs.Prelude.{◌≡◌, ◌+◌, ◌<◌, ◌≤◌};
 ghost use Rattle.std.specs.Thread.{IsSync};
 ghost use Rattle.xl_turn.specs.Seats.{IsOf, IsIdle, weight_of};
 
-use std::alloc::Global;
+use crate::tally::Tally;
 use std::process::Abort;
 use std::sync::Wait;
 use std::test::Fail;
 use std::thread::{Threads, join};
 use xl_turn::{Chronicle, TurnLock, TurnSeat};
-
-/// Who took a turn, in order.
-#[derive(Drop)]
-struct Tally {
-    turns: Vec<u64>,
-}
-
-impl Chronicle for Tally {
-    //! Threads that take turns.
-    ghost use Rattle.std.specs.Prelude.{None};
-
-    type Entry = u64;
-
-    ghost entries = { λ t. t.turns.items };
-
-    ghost closes = { λ _. None };
-
-    fn len(&self) -> u64 {
-        self.turns.len() as u64
-    }
-}
-
-impl Tally {
-    fn add(&mut self, who: u64) -> bool
-        ensures { MatchBool result (self.new.turns.items ≡ self.old.turns.items
-            ++ who ∷ []) (self.new.turns.items ≡ self.old.turns.items) }
-    {
-        self.turns.push(who).is_ok()
-    }
-
-    fn new(alloc: Global) -> Tally {
-        Tally {
-            turns: Vec::new(alloc),
-        }
-    }
-
-    fn turns_of(&self, who: u64) -> usize {
-        self.turns.as_slice().iter().filter(|x| **x == who).count()
-    }
-}
 
 fn take_turn<W: Wait>(rt: &W, lock: &TurnLock<Tally>, seat: &mut TurnSeat<Tally>, who: u64)
     requires { IsOf lock.now seat.old × IsIdle seat.old }
@@ -233,6 +193,6 @@ fn eight_seats_by_one_thread(rt: HostRuntime) -> Result<(), Fail> {
     lock.join(&mut e, g);
     lock.join(&mut a, e);
     let tally = lock.close(a);
-    assert_eq!(rt; tally.turns.as_slice(), [7, 0, 4, 3, 1, 6, 2, 5].as_slice());
+    assert_eq!(rt; tally.turns(), [7, 0, 4, 3, 1, 6, 2, 5].as_slice());
     Ok(())
 }

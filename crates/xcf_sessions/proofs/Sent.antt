@@ -5,18 +5,19 @@ use base.Fml.{Lft}
 use mir.Syntax.{Ty, Sym, Lifetime}
 use denote.Exit.{no}
 use denote.Param.{param, arg}
-use denote.Param.Send.{IsSend, IsSync, sendable, view_send, param_send, arg_send, mut_send, shr_send}
+use denote.Param.Send.{IsSend, IsSync, sendable, view_send, mut_send, shr_send}
 use denote.Param.SendFields.{as_row_send, declared_send}
 use denote.RattleType.{RattleType}
 use denote.Ref.{MutRef, ShrRef}
-use denote.Struct.Tuple.{TupleAt, type_at}
+use denote.Struct.Tuple.{TupleAt}
 use Rattle.std.proofs.Crossing.{Arc-send}
 use Rattle.std.specs.contracts.alloc.Global as Global
 use Rattle.std.specs.contracts.impls.GlobalAllocator.TheImpl as heap
 use Rattle.std.specs.contracts.sync.Arc as Arc
 use Rattle.xl_ports.specs.declared.shelf.Shelf as Shelf
 use Rattle.xl_studio.specs.contracts.shared.SharedChronicle.TheImpl as chronicle
-use Rattle.xl_studio.proofs.Sent.{parts_send, seat_send, studio_row, studio_send, studio_sync}
+use Rattle.xl_turn.proofs.Sent.{none, also, captures_send}
+use Rattle.xl_studio.proofs.Sent.{seat_send, studio_row, studio_send, studio_sync}
 use Rattle.xcf_sessions.specs.contracts.session.Session as Session
 use Rattle.xcf_sessions.specs.contracts.session.Session.TheInside as Inside
 
@@ -40,5 +41,5 @@ module _ (D : RattleType) (g : Shelf.Ghosts D.Denot) where
   pub lent_session : (i : ℕ) (δ : Ty) (ν : Sym) (ℓ m n : Lifetime) (κ η μ : Lft) (R A : RattleType) → IsSend D → IsSync R → IsSync A
       → IsSend (param i (arg δ no (TupleAt ν (ShrRef ℓ κ R ∷ ShrRef m η A ∷ MutRef n μ session_row ∷ []))))
   lent_session i δ ν ℓ m n κ η μ R A d r a =
-      param_send i _ (arg_send δ no _ (parts_send (type_at ν (ShrRef ℓ κ R ∷ ShrRef m η A ∷ MutRef n μ session_row ∷ []))
-      (shr_send ℓ κ R r, (shr_send m η A a, (mut_send n μ session_row (session_send d), tt)))))
+      captures_send i δ ν _ (also (shr_send ℓ κ R r) (also (shr_send m η A a)
+      (also (mut_send n μ session_row (session_send d)) none)))

@@ -1,8 +1,9 @@
 use denote.Param.{param}
 use denote.Param.Send.{IsSync, sendable, shr_send}
 use Rattle.std.proofs.Crossing.{crosses, sync}
-use Rattle.xl_studio.proofs.Sent.{captures_send, seat_send, studio_sync}
-use Rattle.core_rows.proofs.Sent.{heard_send, pair_send}
+use Rattle.xl_turn.proofs.Sent.{none, also, captures_send}
+use Rattle.xl_studio.proofs.Sent.{seat_send, studio_sync}
+use Rattle.core_rows.proofs.Sent.{heard_send}
 use Rattle.core_rows.specs.contracts.beside.Part as Part
 use Rattle.core_rows.specs.contracts.calls.Ask as Ask
 use Rattle.core_rows.proofs.beside.thread_both.Goals as goal
@@ -17,9 +18,9 @@ pub join-seat-requires-send-F : goal.join-seat-requires-send-F
 join-seat-requires-send-F g c κs within =
     let D = param 1 g.row.D in
     let studio = studio_sync D g.D.Shelf c.type_bounds.send-D in
-    captures_send _ _ _ _ _ _ _ _ _ (shr_send _ _ _ c.type_bounds.sync-R) (shr_send _ _ _ sync) (shr_send _ _ _ studio)
-    (seat_send D g.D.Shelf c.type_bounds.send-D) (shr_send _ _ _ c.type_bounds.sync-G) (shr_send _ _ _ part_sync)
+    captures_send _ _ _ _ (also (shr_send _ _ _ c.type_bounds.sync-R) (also (shr_send _ _ _ sync) (also (shr_send _ _ _ studio)
+    (also (seat_send D g.D.Shelf c.type_bounds.send-D) (also (shr_send _ _ _ c.type_bounds.sync-G) (also (shr_send _ _ _ part_sync) none))))))
 
 pub join-seat-requires-send-A : goal.join-seat-requires-send-A
 join-seat-requires-send-A g c κs within =
-    pair_send _ _ _ _ _ (seat_send (param 1 g.row.D) g.D.Shelf c.type_bounds.send-D) heard_send
+    captures_send _ _ _ _ (also (seat_send (param 1 g.row.D) g.D.Shelf c.type_bounds.send-D) (also heard_send none))

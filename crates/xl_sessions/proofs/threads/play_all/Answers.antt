@@ -7,7 +7,8 @@ use Rattle.std.proofs.Crossing.{sync}
 use Rattle.xl_sessions.specs.Players.{in_slots, CanPlay, Plays}
 use Rattle.xl_sessions.specs.contracts.threads.play_all.dyn-1.{slots}
 use Rattle.xl_sessions.proofs.Each.{each_read}
-use Rattle.xl_studio.proofs.Sent.{captures_sync, seat_row, seat_send, studio_sync}
+use Rattle.xl_turn.proofs.Sent.{none, also, captures_sync}
+use Rattle.xl_studio.proofs.Sent.{seat_row, seat_send, studio_sync}
 use Rattle.xl_sessions.proofs.Sent.{player_send}
 use Rattle.xl_sessions.proofs.Zips.{zip_changed}
 use Rattle.xl_sessions.proofs.threads.play_all.Goals as goal
@@ -25,8 +26,8 @@ pub for_each_mut-requires-sync-F : goal.for_each_mut-requires-sync-F
 for_each_mut-requires-sync-F g c κs within =
     let D = param 1 g.row.D in
     let studio = studio_sync D g.D.Shelf c.type_bounds.send-D in
-    captures_sync _ _ _ _ _ _ _ (shr_sync _ _ _ c.type_bounds.sync-R) (shr_sync _ _ _ sync) (shr_sync _ _ _ studio)
-    (shr_sync _ _ _ c.type_bounds.sync-G)
+    captures_sync _ _ _ _ (also (shr_sync _ _ _ c.type_bounds.sync-R) (also (shr_sync _ _ _ sync) (also (shr_sync _ _ _ studio)
+    (also (shr_sync _ _ _ c.type_bounds.sync-G) none))))
 
 pub for_each_mut-requires-clause-accepts : goal.for_each_mut-requires-clause-accepts
 for_each_mut-requires-clause-accepts g c κs within = λ i p lt is. (
