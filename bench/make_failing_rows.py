@@ -87,6 +87,8 @@ def rows_of_saves():
         yield failing("one save", EDIT, failed_call(call), SAVE, call=call)
     again = (6, "one", "0.0 save fault 0\n0.1 saved 0\norder 0.0 0.0e 0.1 0.1e\n")
     yield failing("a save behind one that failed", EDIT, again, SAVES, call=SYNC)
+    other = (6, "one", "0.0 saved 0\n0.1 save fault 0\norder 0.0 0.0e 0.1 0.1e\n")
+    yield failing("a save of the version that was saved", EDIT, other, SAVES, call=ONE_SAVE)
     for call in range(TWO_SAVES + 1):
         yield failing("two saves", EDIT, stopped_at(call), FILL_BETWEEN, from_=call)
 
@@ -95,6 +97,8 @@ def rows_of_reads():
     # 21 bytes in pieces of seven, and then the end
     for read_number in range(4):
         yield failing("three lines", EDIT, (5, "old", "source fault\n"), "0 undo\n" * 3, read=read_number)
+    # No read comes behind the end.
+    yield failing("three lines", EDIT, (0, "old", "".join(undos(3))), "0 undo\n" * 3, read=4)
     # six bytes, and then the end
     for read_number in range(2):
         yield failing("one save", EDIT, (5, "old", "source fault\n"), SAVE, read=read_number)
